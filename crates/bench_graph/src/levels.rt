@@ -1,7 +1,7 @@
-//! Checks related links and merges in a hierarchy of twelve levels, in which each concept has two broader ones in the
-//! level above.
+//! Checks of related links and merges in a hierarchy of levels, in which each concept has two broader ones in the level
+//! above.
 ghost use Rattle.std.specs.Prelude.{◌≡◌};
-ghost use Rattle.thes_base.specs.Links.{HeldIn};
+ghost use Rattle.thes_base.specs.Links.{Holds};
 ghost use Rattle.thes_graph.specs.Local.{BreakNone};
 
 use std::alloc::{AllocError, Global};
@@ -20,7 +20,7 @@ fn link(kind: LinkKind, a: u32, b: u32) -> Link {
     }
 }
 
-// Adds a link from the node up to a random one in the level above.
+// Adds a link from the node up to a random node of the level above.
 fn link_to_level_above(
     graph: &mut Graph,
     numbers: &mut Numbers,
@@ -41,7 +41,7 @@ fn link_to_level_above(
     Ok(())
 }
 
-// Builds a graph in which each node below the first level has two broader ones.
+// Returns a graph in which each node below the first level has two broader ones.
 fn levels(alloc: Global, numbers: &mut Numbers, width: u32) -> Result<Graph, AllocError> {
     let mut graph = Graph::new(alloc);
     for node in width..width.saturating_mul(12) {
@@ -51,14 +51,14 @@ fn levels(alloc: Global, numbers: &mut Numbers, width: u32) -> Result<Graph, All
     Ok(graph)
 }
 
-// Checks the link, or the merge of its second end into its first, and returns whether there is a refusal.
+// Checks the link, or the merge of its second end into its first, and returns whether it is refused.
 fn is_refused(
     alloc: Global,
     walk: &mut Walk<'_>,
     new: &Link,
     merges: bool,
 ) -> Result<bool, AllocError>
-    requires { BreakNone (HeldIn walk.old.net.links) }
+    requires { BreakNone (Holds walk.old.net.links) }
     ensures { walk.new.net.links ≡ walk.old.net.links }
 {
     if new.a == new.b {
@@ -72,7 +72,7 @@ fn is_refused(
     Ok(answer.is_some())
 }
 
-// Returns a random pair of nodes on one level, or for a merge a node and one in the level below.
+// Returns a random pair of nodes on one level or, for a merge, of a node and one in the level below.
 fn pair(numbers: &mut Numbers, width: u32, merges: bool) -> Link {
     let level = numbers.below(11);
     let a = level
@@ -99,7 +99,7 @@ fn check_random_links(
     count: u32,
     merges: bool,
 ) -> Result<u32, AllocError>
-    requires { BreakNone (HeldIn walk.old.net.links) }
+    requires { BreakNone (Holds walk.old.net.links) }
 {
     let mut count_refused = 0u32;
     for _ in 0..count {
@@ -111,7 +111,7 @@ fn check_random_links(
     Ok(count_refused)
 }
 
-/// Counts the refusals among `count` random related links, or merges, in such a hierarchy.
+/// Returns the number of refusals among `count` random related links, or merges, in a hierarchy of twelve levels.
 pub fn count_refused(
     alloc: Global,
     nodes: u32,

@@ -1,12 +1,16 @@
 //! Builds a graph of broader links and checks all of it, for `bench/graph` to time.
-//! Arguments: `ladder` or `tree`, the number of nodes and the width; or `levels`, the number of nodes, the number of
-//! links to check there, and `merges` to check merges in place of related links. For `tests/builds/count-requests`:
-//! `requests`, the number of further nodes, and `judged` to check a link.
+//!
+//! Arguments: `ladder` or `tree`, the number of nodes and the width; `layers`, the number of nodes and of links from
+//! each, and `made` to check nothing; or `levels`, the number of nodes, the number of links to check, and `merges` to
+//! check merges in place of related links. For `tests/builds/count-requests`: `requests`, the number of further nodes,
+//! and `judged` to check a link.
 #![tactic(auto)]
 
+mod layers;
 mod levels;
 mod requests;
 
+use crate::layers::layers;
 use crate::levels::count_refused;
 use crate::requests::grants_after_check;
 use std::alloc::{AllocError, Global};
@@ -47,7 +51,7 @@ fn link_to_following(
     Ok(())
 }
 
-// Adds links from each node up to the `width` nodes after it, for a graph of the greatest depth.
+// Adds links from each node up to the `width` nodes after it, which makes the deepest graph of that width.
 fn ladder(graph: &mut Graph, nodes: u32, width: u32) -> Result<(), AllocError> {
     for node in 1..nodes {
         link_to_following(graph, node, nodes, width)?;
@@ -55,7 +59,7 @@ fn ladder(graph: &mut Graph, nodes: u32, width: u32) -> Result<(), AllocError> {
     Ok(())
 }
 
-// Adds a link from each node up to the node whose number is its own divided by `width`.
+// Adds a link from each node up to the node whose number is its own divided by `width`, rounded down.
 fn tree(graph: &mut Graph, nodes: u32, width: u32) -> Result<(), AllocError> {
     for node in 1..nodes {
         add(graph, node, node / width.max(1))?;
@@ -63,7 +67,7 @@ fn tree(graph: &mut Graph, nodes: u32, width: u32) -> Result<(), AllocError> {
     Ok(())
 }
 
-// Returns the number in this argument, or 1 if it isn't a number.
+// Returns the number in the argument at this index, or 1 if there is none.
 fn number(words: &[String], place: usize) -> u32 {
     match words.get(place) {
         Some(word) => ResNo::read(word.as_str()).map_or(1, ResNo::get),
@@ -71,18 +75,22 @@ fn number(words: &[String], place: usize) -> u32 {
     }
 }
 
-// Returns the first rule that the graph of these arguments breaks.
+// Builds the graph that the arguments describe, and returns the first rule that it breaks.
 fn first_broken_rule(alloc: Global, words: &[String]) -> Result<Option<Refusal>, AllocError> {
     let (nodes, width) = (number(words, 2), number(words, 3));
     let mut graph = Graph::new(alloc);
     match words.get(1) {
         Some(shape) if shape.as_str() == "tree" => tree(&mut graph, nodes, width)?,
+        Some(shape) if shape.as_str() == "layers" => graph = layers(alloc, nodes, width)?,
         _ => ladder(&mut graph, nodes, width)?,
+    }
+    if has_argument(words, 4, "made") {
+        return Ok(None);
     }
     graph.check_whole(alloc)
 }
 
-// Checks whether this argument is the wanted one.
+// Returns whether the argument at this index is the wanted one.
 fn has_argument(words: &[String], place: usize, wanted: &str) -> bool {
     match words.get(place) {
         Some(word) => word.as_str() == wanted,
@@ -90,7 +98,8 @@ fn has_argument(words: &[String], place: usize, wanted: &str) -> bool {
     }
 }
 
-// Prints the number of requests for memory that are left, or returns 1 if the graph or the link breaks a rule.
+// Prints the number of allocations granted after the check, and returns the exit status: 1 if the graph or the link
+// breaks a rule.
 fn print_left<R: Print + Alloc<A = Global>>(rt: &R, words: &[String]) -> Result<u8, AllocError> {
     match grants_after_check(
         rt.alloc(),
@@ -105,7 +114,7 @@ fn print_left<R: Print + Alloc<A = Global>>(rt: &R, words: &[String]) -> Result<
     }
 }
 
-// Carries out what the arguments ask for, and returns the exit status.
+// Runs the benchmark that the arguments name, and returns the exit status.
 fn obey<R: Env + Print + Alloc<A = Global>>(rt: &R) -> Result<u8, AllocError> {
     let alloc = rt.alloc();
     let Ok(args) = std::env::args(rt) else {

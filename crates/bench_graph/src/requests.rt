@@ -1,5 +1,5 @@
-//! Counts the requests for memory that are granted after a check, for `tests/builds/count-requests`, which derives from
-//! this how many the check has made.
+//! Counts the allocations that are granted after a check, from which `tests/builds/count-requests` derives how many the
+//! check has made.
 use std::alloc::{AllocError, Global};
 use thes_base::data::{Link, LinkKind};
 use thes_base::fault::Refusal;
@@ -16,7 +16,7 @@ fn link(kind: LinkKind, a: u32, b: u32) -> Link {
     }
 }
 
-// Adds a link from the node up to the next one.
+// Adds a link from the node up to the one with the next number.
 fn add_step(graph: &mut Graph, node: u32) -> Result<(), AllocError> {
     let step = link(LinkKind::Broader, node, node.saturating_add(1));
     if step.a != step.b {
@@ -25,7 +25,7 @@ fn add_step(graph: &mut Graph, node: u32) -> Result<(), AllocError> {
     Ok(())
 }
 
-// Builds a graph in which node 3 is above node 2, and the nodes from 5 on are a chain of `further` nodes.
+// Returns a graph in which node 3 is above node 2, and the nodes from 5 on are a chain of `further` nodes.
 fn chain(alloc: Global, further: u32) -> Result<Graph, AllocError> {
     let mut graph = Graph::new(alloc);
     add_step(&mut graph, 2)?;
@@ -35,7 +35,7 @@ fn chain(alloc: Global, further: u32) -> Result<Graph, AllocError> {
     Ok(graph)
 }
 
-// Checks the graph, and the link if `judged` is true.
+// Checks the graph and, if `judged` is true, the link.
 fn check_link(
     alloc: Global,
     graph: &Graph,
@@ -54,7 +54,7 @@ fn check_link(
     }
 }
 
-// Counts the requests for memory that are granted until one fails.
+// Returns the number of allocations that are granted before one fails.
 fn count_grants(alloc: Global) -> u32 {
     for granted in 0..1000000 {
         if Vec::<u32>::with_capacity(alloc, 1).is_err() {
@@ -64,8 +64,9 @@ fn count_grants(alloc: Global) -> u32 {
     1000000
 }
 
-/// Counts the requests for memory that are granted after a related link from 2 to 4 was checked, or was not, in a
-/// graph with `further` nodes that touch neither. Returns None for a graph or a link that breaks a rule.
+/// Returns the number of allocations granted after a check of the graph and, if `judged` is true, of a related link
+/// from 2 to 4, in a graph with `further` nodes that are linked to neither; or None if the graph or the link breaks a
+/// rule.
 pub fn grants_after_check(
     alloc: Global,
     further: u32,

@@ -1,4 +1,4 @@
-//! The same commits by statements on a database.
+//! The commits of the workload, by SQL statements on a database, without a storage over it.
 
 use crate::failure::Failure;
 use sqlite::{Alter, Connection};
@@ -11,7 +11,7 @@ use thes_tables::change::Change;
 use thes_tables::delta::Delta;
 use thes_tables::rows::PostingRow;
 
-// Commits the changes.
+// Commits the changes in one transaction.
 fn commit<S: Alter>(conn: &mut Connection<S>, delta: &Delta) -> Result<(), Failure> {
     if commit_all(conn, delta.as_slice())? {
         Ok(())
@@ -20,7 +20,7 @@ fn commit<S: Alter>(conn: &mut Connection<S>, delta: &Delta) -> Result<(), Failu
     }
 }
 
-// Inserts a posting with this number.
+// Inserts a posting with this number, in a commit of its own.
 fn store_posting<S: Alter>(
     alloc: Global,
     conn: &mut Connection<S>,

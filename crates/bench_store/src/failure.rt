@@ -1,4 +1,4 @@
-//! Failures of a benchmark.
+//! Failures that stop a benchmark.
 
 use sqlite::Error;
 use std::alloc::AllocError;

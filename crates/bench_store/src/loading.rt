@@ -1,4 +1,4 @@
-//! Generates the rows of a store of any size, and loads them.
+//! Generated rows of a store of any size, and their load.
 
 use crate::failure::Failure;
 use crate::reading::Counter;
@@ -15,8 +15,8 @@ use thes_tables::numbers::resource_number;
 /// The number of labels of each resource.
 const LABELS: u32 = 10;
 
-/// The numbers of resources and postings of a store. Each posting has a move; there are as many links as resources,
-/// half of them in a tree.
+/// The numbers of resources and postings of a store. Each posting has one move; the number of links is that of
+/// resources, half of them in a tree.
 #[derive(Clone, Copy)]
 pub struct Size {
     pub resources: u32,
@@ -24,7 +24,7 @@ pub struct Size {
 }
 
 impl Size {
-    // Returns the concept for a posting of this number; it isn't the last resource.
+    // Returns the first concept of the posting with this number, which isn't the last resource.
     fn concept(&self, number: u32) -> u32 {
         let concepts = self.resources.saturating_sub(2).max(1);
         (number % concepts).saturating_add(2)
@@ -41,13 +41,13 @@ fn text(alloc: Global, letter: &str, number: u32) -> Result<Cell, AllocError> {
     Ok(Cell::Text(CellText::new(alloc, name_with_number(alloc, letter, number)?.as_str())?))
 }
 
-// Yields the row of meta.
+// Yields the one row of the table meta.
 fn yield_meta<S: RowSink>(alloc: Global, sink: &mut S) -> Result<(), Fault> {
     let base = Cell::Text(CellText::new(alloc, "http://example.org/")?);
     sink.row(Table::Meta, &[int(1), int(2), base])
 }
 
-// Yields a scheme, and all other resources as concepts in it.
+// Yields the rows of a scheme, and of all other resources as concepts in it.
 fn yield_resources<S: RowSink>(size: Size, sink: &mut S) -> Result<(), Fault> {
     let scheme = int(resource_number(ResourceKind::Scheme));
     sink.row(
@@ -67,7 +67,7 @@ fn yield_resources<S: RowSink>(size: Size, sink: &mut S) -> Result<(), Fault> {
     Ok(())
 }
 
-// Yields the labels, of which the first of each resource is preferred.
+// Yields the rows of labels; the first of each resource is preferred.
 fn yield_labels<S: RowSink>(alloc: Global, size: Size, sink: &mut S) -> Result<(), Fault> {
     for made in 0..size.resources.saturating_mul(LABELS) {
         let kind = if made % LABELS == 0 {
@@ -106,7 +106,7 @@ fn yield_hier<S: RowSink>(size: Size, sink: &mut S) -> Result<(), Fault> {
     Ok(())
 }
 
-// Yields the postings, each assigned to the target of its move.
+// Yields the rows of postings, each assigned to the target of its move.
 fn yield_postings<S: RowSink>(alloc: Global, size: Size, sink: &mut S) -> Result<(), Fault> {
     for made in 0..size.postings {
         let number = made.saturating_add(1);
@@ -121,7 +121,7 @@ fn yield_postings<S: RowSink>(alloc: Global, size: Size, sink: &mut S) -> Result
     Ok(())
 }
 
-// Yields a move of each posting to the next concept.
+// Yields the row of a move of each posting, to the concept with the next number.
 fn yield_moves<S: RowSink>(size: Size, sink: &mut S) -> Result<(), Fault> {
     for made in 0..size.postings {
         let number = made.saturating_add(1);
@@ -135,7 +135,7 @@ fn yield_moves<S: RowSink>(size: Size, sink: &mut S) -> Result<(), Fault> {
     Ok(())
 }
 
-// Yields the rows of all tables.
+// Yields the rows of all tables, in the order of a load.
 fn yield_all<S: RowSink>(alloc: Global, size: Size, sink: &mut S) -> Result<(), Fault> {
     yield_meta(alloc, sink)?;
     yield_resources(size, sink)?;
@@ -146,7 +146,7 @@ fn yield_all<S: RowSink>(alloc: Global, size: Size, sink: &mut S) -> Result<(), 
     yield_moves(size, sink)
 }
 
-// Loads the rows into a core.
+// Returns a core of the generated rows.
 fn load(alloc: Global, size: Size) -> Result<Core, Fault> {
     let mut loader = Loader::new(alloc, Limits::default());
     match yield_all(alloc, size, &mut loader) {
@@ -158,7 +158,7 @@ fn load(alloc: Global, size: Size) -> Result<Core, Fault> {
     }
 }
 
-/// Loads the rows into `times` cores, keeps all of them until the end, and returns their number.
+/// Loads the rows to `times` cores, keeps all of them until the end, and returns their number.
 pub fn load_times(alloc: Global, size: Size, times: u32) -> Result<usize, Failure> {
     let mut cores: Vec<Core> = Vec::new(alloc);
     for _ in 0..times {
@@ -167,7 +167,7 @@ pub fn load_times(alloc: Global, size: Size, times: u32) -> Result<usize, Failur
     Ok(cores.len())
 }
 
-/// Generates the rows `times` times, and returns the number of rows.
+/// Generates the rows `times` times, and returns the number of all rows.
 pub fn make_times(alloc: Global, size: Size, times: u32) -> Result<u64, Failure> {
     let mut counter = Counter { rows: 0 };
     for _ in 0..times {

@@ -1,12 +1,12 @@
-//! Benchmarks of storage, for `bench/store` and `bench/load`. It prints times in microseconds.
+//! Benchmarks of storages, for `bench/store` and `bench/load`. Prints times in microseconds.
 //!
 //! With the arguments POSTS LOOKS: commits POSTS postings, one a commit; merges a tenth of them; looks up LOOKS keys
-//! and LOOKS numbers; and loads all rows, in memory. With POSTS 0 FILE the postings and the merge are made in a new
-//! database in the file; with POSTS LOOKS FILE the look-ups and the load are made in the store of POSTS postings in the
+//! and LOOKS numbers; and loads all rows, in memory. With POSTS 0 FILE, makes the postings and the merge in a new
+//! database in the file; with POSTS LOOKS FILE, makes the look-ups and the load in the store of POSTS postings in the
 //! file.
 //!
 //! With `load` RESOURCES POSTINGS TIMES: loads a generated store of this size TIMES times, and prints the number of
-//! cores. With `rows` and the same arguments it only generates the rows, and prints their number.
+//! cores. With `rows` and the same arguments: generates the rows only, and prints their number.
 #![tactic(auto)]
 
 ghost use Rattle.std.specs.Prelude.{◌≡◌, false};
@@ -34,20 +34,20 @@ use thes_sqlite::keeper::SqlKeeper;
 use thes_store::keeper::Keeper;
 use thes_store::mem::MemKeeper;
 
-// What is made of generated rows.
+// The use of generated rows: loading them to cores, or counting them.
 enum LoadOutput {
     Cores,
     Rows,
 }
 
-// Prints the time since an instant.
+// Prints the time since an instant, in microseconds.
 fn print_time<R: Clock + Print>(rt: &R, name: &str, begun: &Instant) -> Result<(), Failure> {
     let micros = begun.elapsed(rt)?.as_micros();
     println!(rt; "{name} {micros}")?;
     Ok(())
 }
 
-// Returns the number that an argument spells, or 0.
+// Parses a number in decimal, or returns 0.
 fn number_in(word: &str) -> u32 {
     match ResNo::read(word) {
         Ok(number) => number.get(),
@@ -55,7 +55,7 @@ fn number_in(word: &str) -> u32 {
     }
 }
 
-// Returns the number in the argument at a position, or 0 if there is none.
+// Returns the number in the argument at this index, or 0 if there is none.
 fn number(words: &[String], place: usize) -> u32 {
     match words.get(place) {
         Some(word) => number_in(word.as_str()),
@@ -63,7 +63,7 @@ fn number(words: &[String], place: usize) -> u32 {
     }
 }
 
-// Times `posts` posts, and the merge of a tenth of them.
+// Times the posts of `posts` postings, and the merge of a tenth of them.
 fn time_commits<R: Clock + Print + Alloc<A = Global>, K: Keeper>(
     rt: &R,
     keeper: &mut K,
@@ -80,7 +80,7 @@ fn time_commits<R: Clock + Print + Alloc<A = Global>, K: Keeper>(
     print_time(rt, "merge", &begun)
 }
 
-// Times `looks` look-ups of each kind, and a load.
+// Times `looks` look-ups by key, `looks` by number, and a load.
 fn time_reads<R: Clock + Print + Alloc<A = Global>, K: Keeper>(
     rt: &R,
     keeper: &mut K,
@@ -98,7 +98,7 @@ fn time_reads<R: Clock + Print + Alloc<A = Global>, K: Keeper>(
     print_time(rt, "load", &begun)
 }
 
-// Times all calls of a `Keeper` without postings.
+// Times commits, look-ups and a load over a storage without postings.
 fn time_keeper<R: Clock + Print + Alloc<A = Global>, K: Keeper>(
     rt: &R,
     keeper: &mut K,
@@ -111,7 +111,7 @@ fn time_keeper<R: Clock + Print + Alloc<A = Global>, K: Keeper>(
     time_reads(rt, keeper, posts, looks)
 }
 
-// Times storage in memory.
+// Times a storage in memory.
 fn time_memory<R: Clock + Print + Alloc<A = Global>>(
     rt: &R,
     posts: u32,
@@ -141,7 +141,7 @@ fn time_stores<R: Clock + Print + Alloc<A = Global>, S: Alter>(
     print_time(rt, "stored_merge", &begun)
 }
 
-// Times the look-ups and a load of a store, and returns its connection.
+// Times the look-ups and the load of a store, and returns its connection.
 fn time_store<R: Clock + Print + Alloc<A = Global>, S: Alter>(
     rt: &R,
     conn: Connection<S>,
@@ -155,7 +155,7 @@ fn time_store<R: Clock + Print + Alloc<A = Global>, S: Alter>(
     (timed, keeper.into_connection())
 }
 
-// Times the look-ups and a load of a store, unless a transaction is open.
+// Times the look-ups and the load of a store, unless a transaction is open.
 fn time_idle<R: Clock + Print + Alloc<A = Global>, S: Alter>(
     rt: &R,
     conn: Connection<S>,
@@ -169,7 +169,7 @@ fn time_idle<R: Clock + Print + Alloc<A = Global>, S: Alter>(
     }
 }
 
-// Times commits if there are no look-ups to make, and else look-ups and a load.
+// Times commits if no look-ups are asked for, and else look-ups and a load.
 fn time_conn<R: Clock + Print + Alloc<A = Global>, S: Alter>(
     rt: &R,
     mut conn: Connection<S>,
@@ -183,7 +183,7 @@ fn time_conn<R: Clock + Print + Alloc<A = Global>, S: Alter>(
     time_idle(rt, conn, posts, looks)
 }
 
-// Times a database in a file.
+// Times a store in a file.
 fn time_file(rt: &HostRuntime, posts: u32, looks: u32, path: &str) -> Result<(), Failure> {
     let conn = Connection::open(rt, path)?;
     let (timed, conn) = time_conn(rt, conn, posts, looks);
@@ -191,7 +191,7 @@ fn time_file(rt: &HostRuntime, posts: u32, looks: u32, path: &str) -> Result<(),
     timed
 }
 
-// Generates the rows of a store, and loads them if `made` asks for cores.
+// Generates the rows of a store, and loads or counts them, depending on `made`.
 fn make_rows<R: Print + Alloc<A = Global>>(
     rt: &R,
     words: &[String],
@@ -215,7 +215,7 @@ fn make_rows<R: Print + Alloc<A = Global>>(
     Ok(())
 }
 
-// Runs the benchmark that the arguments ask for.
+// Runs the benchmark that the arguments name.
 fn run_command(rt: &HostRuntime) -> Result<(), Failure> {
     let words: Vec<String> = std::env::args(rt)?.collect(rt.alloc())?;
     match words.get(1) {
@@ -232,7 +232,7 @@ fn run_command(rt: &HostRuntime) -> Result<(), Failure> {
     time_keepers(rt, words.as_slice())
 }
 
-// Times the storage that the arguments ask for.
+// Times the storage that the arguments name, in memory or in a file.
 fn time_keepers(rt: &HostRuntime, words: &[String]) -> Result<(), Failure> {
     let (posts, looks) = (number(words, 1), number(words, 2));
     match words.get(3) {

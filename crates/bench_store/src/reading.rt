@@ -1,4 +1,4 @@
-//! Look-ups and loads of any `Keeper`.
+//! Look-ups in any storage, and its load.
 
 use crate::failure::Failure;
 use std::alloc::Global;
@@ -10,13 +10,13 @@ use thes_store::keeper::Keeper;
 use thes_store::sink::RowSink;
 use thes_tables::cells::Cell;
 
-// Returns whether the key of a posting has one.
+// Returns whether the key of this number has a posting.
 fn is_found<K: Keeper>(alloc: Global, keeper: &mut K, number: u32) -> Result<bool, Failure> {
     let key = Key::read(alloc, name_with_number(alloc, "k", number)?.as_str())?;
     Ok(keeper.find(&key)?.is_some())
 }
 
-/// Looks up `count` keys, and counts those that have a posting.
+/// Looks up `count` keys, and returns the number of those that have a posting.
 pub fn find_all<K: Keeper>(
     alloc: Global,
     keeper: &mut K,
@@ -33,7 +33,7 @@ pub fn find_all<K: Keeper>(
     Ok(found)
 }
 
-// Looks up a posting by its number, and counts its moves.
+// Looks up a posting by its number, and returns the number of its moves.
 fn count_moves<K: Keeper>(keeper: &mut K, number: PostNo) -> Result<usize, Failure> {
     match keeper.posting(number)? {
         Some(posting) => Ok(posting.moves.as_slice().len()),
@@ -41,7 +41,7 @@ fn count_moves<K: Keeper>(keeper: &mut K, number: PostNo) -> Result<usize, Failu
     }
 }
 
-/// Looks up `count` postings by number, and counts their moves.
+/// Looks up `count` postings by number, and returns the number of all their moves.
 pub fn count_all_moves<K: Keeper>(
     keeper: &mut K,
     posts: u32,
@@ -55,7 +55,7 @@ pub fn count_all_moves<K: Keeper>(
     Ok(moves)
 }
 
-/// A sink that counts rows.
+/// A sink that counts the rows that it receives.
 #[derive(Drop)]
 pub struct Counter {
     pub rows: u64,
@@ -69,12 +69,12 @@ impl RowSink for Counter {
         Ok(())
     }
 
-    fn unqueried(&mut self, _table: Table) -> Result<(), Fault> {
+    fn report_unqueried(&mut self, _table: Table) -> Result<(), Fault> {
         Ok(())
     }
 }
 
-/// Loads all rows, and counts them.
+/// Loads all rows, and returns their number.
 pub fn load_all<K: Keeper>(keeper: &mut K) -> Result<u64, Failure> {
     let mut counter = Counter { rows: 0 };
     keeper.load(&mut counter)?;

@@ -1,4 +1,4 @@
-//! Tests texts at the limits of their forms.
+//! Tests of texts at the limits of their forms.
 use Form::{Base, Iri, Key, Note, Record, Tag, Text};
 use std::alloc::{AllocError, Global};
 use std::test::Fail;
@@ -7,7 +7,7 @@ use thes_base::form;
 use thes_base::form::{BaseForm, IriForm, KeyForm, NoteForm, RecordNameForm, TagForm, TextForm};
 use thes_base::text::{self, Formed};
 
-// The form as which a text is read.
+// The form in which a text is read.
 #[derive(Clone, Copy, Debug, PartialEq, Eq)]
 enum Form {
     Tag,
@@ -31,7 +31,7 @@ impl Form {
     }
 }
 
-// Returns the stored form of a text and checks that its clone is equal, or else returns "".
+// Returns the stored form of a text, or an empty text if its clone isn't equal to it.
 fn reread<F: form::Form>(alloc: Global, text: &str) -> Result<String, ReadStop> {
     let read: Formed<F> = Formed::read(alloc, text)?;
     let clone = read.try_clone(alloc)?;
@@ -41,8 +41,8 @@ fn reread<F: form::Form>(alloc: Global, text: &str) -> Result<String, ReadStop> 
     Ok(String::from_str(alloc, clone.as_str())?)
 }
 
-// Returns the stored form of a text, if it has the form.
-fn kept(alloc: Global, form: Form, given: &str) -> Result<String, ReadStop> {
+// Returns the stored form of a text, or the fault of a text without the form.
+fn stored_form(alloc: Global, form: Form, given: &str) -> Result<String, ReadStop> {
     match form {
         Tag => reread::<TagForm>(alloc, given),
         Text => reread::<TextForm>(alloc, given),
@@ -81,7 +81,7 @@ static KEPT: [(Form, &str); 21] = [
 #[test]
 fn a_text_of_the_form_is_kept(rt: HostRuntime) -> Result<(), Fail> {
     for (form, given) in &KEPT {
-        let text = kept(rt.alloc(), *form, given)?;
+        let text = stored_form(rt.alloc(), *form, given)?;
         assert_eq!(rt; text.as_str(), *given, "{form:?}");
     }
     Ok(())
@@ -95,7 +95,7 @@ static LOWERED: [(&str, &str); 2] = [
 #[test]
 fn a_tag_is_kept_in_lower_case(rt: HostRuntime) -> Result<(), Fail> {
     for (given, lowered) in &LOWERED {
-        let text = kept(rt.alloc(), Tag, given)?;
+        let text = stored_form(rt.alloc(), Tag, given)?;
         assert_eq!(rt; text.as_str(), *lowered);
     }
     Ok(())
@@ -142,7 +142,7 @@ static REFUSED: [(Form, &[&str]); 5] = [
 fn a_text_of_another_form_is_refused(rt: HostRuntime) -> Result<(), Fail> {
     for (form, texts) in &REFUSED {
         for given in *texts {
-            let stop = kept(rt.alloc(), *form, given).err();
+            let stop = stored_form(rt.alloc(), *form, given).err();
             assert_eq!(rt;
                 stop,
                 Some(ReadStop::Form(form.fault())),
@@ -153,8 +153,8 @@ fn a_text_of_another_form_is_refused(rt: HostRuntime) -> Result<(), Fail> {
     Ok(())
 }
 
-// Returns a start followed by a letter `count` times.
-fn lengthened(
+// Returns a text of a start and a letter `count` times.
+fn with_repeated_letter(
     alloc: Global,
     start: &str,
     letter: char,
@@ -167,8 +167,8 @@ fn lengthened(
     Ok(text)
 }
 
-// The form, a start, the letter repeated after it, how often, and whether the text is short enough.
-// Limits count bytes: é has two.
+// A row of a table: the form, a start, the letter repeated after it, the number of repetitions, and
+// whether the text is short enough. Limits count bytes: é has two.
 static LENGTHS: [(Form, &str, char, usize, bool); 16] = [
     (Text, "", 'é', 128, true),
     (Text, "", 'é', 129, false),
@@ -191,8 +191,8 @@ static LENGTHS: [(Form, &str, char, usize, bool); 16] = [
 #[test]
 fn each_form_has_a_longest_text(rt: HostRuntime) -> Result<(), Fail> {
     for (form, start, letter, count, fits) in &LENGTHS {
-        let text = lengthened(rt.alloc(), start, *letter, *count)?;
-        let is_kept = kept(rt.alloc(), *form, text.as_str()).is_ok();
+        let text = with_repeated_letter(rt.alloc(), start, *letter, *count)?;
+        let is_kept = stored_form(rt.alloc(), *form, text.as_str()).is_ok();
         assert_eq!(rt; is_kept, *fits, "{form:?} {count}");
     }
     Ok(())

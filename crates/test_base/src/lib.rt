@@ -1,5 +1,5 @@
-//! Tests of thes_base. A crate of their own spares thes_base a new proof when a test changes, and
-//! functions without contracts prove quickly.
+//! Tests of thes_base. They are in a crate of their own, so that a changed test needs no new proof
+//! of thes_base; functions without contracts are proved quickly.
 #![tactic(auto)]
 
 #[cfg(test)]

@@ -1,4 +1,5 @@
-//! Tests the names, numbers and printed texts of refusals and faults, and the names of link kinds.
+//! Tests of the names, numbers and printed texts of refusals and faults, and of the names of link
+//! kinds.
 use std::alloc::{AllocError, Global};
 use std::fmt::Display;
 use std::process::Abort;
@@ -55,7 +56,7 @@ fn refusals_and_faults_have_names_and_numbers(rt: HostRuntime) {
     expect_faults(&rt, &FAULTS);
 }
 
-// Checks whether a fault is printed as a text.
+// Returns whether a fault is printed as this text.
 fn is_printed(alloc: Global, fault: impl Display + Drop, wanted: &str) -> Result<bool, AllocError> {
     let text = format!(in alloc; "{}", fault)?;
     Ok(text.as_str() == wanted)

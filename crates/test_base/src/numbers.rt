@@ -1,4 +1,4 @@
-//! Tests numbers as text: decimal digits without a leading zero, from 1 to 4,294,967,295.
+//! Tests of numbers as texts: decimal digits without a leading zero, from 1 to 4,294,967,295.
 use std::test::Fail;
 use thes_base::fault::FormFault;
 use thes_base::number::{MoveNo, PostNo, ResNo};

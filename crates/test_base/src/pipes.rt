@@ -1,4 +1,4 @@
-//! Tests what a pipe records of its device.
+//! Tests of pipes: what a pipe records of its device.
 use std::alloc::Global;
 use std::io;
 use std::io::{ErrorKind, Read, Write};
@@ -6,7 +6,7 @@ use std::process::Abort;
 use test_devices::{Filling, Halting};
 use thes_base::pipe::{Budget, Pipe, Stop};
 
-// What a pipe has recorded.
+// The event that a pipe has recorded, if there is only one.
 #[derive(Clone, Copy, Debug, PartialEq, Eq)]
 enum Noted {
     Nothing,
@@ -26,7 +26,7 @@ fn notes_of<T>(pipe: &Pipe<T>) -> Noted {
     }
 }
 
-// Reads once into four bytes, and returns the result, the bytes, and what the pipe recorded.
+// Reads once into four bytes, and returns the result, the bytes, and the event recorded.
 fn read_from<R: Read + Drop>(
     budget: &mut Budget,
     device: R,
@@ -37,7 +37,8 @@ fn read_from<R: Read + Drop>(
     (result, buffer, notes_of(&pipe))
 }
 
-// The bytes of a reader, the number of calls before it fails, and the outcome of reading it.
+// A row of a table: the bytes of a reader, the number of calls before it fails, and the outcome of
+// one read.
 type Reading = (&'static [u8], u32, Result<usize, Stop>, [u8; 4], Noted);
 
 static READINGS: [Reading; 3] = [
@@ -62,7 +63,7 @@ fn what_a_reader_does_is_noted(rt: HostRuntime) {
     expect_readings(&rt, &READINGS);
 }
 
-// Writes texts to a device, and returns the last result and what the pipe recorded.
+// Writes texts to a device until one fails, and returns the last result and the event recorded.
 fn write_to<W: Write>(
     budget: &mut Budget,
     pipe: &mut Pipe<W>,
@@ -85,7 +86,8 @@ fn filling(alloc: Global, calls: u32) -> Pipe<Filling> {
     })
 }
 
-// The texts, the number of calls before the writer is full, its bytes, and the outcome.
+// A row of a table: the texts, the number of calls before the writer is full, the bytes written,
+// and the outcome.
 type Writing = (
     &'static [&'static [u8]],
     u32,
@@ -113,7 +115,7 @@ fn what_a_writer_does_is_noted(rt: HostRuntime) {
     expect_writings(&rt, rt.alloc(), &WRITINGS);
 }
 
-// A reader that reports `Interrupted` at each call.
+// A reader that returns `Interrupted` from each call.
 #[derive(Drop)]
 struct Interrupted;
 
@@ -123,7 +125,7 @@ impl Read for Interrupted {
     }
 }
 
-// A reader that is always interrupted uses up the budget, so that none is left for a writer.
+// An interrupted reader uses up the budget, so that a writer with the same budget is denied.
 #[test]
 fn a_budget_used_up_is_noted(rt: HostRuntime) {
     let mut budget = Budget::new();

@@ -7,7 +7,7 @@ use thes_base::number::{MoveNo, PostNo, ResNo};
 use thes_base::request::{Command, PostNos};
 use thes_base::text::{Key, Note, RecordName, Tag, Text};
 
-// Checks whether a value equals its clone. Both are dropped here, since a function that drops a
+// Returns whether a value equals its clone. Both are dropped here, since a function that drops a
 // value of many parts is slow to prove.
 fn is_equal<T: PartialEq + Drop>(value: T, clone: Result<T, AllocError>) -> bool {
     match clone {
@@ -16,7 +16,7 @@ fn is_equal<T: PartialEq + Drop>(value: T, clone: Result<T, AllocError>) -> bool
     }
 }
 
-// Creates the value of a lexical label.
+// Returns the value of a lexical label of this kind: any kind but a scope note.
 fn name(kind: LabelKind, text: Text) -> LabelValue {
     match kind {
         LabelKind::Pref => LabelValue::Pref(text),
@@ -41,8 +41,8 @@ fn label(alloc: Global, kind: LabelKind, text: &str) -> Result<Label, ReadStop> 
     })
 }
 
-// Checks whether a label returns its kind and its text, and equals its clone.
-fn is_shown(alloc: Global, kind: LabelKind, text: &str) -> Result<bool, ReadStop> {
+// Returns whether a label has its kind and its text, and equals its clone.
+fn returns_its_parts(alloc: Global, kind: LabelKind, text: &str) -> Result<bool, ReadStop> {
     let label = label(alloc, kind, text)?;
     let shows = label.kind() == kind && label.text() == text;
     let clone = label.try_clone(alloc);
@@ -57,12 +57,12 @@ fn a_label_shows_its_kind_and_its_text(rt: HostRuntime) -> Result<(), Fail> {
         LabelKind::Hidden,
         LabelKind::Scope,
     ] {
-        assert!(rt; is_shown(rt.alloc(), kind, "Cats")?, "{kind:?}");
+        assert!(rt; returns_its_parts(rt.alloc(), kind, "Cats")?, "{kind:?}");
     }
     Ok(())
 }
 
-// Creates a history with the moves.
+// Returns a history of the posting 1 with these moves.
 fn history(alloc: Global, moves: Moves) -> Result<History, ReadStop> {
     let key = Key::read(alloc, "k1")?;
     let rec = RecordName::read(alloc, "r1")?;
@@ -76,11 +76,13 @@ fn history(alloc: Global, moves: Moves) -> Result<History, ReadStop> {
     })
 }
 
-fn unmoved(alloc: Global) -> Result<History, ReadStop> {
+// Returns a history without moves.
+fn history_without_moves(alloc: Global) -> Result<History, ReadStop> {
     history(alloc, Moves::new(alloc))
 }
 
-fn moved(alloc: Global) -> Result<History, ReadStop> {
+// Returns a history with one move.
+fn history_with_a_move(alloc: Global) -> Result<History, ReadStop> {
     let mut moves = Moves::new(alloc);
     moves.push(Move {
         number: MoveNo::new(1),
@@ -97,10 +99,10 @@ fn is_copied_history(alloc: Global, history: History) -> bool {
 
 #[test]
 fn a_history_is_equal_to_its_clone(rt: HostRuntime) -> Result<(), Fail> {
-    let moved_once = moved(rt.alloc())?;
+    let moved_once = history_with_a_move(rt.alloc())?;
     assert_eq!(rt; moved_once.moves.as_slice().len(), 1);
     assert!(rt; is_copied_history(rt.alloc(), moved_once));
-    assert!(rt; is_copied_history(rt.alloc(), unmoved(rt.alloc())?));
+    assert!(rt; is_copied_history(rt.alloc(), history_without_moves(rt.alloc())?));
     Ok(())
 }
 
@@ -110,7 +112,12 @@ fn is_same_history(one: &History, other: &History) -> bool {
 
 #[test]
 fn a_moved_history_is_another(rt: HostRuntime) -> Result<(), Fail> {
-    assert!(rt; !is_same_history(&moved(rt.alloc())?, &unmoved(rt.alloc())?));
+    assert!(rt;
+        !is_same_history(
+            &history_with_a_move(rt.alloc())?,
+            &history_without_moves(rt.alloc())?
+        )
+    );
     Ok(())
 }
 
@@ -170,16 +177,18 @@ fn a_post_is_equal_to_its_clone(rt: HostRuntime) -> Result<(), Fail> {
     Ok(())
 }
 
-fn listed(alloc: Global) -> Result<PostNos, AllocError> {
+// Returns the numbers 2 and 1, made from a vector.
+fn numbers_from_a_list(alloc: Global) -> Result<PostNos, AllocError> {
     let list = [PostNo::new(2), PostNo::new(1)].to_vec(alloc)?;
     Ok(PostNos::from(list))
 }
 
-fn pushed(alloc: Global) -> Result<PostNos, AllocError> {
-    let mut pushed = PostNos::new(alloc);
-    pushed.push(PostNo::new(2))?;
-    pushed.push(PostNo::new(1))?;
-    Ok(pushed)
+// Returns the numbers 2 and 1, pushed one by one.
+fn numbers_by_pushing(alloc: Global) -> Result<PostNos, AllocError> {
+    let mut numbers = PostNos::new(alloc);
+    numbers.push(PostNo::new(2))?;
+    numbers.push(PostNo::new(1))?;
+    Ok(numbers)
 }
 
 fn is_copied_list(alloc: Global, list: PostNos) -> bool {
@@ -189,9 +198,9 @@ fn is_copied_list(alloc: Global, list: PostNos) -> bool {
 
 #[test]
 fn a_list_of_postings_holds_what_was_pushed(rt: HostRuntime) -> Result<(), Fail> {
-    let two = pushed(rt.alloc())?;
+    let two = numbers_by_pushing(rt.alloc())?;
     assert_eq!(rt; two.as_slice().len(), 2);
-    assert!(rt; is_equal(two, listed(rt.alloc())));
-    assert!(rt; is_copied_list(rt.alloc(), listed(rt.alloc())?));
+    assert!(rt; is_equal(two, numbers_from_a_list(rt.alloc())));
+    assert!(rt; is_copied_list(rt.alloc(), numbers_from_a_list(rt.alloc())?));
     Ok(())
 }

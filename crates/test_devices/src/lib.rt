@@ -1,4 +1,5 @@
-//! Readers and writers for tests, which move few bytes a call, are interrupted, and fail; and pseudo-random numbers.
+//! Devices for tests: readers and writers that move few bytes a call, are interrupted, and fail; and pseudo-random
+//! numbers.
 #![tactic(auto)]
 
 pub mod numbers;
@@ -8,7 +9,7 @@ ghost use Rattle.std.specs.Prelude.{Some};
 use std::io;
 use std::io::{ErrorKind, Read, Write};
 
-// Counts one call off: an error when none is left, and an interruption at every other call before that.
+// Takes one of the calls left: fails if there is none, and else is interrupted at every other call.
 fn take_call(calls: &mut u32) -> Result<(), ErrorKind> {
     if *calls == 0 {
         return Err(ErrorKind::BrokenPipe);
@@ -20,7 +21,7 @@ fn take_call(calls: &mut u32) -> Result<(), ErrorKind> {
     Ok(())
 }
 
-/// A reader that returns at most three bytes at every other call, is interrupted at the calls between, and breaks after
+/// A reader that returns at most three bytes at every other call, is interrupted at the calls between, and fails after
 /// `calls` calls.
 #[derive(Drop)]
 pub struct Halting<'a> {
@@ -40,8 +41,8 @@ impl<'a> Read for Halting<'a> {
     }
 }
 
-/// A writer that takes one byte at every other call, and is interrupted at the calls between. After `calls` calls it
-/// breaks, or is full and takes no byte.
+/// A writer that accepts one byte at every other call, and is interrupted at the calls between. After `calls` calls it
+/// fails or, if `is_full`, accepts no byte.
 #[derive(Drop)]
 pub struct Filling {
     pub bytes: Vec<u8>,

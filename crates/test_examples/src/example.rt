@@ -1,33 +1,33 @@
-//! The form in which a file stores an example.
+//! Stored examples, and the form of their files.
 use std::alloc::{AllocError, Global};
 use thes_base::data::Limits;
 use thes_base::number::ResNo;
 
-/// How an example is run.
+/// The mode in which an example runs.
 #[derive(Clone, Copy, Debug, PartialEq, Eq)]
 pub enum Mode {
-    /// As a script, over a new store.
+    /// As a script over a new store.
     Script,
-    /// As one list of requests, over a new store.
+    /// As one list of requests over a new store.
     List,
-    /// As a script, with a reader and a writer that fail at each of their calls in turn.
+    /// As a script, with a reader and a writer that fail after each number of calls.
     Halting,
     /// As a script, with answers that no store gives.
     Fixed,
-    /// As requests that make a store, and one text written from it.
+    /// As requests that make a store, of which one text is written.
     Text,
 }
 
-/// Requests, and the answers or the text that are stored for them.
+/// An example: requests, and the answers or the text stored for them.
 #[derive(Drop)]
 pub struct Example<'a> {
     pub name: &'a str,
     pub mode: Mode,
     pub limits: Limits,
     pub requests: String,
-    /// The look-ups after the requests, one a line.
+    /// The look-ups after the requests, one on each line.
     pub lookups: String,
-    /// The text to write: `export`, or a display with its scheme and language. Empty if there is none.
+    /// The text to write: `export`, or a display with its scheme and language; empty if there is none.
     pub text: &'a str,
     pub answers: String,
 }
@@ -41,8 +41,8 @@ fn mode_for(text: &str) -> Mode {
 }
 
 impl<'a> Example<'a> {
-    /// Reads an example from the lines that begin each example of its file, and from its own lines, of which the first is its
-    /// name.
+    /// Parses an example from the lines common to all examples of its file, and from its own lines, of which the first
+    /// is its name.
     pub fn read(alloc: Global, start: &str, part: &'a str) -> Result<Example<'a>, AllocError> {
         let (own, written) = part.split_once("\n@ ").unwrap_or((part, ""));
         let (name, own) = own.split_once('\n').unwrap_or((own, ""));
@@ -65,7 +65,7 @@ impl<'a> Example<'a> {
         Ok(example)
     }
 
-    // Reads one line: a request, a look-up, a setting, a comment, nothing, or else an answer.
+    // Parses one line: a request, a look-up, a setting, a comment, a blank line, or else an answer.
     fn push(&mut self, line: &str) -> Result<(), AllocError> {
         if let Some(request) = line.strip_prefix("> ") {
             push_line(&mut self.requests, request)
@@ -78,7 +78,7 @@ impl<'a> Example<'a> {
         }
     }
 
-    // Reads a line that sets the mode or a limit, and returns whether it is one.
+    // Parses a line that sets the mode or a limit, and returns whether it is one.
     fn set(&mut self, line: &str) -> bool {
         let Some(setting) = line.strip_prefix("! ") else {
             return false;
@@ -92,7 +92,7 @@ impl<'a> Example<'a> {
         true
     }
 
-    // Reads the name of a limit and its number, and returns whether there is such a limit.
+    // Parses the name of a limit and its number, and returns whether there is such a limit.
     fn set_limit(&mut self, setting: &str) -> bool {
         let (name, number) = setting.split_once(' ').unwrap_or((setting, ""));
         let number = number_in(number);
@@ -112,7 +112,7 @@ fn number_in(text: &str) -> u32 {
     ResNo::read(text).map_or(0, ResNo::get)
 }
 
-/// Appends a line to a text.
+/// Appends a line and a line feed to a text.
 pub fn push_line(text: &mut String, line: &str) -> Result<(), AllocError> {
     text.push_str(line)?;
     text.push('\n')

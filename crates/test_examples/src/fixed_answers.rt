@@ -1,4 +1,4 @@
-//! Answers that no store gives.
+//! A handler with fixed answers, which no store gives.
 ghost use Rattle.std.specs.Prelude.{not};
 
 use std::alloc::Global;
@@ -6,30 +6,30 @@ use std::io::{Read, Write};
 use thes_base::fault::{Fault, PipeFault, Refusal, Table};
 use thes_base::pipe::Pipe;
 use thes_base::request::{Answer, Command};
-use thes_exchange::handler::{QueryAnswer, RequestHandler, ViewLine};
-use thes_exchange::request::Query;
-use thes_exchange::script::{Ended, script};
+use thes_requests::handler::{QueryAnswer, RequestHandler, ViewLine};
+use thes_requests::request::Query;
+use thes_requests::script::{ScriptEnd, script};
 
-/// Answers each withdrawal by the number of its posting, and refuses every other request. Posting 7 runs out of memory, and
-/// a later one also closes the handler.
+/// A handler that answers each withdrawal by the number of its posting, and refuses every other request. Posting 7 runs
+/// out of memory, and a later one also closes the handler.
 #[derive(Drop)]
 pub struct FixedAnswers {
     is_closed: bool,
 }
 
 impl FixedAnswers {
-    /// Creates an open handler.
+    /// Returns the handler, which is open.
     pub fn new() -> FixedAnswers {
         FixedAnswers { is_closed: false }
     }
 
-    /// Serves a script, and returns the writer and how the script ended.
+    /// Serves a script, and returns the writer and the end of the script.
     pub fn serve<R: Read + Drop, W: Write>(
         mut self,
         alloc: Global,
         input: R,
         output: W,
-    ) -> (W, Result<Ended, PipeFault>) {
+    ) -> (W, Result<ScriptEnd, PipeFault>) {
         if self.is_closed {
             return (output, Err(PipeFault::Fault(Fault::OutOfMemory)));
         }

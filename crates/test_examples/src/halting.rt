@@ -1,4 +1,4 @@
-//! Scripts whose reader or writer fails in mid-stream, at each of its calls in turn.
+//! Scripts whose reader or writer fails after each number of calls.
 use crate::example::{Example, push_line};
 use crate::modes::{text_of, with_end};
 use Failing::{FullWriter, Reader, Writer};
@@ -7,9 +7,10 @@ use std::io;
 use test_office::Store;
 use test_office::failing::Failing;
 use thes_base::fault::PipeFault;
-use thes_exchange::script::Ended;
+use thes_requests::script::ScriptEnd;
 
-// The number of requests performed: one for each answer, and one whose answer the writer failed to take.
+// Returns the number of requests performed: one for each answer and, if the writer failed, one whose answer wasn't
+// written.
 fn performed_count(failing: Failing, written: &str) -> usize {
     let answered = written.bytes().filter(|byte| *byte == b'\n').count();
     match failing {
@@ -21,19 +22,19 @@ fn performed_count(failing: Failing, written: &str) -> usize {
 // The outcome of a script whose reader or writer fails.
 #[derive(Clone, Copy, Debug, PartialEq, Eq)]
 enum Outcome {
-    /// Served to its end, as stored.
+    /// The script ran to its end, with the stored answers.
     Whole,
-    /// Cut short, and resumed by the same store as stored.
+    /// The script stopped, and the same store answered the other requests as stored.
     Resumed,
-    /// Anything else.
+    /// The script gave another answer, or stopped otherwise.
     Wrong,
 }
 
-/// Runs a script with a reader and a writer that fail after each number of calls. Returns the stored answers, or the first
-/// device and number of calls with a wrong outcome.
+/// Runs a script with a reader and a writer that fail after each number of calls. Returns the stored answers, or the
+/// first device and number of calls with a wrong outcome.
 ///
-/// The text written must be a prefix of the stored answers, and the requests performed exactly those answered, with the one
-/// whose answer the writer failed to take: the same store must answer the later requests as stored.
+/// The text written must be a prefix of the stored answers, and exactly the requests answered must be performed, with
+/// the one whose answer the writer failed to accept: the same store must answer the later requests as stored.
 pub fn halting_answers(alloc: Global, example: &Example) -> io::Result<String> {
     for failing in [Reader, Writer, FullWriter] {
         if let Some(calls) = first_wrong(alloc, example, failing)? {
@@ -43,7 +44,7 @@ pub fn halting_answers(alloc: Global, example: &Example) -> io::Result<String> {
     Ok(String::from_str(alloc, example.answers.as_str())?)
 }
 
-// The first number of calls after which a failing device gives a wrong outcome.
+// Returns the first number of calls after which a failing device gives a wrong outcome.
 fn first_wrong(alloc: Global, example: &Example, failing: Failing) -> io::Result<Option<u32>> {
     for calls in 0..u32::MAX {
         match outcome_after(alloc, example, failing, calls)? {
@@ -89,7 +90,7 @@ fn outcome_in(
 
 fn outcome_of_whole(
     written: String,
-    ended: Result<Ended, PipeFault>,
+    ended: Result<ScriptEnd, PipeFault>,
     expected: &str,
 ) -> io::Result<Outcome> {
     if with_end(written, ended)?.as_str() == expected {
@@ -98,7 +99,7 @@ fn outcome_of_whole(
     Ok(Outcome::Wrong)
 }
 
-// Has the store answer the requests after those performed.
+// Returns the outcome of the requests after those performed, which the store must answer as stored.
 fn outcome_of_rest(
     alloc: Global,
     store: &mut Store,
@@ -114,7 +115,7 @@ fn outcome_of_rest(
     Ok(Outcome::Wrong)
 }
 
-// The lines after the first `skipped` ones.
+// Returns the lines of a text after the first `skipped` ones.
 fn lines_after(alloc: Global, text: &str, skipped: usize) -> Result<String, AllocError> {
     let mut rest = String::new(alloc);
     let mut before = skipped;

@@ -1,4 +1,4 @@
-//! Requests performed as one list.
+//! Requests that are performed as one list.
 use crate::example::Example;
 use crate::modes::text_of;
 use std::alloc::{AllocError, Global};
@@ -6,10 +6,11 @@ use std::io;
 use std::io::ErrorKind;
 use test_office::Store;
 use thes_base::request::{Answer, Command};
-use thes_exchange::answer::{Reply, reply_line};
-use thes_exchange::request::{Memory, Request, read_request};
+use thes_requests::answer::{Reply, reply_line};
+use thes_requests::request::{Request, RequestScratch, read_request};
 
-/// Performs the requests of an example over a new store, in one call, and returns the answers. Each must be a command.
+/// Performs the requests of an example over a new store, by one call, and returns the answers; each request must be a
+/// command.
 pub fn list_answers(alloc: Global, example: &Example) -> io::Result<String> {
     let mut store = Store::new(alloc, example.limits)?;
     let mut answers: Vec<Answer> = Vec::new(alloc);
@@ -40,9 +41,9 @@ fn push_commands(alloc: Global, requests: &str, commands: &mut Vec<Command>) -> 
     Ok(())
 }
 
-/// Reads the command of a line.
+/// Parses the command of a line; a query is an error.
 pub fn command_in(alloc: Global, line: &str) -> io::Result<Command> {
-    match read_request(&mut Memory::new(alloc), line.as_bytes()) {
+    match read_request(&mut RequestScratch::new(alloc), line.as_bytes()) {
         Ok(Request::Do(command)) => Ok(command),
         _ => Err(io::Error::from(ErrorKind::InvalidInput)),
     }

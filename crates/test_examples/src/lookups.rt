@@ -1,4 +1,4 @@
-//! Look-ups by calls that no request makes.
+//! Look-ups by calls of the core and the office that no request makes.
 ghost use Rattle.std.specs.Prelude.{◌≡◌, false};
 
 use crate::list::command_in;
@@ -11,10 +11,10 @@ use thes_base::request::Command;
 use thes_base::text::{Iri, Tag, Text};
 use thes_core::Core;
 use thes_core::reading::Sizes;
-use thes_exchange::request::{Memory, read_request};
 use thes_office::numbers::Numbers;
+use thes_requests::request::{RequestScratch, read_request};
 
-/// Performs a look-up, given as its name and its arguments, and returns what it found.
+/// Performs the look-up that a line gives by its name and arguments, and returns the result as a text.
 pub fn look_up(alloc: Global, store: &mut Store, words: &str) -> Option<String> {
     let (name, words) = words.split_once(' ').unwrap_or((words, ""));
     match name {
@@ -25,7 +25,7 @@ pub fn look_up(alloc: Global, store: &mut Store, words: &str) -> Option<String> 
     }
 }
 
-// Performs a look-up of the core: in its vocabulary, links and counts.
+// Performs a look-up in the core: in its vocabulary, links or counts.
 fn look_up_in(alloc: Global, core: &Core, name: &str, words: &str) -> Option<String>
     requires { core.now.spent ≡ false }
 {
@@ -61,7 +61,7 @@ fn sizes_text(alloc: Global, sizes: &Sizes) -> Result<String, AllocError> {
     Ok(text)
 }
 
-// The place of a posting, or its last one if it is withdrawn.
+// Returns the concept to which a posting is assigned, or was before it was withdrawn.
 fn place(alloc: Global, store: &mut Store, words: &str) -> Option<String> {
     let history = store.office().posting(PostNo::read(words).ok()?).ok()??;
     number_text(alloc, place_of(&history).get())
@@ -74,7 +74,7 @@ fn place_of(history: &History) -> ResNo {
     }
 }
 
-// The numbers of the postings assigned to a concept.
+// Returns the numbers of the postings assigned to a concept.
 fn postings_at(alloc: Global, store: &mut Store, words: &str) -> Option<String> {
     let mut numbers = Numbers::new(alloc);
     let concept = ResNo::read(words).ok()?;
@@ -92,14 +92,14 @@ fn numbers_text(alloc: Global, numbers: &[PostNo]) -> Result<String, AllocError>
     Ok(text)
 }
 
-// Whether the number is that of a live resource.
+// Returns whether a number is that of a live resource.
 fn is_live(alloc: Global, core: &Core, words: &str) -> Option<String>
     requires { core.now.spent ≡ false }
 {
     yes_or_no(alloc, core.is_live(ResNo::read(words).ok()?))
 }
 
-// The preferred label of a resource in a language.
+// Returns the preferred label of a resource in a language.
 fn preferred_label(alloc: Global, core: &Core, words: &str) -> Option<String>
     requires { core.now.spent ≡ false }
 {
@@ -109,7 +109,7 @@ fn preferred_label(alloc: Global, core: &Core, words: &str) -> Option<String>
     String::from_str(alloc, core.preferred(owner, &tag)?.as_str()).ok()
 }
 
-// The labels of a resource.
+// Returns all labels of a resource.
 fn labels_of(alloc: Global, core: &Core, words: &str) -> Option<String>
     requires { core.now.spent ≡ false }
 {
@@ -125,7 +125,7 @@ fn labels_text(alloc: Global, labels: &[Label]) -> Result<String, AllocError> {
     Ok(list)
 }
 
-// The concept of a scheme that has this preferred label.
+// Returns the concept of a scheme that has this preferred label in a language.
 fn holder(alloc: Global, core: &Core, words: &str) -> Option<String>
     requires { core.now.spent ≡ false }
 {
@@ -137,7 +137,7 @@ fn holder(alloc: Global, core: &Core, words: &str) -> Option<String>
     number_text(alloc, core.holder(scheme, &tag, &text)?.get())
 }
 
-// The number of the outside concept with this IRI.
+// Returns the number of the outside concept with this IRI.
 fn outside_number(alloc: Global, core: &Core, words: &str) -> Option<String>
     requires { core.now.spent ≡ false }
 {
@@ -145,7 +145,7 @@ fn outside_number(alloc: Global, core: &Core, words: &str) -> Option<String>
     number_text(alloc, core.outside(&iri)?.get())
 }
 
-// The IRI of an outside concept.
+// Returns the IRI of the outside concept with this number.
 fn outside_iri(alloc: Global, core: &Core, words: &str) -> Option<String>
     requires { core.now.spent ≡ false }
 {
@@ -153,23 +153,23 @@ fn outside_iri(alloc: Global, core: &Core, words: &str) -> Option<String>
     String::from_str(alloc, iri.as_str()).ok()
 }
 
-// Whether the core has the link that a request would make.
+// Returns whether the core has the link that a request names.
 fn has_link(alloc: Global, core: &Core, words: &str) -> Option<String>
     requires { core.now.spent ≡ false }
 {
     yes_or_no(alloc, core.has(&link_in(alloc, words)?))
 }
 
-// The name of the fault for a text that is no request.
+// Returns the name of the form fault of a text that isn't a request.
 fn form_fault(alloc: Global, text: &str) -> Option<String> {
-    let stop = read_request(&mut Memory::new(alloc), text.as_bytes()).err()?;
+    let stop = read_request(&mut RequestScratch::new(alloc), text.as_bytes()).err()?;
     match stop {
         ReadStop::Form(fault) => String::from_str(alloc, fault.name()).ok(),
         ReadStop::OutOfMemory => None,
     }
 }
 
-// The link that a request would make.
+// Returns the link in a request to add or remove one.
 fn link_in(alloc: Global, words: &str) -> Option<Link> {
     let command = command_in(alloc, words).ok()?;
     let link = link_of(&command);

@@ -1,5 +1,5 @@
-//! Runs stored examples, each over a new store, and reports those whose answers or text differ from what is stored. The
-//! arguments name the files; "Stored examples" in CONTRIBUTING.md defines their form. Files whose names begin with
+//! Runs stored examples, each over a new store, and prints those whose answers or text differ from the stored ones. The
+//! arguments name the files; "Stored examples" in CONTRIBUTING.md defines their form. Files with names that begin with
 //! `tables` hold the tables of stores instead, each with the expected verdict of its load.
 #![tactic(auto)]
 
@@ -18,7 +18,7 @@ use crate::tables::{TableExample, load_verdict};
 use std::alloc::Global;
 use std::{env, fs, io};
 
-// Reports the first line that differs from the stored one.
+// Prints the first line that differs from the stored one.
 fn report_difference<R: Print>(rt: &R, example: &Example, answers: &str) -> io::Result<()> {
     let mut answers = answers.lines();
     for expected in example.answers.as_str().lines() {
@@ -31,7 +31,7 @@ fn report_difference<R: Print>(rt: &R, example: &Example, answers: &str) -> io::
     println!(rt; "  {}: {}", example.name, answers.next().unwrap_or(""))
 }
 
-// Runs the examples of a file, and counts them and those that differ from what is stored.
+// Runs the examples of a file, and prints their number and that of those that differ from the stored answers.
 fn run_file<R: Print>(rt: &R, alloc: Global, name: &str, text: &str) -> io::Result<()> {
     let mut parts = text.split("\n% ");
     let start = parts.next().unwrap_or("");
@@ -49,7 +49,7 @@ fn run_file<R: Print>(rt: &R, alloc: Global, name: &str, text: &str) -> io::Resu
     println!(rt; "  {examples} examples, {differing} other than stored")
 }
 
-// Loads the tables of a file, and counts those whose verdict isn't the expected one.
+// Loads the tables of a file, and prints their number and that of those whose verdict isn't the expected one.
 fn run_tables<R: Print>(rt: &R, alloc: Global, name: &str, text: &str) -> io::Result<()> {
     let mut parts = text.split("\n% ");
     let start = parts.next().unwrap_or("");

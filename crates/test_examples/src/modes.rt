@@ -1,4 +1,4 @@
-//! The modes in which an example is run.
+//! The modes in which an example runs.
 use crate::example::{Example, Mode, push_line};
 use crate::fixed_answers::FixedAnswers;
 use crate::halting::halting_answers;
@@ -9,10 +9,10 @@ use std::alloc::{AllocError, Global};
 use std::io;
 use test_office::Store;
 use thes_base::fault::PipeFault;
-use thes_exchange::script::Ended;
+use thes_requests::script::ScriptEnd;
 
-/// Runs an example, and returns its answers with those of its look-ups, or its text. A further line says how a script
-/// ended, if its answers don't show it.
+/// Runs an example, and returns its answers with those of its look-ups, or its text. A further line names the end of a
+/// script, if its answers don't show it.
 pub fn run(alloc: Global, example: &Example) -> io::Result<String> {
     match example.mode {
         Mode::Script => script_answers(alloc, example),
@@ -54,16 +54,23 @@ fn fixed_answers(alloc: Global, example: &Example) -> io::Result<String> {
     with_end(text_of(written)?, ended)
 }
 
-/// Appends a line that says how the script ended, unless it ended without a fault, and as refused exactly when an answer
+/// Appends a line that names the end of a script, unless it ended without a fault, and as refused exactly if an answer
 /// is a refusal.
-pub fn with_end(mut answers: String, ended: Result<Ended, PipeFault>) -> io::Result<String> {
+pub fn with_end(mut answers: String, ended: Result<ScriptEnd, PipeFault>) -> io::Result<String> {
     let refused = answers.as_str().lines().any(is_refusal);
-    let usual = Ended {
+    let usual = ScriptEnd {
         refused,
         fault: None,
     };
-    if ended != Ok(usual) {
-        write!(answers, "ended as {ended:?}\n")?;
+    match ended {
+        Ok(ended) if ended == usual => {}
+        Ok(ScriptEnd { refused, fault }) => {
+            write!(
+                answers,
+                "ended as Ok(Ended {{ refused: {refused}, fault: {fault:?} }})\n"
+            )?;
+        }
+        Err(fault) => write!(answers, "ended as Err({fault:?})\n")?,
     }
     Ok(answers)
 }
@@ -72,7 +79,7 @@ fn is_refusal(answer: &str) -> bool {
     answer.starts_with(r#"{"no""#) || answer.starts_with(r#"{"bad""#)
 }
 
-/// Converts bytes to a text.
+/// Converts bytes to a text; bytes that aren't UTF-8 are an error.
 pub fn text_of(bytes: Vec<u8>) -> io::Result<String> {
     String::from_utf8(bytes).map_err(|_| io::Error::from(io::ErrorKind::InvalidData))
 }

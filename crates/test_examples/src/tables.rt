@@ -1,4 +1,4 @@
-//! Stored tables: how a file writes them, and the verdict of a load. "Stored tables" in CONTRIBUTING.md defines the form.
+//! Stored tables, and the verdict of their load. "Stored tables" in CONTRIBUTING.md defines the form of their files.
 use std::alloc::Global;
 use std::io;
 use thes_base::data::Limits;
@@ -8,18 +8,18 @@ use thes_core::Core;
 use thes_office::{CellRow, CellRows, from_rows};
 use thes_tables::cells::{Cell, CellText};
 
-/// Rows of tables, with the expected verdict.
+/// Rows of tables, with the expected verdict of their load.
 #[derive(Drop)]
 pub struct TableExample<'a> {
     pub name: &'a str,
-    // Each is the name of its table, a space, and its cells.
+    // Each row is the name of its table, a space, and its cells.
     rows: Vec<&'a str>,
     lost: Vec<&'a str>,
     pub verdict: &'a str,
 }
 
 impl<'a> TableExample<'a> {
-    /// Parses an example: the lines common to all examples of its file, and its own lines, which are its name, its
+    /// Parses an example from the lines common to all examples of its file, and from its own lines: its name, its
     /// changes of rows, and its verdict.
     pub fn read(alloc: Global, start: &'a str, part: &'a str) -> io::Result<TableExample<'a>> {
         let mut example = TableExample {
@@ -37,7 +37,7 @@ impl<'a> TableExample<'a> {
         Ok(example)
     }
 
-    // Applies the change of a line.
+    // Applies the change of rows that a line gives.
     fn change(&mut self, line: &'a str) -> io::Result<()> {
         let (sign, rest) = line.split_once(' ').unwrap_or((line, ""));
         match sign {
@@ -62,7 +62,7 @@ impl<'a> TableExample<'a> {
         }
     }
 
-    // The rows of a table, or None if it can't be queried.
+    // Returns the rows of a table, or None if it can't be queried.
     fn table(&self, alloc: Global, name: &str) -> io::Result<Option<Vec<CellRow>>> {
         if self.lost.iter().any(|lost| *lost == name) {
             return Ok(None);
@@ -77,7 +77,7 @@ impl<'a> TableExample<'a> {
         Ok(Some(rows))
     }
 
-    // The rows of all tables.
+    // Returns the rows of all tables.
     fn rows(&self, alloc: Global) -> io::Result<CellRows> {
         Ok(CellRows {
             meta: self.table(alloc, "meta")?,
@@ -92,7 +92,7 @@ impl<'a> TableExample<'a> {
     }
 }
 
-// The error for a line of no known form.
+// Returns the error for a line of unknown form.
 fn invalid() -> io::Error {
     io::Error::from(io::ErrorKind::InvalidData)
 }
@@ -117,7 +117,7 @@ fn cell_in(alloc: Global, cell: &str) -> io::Result<Cell> {
     }
 }
 
-/// Loads the rows, and returns the verdict: a fault, or the sizes of the core and the count of each concept.
+/// Loads the rows, and returns the verdict: a fault, or the sizes of the core and the counts of its concepts.
 pub fn load_verdict(alloc: Global, example: &TableExample) -> io::Result<String> {
     match from_rows(alloc, example.rows(alloc)?, Limits::default()) {
         Ok(core) => sizes_of(alloc, &core),
@@ -126,7 +126,7 @@ pub fn load_verdict(alloc: Global, example: &TableExample) -> io::Result<String>
     }
 }
 
-// The sizes of a core, and the counts of its concepts that aren't 0.
+// Returns the sizes of a core, and the counts of its concepts that aren't 0.
 fn sizes_of(alloc: Global, core: &Core) -> io::Result<String> {
     if core.is_spent() {
         return Err(invalid());

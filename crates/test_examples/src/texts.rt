@@ -1,4 +1,4 @@
-//! Exports and displays of a store that an example's requests make.
+//! Exports and displays of the store that an example's requests make.
 use std::alloc::Global;
 use std::io;
 use test_office::ways::{display_in, export_in};
@@ -8,7 +8,7 @@ use thes_base::text::Tag;
 use thes_display::writing::DisplayOutcome;
 use thes_http::service::Display;
 
-/// Returns a text of the store that the requests make: its export, a display, or the name of the display's refusal.
+/// Returns a text of the store after the requests: its export, a display, or the name of the refusal of a display.
 pub fn text_after(alloc: Global, requests: &str, text: &str) -> io::Result<String> {
     match text {
         "export" => export_after(alloc, requests),
@@ -39,7 +39,7 @@ fn display_kind(name: &str) -> io::Result<Display> {
     }
 }
 
-// Returns the display of a store, or the name of its refusal.
+// Returns a display of a store, or the name of its refusal.
 fn display_text(
     alloc: Global,
     store: &mut Store,
@@ -56,7 +56,7 @@ fn display_text(
     }
 }
 
-// Returns the display that is named by its kind, scheme and language.
+// Returns the display, given by its kind, scheme and language, of the store after the requests.
 fn display_after(alloc: Global, requests: &str, text: &str) -> io::Result<String> {
     let mut words = text.split(' ');
     let display = display_kind(words.next().unwrap_or(""))?;

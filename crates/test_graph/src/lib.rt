@@ -1,4 +1,4 @@
-//! Tests of the graph of links.
+//! Tests of the graph of links: worked examples, and random graphs.
 #![tactic(auto)]
 
 #[cfg(test)]

@@ -31,7 +31,7 @@ fn mark(graph: &mut Graph, n: u32) -> Result<(), AllocError> {
     graph.mark_outside(n)
 }
 
-// Returns the refusal of the link, if any, or the first rule that the graph breaks.
+// Checks whether the link may be added, and whether the graph keeps the rules; returns the first refusal.
 fn check_link(alloc: Global, graph: &Graph, link: &Link) -> Result<Option<Refusal>, AllocError> {
     if link.a == link.b {
         return Ok(Some(Refusal::SameResource));
@@ -45,7 +45,7 @@ fn check_link(alloc: Global, graph: &Graph, link: &Link) -> Result<Option<Refusa
     }
 }
 
-// Adds the link, unless it is refused, and returns the refusal.
+// Adds the link unless it is refused, and returns the refusal.
 fn try_add(alloc: Global, graph: &mut Graph, link: &Link) -> Result<Option<Refusal>, AllocError> {
     let answer = check_link(alloc, graph, link)?;
     if answer.is_none() && link.a != link.b {
@@ -54,7 +54,7 @@ fn try_add(alloc: Global, graph: &mut Graph, link: &Link) -> Result<Option<Refus
     Ok(answer)
 }
 
-// Returns the refusal of the merge, if any, or the first rule that the graph breaks.
+// Checks whether the merge is allowed, and whether the graph keeps the rules; returns the first refusal.
 fn check_merge(
     alloc: Global,
     graph: &Graph,
@@ -76,7 +76,7 @@ fn check_merge(
 
 type Step = (LinkKind, u32, u32, Option<Refusal>);
 
-// Tries to add each of the links, and compares the answers.
+// Tries to add each of the links in order, and compares the answers with the expected ones.
 fn run(rt: &impl Abort, alloc: Global, graph: &mut Graph, steps: &[Step]) -> Result<(), Fail> {
     for (i, (kind, a, b, wanted)) in steps.iter().enumerate() {
         let answer = try_add(alloc, graph, &link(*kind, *a, *b))?;
@@ -158,7 +158,7 @@ fn worked_links(rt: HostRuntime) -> Result<(), Fail> {
     Ok(())
 }
 
-// Links, a merge of the first node into the second after these, and the expected answer.
+// A row of a table: links, a merge of the first node into the second after these, and the expected answer.
 type Merge<'a> = (&'a [Step], u32, u32, Option<Refusal>);
 
 #[test]
@@ -191,7 +191,7 @@ fn worked_merges(rt: HostRuntime) -> Result<(), Fail> {
     Ok(())
 }
 
-// What a reader of the graph is expected to return.
+// A fact about the graph, with the expected value of one of its queries.
 #[derive(Clone, Copy)]
 enum Fact {
     Size(u64),
@@ -203,13 +203,13 @@ enum Fact {
     Mappings(u32, &'static [(LinkKind, u32)]),
 }
 
-// Checks that the list has exactly these numbers, in this order.
+// Returns whether the list has exactly these numbers, in this order.
 fn are(found: Result<Vec<ResNo>, AllocError>, wanted: &[u32]) -> Result<bool, AllocError> {
     let found = found?;
     Ok(found.len() == wanted.len() && found.iter().zip(wanted.iter()).all(|(n, m)| n.get() == *m))
 }
 
-// Checks that the list has exactly these mappings, in this order.
+// Returns whether the list has exactly these mappings, in this order.
 fn are_mappings(
     found: Result<Vec<(LinkKind, ResNo)>, AllocError>,
     wanted: &[(LinkKind, u32)],
@@ -236,7 +236,7 @@ fn holds(alloc: Global, graph: &Graph, fact: Fact) -> Result<bool, AllocError> {
     }
 }
 
-// Checks that each of these facts holds in the graph.
+// Checks that each of these facts holds of the graph.
 fn expect(rt: &impl Abort, alloc: Global, graph: &Graph, facts: &[Fact]) -> Result<(), Fail> {
     for (i, fact) in facts.iter().enumerate() {
         assert!(rt; holds(alloc, graph, *fact)?, "fact {i}");
@@ -270,7 +270,7 @@ fn merge(graph: &mut Graph, source: u32, target: u32) -> Result<(), AllocError> 
     Ok(())
 }
 
-// Checks that a merge transfers the links to the target, drops those to itself, and joins equal ones.
+// Checks that a merge transfers links to the target, removes those to itself, and merges equal ones.
 fn expect_merge(rt: &impl Abort, alloc: Global, graph: &mut Graph) -> Result<(), Fail> {
     mark(graph, 5)?;
     run(rt, alloc, graph, &BEFORE_THE_MERGE)?;
@@ -345,7 +345,7 @@ fn visits(alloc: Global, graph: &Graph, link: &Link) -> Result<Option<u64>, Allo
     }
 }
 
-// Links that are far from an edit aren't visited.
+// A check visits no links that are far from the edit.
 #[test]
 fn visits_near_the_edit(rt: HostRuntime) -> Result<(), Fail> {
     let alloc = rt.alloc();
@@ -354,12 +354,12 @@ fn visits_near_the_edit(rt: HostRuntime) -> Result<(), Fail> {
     for n in 5..505u32 {
         run(&rt, alloc, &mut graph, &[(Broader, n, n + 1, None)])?;
     }
-    // a look-up; neither a search up nor one down leads to 4
+    // One visit for a look-up: neither the upward nor the downward search leads to 4.
     assert_eq!(rt; visits(alloc, &graph, &link(Related, 2, 4))?, Some(1));
     Ok(())
 }
 
-// A search up reads none of the other links below a broad concept.
+// An upward search reads none of the other links below a broad concept.
 #[test]
 fn visits_on_one_side(rt: HostRuntime) -> Result<(), Fail> {
     let alloc = rt.alloc();
@@ -368,7 +368,7 @@ fn visits_on_one_side(rt: HostRuntime) -> Result<(), Fail> {
     for n in 2..503u32 {
         run(&rt, alloc, &mut graph, &[(Broader, n, 1, None)])?;
     }
-    // a look-up, and a read of the link up from 2
+    // One visit for a look-up, and one for the link up from 2.
     assert_eq!(rt; visits(alloc, &graph, &link(Broader, 600, 2))?, Some(2));
     Ok(())
 }
@@ -394,7 +394,7 @@ fn visits_of_merge(
     }
 }
 
-// If the search up is short, no link below a broad concept is read, although the edit is at this concept.
+// If the upward search is short, no link below a broad concept is read, even if the edit is at this concept.
 #[test]
 fn visits_above_a_broad_concept(rt: HostRuntime) -> Result<(), Fail> {
     let alloc = rt.alloc();
@@ -403,15 +403,16 @@ fn visits_above_a_broad_concept(rt: HostRuntime) -> Result<(), Fail> {
     for n in 2..503u32 {
         run(&rt, alloc, &mut graph, &[(Broader, n, 1, None)])?;
     }
-    // a look-up, and a read of the link up from 600
+    // One visit for a look-up, and one for the link up from 600.
     assert_eq!(rt; visits(alloc, &graph, &link(Broader, 1, 600))?, Some(2));
     run(&rt, alloc, &mut graph, &[(Broader, 1, 600, None)])?;
-    // reads of the links up from the target and from 600
+    // One visit for the link up from the target, and one for that from 600.
     assert_eq!(rt; visits_of_merge(alloc, &graph, 700, 1)?, Some(2));
     Ok(())
 }
 
-// The naive program: returns the broader node that the link leads to from `x`, or with `exact` the exact match.
+// Returns the node to which the link leads from `x`, its broader node or, if `exact`, its exact match, for the naive
+// program.
 fn next(link: &Link, exact: bool, x: ResNo) -> Option<ResNo> {
     match link.kind {
         Exact if exact && link.a == x => Some(link.b),
@@ -423,7 +424,7 @@ fn next(link: &Link, exact: bool, x: ResNo) -> Option<ResNo> {
     }
 }
 
-// Returns all nodes that one or more steps lead to.
+// Returns all nodes to which one or more links lead from a node, for the naive program.
 fn chains(
     alloc: Global,
     links: &[Link],
@@ -474,7 +475,7 @@ fn plain(alloc: Global, links: &[Link]) -> Result<Option<Refusal>, AllocError> {
     Ok(None)
 }
 
-// Returns the links after a merge, in a list that may have duplicates.
+// Returns the links after a merge, in a list that may have duplicates, for the naive program.
 fn plain_merge(
     alloc: Global,
     links: &[Link],
@@ -496,7 +497,7 @@ fn plain_merge(
     Ok(merged)
 }
 
-// Returns a random link of any kind, whose ends are among the first `nodes` nodes.
+// Returns a random link of any kind between two of the first `nodes` nodes.
 fn any_link(numbers: &mut Numbers, nodes: u32) -> Link {
     let kind = match numbers.below(13) {
         0 | 1 => Broader,
@@ -516,7 +517,7 @@ fn any_link(numbers: &mut Numbers, nodes: u32) -> Link {
     link(kind, a.saturating_add(1), b.saturating_add(1))
 }
 
-// Adds the link to a graph that keeps the rules, and returns what the check at its first end finds.
+// Adds the link to a graph that keeps the rules, and returns what a check at its first end finds.
 fn check_added(
     alloc: Global,
     graph: &mut Graph,
@@ -535,7 +536,7 @@ fn check_added(
     }
 }
 
-// Tries a link on a graph that keeps the rules, and compares each answer with that of the naive program.
+// Tries to add a link to a graph that keeps the rules, and compares each answer with that of the naive program.
 fn compare(
     rt: &impl Abort,
     alloc: Global,
@@ -560,8 +561,8 @@ fn compare(
     Ok(())
 }
 
-// Counts the different links. Those of a symmetric kind are equal in either order; a mapping is symmetric unless an
-// end is an outside concept.
+// Counts the different links, for the naive program. Those of a symmetric kind are equal in either direction; a mapping
+// is symmetric unless an end is an outside concept.
 fn count_different(alloc: Global, graph: &Graph, links: &[Link]) -> Result<usize, AllocError> {
     let mut met = BTreeSet::new(alloc);
     for link in links {
@@ -584,7 +585,8 @@ fn count_different(alloc: Global, graph: &Graph, links: &[Link]) -> Result<usize
     Ok(met.len())
 }
 
-// Tries a merge on a graph that keeps the rules, and compares the answer and the links after it.
+// Tries a merge in a graph that keeps the rules, and compares the answer and the links after it with those of the naive
+// program.
 fn compare_merge(
     rt: &impl Abort,
     alloc: Global,

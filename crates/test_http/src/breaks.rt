@@ -1,5 +1,5 @@
-//! Tests with a reader and a writer that fail at each of their calls: the output is a prefix of the
-//! response, and the service has done what the whole response reports, or nothing if the request is
+//! Tests with a reader and a writer that fail after each number of calls: the output is a prefix of
+//! the response, and the service has performed the request, or nothing if the request is
 //! incomplete.
 use crate::counter::{CountingService, PAGE};
 use std::alloc::{AllocError, Global};
@@ -9,10 +9,11 @@ use thes_base::pipe::Pipe;
 use thes_http::Status;
 use thes_http::serve::{ConnectionEnd, serve_one};
 
-// A request, the status of its response, the number of operations performed, and the response.
+// A row of a table: a request, the status of its response, the number of operations performed, and
+// the response.
 type FaultCase = (&'static [u8], Status, u32, &'static str);
 
-// How a connection ended, the number of operations performed, and the bytes written.
+// The outcome of a connection, the number of operations performed, and the bytes written.
 type ObservedEnd = (ConnectionEnd, u32, Vec<u8>);
 
 // Serves a request with a reader and a writer that fail after `reads` and `writes` calls.
@@ -47,8 +48,8 @@ fn bytes_before_write_fault(writes: u32) -> usize {
     (writes as usize).div_ceil(2)
 }
 
-// Returns how a connection should end for a request of `len` bytes, given its response without
-// failures.
+// Returns the expected outcome of a connection for a request of `len` bytes, given its response
+// without failures.
 fn expected_end<'a>(
     len: usize,
     whole: (Status, u32, &'a [u8]),
@@ -65,7 +66,7 @@ fn expected_end<'a>(
     }
 }
 
-// Tests one reader and one writer.
+// Compares the outcome of a connection with the expected one, for one reader and one writer.
 fn expect(
     rt: &impl Abort,
     alloc: Global,
@@ -97,7 +98,7 @@ fn writers(len: usize, reads: u32, most: u32) -> u32 {
     }
 }
 
-// Tests a reader with each writer that fails within `most` calls.
+// Tests one reader with each writer that fails within `most` calls.
 fn expect_writers(
     rt: &impl Abort,
     alloc: Global,
@@ -111,7 +112,7 @@ fn expect_writers(
     }
 }
 
-// Tests each reader that fails within `most.0` calls, with writers that fail within `most.1`.
+// Tests each reader that fails within `most.0` calls, with writers that fail within `most.1` calls.
 fn expect_pairs(
     rt: &impl Abort,
     alloc: Global,
@@ -229,7 +230,8 @@ static ROWS: [FaultCase; 17] = [
     ),
 ];
 
-// Enough calls for the longest request, of 77 bytes, and the longest response, of 138.
+// The numbers of calls of a reader and of a writer that are enough for the longest request, of 77
+// bytes, and the longest response, of 138.
 static CALLS: (u32, u32) = (54, 284);
 
 #[test]
@@ -242,7 +244,7 @@ fn what_breaks_leaves_a_front_of_the_answer(rt: HostRuntime) {
 
 static LONG: &[u8] = b"GET /display/hierarchical?scheme=3&lang=en HTTP/1.1\r\n\r\n";
 
-// Returns the response to `LONG`, which takes two writes: head and body exceed 512 bytes.
+// Returns the response to `LONG`, whose head and body exceed 512 bytes and so take two writes.
 fn long_answer(alloc: Global) -> Result<Vec<u8>, AllocError> {
     let head =
         b"HTTP/1.1 200 OK\r\nContent-Type: text/plain; charset=utf-8\r\nContent-Length: 600\r\nConnection: close\r\n\r\n";

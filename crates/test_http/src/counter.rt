@@ -1,4 +1,4 @@
-//! A service that keeps nothing but a count.
+//! A service whose only state is a count.
 ghost use Rattle.std.specs.Prelude.{true};
 
 use std::alloc::Global;
@@ -6,15 +6,15 @@ use thes_base::fault::{Fault, Refusal};
 use thes_base::number::ResNo;
 use thes_base::request::{Answer, Command};
 use thes_base::text::Tag;
-use thes_exchange::handler::{QueryAnswer, RequestHandler, ViewLine};
-use thes_exchange::request::Query;
 use thes_http::service::{Display, DisplayAnswer, ImportAnswer, Page, Service};
+use thes_requests::handler::{QueryAnswer, RequestHandler, ViewLine};
+use thes_requests::request::Query;
 
-/// A display longer than what a response writes with one call.
+/// The text of a display that is too long to be written with its head by one call.
 pub static PAGE: [u8; 600] = [b'x'; 600];
 
 /// A service that counts withdrawals and imports, and refuses all other commands. It has the
-/// schemes 1 and 3, of which the second has a long display.
+/// schemes 1 and 3; the display of scheme 3 is long.
 #[derive(Drop)]
 pub struct CountingService {
     pub performed: u32,

@@ -1,4 +1,4 @@
-//! Tests of heads at the limits.
+//! Tests of heads at the limits on bytes and lines.
 use crate::counter::CountingService;
 use std::alloc::{AllocError, Global};
 use std::process::Abort;
@@ -6,7 +6,7 @@ use thes_base::pipe::Pipe;
 use thes_http::Status;
 use thes_http::serve::{ConnectionEnd, serve_one};
 
-// Serves a request that is a head.
+// Serves a request that is only a head, and returns the outcome of the connection.
 fn serve_head(alloc: Global, request: &[u8]) -> ConnectionEnd {
     let mut reader = Pipe::new(request);
     let mut writer = Pipe::new(Vec::new(alloc));
@@ -24,7 +24,7 @@ fn long_head(alloc: Global, count: u32) -> Result<Vec<u8>, AllocError> {
     Ok(head)
 }
 
-// Returns a head with `count` fields, and then `end`.
+// Returns a head with `count` fields, followed by `end`.
 fn wide_head(alloc: Global, count: u32, end: &[u8]) -> Result<Vec<u8>, AllocError> {
     let mut head = Vec::from_slice(alloc, b"GET /totals HTTP/1.1\r\n")?;
     for _ in 0..count {
@@ -34,7 +34,7 @@ fn wide_head(alloc: Global, count: u32, end: &[u8]) -> Result<Vec<u8>, AllocErro
     Ok(head)
 }
 
-// Checks how the connection ends for a head.
+// Checks that the connection with this head has this outcome.
 fn expect(rt: &impl Abort, alloc: Global, head: Result<Vec<u8>, AllocError>, end: ConnectionEnd) {
     match head {
         Ok(head) => assert_eq!(rt; serve_head(alloc, &head), end),

@@ -6,11 +6,12 @@ use thes_base::pipe::Pipe;
 use thes_http::Status;
 use thes_http::serve::{ConnectionEnd, serve_one};
 
-// A request, how its connection ends, the number of operations performed, and the bytes written.
+// A row of a table: a request, the outcome of its connection, the number of operations performed,
+// and the bytes written.
 type ResponseCase = (&'static [u8], ConnectionEnd, u32, &'static str);
 
-// Serves a request, and returns how the connection ended, the number of operations performed, and
-// the bytes written.
+// Serves a request, and returns the outcome of the connection, the number of operations performed,
+// and the bytes written.
 fn serve_request(alloc: Global, request: &[u8]) -> (ConnectionEnd, u32, Vec<u8>) {
     let mut reader = Pipe::new(request);
     let mut writer = Pipe::new(Vec::new(alloc));
@@ -19,7 +20,7 @@ fn serve_request(alloc: Global, request: &[u8]) -> (ConnectionEnd, u32, Vec<u8>)
     (served, counter.performed, writer.into_device())
 }
 
-// Checks each request against its row.
+// Compares the outcome of each request with that in its row.
 fn expect(rt: &impl Abort, alloc: Global, rows: &[ResponseCase]) {
     for (request, end, performed, text) in rows {
         let (served, count, written) = serve_request(alloc, request);
@@ -119,11 +120,11 @@ static PATHS: [ResponseCase; 8] = [
 ];
 
 #[test]
-fn paths_lead_to_places(rt: HostRuntime) {
+fn paths_lead_to_endpoints(rt: HostRuntime) {
     expect(&rt, rt.alloc(), &PATHS);
 }
 
-// Returns how the connection ends for a request.
+// Returns the outcome of the connection with a request.
 fn status_of(alloc: Global, request: &[u8]) -> ConnectionEnd {
     let (served, _, _) = serve_request(alloc, request);
     served
@@ -216,7 +217,7 @@ fn checks_come_in_their_order(rt: HostRuntime) {
     }
 }
 
-// Checks that each proper prefix of a request is `Cut` and performs nothing.
+// Checks that each proper prefix of a request is `Cut` and performs no operation.
 fn expect_cuts(rt: &impl Abort, alloc: Global, request: &[u8]) {
     for count in 0..request.len() {
         let (served, performed, written) = serve_request(alloc, &request[..count]);

@@ -1,4 +1,4 @@
--- Proves that the changes of a merge fit, one after another.
+-- Proves that the changes of a merge fit the tables, move by move.
 use Rattle.std.proofs.Common.{◌≡◌, ◌+◌, ◌++◌, inl, inr, ℕ, List, [], ◌∷◌, ap, subst, arith}
 use Rattle.thes_tables.specs.declared.change.Change.{Change}
 use Rattle.thes_tables.specs.declared.change.Change.TheVariants as change
@@ -9,7 +9,7 @@ use Rattle.thes_tables.proofs.RowSetLemmas.{in_append}
 use Rattle.thes_tables.proofs.DeltaAppendLemmas.{all_append, fit_append}
 use Rattle.test_keeper.specs.PostedTables.{FitUpTo}
 
--- One more move with the next number fits after these changes.
+-- A change that adds the move with the next number fits after the changes before it.
 pub fit_next : (changes : List Change) (t : Tables) (i : ℕ) (row : MoveRow) → row.number ≡ i + 1 → FitUpTo changes t i
     → FitUpTo (changes ++ change.AddMove row ∷ []) t (i + 1)
 fit_next changes t i row number fits = record {

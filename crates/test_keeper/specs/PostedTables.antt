@@ -1,4 +1,4 @@
--- Storage that holds only postings, and the changes that move them.
+-- Tables with postings but no moves, and the changes that move postings.
 use Rattle.std.specs.Prelude.{◌≡◌, ◌≤◌, ◌+◌, ℕ, List, [], length}
 use Rattle.thes_tables.specs.Cells.{Raw, cells_of_tables}
 use Rattle.thes_tables.specs.declared.change.Change.{Change}
@@ -6,18 +6,18 @@ use Rattle.thes_tables.specs.declared.rows.MoveRow.{MoveRow}
 use Rattle.thes_tables.specs.Rows.{tables_after_delta, DeltaFits}
 use Rattle.thes_tables.specs.Tables.{Tables, IsIn}
 
--- These rows are those of tables without moves, whose next posting gets the number `next`.
+-- The rows are those of tables without moves, whose next posting has the number `next`.
 pub record ArePosted (raw : Raw) (next : ℕ) : Type 0 where
   pub tables : Tables
   pub raw_is_listed : raw ≡ cells_of_tables tables
   pub next_is : next ≡ length tables.posting + 1
   pub has_no_moves : tables.move ≡ []
 
--- If the storage works, its next posting gets the number `next`, and it has no moves.
+-- If the storage is up, its next posting has the number `next`, and it has no moves.
 abbrev pub AwaitsPosting : {K : Type 0} → (K → Raw) → (K → Type 0) → K → ℕ → Type 0
 AwaitsPosting rows is_up keeper next = is_up keeper → ArePosted (rows keeper) next
 
--- The changes fit the tables, and leave no move with a number greater than `last`.
+-- The changes fit the tables, after which no move has a number greater than `last`.
 pub record FitUpTo (changes : List Change) (t : Tables) (last : ℕ) : Type 0 where
   pub fit : DeltaFits changes t
   pub below : (row : MoveRow) → IsIn row (tables_after_delta changes t).move → row.number ≤ last

@@ -1,9 +1,9 @@
-//! Failures to fill a `Keeper`.
+//! Failures of the calls that fill a storage.
 
 use std::alloc::AllocError;
 use thes_base::fault::{Fault, ReadStop};
 
-/// The reason why a `Keeper` can't be filled.
+/// The reason why a storage couldn't be filled.
 #[derive(Clone, Copy, Debug, PartialEq, Eq)]
 pub enum Failure {
     Memory,

@@ -1,4 +1,4 @@
-//! Posts and merges for any `Keeper`, and its rows as text, for tests and benchmarks.
+//! Posts and merges over any storage, and its rows as text, for tests and benchmarks.
 #![tactic(auto)]
 
 pub mod failure;

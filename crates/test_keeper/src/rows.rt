@@ -1,4 +1,4 @@
-//! Rows as lines of text.
+//! Rows as lines of text, to compare storages.
 use std::alloc::{AllocError, Global};
 use std::fmt::Write;
 use thes_base::fault::{Fault, Table};
@@ -6,21 +6,21 @@ use thes_store::sink::{PostingSink, RowSink};
 use thes_tables::cells::Cell;
 use thes_tables::rows::PostingRow;
 
-/// A sink that writes each row on a line. A table that can't be queried is a line with its name alone.
+/// A sink that appends each row to a text as a line. For a table that can't be queried it appends its name alone.
 #[derive(Drop)]
 pub struct Rows {
     pub text: String,
 }
 
 impl Rows {
-    /// Creates an empty text.
+    /// Returns a sink with an empty text.
     pub fn new(alloc: Global) -> Rows {
         Rows {
             text: String::new(alloc),
         }
     }
 
-    // Appends a cell to the line.
+    // Appends a cell to the current line.
     fn push_cell(&mut self, cell: &Cell) -> Result<(), AllocError> {
         match cell {
             Cell::Int(number) => write!(self.text, " {number}"),
@@ -53,7 +53,7 @@ impl RowSink for Rows {
         Ok(self.push_row(table, row)?)
     }
 
-    fn unqueried(&mut self, table: Table) -> Result<(), Fault> {
+    fn report_unqueried(&mut self, table: Table) -> Result<(), Fault> {
         Ok(self.push_row(table, &[])?)
     }
 }

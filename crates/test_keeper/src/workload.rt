@@ -1,4 +1,4 @@
-//! Posts and merges for any `Keeper`.
+//! Posts and merges over any storage.
 ghost use Rattle.std.specs.Prelude.{◌≡◌, ◌+◌, [], true, IfOk, OnOk, OnErr};
 ghost use Rattle.thes_tables.specs.Cells.{cells_of_tables};
 ghost use Rattle.thes_tables.specs.Rows.{tables_after_change, ChangeFits, DeltaFits};
@@ -15,14 +15,16 @@ use thes_tables::change::Change;
 use thes_tables::delta::Delta;
 use thes_tables::rows::{MoveRow, PostingRow};
 
-/// The number of concepts to which the postings are assigned in turn.
+/// The number of concepts to which postings are assigned in turn, from number 2 on.
 pub const CONCEPTS: u32 = 10;
 
-/// Commits one change.
+/// Commits one change in a transaction of its own.
 pub fn commit_one<K: Keeper>(alloc: Global, keeper: &mut K, change: Change) -> Result<(), Fault>
-    requires { K.is_up keeper.old → (t : Tables) → K.rows keeper.old ≡ cells_of_tables t → ChangeFits change t }
+    requires { K.is_up keeper.old → (t : Tables) → K.rows keeper.old ≡ cells_of_tables t
+        → ChangeFits change t }
     ensures was { K.is_up keeper.new → K.is_up keeper.old }
-    ensures ok { OnOk result (K.is_up keeper.new → (t : Tables) → K.rows keeper.old ≡ cells_of_tables t
+    ensures ok { OnOk result (K.is_up keeper.new → (t : Tables)
+        → K.rows keeper.old ≡ cells_of_tables t
         → K.rows keeper.new ≡ cells_of_tables (tables_after_change change t)) }
     ensures err { OnErr result (K.is_up keeper.new → K.rows keeper.new ≡ K.rows keeper.old) }
 {
@@ -61,7 +63,7 @@ fn post<K: Keeper>(
     }
 }
 
-/// Returns a letter followed by a number.
+/// Returns a letter followed by a number in decimal.
 pub fn name_with_number(alloc: Global, letter: &str, number: u32) -> Result<String, AllocError> {
     format!(in alloc; "{letter}{number}")
 }

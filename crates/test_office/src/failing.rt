@@ -4,7 +4,7 @@ use std::alloc::Global;
 use test_devices::{Filling, Halting};
 use thes_base::fault::PipeFault;
 
-/// The failing device: a reader that breaks, a writer that breaks, or a writer that is full.
+/// The device that fails: a reader or a writer that breaks, or a writer that is full.
 #[derive(Clone, Copy, Debug, PartialEq, Eq)]
 pub enum Failing {
     Reader,
@@ -13,7 +13,7 @@ pub enum Failing {
 }
 
 impl Failing {
-    /// Creates a reader of a text, which fails after `calls` calls if the reader is the failing device.
+    /// Returns a reader of a text, which fails after `calls` calls if the reader is the failing device.
     pub fn reader<'a>(self, text: &'a str, calls: u32) -> Halting<'a> {
         Halting {
             bytes: text.as_bytes(),
@@ -21,7 +21,7 @@ impl Failing {
         }
     }
 
-    /// Creates a writer, which fails after `calls` calls if a writer is the failing device.
+    /// Returns a writer, which fails after `calls` calls if a writer is the failing device.
     pub fn writer(self, alloc: Global, calls: u32) -> Filling {
         Filling {
             bytes: Vec::new(alloc),
@@ -30,7 +30,7 @@ impl Failing {
         }
     }
 
-    /// Returns the fault that a script reports for the device.
+    /// Returns the fault with which a script reports the device.
     pub fn fault(self) -> PipeFault {
         match self {
             Reader => PipeFault::Read,

@@ -1,4 +1,4 @@
-//! A store in memory.
+//! A store in memory, with its office.
 use crate::ways::serve_in;
 use std::alloc::Global;
 use std::io;
@@ -8,26 +8,26 @@ use thes_base::fault::{Fault, PipeFault};
 use thes_base::number::{PostNo, ResNo};
 use thes_base::request::{Answer, Command};
 use thes_base::text::Base;
-use thes_exchange::handler::{QueryAnswer, RequestHandler};
-use thes_exchange::request::Query;
-use thes_exchange::script::Ended;
 use thes_office::Office;
+use thes_requests::handler::{QueryAnswer, RequestHandler};
+use thes_requests::request::Query;
+use thes_requests::script::ScriptEnd;
 use thes_service::OfficeHandler;
 use thes_store::mem::MemKeeper;
 
 // The base IRI of each store.
 const BASE: &str = "https://thesaurus.example/id/";
 
-// The last resource and the last posting that `shown` includes.
+// The number of the last resource and of the last posting that `shown` includes.
 const LAST: u32 = 6;
 
-/// A store in memory.
+/// A store in memory: its office, as a request handler.
 #[derive(Drop)]
 pub struct Store {
     pub handler: OfficeHandler<MemKeeper>,
 }
 
-// Opens an office over the tables of a keeper.
+// Opens an office over the tables of a storage.
 fn open(alloc: Global, keeper: MemKeeper, limits: Limits) -> io::Result<Store> {
     match Office::start(alloc, keeper, limits) {
         Ok(office) => Ok(Store {
@@ -50,23 +50,23 @@ impl Store {
         open(alloc, handler.into_office().into_keeper(), limits)
     }
 
-    /// Returns the office of the store.
+    /// Returns the office of the store, for calls that a handler lacks.
     pub fn office(&mut self) -> &mut Office<MemKeeper> {
         let handler = &mut self.handler;
         &mut handler.office
     }
 
-    /// Serves a script, and returns the writer and how the script ended.
+    /// Serves a script, and returns the writer and the end of the script.
     pub fn serve<R: Read + Drop, W: Write>(
         &mut self,
         alloc: Global,
         input: R,
         output: W,
-    ) -> (W, Result<Ended, PipeFault>) {
+    ) -> (W, Result<ScriptEnd, PipeFault>) {
         serve_in(alloc, &mut self.handler, input, output)
     }
 
-    /// Performs a list of requests, and appends their answers.
+    /// Performs requests in order, and appends their answers.
     pub fn perform(
         &mut self,
         commands: &[Command],
@@ -129,15 +129,15 @@ fn views(alloc: Global, store: &mut Store) -> io::Result<Vec<u8>> {
     Ok(shown)
 }
 
-// Whether each request was performed.
-fn is_performed(ended: &Result<Ended, PipeFault>) -> bool {
+// Returns whether each request was performed: no refusal, form fault or fault.
+fn is_performed(ended: &Result<ScriptEnd, PipeFault>) -> bool {
     match ended {
         Ok(ended) => !ended.refused && ended.fault.is_none(),
         Err(_) => false,
     }
 }
 
-// Serves requests, none of which may be refused.
+// Serves requests as a script; a refusal of any is an error.
 fn serve_all(alloc: Global, store: &mut Store, requests: &str) -> io::Result<()> {
     if requests.is_empty() {
         return Ok(());
@@ -150,7 +150,7 @@ fn serve_all(alloc: Global, store: &mut Store, requests: &str) -> io::Result<()>
     }
 }
 
-/// Makes a store by requests, none of which may be refused.
+/// Returns a new store after these requests, none of which may be refused.
 pub fn store_after(alloc: Global, requests: &str) -> io::Result<Store> {
     let mut store = Store::new(alloc, Limits::default())?;
     match serve_all(alloc, &mut store, requests) {

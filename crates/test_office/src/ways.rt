@@ -1,4 +1,4 @@
-//! The ways to use an office: scripts, imports, exports, displays and connections, each with its own reader and writer.
+//! Calls of an office: scripts, imports, exports, displays and connections, each with a reader and a writer of its own.
 ghost use Rattle.std.specs.Prelude.{◌≡◌, false};
 ghost use Rattle.thes_base.specs.Pipe.{IsFresh};
 
@@ -10,12 +10,12 @@ use thes_base::pipe::Pipe;
 use thes_base::text::Tag;
 use thes_core::Core;
 use thes_display::writing::{DisplayOutcome, alphabetical, hierarchical};
-use thes_exchange::script::Ended;
 use thes_export::writing::export;
 use thes_http::serve::{ConnectionEnd, serve_one};
 use thes_http::service::Display;
 use thes_import::import;
 use thes_import::import::ImportStop;
+use thes_requests::script::ScriptEnd;
 use thes_service::{OfficeHandler, office_script};
 use thes_store::keeper::Keeper;
 
@@ -24,20 +24,20 @@ fn serve_pipes<K: Keeper, R: Read, W: Write>(
     handler: &mut OfficeHandler<K>,
     reader: &mut Pipe<R>,
     writer: &mut Pipe<W>,
-) -> Result<Ended, PipeFault>
+) -> Result<ScriptEnd, PipeFault>
     requires reader { IsFresh reader.old }
     requires writer { IsFresh writer.old }
 {
     office_script(alloc, reader, writer, handler)
 }
 
-/// Serves a script, and returns the writer and how the script ended.
+/// Serves a script, and returns the writer and the end of the script.
 pub fn serve_in<K: Keeper, R: Read + Drop, W: Write>(
     alloc: Global,
     handler: &mut OfficeHandler<K>,
     input: R,
     output: W,
-) -> (W, Result<Ended, PipeFault>) {
+) -> (W, Result<ScriptEnd, PipeFault>) {
     let mut reader = Pipe::new(input);
     let mut writer = Pipe::new(output);
     let ended = serve_pipes(alloc, handler, &mut reader, &mut writer);
@@ -56,7 +56,7 @@ fn import_pipes<K: Keeper, R: Read, W: Write>(
     import::import(alloc, reader, writer, &mut handler.office)
 }
 
-/// Imports a posting file, and returns the writer and how the import ended.
+/// Imports a posting file, and returns the writer and the end of the import.
 pub fn import_in<K: Keeper, R: Read + Drop, W: Write>(
     alloc: Global,
     handler: &mut OfficeHandler<K>,
@@ -80,7 +80,7 @@ fn export_pipe<K: Keeper, W: Write>(
     export(alloc, core, writer)
 }
 
-/// Writes an export, and returns the writer and whether all of it was written.
+/// Writes an export, and returns the writer and the fault that stopped it, if any.
 pub fn export_in<K: Keeper, W: Write>(
     alloc: Global,
     handler: &mut OfficeHandler<K>,
@@ -148,7 +148,7 @@ fn connect_pipes<K: Keeper, R: Read, W: Write>(
     serve_one(alloc, reader, writer, handler)
 }
 
-/// Serves a connection, and returns the writer and how the connection ended.
+/// Serves a connection, and returns the writer and the outcome of the connection.
 pub fn connect_in<K: Keeper, R: Read + Drop, W: Write>(
     alloc: Global,
     handler: &mut OfficeHandler<K>,

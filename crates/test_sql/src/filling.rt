@@ -1,4 +1,4 @@
-//! Changes for a store, at least one of each kind.
+//! Changes of every kind, to fill a store.
 
 use sqlite::{Alter, Connection, Error};
 use std::alloc::{AllocError, Global};
@@ -11,7 +11,7 @@ use thes_tables::change::Change;
 use thes_tables::delta::Delta;
 use thes_tables::rows::{HierRow, HierType, LabelRow, MoveRow, PostingRow};
 
-/// The reason why the store can't be filled.
+/// The reason why a store couldn't be filled.
 #[derive(Debug, Drop)]
 pub enum Failure {
     Memory,
@@ -70,7 +70,7 @@ fn posting(
     })
 }
 
-// Inserts a resource and its label.
+// Adds the insertion of a resource and of its label.
 fn add_named_resource(
     alloc: Global,
     delta: &mut Delta,
@@ -83,7 +83,7 @@ fn add_named_resource(
     Ok(())
 }
 
-// Inserts a scheme with three concepts, and an outside concept.
+// Adds the insertions of a scheme with three concepts, and of an outside concept.
 fn make_resources(alloc: Global, delta: &mut Delta) -> Result<(), Failure> {
     let scheme = ResNo::new(1);
     let concept = Resource::new(ResourceKind::Concept, Some(scheme));
@@ -104,7 +104,7 @@ fn make_resources(alloc: Global, delta: &mut Delta) -> Result<(), Failure> {
     Ok(())
 }
 
-// Returns a link between concepts 2 and 4 of kind Related.
+// Returns the related link between the concepts 2 and 4.
 fn related_link() -> Link {
     Link {
         kind: LinkKind::Related,
@@ -113,7 +113,7 @@ fn related_link() -> Link {
     }
 }
 
-// Returns a hierarchical link of this type from concept 2 up to concept 3.
+// Returns the hierarchical link of this type from concept 2 up to concept 3.
 fn broader_row(typ: HierType) -> HierRow {
     HierRow {
         a: ResNo::new(2),
@@ -122,7 +122,7 @@ fn broader_row(typ: HierType) -> HierRow {
     }
 }
 
-// Inserts two links into each table of links, and removes one of each again.
+// Adds the insertions of two links into each table of links, and the removal of one from each.
 fn make_links(delta: &mut Delta) -> Result<(), Failure> {
     delta.push(Change::AddLink(related_link()))?;
     delta.push(Change::AddLink(Link {
@@ -137,7 +137,7 @@ fn make_links(delta: &mut Delta) -> Result<(), Failure> {
     Ok(())
 }
 
-// Inserts three postings, withdraws one, and moves one.
+// Adds the insertions of three postings, the withdrawal of one, and a move of another.
 fn make_postings(alloc: Global, delta: &mut Delta) -> Result<(), Failure> {
     let (two, four) = (ResNo::new(2), ResNo::new(4));
     let (first, second, third) = (PostNo::new(1), PostNo::new(2), PostNo::new(3));
@@ -155,7 +155,7 @@ fn make_postings(alloc: Global, delta: &mut Delta) -> Result<(), Failure> {
     Ok(())
 }
 
-// Moves the postings of concept 2 to concept 3, which replaces it, and retires concept 4.
+// Adds the changes of a merge of concept 2 into 3, and of the deprecation of concept 4.
 fn merge(alloc: Global, delta: &mut Delta) -> Result<(), Failure> {
     let (two, three, four) = (ResNo::new(2), ResNo::new(3), ResNo::new(4));
     delta.push(Change::Replace(two, three))?;
@@ -177,7 +177,7 @@ fn merge(alloc: Global, delta: &mut Delta) -> Result<(), Failure> {
     Ok(())
 }
 
-// Commits the changes.
+// Commits the changes in one transaction.
 fn commit<S: Alter>(conn: &mut Connection<S>, delta: &Delta) -> Result<(), Failure> {
     if commit_all(conn, delta.as_slice())? {
         Ok(())
@@ -186,7 +186,7 @@ fn commit<S: Alter>(conn: &mut Connection<S>, delta: &Delta) -> Result<(), Failu
     }
 }
 
-/// Makes changes of each kind, in three commits.
+/// Commits changes of each kind, in three transactions.
 pub fn fill<S: Alter>(alloc: Global, conn: &mut Connection<S>) -> Result<(), Failure> {
     let mut made = Delta::new(alloc);
     make_resources(alloc, &mut made)?;

@@ -1,4 +1,4 @@
-//! Rows as lines of text.
+//! Rows of a store as lines of text, in the order in which they are yielded.
 use std::alloc::{AllocError, Global};
 use std::fmt::Write;
 use thes_base::fault::{Fault, Table};
@@ -7,7 +7,7 @@ use thes_store::sink::{PostingSink, RowSink};
 use thes_tables::cells::Cell;
 use thes_tables::rows::PostingRow;
 
-/// A sink that writes each row on a line, under the name of its table.
+/// A sink that appends each row to a text as a line, under a line with the name of its table.
 #[derive(Drop)]
 pub struct Lines {
     text: String,
@@ -15,7 +15,7 @@ pub struct Lines {
 }
 
 impl Lines {
-    /// Creates an empty text.
+    /// Returns a sink with an empty text.
     pub fn new(alloc: Global) -> Lines {
         Lines {
             text: String::new(alloc),
@@ -23,17 +23,17 @@ impl Lines {
         }
     }
 
-    /// Returns the text.
+    /// Returns the text of all lines.
     pub fn as_str(&self) -> &str {
         self.text.as_str()
     }
 
-    /// Appends a line.
+    /// Appends a line and a line feed.
     pub fn push_line(&mut self, line: &str) -> Result<(), AllocError> {
         writeln!(self.text, "{line}")
     }
 
-    // Appends the name of a table, unless it is that of the last row.
+    // Appends a line with the name of a table, unless the last row is of that table.
     fn name(&mut self, table: Table) -> Result<(), AllocError> {
         if self.last == Some(table) {
             return Ok(());
@@ -42,7 +42,7 @@ impl Lines {
         self.push_line(table.name())
     }
 
-    // Appends a cell to the line.
+    // Appends a cell to the current line.
     fn cell(&mut self, cell: &Cell) -> Result<(), AllocError> {
         match cell {
             Cell::Int(n) => write!(self.text, " {n}"),
@@ -52,7 +52,7 @@ impl Lines {
         }
     }
 
-    // Appends a line of cells.
+    // Appends a line with the cells of a row of this table.
     fn cells(&mut self, table: Table, row: &[Cell]) -> Result<(), AllocError> {
         self.name(table)?;
         for cell in row {
@@ -61,7 +61,7 @@ impl Lines {
         self.push_line("")
     }
 
-    /// Appends a line with a posting.
+    /// Appends a line with a posting's columns.
     pub fn push_posting(&mut self, row: &PostingRow) -> Result<(), AllocError> {
         let (number, place) = (row.number.get(), row.place.get());
         writeln!(
@@ -73,16 +73,16 @@ impl Lines {
     }
 
     /// Appends a line with a posting, and a line with each of its moves.
-    pub fn told(&mut self, told: &Posting) -> Result<(), AllocError> {
-        self.push_posting(&told.row)?;
-        for step in told.moves.as_slice() {
+    pub fn push_posting_and_moves(&mut self, posting: &Posting) -> Result<(), AllocError> {
+        self.push_posting(&posting.row)?;
+        for step in posting.moves.as_slice() {
             let (number, source) = (step.number.get(), step.source.get());
             writeln!(self.text, " {number} {source} {}", step.target.get())?;
         }
         Ok(())
     }
 
-    // Appends a line that the table can't be queried.
+    // Appends a line that reports that the table can't be queried.
     fn none(&mut self, table: Table) -> Result<(), AllocError> {
         self.name(table)?;
         self.push_line(" not queried")
@@ -96,7 +96,7 @@ impl RowSink for Lines {
         Ok(self.cells(table, row)?)
     }
 
-    fn unqueried(&mut self, table: Table) -> Result<(), Fault> {
+    fn report_unqueried(&mut self, table: Table) -> Result<(), Fault> {
         Ok(self.none(table)?)
     }
 }

@@ -1,5 +1,5 @@
-//! Creates a store in the file that its argument names, makes changes of each kind in it, and prints its rows. After
-//! the argument `show` it prints the rows of the files that the other arguments name.
+//! Creates a store in the file that the argument names, makes changes of each kind in it, and prints its rows. After
+//! the argument `show`, prints the rows of the files that the other arguments name.
 #![tactic(auto)]
 
 mod filling;
@@ -16,7 +16,7 @@ use std::{env, io};
 use thes_base::text::Base;
 use thes_sqlite::keeper::SqlKeeper;
 
-// Takes over a database and writes its rows, with the look-ups on request.
+// Appends the rows of a database to the lines, and the results of look-ups if `looks_up`; returns the connection.
 fn read<S: Alter>(
     alloc: Global,
     conn: Connection<S>,
@@ -33,7 +33,7 @@ fn read<S: Alter>(
     keeper.into_connection()
 }
 
-// Creates the tables of a new store.
+// Creates the tables of a new store with this base.
 fn create_store<S: Alter>(alloc: Global, conn: Connection<S>, base: &Base) -> Connection<S> {
     if !conn.is_autocommit() {
         return conn;
@@ -44,7 +44,7 @@ fn create_store<S: Alter>(alloc: Global, conn: Connection<S>, base: &Base) -> Co
     }
 }
 
-// Creates and fills a store if there is a base for it, and writes the rows of the database.
+// Creates and fills a store if there is a base for it, and appends the rows of the database to the lines.
 fn work<S: Alter>(
     alloc: Global,
     conn: Connection<S>,
@@ -59,7 +59,7 @@ fn work<S: Alter>(
     (filled, read(alloc, conn, true, lines))
 }
 
-// Opens a file, works in it, and prints its lines.
+// Opens a database in a file, works in it, and prints the lines.
 fn work_in(rt: &HostRuntime, path: &str, base: Option<&Base>) -> io::Result<()> {
     let Ok(conn) = Connection::open(rt, path) else {
         return println!(rt; "not opened");
@@ -74,7 +74,7 @@ fn work_in(rt: &HostRuntime, path: &str, base: Option<&Base>) -> io::Result<()> 
     println!(rt; "closed: {closed}")
 }
 
-// Creates a store, and prints its rows.
+// Creates a store in a file, and prints its rows.
 fn make(rt: &HostRuntime, path: &str) -> io::Result<()> {
     let Ok(base) = Base::read(rt.alloc(), "https://thesaurus.example/id/") else {
         return println!(rt; "no base");
@@ -82,7 +82,7 @@ fn make(rt: &HostRuntime, path: &str) -> io::Result<()> {
     work_in(rt, path, Some(&base))
 }
 
-// Prints the rows of a file.
+// Prints the rows of the store in a file.
 fn show(rt: &HostRuntime, path: &str) -> io::Result<()> {
     println!(rt; "{path}:")?;
     work_in(rt, path, None)

@@ -1,4 +1,4 @@
-//! Writes what a `Keeper` reads.
+//! The results of a storage's queries, as lines.
 use crate::lines::Lines;
 use std::alloc::{AllocError, Global};
 use thes_base::fault::Fault;
@@ -14,7 +14,7 @@ fn push_fault(lines: &mut Lines, fault: Fault) -> Result<(), AllocError> {
     }
 }
 
-/// Writes all rows.
+/// Loads all rows, and appends them as lines.
 pub fn load<K: Keeper>(keeper: &mut K, lines: &mut Lines) -> Result<(), AllocError> {
     match keeper.load(lines) {
         Ok(_) => Ok(()),
@@ -22,7 +22,7 @@ pub fn load<K: Keeper>(keeper: &mut K, lines: &mut Lines) -> Result<(), AllocErr
     }
 }
 
-// Looks up the posting of a key, and writes it.
+// Looks up the posting with a key, and appends its line.
 fn find<K: Keeper>(
     alloc: Global,
     keeper: &mut K,
@@ -40,17 +40,17 @@ fn find<K: Keeper>(
     }
 }
 
-// Looks up a posting by its number, and writes it with its moves.
+// Looks up a posting by its number, and appends its lines, moves included.
 fn posting<K: Keeper>(keeper: &mut K, number: PostNo, lines: &mut Lines) -> Result<(), AllocError> {
     lines.push_line("told")?;
     match keeper.posting(number) {
-        Ok(Some(told)) => lines.told(&told),
+        Ok(Some(posting)) => lines.push_posting_and_moves(&posting),
         Ok(None) => lines.push_line(" none"),
         Err(fault) => push_fault(lines, fault),
     }
 }
 
-/// Looks up postings by key, by key in other case, by number and by place.
+/// Looks up postings by key, by key in other case, by number and by concept, and appends their lines.
 pub fn look_up<K: Keeper>(
     alloc: Global,
     keeper: &mut K,

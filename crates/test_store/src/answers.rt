@@ -1,4 +1,4 @@
-//! The results of a `Keeper`'s calls, as lines of text.
+//! The results of a storage's calls, as lines of text.
 use std::alloc::{AllocError, Global};
 use std::fmt::Write;
 use test_keeper::failure::Failure;
@@ -24,7 +24,7 @@ pub fn load_report<K: Keeper>(alloc: Global, keeper: &mut K) -> Result<String, F
     }
 }
 
-/// Looks up a key, and returns a line with the posting's number and record.
+/// Looks up a key, and returns a line with the number and the record of its posting.
 pub fn find_report<K: Keeper>(alloc: Global, keeper: &mut K, key: &str) -> Result<String, Failure> {
     match keeper.find(&Key::read(alloc, key)?) {
         Ok(Some(row)) => {
@@ -36,7 +36,7 @@ pub fn find_report<K: Keeper>(alloc: Global, keeper: &mut K, key: &str) -> Resul
     }
 }
 
-// Returns lines with a posting's first concept, its place and each of its moves.
+// Returns lines with a posting's first concept, its present concept and each of its moves.
 fn posting_lines(alloc: Global, posting: &Posting) -> Result<String, AllocError> {
     let (first, place) = (posting.row.first.get(), posting.row.place.get());
     let mut text = format!(in alloc; "posting: from {first} at {place}\n")?;
@@ -91,7 +91,7 @@ fn find_reports<K: Keeper>(alloc: Global, keeper: &mut K) -> Result<String, Fail
     Ok(text)
 }
 
-/// Returns the results of all calls that change nothing.
+/// Returns the results of all calls that change no table, as lines.
 pub fn answers<K: Keeper>(alloc: Global, keeper: &mut K) -> Result<String, Failure> {
     let mut text = load_report(alloc, keeper)?;
     text.push_str(find_reports(alloc, keeper)?.as_str())?;

@@ -1,4 +1,4 @@
-//! A `Keeper` of which one call fails once.
+//! A storage of which one call fails once.
 use crate::answers::{answers, find_report, load_report, report, standing, withdraw_report};
 use std::alloc::Global;
 use std::fmt::Write;
@@ -10,7 +10,7 @@ use thes_store::fail_once::{FailOnce, Next};
 use thes_store::keeper::Keeper;
 use thes_store::mem::MemKeeper;
 
-/// Creates storage with ten postings at the concepts 2 to 11, and moves the first posting to concept 3.
+/// Returns a storage with ten postings, at the concepts 2 to 11, of which the first was moved to concept 3.
 pub fn filled_keeper(alloc: Global) -> Result<MemKeeper, Failure> {
     let mut keeper = MemKeeper::new(alloc, Base::read(alloc, "http://example.org/")?);
     post_all(alloc, &mut keeper, 10)?;
@@ -18,7 +18,7 @@ pub fn filled_keeper(alloc: Global) -> Result<MemKeeper, Failure> {
     Ok(keeper)
 }
 
-// Makes a call of one kind, and returns its result.
+// Makes a call of this kind, and returns its result as a text.
 fn call_report(alloc: Global, keeper: &mut FailOnce, kind: Next) -> Result<String, Failure> {
     match kind {
         Next::Nothing => Ok(String::new(alloc)),
@@ -33,7 +33,7 @@ fn call_report(alloc: Global, keeper: &mut FailOnce, kind: Next) -> Result<Strin
 /// Reports a failing call: its result, whether the storage is unchanged, the result of the same call made again, and
 /// the count of failures after each.
 ///
-/// The storage is dropped by one call: a function that drops it at each `?` took half a minute to prove.
+/// The storage is dropped by one call, since a function that drops it at each `?` is slow to prove.
 pub fn fail_once_report(alloc: Global, next: Next) -> Result<String, Failure> {
     let mut keeper = FailOnce {
         keeper: filled_keeper(alloc)?,
@@ -45,7 +45,7 @@ pub fn fail_once_report(alloc: Global, next: Next) -> Result<String, Failure> {
     report
 }
 
-// Makes the failing call and the calls after it, and reports their results.
+// Makes the failing call and the calls after it, and returns their results as lines.
 fn fail_once_lines(alloc: Global, keeper: &mut FailOnce, next: Next) -> Result<String, Failure> {
     let before = answers(alloc, keeper)?;
     keeper.next = next;

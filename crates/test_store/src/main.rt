@@ -1,4 +1,4 @@
-//! Prints the result of each call to storage in memory, and the results if one call of each kind fails once.
+//! Prints the result of each call to a storage in memory, and the results if one call of each kind fails once.
 #![tactic(auto)]
 
 mod answers;
@@ -12,7 +12,7 @@ use std::rt::HostRuntime;
 use test_keeper::failure::Failure;
 use thes_store::fail_once::Next;
 
-// Returns the text to print.
+// Returns the results of all calls, those of failing ones included.
 fn full_report(alloc: Global) -> Result<String, Failure> {
     let mut keeper = filled_keeper(alloc)?;
     let text = answers(alloc, &mut keeper);
@@ -31,7 +31,7 @@ fn full_report(alloc: Global) -> Result<String, Failure> {
     Ok(text)
 }
 
-// Prints the text, or the reason why there is none.
+// Prints the results, or the reason why there are none.
 fn main(rt: HostRuntime) -> io::Result<()> {
     match full_report(rt.alloc()) {
         Ok(text) => print!(rt; "{text}"),

@@ -1,4 +1,4 @@
-//! Files in memory, one of which stops working.
+//! Files in memory, one of which stops working after a number of calls.
 ghost use Rattle.std.specs.Prelude.{IsTrue};
 
 use crate::stop::TrialStop;
@@ -6,10 +6,11 @@ use sqlite::{Connection, FileStore, Files, Options};
 use sqlite_disk::{Crash, Disk, Fuse, Memory};
 use std::alloc::{AllocError, Global};
 
-/// The two files of a store.
+/// The two files of a store: its database and its log.
 pub type Disks = Files<Fuse<Memory>>;
 
-/// A store in two files. Functions take any `D`, since the contract of a file in memory is long and slows their proofs.
+/// A store in two files. Functions are generic in `D`, since the contract of a file in memory is long and slows their
+/// proofs.
 pub type Store<D> = Connection<FileStore<D>>;
 
 /// The file that stops working.
@@ -20,7 +21,7 @@ pub enum Failing {
 }
 
 impl Failing {
-    /// Returns the file's name.
+    /// Returns the name of the file, as the outcomes print it.
     pub fn name(self) -> &'static str {
         match self {
             Failing::Log => "the log",
@@ -28,7 +29,8 @@ impl Failing {
         }
     }
 
-    // Returns how many calls the log and the database file make, if this one makes `calls`.
+    // Returns the numbers of calls after which the log and the database file fail, if this file fails after `calls`
+    // calls.
     fn calls(self, calls: u64) -> (u64, u64) {
         match self {
             Failing::Log => (calls, u64::MAX),
@@ -37,14 +39,14 @@ impl Failing {
     }
 }
 
-// Writes bytes to a file, and returns whether that succeeded.
+// Writes bytes to a file, and returns whether all were written.
 fn fill<D: Disk>(disk: &mut D, bytes: &[u8]) -> bool
     requires { IsTrue (D.Disk.is_usable disk.old) }
 {
     disk.write_at(0, bytes).is_ok() && disk.sync().is_ok()
 }
 
-// Creates a file with these bytes.
+// Returns a file with these bytes.
 fn memory_of(alloc: Global, bytes: &[u8]) -> Result<Memory, TrialStop> {
     let mut memory = Memory::new(alloc);
     if fill(&mut memory, bytes) {
@@ -62,7 +64,7 @@ pub struct Image {
 }
 
 impl Image {
-    // Creates an image of empty files.
+    // Returns the image of two empty files.
     fn empty(alloc: Global) -> Image {
         Image {
             log: Vec::new(alloc),
@@ -70,7 +72,7 @@ impl Image {
         }
     }
 
-    /// Copies the contents of files, synced or not.
+    /// Returns an image of the files, with what was synced and what wasn't.
     pub fn of(alloc: Global, files: &Disks) -> Result<Image, AllocError> {
         Ok(Image {
             log: Vec::from_slice(alloc, files.log.inner().bytes())?,
@@ -78,7 +80,7 @@ impl Image {
         })
     }
 
-    /// Creates files with these contents, where the failing one makes `calls` calls.
+    /// Returns files with these contents, of which the failing one stops working after `calls` calls.
     pub fn files(&self, alloc: Global, failing: Failing, calls: u64) -> Result<Disks, TrialStop> {
         let (log_calls, db_calls) = failing.calls(calls);
         Ok(Files {
@@ -87,30 +89,30 @@ impl Image {
         })
     }
 
-    /// Creates files with these contents that never fail.
+    /// Returns files with these contents that never fail.
     pub fn sound_files(&self, alloc: Global) -> Result<Disks, TrialStop> {
         self.files(alloc, Failing::Log, u64::MAX)
     }
 }
 
-/// Creates the files of a new store, where the failing one makes `calls` calls.
+/// Returns the files of a new store, of which the failing one stops working after `calls` calls.
 pub fn new_files(alloc: Global, failing: Failing, calls: u64) -> Result<Disks, TrialStop> {
     Image::empty(alloc).files(alloc, failing, calls)
 }
 
-/// Returns the files as the next process sees them after a kill, with all that was written.
+/// Returns the files as the next process finds them after a kill: with all that was written.
 pub fn files_after_kill(alloc: Global, files: &Disks) -> Result<Disks, TrialStop> {
     Image::of(alloc, files)?.sound_files(alloc)
 }
 
-/// Returns the files as they are after a power cut, with only what was synced.
+/// Returns the files as they are after a power cut: with only what was synced.
 pub fn cut(mut files: Disks) -> Disks {
     files.log.crash();
     files.db.crash();
     files
 }
 
-// Opens the store in usable files. A checkpoint copies its log into the database file at 24 pages.
+// Opens the store in usable files. A checkpoint copies the log into the database file once it has 24 pages.
 fn open_usable<D: Disk + Drop>(alloc: Global, files: Files<D>) -> Result<Store<D>, Files<D>>
     requires log { IsTrue (D.Disk.is_usable files.log) }
     requires db { IsTrue (D.Disk.is_usable files.db) }
@@ -133,12 +135,12 @@ pub fn open<D: Disk + Drop>(alloc: Global, files: Files<D>) -> Result<Store<D>, 
     }
 }
 
-// Closes a store without a call to its files.
+// Closes a store without a call to its files, as a kill does.
 fn abandon<D: Disk + Drop>(conn: Store<D>) -> Files<D> {
     conn.into_store().close()
 }
 
-// Closes a store after a checkpoint. Returns whether no call failed.
+// Closes a store after a checkpoint, and returns its files and whether each call succeeded.
 fn close<D: Disk + Drop>(conn: Store<D>) -> (Files<D>, bool) {
     match conn.close_files() {
         Ok(files) => (files, true),
@@ -146,7 +148,8 @@ fn close<D: Disk + Drop>(conn: Store<D>) -> (Files<D>, bool) {
     }
 }
 
-/// Closes a store if its work is done, and else abandons it. Returns whether it was closed and no call failed.
+/// Closes a store if its work is done, and else abandons it. Returns its files, and whether it was closed and each call
+/// succeeded.
 pub fn end<D: Disk + Drop>(conn: Store<D>, is_done: bool) -> (Files<D>, bool) {
     if is_done {
         close(conn)

@@ -1,7 +1,8 @@
-//! An example to run over stores, and the answers that it should get.
+//! Examples that run over stores, with their expected answers.
 use std::alloc::{AllocError, Global};
 
-/// Requests, one a line, an answer for each, a posting file, and the lines that its import should return.
+/// A stored example: requests, one on each line, with an answer for each; and a posting file, with the lines that its
+/// import should return.
 #[derive(Drop)]
 pub struct StoredExample<'a> {
     requests: String,
@@ -10,7 +11,7 @@ pub struct StoredExample<'a> {
     pub outcomes: &'a str,
 }
 
-/// Requests, one a line, and a posting file.
+/// The input of an example: requests, one on each line, and a posting file.
 #[derive(Clone, Copy)]
 pub struct Example<'a> {
     pub requests: &'a str,
@@ -18,8 +19,8 @@ pub struct Example<'a> {
 }
 
 impl<'a> StoredExample<'a> {
-    /// Parses an example: lines `> REQUEST`, each followed by its answer; a line `% import` and the posting file; a
-    /// line `% outcomes` and the lines that the import should return.
+    /// Parses an example: lines `> REQUEST`, each followed by its answer; a line `% import`, and the posting file; a
+    /// line `% outcomes`, and the lines that the import should return.
     pub fn read(alloc: Global, text: &'a str) -> Result<StoredExample<'a>, AllocError> {
         let (script, rest) = text.split_once("% import\n").unwrap_or((text, ""));
         let (postings, outcomes) = rest.split_once("% outcomes\n").unwrap_or((rest, ""));
@@ -53,13 +54,13 @@ impl<'a> StoredExample<'a> {
     }
 }
 
-/// Appends a line to a text.
+/// Appends a line and a line feed to a text.
 pub fn push_line(text: &mut String, line: &str) -> Result<(), AllocError> {
     text.push_str(line)?;
     text.push('\n')
 }
 
-// The answer to a request that fails with the fault Store.
+// The answer to a request that failed with the fault Store.
 const FAULT: &str = r#"{"fault":"Store"}"#;
 
 /// Returns whether a line is an answer other than the fault Store.
@@ -72,7 +73,7 @@ pub fn has_fault(answers: &str) -> bool {
     !answers.lines().all(is_answer)
 }
 
-/// Returns whether the lines are the expected answers, apart from faults.
+/// Returns whether the lines are the expected answers, except for faults.
 pub fn are_answers(told: &str, wanted: &str) -> bool {
     let mut wanted = wanted.lines();
     for answer in told.lines() {
@@ -102,7 +103,7 @@ pub struct ExamplePrefix {
 }
 
 impl ExamplePrefix {
-    /// Creates an empty prefix.
+    /// Returns the empty prefix.
     pub fn new(alloc: Global) -> ExamplePrefix {
         ExamplePrefix {
             requests: String::new(alloc),
@@ -129,8 +130,8 @@ impl ExamplePrefix {
         Ok(())
     }
 
-    /// Appends the lines of a posting file for which there are rows, and `more` lines after them. Without any row it
-    /// appends none, since the first one, the heading, takes no call.
+    /// Appends the lines of a posting file for which there are rows, and `more` lines after them. Without rows it
+    /// appends none, since the import of the first line, the heading, makes no call.
     pub fn add_postings(
         &mut self,
         postings: &str,

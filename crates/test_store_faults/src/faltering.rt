@@ -1,4 +1,4 @@
-//! Storage in memory of which a few calls fail.
+//! A storage in memory of which a few calls fail.
 ghost use Rattle.std.specs.Prelude.{◌≡◌};
 ghost use Rattle.thes_base.specs.declared.fault.Fault.{Fault};
 ghost use Rattle.thes_store.specs.Causes.{IsCounted};
@@ -13,19 +13,19 @@ use thes_store::sink::{PostingSink, RowSink};
 use thes_tables::delta::Delta;
 use thes_tables::rows::PostingRow;
 
-/// A `MemKeeper` of which `before` calls work, the next `times` calls fail, and all others work.
+/// A storage in memory of which `before` calls work, the next `times` calls fail, and all others work.
 #[derive(Drop)]
 pub struct Faltering {
     pub keeper: MemKeeper,
     before: u32,
     times: u32,
     pub failures: u64,
-    /// The first call that failed.
+    /// The kind of the first call that failed.
     pub first: Next,
 }
 
 impl Faltering {
-    /// Creates storage over these tables of which `before` calls work and the next `times` fail.
+    /// Returns a storage of these tables of which `before` calls work and the next `times` fail.
     pub fn new(keeper: MemKeeper, before: u32, times: u32) -> Faltering {
         Faltering {
             keeper,
@@ -36,7 +36,7 @@ impl Faltering {
         }
     }
 
-    // Counts a call of this kind, and returns whether it should fail.
+    // Counts a call of this kind, and returns whether it must fail.
     fn is_due(&mut self, call: Next) -> bool
         ensures same { self.new.keeper ≡ self.old.keeper }
         ensures failures { self.new.failures ≡ self.old.failures }
@@ -55,7 +55,7 @@ impl Faltering {
         true
     }
 
-    // Counts a failure.
+    // Counts a failure, and returns its fault.
     fn fail(&mut self) -> Fault
         ensures fault { result ≡ Fault.Store }
         ensures same { self.new.keeper ≡ self.old.keeper }

@@ -1,4 +1,4 @@
-//! Requests over failing storage, each repeated until it succeeds.
+//! Requests over a failing storage, each repeated until it succeeds.
 use crate::example::{StoredExample, has_fault, push_line};
 use crate::faltering::Faltering;
 use crate::outcome::StoreOutcome;
@@ -17,16 +17,16 @@ struct Tries {
     most: u32,
     // The number of calls that returned a fault.
     faults: u64,
-    // The last answer.
+    // The last answer, as a line.
     line: String,
-    // The greatest number of lines of an import that a fault ended.
+    // The greatest number of lines in an import that a fault halted.
     before: usize,
-    // The lines expected of the import.
+    // The lines expected of the last import.
     wanted: String,
 }
 
 impl Tries {
-    // Creates the report for calls of which `times` fail.
+    // Returns the report for calls of which `times` fail.
     fn new(alloc: Global, times: u32) -> Tries {
         Tries {
             run_report: RunReport::new(alloc),
@@ -43,7 +43,7 @@ impl Tries {
         self.faults = self.faults.saturating_add(1);
     }
 
-    // Counts a fault that ended an import, with its lines.
+    // Counts a fault that halted an import, with the number of its lines.
     fn count_import(&mut self) {
         self.count();
         self.before = self
@@ -57,7 +57,7 @@ impl Tries {
         has_fault(self.line.as_str())
     }
 
-    // Makes a request until it succeeds, and appends its last answer.
+    // Performs a request until it succeeds, and appends its last answer.
     fn answer<K: Keeper>(
         &mut self,
         alloc: Global,
@@ -76,7 +76,7 @@ impl Tries {
         Ok(())
     }
 
-    // Makes requests, one by one.
+    // Performs requests, one by one, each until it succeeds.
     fn answer_all<K: Keeper>(
         &mut self,
         alloc: Global,
@@ -89,7 +89,7 @@ impl Tries {
         Ok(())
     }
 
-    // Imports a posting file until no fault ends the import.
+    // Imports a posting file until no fault halts the import.
     fn import<K: Keeper>(
         &mut self,
         alloc: Global,
@@ -105,7 +105,7 @@ impl Tries {
         Ok(())
     }
 
-    // Performs an example.
+    // Performs an example, each call until it succeeds.
     fn run<K: Keeper>(
         &mut self,
         alloc: Global,
@@ -120,7 +120,7 @@ impl Tries {
         Ok(())
     }
 
-    // Performs an example over storage, and repeats opening the `Office` until it succeeds.
+    // Performs an example over a storage, and repeats the opening of the `Office` until it succeeds.
     fn perform<K: Keeper>(
         &mut self,
         alloc: Global,
@@ -141,7 +141,8 @@ impl Tries {
         (keeper, Err(TrialStop))
     }
 
-    // Writes the lines expected of a repeated import, in which the new postings of the first attempt are known.
+    // Computes the lines expected of a repeated import, in which the postings that the first attempts added are
+    // repeated.
     fn want(&mut self, outcomes: &str) -> Result<(), AllocError> {
         for (place, line) in outcomes.lines().enumerate() {
             match line.split_once(",new,") {
@@ -154,7 +155,7 @@ impl Tries {
         Ok(())
     }
 
-    // Returns whether all answers are as stored except for this number of faults, and the store shows the expected
+    // Returns whether all answers are as stored, with this number of faults before them, and the store has the expected
     // rows.
     fn is_kept(&self, stored: &StoredExample, failures: u64, listing: &str) -> bool {
         self.run_report.answers == stored.answers
@@ -163,7 +164,7 @@ impl Tries {
             && self.run_report.listing.text.as_str() == listing
     }
 
-    // Performs an example over failing storage. Returns its outcome and the first call that failed.
+    // Performs an example over a failing storage, and returns its outcome and the kind of the first call that failed.
     fn falter(
         &mut self,
         alloc: Global,
@@ -182,7 +183,7 @@ impl Tries {
     }
 }
 
-// Appends the line of a posting that is known already.
+// Appends the line of a posting that is repeated.
 fn push_again(text: &mut String, row: &str, number: &str) -> Result<(), AllocError> {
     text.push_str(row)?;
     text.push_str(",again,")?;
@@ -190,8 +191,8 @@ fn push_again(text: &mut String, row: &str, number: &str) -> Result<(), AllocErr
 }
 
 /// Performs an example in memory, where `times` calls fail after the first `before`, and repeats each request that
-/// returns a fault. Returns the outcome, which is right if the store shows the same rows as without failures, and the
-/// first call that failed.
+/// returns a fault. Returns the outcome, which is right if the store has the same rows as without failures, and the
+/// kind of the first call that failed.
 pub fn outcome_of_calls(
     alloc: Global,
     stored: &StoredExample,

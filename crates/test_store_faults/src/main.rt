@@ -1,8 +1,8 @@
 //! Runs examples over stores of which calls fail: once in a database in memory, without failures, where each answer
-//! must be as stored; in memory, where one call fails in turn or two, and each request that returns a fault is
+//! must be as stored; in memory, where one call or two fail at each place, and each request answered by a fault is
 //! repeated; and in files. There the log or the database file stops working after n calls, for each n up to the first
 //! with which no call fails. The files are opened again as after a kill and as after a power cut: the store must be as
-//! after a prefix of the requests that has each confirmed one.
+//! after a prefix of the requests that includes each confirmed one.
 //!
 //! The arguments name the files of the examples; "Stored examples" in CONTRIBUTING.md defines their form.
 #![tactic(auto)]
@@ -23,7 +23,7 @@ use crate::trial::try_file;
 use std::alloc::Global;
 use std::{env, fs, io};
 
-// Runs the example of a file, and prints its results.
+// Runs the example of a file, and prints its outcomes.
 fn run_file<R: Print>(rt: &R, alloc: Global, name: &str, text: &str) -> io::Result<()> {
     let mut page = String::new(alloc);
     try_file(alloc, name, text, &mut page)?;

@@ -1,4 +1,4 @@
-//! A migration of a store, one file of which stops working.
+//! Trials of a migration of a store, one file of which stops working.
 use crate::disk::{Disks, Failing, Image, new_files};
 use crate::example::{Example, push_line};
 use crate::outcome::{StoreOutcome, Trial};
@@ -27,7 +27,7 @@ pub struct Migration {
 }
 
 impl Migration {
-    /// Creates a store of version 1 by requests.
+    /// Returns the trial of the store of version 1 that an example makes.
     pub fn new(alloc: Global, example: Example) -> Result<Migration, TrialStop> {
         let mut migration = Migration {
             image: older_image(alloc, example)?,
@@ -38,14 +38,14 @@ impl Migration {
         Ok(migration)
     }
 
-    // Performs the example without failures, and notes the rows before and after the migration.
+    // Performs the example without failures, and records the rows before and after the migration.
     fn run_reference(&mut self, alloc: Global, example: Example) -> Result<(), TrialStop> {
         report_wanted(alloc, example, &mut self.newer)?;
         self.add_older()?;
         Ok(())
     }
 
-    // Appends the rows of a store of version 1 with the same state.
+    // Computes the rows of a store of version 1 from those of version 2 with the same state.
     fn add_older(&mut self) -> Result<(), AllocError> {
         let mut lacks_hier = true;
         for line in self.newer.listing.text.as_str().lines() {
@@ -58,14 +58,14 @@ impl Migration {
         Ok(())
     }
 
-    /// Returns whether the store shows the rows of version 1.
+    /// Returns whether the store has the rows of version 1.
     pub fn is_older(&self, alloc: Global) -> Result<bool, TrialStop> {
         let mut showing = StoreListing::new(alloc);
         self.show(alloc, &mut showing)?;
         Ok(showing.listing.text == self.older)
     }
 
-    // Reads the rows of the store.
+    // Reads the rows of the store before the migration.
     fn show(&self, alloc: Global, showing: &mut StoreListing) -> Result<(), TrialStop> {
         showing.show(alloc, self.image.sound_files(alloc)?)
     }
@@ -82,7 +82,7 @@ impl Migration {
         Ok(StoreOutcome::of(self.is_kept(run), run.is_answered && run.is_closed))
     }
 
-    // Returns whether the store shows the rows that it should.
+    // Returns whether the store has the rows that it should, of either version.
     fn is_kept(&self, run: &Run) -> bool {
         let newer = self.newer.listing.text.as_str();
         let older = self.older.as_str();
@@ -103,15 +103,14 @@ impl Trial for Migration {
     }
 }
 
-// Returns whether a line comes after the links.
+// Returns whether a line of rows belongs after those of links.
 fn is_behind_links(line: &str) -> bool {
     line.starts_with("posting ") || line.starts_with("move ") || line == "loads"
 }
 
-// Appends the line of version 1 for a line of version 2.
+// Appends the line in version 1 for a line in version 2.
 fn push_older(older: &mut String, line: &str) -> Result<(), AllocError> {
     if let Some(rest) = line.strip_prefix("meta 1 2 ") {
-        // Appends a line of two parts.
         push_pair(older, "meta 1 1 ", rest)
     } else if let Some(rest) = line.strip_prefix("hier ") {
         push_pair(older, "link 1 ", rest.strip_suffix(" 0").unwrap_or(rest))
@@ -125,7 +124,7 @@ fn push_pair(text: &mut String, first: &str, rest: &str) -> Result<(), AllocErro
     push_line(text, rest)
 }
 
-// A job that creates a store of version 1 by an example.
+// A job that creates a store of version 1 from an example.
 #[derive(Drop)]
 struct Making<'a> {
     example: Example<'a>,
@@ -164,13 +163,11 @@ impl<'a> Job for Making<'a> {
 // Returns the files of a store of version 1 that an example makes.
 fn older_image(alloc: Global, example: Example) -> Result<Image, TrialStop> {
     let mut making = Making::new(alloc, example)?;
-    // Runs the job, and returns the files if it succeeded.
     make_image(alloc, &mut making)
 }
 
 fn make_image(alloc: Global, making: &mut Making) -> Result<Image, TrialStop> {
     let (files, is_closed) = work(alloc, new_files(alloc, Failing::Log, u64::MAX)?, making);
-    // Copies the files if the store is complete.
     image_of(
         alloc,
         files,
@@ -187,8 +184,8 @@ fn image_of(alloc: Global, files: Disks, is_made: bool) -> Result<Image, TrialSt
     }
 }
 
-// A job that migrates a store: whether it succeeded, whether its files were closed and no call failed, and the rows
-// after the store is opened again.
+// A job that migrates a store: whether it succeeded, whether its files were closed and each call succeeded, and its
+// rows when it is opened again.
 #[derive(Drop)]
 struct Run {
     is_answered: bool,
@@ -215,7 +212,7 @@ impl Run {
         self.migrated
     }
 
-    // Notes the result of a migration. Its only fault may be `Store`.
+    // Records the result of a migration, whose only fault may be `Store`.
     fn note(&mut self, answer: Option<Result<u32, Fault>>) {
         match answer {
             Some(Ok(2)) => self.is_answered = true,
@@ -227,8 +224,8 @@ impl Run {
 
 impl Job for Run {
     fn run<S: Alter>(&mut self, alloc: Global, conn: Connection<S>) -> (Connection<S>, bool) {
-        let mut conn = conn;
-        self.note(migrate_in(alloc, &mut conn));
+        let (conn, answer) = migrate_in(alloc, conn);
+        self.note(answer);
         (conn, true)
     }
 }

@@ -1,21 +1,21 @@
-//! The outcome of a run in files.
+//! The outcome of a trial.
 use crate::disk::Failing;
 use crate::stop::TrialStop;
 use std::alloc::Global;
 
-/// The outcome of a run.
+/// The outcome of a run over files, one of which stops working.
 #[derive(Clone, Copy)]
 pub enum StoreOutcome {
-    /// No call failed, and all changes are in the store.
+    /// No call failed, and the store has all changes.
     Whole,
-    /// A call failed, and all confirmed changes are in the store.
+    /// A call failed, and the store has all confirmed changes.
     Kept,
-    /// The store is wrong.
+    /// The store lacks a confirmed change, or has another state that it must not have.
     Wrong,
 }
 
 impl StoreOutcome {
-    /// Returns the outcome for a store that is right or wrong, and a run with or without a failed call.
+    /// Returns the outcome of a run, from whether the store is right and whether each call succeeded.
     pub fn of(is_right: bool, is_whole: bool) -> StoreOutcome {
         match (is_right, is_whole) {
             (false, _) => StoreOutcome::Wrong,
@@ -25,7 +25,7 @@ impl StoreOutcome {
     }
 }
 
-/// A run in files that can be repeated.
+/// A run in files that can be repeated with another number of calls.
 pub trait Trial {
     /// Runs while a file stops working after `calls` calls, and returns the outcome.
     fn outcome(

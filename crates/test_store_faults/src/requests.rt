@@ -1,4 +1,4 @@
-//! Requests over a store, one file of which stops working.
+//! Trials of requests over a store, one file of which stops working.
 use crate::disk::{Failing, new_files};
 use crate::example::{Example, ExamplePrefix, are_answers};
 use crate::outcome::{StoreOutcome, Trial};
@@ -9,7 +9,7 @@ use sqlite::{Alter, Connection};
 use std::alloc::Global;
 use thes_base::text::Base;
 
-// The lines of a store without tables.
+// The listing of a store without tables.
 const NOTHING: &str = "\
 meta
 resource
@@ -22,7 +22,7 @@ move
 BadStore
 ";
 
-/// An example to run in new stores, and the rows of an empty store.
+/// An example to run in new stores, with the listing of an empty store.
 #[derive(Drop)]
 pub struct Requests<'a> {
     example: Example<'a>,
@@ -30,7 +30,7 @@ pub struct Requests<'a> {
 }
 
 impl<'a> Requests<'a> {
-    /// Creates the trial of an example.
+    /// Returns the trial of an example.
     pub fn new(alloc: Global, example: Example<'a>) -> Result<Requests<'a>, TrialStop> {
         let mut requests = Requests {
             example,
@@ -40,7 +40,7 @@ impl<'a> Requests<'a> {
         Ok(requests)
     }
 
-    // Reads the rows of an empty store.
+    // Reads the listing of an empty store.
     fn report_empty(&mut self, alloc: Global) -> Result<(), TrialStop> {
         let nothing = Example {
             requests: "",
@@ -77,7 +77,7 @@ impl<'a> Requests<'a> {
         run.ran
     }
 
-    // Returns whether the store shows the rows that it should when it is opened again.
+    // Returns whether the store has the rows that it should when it is opened again.
     fn is_right(&self, alloc: Global, run: &Run) -> Result<bool, TrialStop> {
         if run.is_made {
             self.is_kept(alloc, run)
@@ -87,14 +87,14 @@ impl<'a> Requests<'a> {
         }
     }
 
-    // Returns whether a store with tables gave the right answers and shows the right rows.
+    // Returns whether a store with tables gave the right answers and has the right rows.
     fn is_kept(&self, alloc: Global, run: &Run) -> Result<bool, TrialStop> {
         let mut wanted = Wanted::new(alloc);
         self.report_prefixes(alloc, &run.run_report, &mut wanted)?;
         Ok(wanted.is_kept(run))
     }
 
-    // Runs the confirmed requests without failures, and also the ones that may be done.
+    // Performs the confirmed requests without failures, and then also the next one, which may have been performed.
     fn report_prefixes(
         &self,
         alloc: Global,
@@ -110,7 +110,7 @@ impl<'a> Requests<'a> {
         )
     }
 
-    // Runs the prefix of the example that this report confirms, and `more` requests or rows after it.
+    // Performs the prefix of the example that this report confirms, and `more` requests or rows after it.
     fn report_prefix(
         &self,
         alloc: Global,
@@ -149,7 +149,7 @@ impl<'a> Trial for Requests<'a> {
 }
 
 // A job that performs an example in a new store: its report, whether its tables were created, whether its files were
-// closed and no call failed, and the rows after the store is opened again.
+// closed and each call succeeded, and its rows when it is opened again.
 #[derive(Drop)]
 struct Run<'a> {
     example: Example<'a>,
@@ -185,7 +185,8 @@ impl<'a> Job for Run<'a> {
     }
 }
 
-// The expected reports: after the confirmed requests, and after one more, which may be done without being confirmed.
+// The expected reports: after the confirmed requests, and after one more, which may have been performed without being
+// confirmed.
 #[derive(Drop)]
 struct Wanted {
     after_answers: RunReport,
@@ -208,7 +209,7 @@ impl Wanted {
         ) && run_report.rows == self.after_answers.rows
     }
 
-    // Returns whether the store gave the expected answers and shows the expected rows.
+    // Returns whether the store gave the expected answers and has the expected rows.
     fn is_kept(&self, run: &Run) -> bool {
         let after_answers = self.after_answers.listing.text.as_str();
         let more = self.more.listing.text.as_str();

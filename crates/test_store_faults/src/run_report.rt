@@ -1,5 +1,5 @@
-//! Examples over storage, and their reports. Each call of an `Office` is in a function of its own without a contract,
-//! since the `Office`'s contracts are long and slow the proofs that meet them.
+//! Examples over a storage, and their reports. Each call of an `Office` is in a function of its own without a contract,
+//! since the `Office`'s contracts are long and slow the proofs of their callers.
 use crate::example::{Example, has_fault};
 use crate::stop::TrialStop;
 use std::alloc::Global;
@@ -9,28 +9,28 @@ use test_office::serve_in;
 use thes_base::data::Limits;
 use thes_base::fault::{Fault, PipeFault};
 use thes_base::text::Base;
-use thes_exchange::script::Ended;
 use thes_import::postings::{FileImport, ImportHalt, import_postings};
 use thes_office::Office;
+use thes_requests::script::ScriptEnd;
 use thes_service::OfficeHandler;
 use thes_store::keeper::Keeper;
 use thes_store::mem::MemKeeper;
 
-/// The report of an example: the `Office`'s answers, and the store's rows.
+/// The report of an example: the answers of the `Office`, and the rows of the store.
 #[derive(Drop)]
 pub struct RunReport {
     /// A line for each request: its answer, or the fault Store.
     pub answers: String,
-    /// The lines of the import, up to the fault that ended it.
+    /// The lines of the import, up to the fault that halted it.
     pub rows: String,
-    /// Whether the `Office` reported the fault Store.
+    /// Whether the `Office` has returned the fault Store.
     pub failed: bool,
     /// The rows at the end, and whether the store loads.
     pub listing: Rows,
 }
 
 impl RunReport {
-    /// Creates the report before the first request.
+    /// Returns the report before the first request.
     pub fn new(alloc: Global) -> RunReport {
         RunReport {
             answers: String::new(alloc),
@@ -49,15 +49,15 @@ fn push_bytes(text: &mut String, bytes: &[u8]) -> Result<(), TrialStop> {
     }
 }
 
-// Appends the answers to requests, which may have no fault but Store.
+// Appends the answers to requests, none of which may be a fault but Store.
 fn push_answers(
     answers: &mut String,
     written: &[u8],
-    ended: Result<Ended, PipeFault>,
+    ended: Result<ScriptEnd, PipeFault>,
 ) -> Result<(), TrialStop> {
     match ended {
         Ok(
-            Ended {
+            ScriptEnd {
                 refused: _,
                 fault: None | Some(Fault::Store),
             },
@@ -66,7 +66,7 @@ fn push_answers(
     }
 }
 
-/// Makes requests, and appends their answers.
+/// Performs requests, and appends their answers.
 pub fn answer<K: Keeper>(
     alloc: Global,
     handler: &mut OfficeHandler<K>,
@@ -77,7 +77,7 @@ pub fn answer<K: Keeper>(
     push_answers(answers, &written, ended)
 }
 
-// Imports a posting file.
+// Imports a posting file, and returns its report or the fault that halted it.
 fn import_in<K: Keeper>(
     alloc: Global,
     office: &mut Office<K>,
@@ -86,7 +86,7 @@ fn import_in<K: Keeper>(
     import_postings(alloc, file.as_bytes(), office)
 }
 
-// Appends the lines of an import. Returns whether the fault Store ended it.
+// Appends the lines of an import, and returns whether the fault Store halted it.
 fn push_report(
     rows: &mut String,
     imported: &Result<FileImport, ImportHalt>,
@@ -109,7 +109,7 @@ fn push_report(
     }
 }
 
-/// Imports a posting file, and appends its lines. Returns whether the fault Store ended it.
+/// Imports a posting file, appends its lines, and returns whether the fault Store halted it.
 pub fn import<K: Keeper>(
     alloc: Global,
     handler: &mut OfficeHandler<K>,
@@ -120,7 +120,7 @@ pub fn import<K: Keeper>(
     push_report(rows, &imported)
 }
 
-// Performs an example in an `Office`, with the import if no request failed.
+// Performs an example in an `Office`; imports its posting file if no request failed.
 fn run<K: Keeper>(
     alloc: Global,
     handler: &mut OfficeHandler<K>,
@@ -135,7 +135,7 @@ fn run<K: Keeper>(
     Ok(())
 }
 
-/// Opens an `Office` over storage, or returns the storage.
+/// Opens an `Office` over a storage, or returns the fault with the storage.
 pub fn open<K: Keeper>(alloc: Global, keeper: K) -> Result<OfficeHandler<K>, (Fault, K)> {
     match Office::start(alloc, keeper, Limits::default()) {
         Ok(office) => Ok(OfficeHandler::new(office)),
@@ -148,7 +148,7 @@ pub fn close<K: Keeper>(handler: OfficeHandler<K>) -> K {
     handler.into_office().into_keeper()
 }
 
-/// Performs an example over storage. Any fault at the start counts as Store.
+/// Performs an example over a storage. Any fault in opening the store is reported as Store.
 pub fn perform<K: Keeper>(
     alloc: Global,
     keeper: K,
@@ -167,12 +167,12 @@ pub fn perform<K: Keeper>(
     }
 }
 
-// Loads all rows.
+// Loads all rows, and appends them.
 fn list<K: Keeper>(keeper: &mut K, rows: &mut Rows) -> Result<(), Fault> {
     keeper.load(rows)
 }
 
-// Opens an `Office` over storage, and returns "loads" or the name of the fault.
+// Opens an `Office` over a storage, and returns "loads" or the name of the fault.
 fn verdict<K: Keeper>(alloc: Global, keeper: K) -> (K, &'static str) {
     match open(alloc, keeper) {
         Ok(handler) => (close(handler), "loads"),
@@ -180,7 +180,7 @@ fn verdict<K: Keeper>(alloc: Global, keeper: K) -> (K, &'static str) {
     }
 }
 
-// Appends a line with the verdict of a load whose rows were passed on.
+// Appends a line with the verdict of a load, unless the rows couldn't be read.
 fn push_verdict(
     rows: &mut Rows,
     handed: Result<(), Fault>,
@@ -194,7 +194,7 @@ fn push_verdict(
     Ok(())
 }
 
-/// Appends the rows of storage, and whether an `Office` opens over it.
+/// Appends the rows of a storage, and whether an `Office` opens over it.
 pub fn show<K: Keeper>(
     alloc: Global,
     mut keeper: K,
@@ -206,7 +206,7 @@ pub fn show<K: Keeper>(
     (keeper, ended)
 }
 
-/// Returns the base of each store.
+/// Returns the base of every store.
 pub fn base(alloc: Global) -> Result<Base, TrialStop> {
     match Base::read(alloc, "https://thesaurus.example/id/") {
         Ok(base) => Ok(base),
@@ -214,12 +214,12 @@ pub fn base(alloc: Global) -> Result<Base, TrialStop> {
     }
 }
 
-/// Creates storage in memory for a new store.
+/// Returns a storage in memory with the tables of a new store.
 pub fn new_keeper(alloc: Global) -> Result<MemKeeper, TrialStop> {
     Ok(MemKeeper::new(alloc, base(alloc)?))
 }
 
-/// Performs an example in memory without failures.
+/// Performs an example in memory, without failures.
 pub fn report_wanted(
     alloc: Global,
     example: Example,

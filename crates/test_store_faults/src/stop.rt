@@ -1,9 +1,10 @@
-//! The failure to run an example.
+//! The failure of a trial.
 use std::alloc::AllocError;
 use std::io;
 use test_office::invalid;
 
-/// The example couldn't be run: memory ran out, or a store did something that no failing call explains.
+/// The reason why an example couldn't be run: memory ran out, or the store behaved in a way that no failing call
+/// explains.
 #[derive(Clone, Copy)]
 pub struct TrialStop;
 

@@ -11,14 +11,13 @@ use thes_base::fault::Fault;
 use thes_base::text::Base;
 use thes_sql::create::create_tables;
 use thes_sqlite::keeper::SqlKeeper;
-use thes_sqlite::migrating::migrate;
 
-// Creates the tables of a new store. Returns whether that succeeded.
+// Creates the tables of a new store, and returns whether that succeeded.
 fn make_tables<S: Alter>(conn: &mut Connection<S>, base: &Base) -> bool {
     create_tables(conn, base).unwrap_or(false)
 }
 
-// Takes over the tables of a database, or returns the connection.
+// Opens the storage over the tables of a database, or returns the connection.
 fn adopt<S: Alter>(alloc: Global, conn: Connection<S>) -> Result<SqlKeeper<S>, Connection<S>> {
     if conn.is_autocommit() {
         Ok(SqlKeeper::adopt(alloc, conn))
@@ -27,7 +26,7 @@ fn adopt<S: Alter>(alloc: Global, conn: Connection<S>) -> Result<SqlKeeper<S>, C
     }
 }
 
-// Performs an example in a store with tables. Returns the connection.
+// Performs an example in a store with tables, and returns the connection.
 fn perform_in<S: Alter>(
     alloc: Global,
     conn: Connection<S>,
@@ -46,21 +45,26 @@ fn perform_in<S: Alter>(
     }
 }
 
-/// Runs statements in a store. Returns whether they succeeded.
+/// Runs SQL statements in a store, and returns whether they succeeded.
 pub fn execute<S: Alter>(conn: &mut Connection<S>, sql: &str) -> bool {
     conn.execute_batch(sql).is_ok()
 }
 
-/// Migrates a store, unless a transaction is open in it.
-pub fn migrate_in<S: Alter>(alloc: Global, conn: &mut Connection<S>) -> Option<Result<u32, Fault>> {
-    if conn.is_autocommit() {
-        Some(migrate(alloc, conn))
-    } else {
-        None
+/// Migrates a store, unless a transaction is open in it. Returns the connection.
+pub fn migrate_in<S: Alter>(
+    alloc: Global,
+    conn: Connection<S>,
+) -> (Connection<S>, Option<Result<u32, Fault>>) {
+    match adopt(alloc, conn) {
+        Ok(mut keeper) => {
+            let answer = keeper.migrate();
+            (keeper.into_connection(), Some(answer))
+        }
+        Err(conn) => (conn, None),
     }
 }
 
-// Appends the rows of a store, and whether it loads. Returns the connection.
+// Appends the rows of a store, and whether it loads; returns the connection.
 fn show_in<S: Alter>(
     alloc: Global,
     conn: Connection<S>,
@@ -114,9 +118,9 @@ fn run_new(
     if is_made { ran } else { Err(TrialStop) }
 }
 
-/// Work to do in a store in files.
+/// A job to do in a store in files.
 pub trait Job {
-    /// Does the work, and returns the connection and whether to close it rather than abandon it.
+    /// Does the job, and returns the connection and whether to close the store rather than abandon it.
     fn run<S: Alter>(&mut self, alloc: Global, conn: Connection<S>) -> (Connection<S>, bool);
 }
 
@@ -125,7 +129,7 @@ fn work_in<D: Disk + Drop, J: Job>(alloc: Global, conn: Store<D>, job: &mut J) -
     end(conn, is_done)
 }
 
-/// Does work in the store in files. Returns the files, and whether the store was closed and no call failed.
+/// Does a job in the store in files. Returns the files, and whether the store was closed and each call succeeded.
 pub fn work<D: Disk + Drop, J: Job>(
     alloc: Global,
     files: Files<D>,
@@ -145,7 +149,7 @@ pub struct StoreListing {
 }
 
 impl StoreListing {
-    /// Creates the empty text of rows.
+    /// Returns a listing without rows.
     pub fn new(alloc: Global) -> StoreListing {
         StoreListing {
             listing: Rows::new(alloc),
@@ -153,14 +157,14 @@ impl StoreListing {
         }
     }
 
-    /// Reads the rows of the store in the files.
+    /// Opens the store in the files, and reads its rows.
     pub fn show(&mut self, alloc: Global, files: Disks) -> Result<(), TrialStop> {
         let (files, _) = work(alloc, files, self);
         drop(files);
         self.show_result
     }
 
-    // Returns whether the rows are one of two texts.
+    // Returns whether the rows are one of these two texts.
     fn is_either(&self, first: &str, second: &str) -> bool {
         let listing = self.listing.text.as_str();
         listing == first || listing == second
@@ -175,8 +179,7 @@ impl Job for StoreListing {
     }
 }
 
-/// The rows of a store when it is opened again: after a kill, with all that was written, and after a power cut, with
-/// what was synced.
+/// The rows of a store after a kill, with all that was written, and after a power cut, with what was synced.
 #[derive(Drop)]
 pub struct After {
     kill: StoreListing,
@@ -184,7 +187,7 @@ pub struct After {
 }
 
 impl After {
-    /// Creates empty texts of rows.
+    /// Returns two listings without rows.
     pub fn new(alloc: Global) -> After {
         After {
             kill: StoreListing::new(alloc),
@@ -192,19 +195,19 @@ impl After {
         }
     }
 
-    /// Opens the files again as after a kill and as after a power cut, and reads the rows.
+    /// Opens the store as after a kill and as after a power cut, and reads its rows both times.
     pub fn show(&mut self, alloc: Global, files: Disks) -> Result<(), TrialStop> {
         let kill = self.show_killed(alloc, &files);
         let cut = self.cut.show(alloc, cut(files));
         kill.and(cut)
     }
 
-    // Opens the files as after a kill, and reads the rows.
+    // Opens the store as after a kill, and reads its rows.
     fn show_killed(&mut self, alloc: Global, files: &Disks) -> Result<(), TrialStop> {
         self.kill.show(alloc, files_after_kill(alloc, files)?)
     }
 
-    /// Returns whether the rows are one of two texts both times.
+    /// Returns whether the rows are one of these two texts, both times.
     pub fn is_either(&self, first: &str, second: &str) -> bool {
         self.kill.is_either(first, second) && self.cut.is_either(first, second)
     }

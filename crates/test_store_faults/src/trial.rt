@@ -1,4 +1,4 @@
-//! Runs examples over failing stores, and prints the results.
+//! Runs examples over failing stores, and prints the outcomes.
 use crate::disk::Failing;
 use crate::example::{Example, StoredExample};
 use crate::faults::outcome_of_calls;
@@ -12,7 +12,7 @@ use std::alloc::{AllocError, Global};
 use std::fmt::Write;
 use thes_store::fail_once::Next;
 
-// Repeats the run with 0, 1, 2, .. calls until it doesn't end in `Kept`, and returns the number of calls and the
+// Repeats a trial with 0, 1, 2, .. calls until the outcome isn't `Kept`, and returns the number of calls and the
 // outcome.
 fn last_outcome<T: Trial>(
     alloc: Global,
@@ -28,7 +28,7 @@ fn last_outcome<T: Trial>(
     Ok((u64::MAX, StoreOutcome::Wrong))
 }
 
-// Runs a trial for the log and for the database file.
+// Repeats a trial with the log and then with the database file failing, and appends the outcomes.
 fn try_files<T: Trial>(
     alloc: Global,
     name: &str,
@@ -37,7 +37,6 @@ fn try_files<T: Trial>(
 ) -> Result<(), TrialStop> {
     for failing in [Failing::Log, Failing::Database] {
         let last = last_outcome(alloc, trial, failing)?;
-        // Appends a line with the outcome of a trial.
         write_last(page, name, failing.name(), last)?;
     }
     Ok(())
@@ -56,7 +55,7 @@ fn write_last(
     }
 }
 
-// Returns the name of a call.
+// Returns the name of a kind of call.
 fn name_of(call: Next) -> &'static str {
     match call {
         Next::Nothing => "nothing",
@@ -68,7 +67,7 @@ fn name_of(call: Next) -> &'static str {
     }
 }
 
-// Appends a word to a list, unless the list has it.
+// Appends a name to a list, unless the list has it.
 fn push_new(words: &mut String, word: &str) -> Result<(), AllocError> {
     if words.as_str().split(' ').all(|other| other != word) {
         words.push(' ')?;
@@ -77,8 +76,8 @@ fn push_new(words: &mut String, word: &str) -> Result<(), AllocError> {
     Ok(())
 }
 
-// Lets `times` calls fail after each number of calls until the outcome isn't `Kept`, and collects the calls that failed
-// first. Returns the last outcome.
+// Repeats an example with `times` calls failing after 0, 1, 2, .. others until the outcome isn't `Kept`, and collects
+// the kinds of calls that failed first. Returns the last outcome.
 fn add_calls(
     alloc: Global,
     stored: &StoredExample,
@@ -95,7 +94,7 @@ fn add_calls(
     Ok(StoreOutcome::Wrong)
 }
 
-// Lets each call to storage in memory fail, `times` times.
+// Runs an example over a storage in memory, each call of which fails in turn, `times` times.
 fn try_calls(
     alloc: Global,
     name: &str,
@@ -106,7 +105,6 @@ fn try_calls(
 ) -> Result<(), TrialStop> {
     let mut words = String::new(alloc);
     let outcome = add_calls(alloc, stored, times, listing, &mut words)?;
-    // Appends a line with the calls that failed and the outcome.
     write_calls(page, name, times, outcome, words.as_str())
 }
 
@@ -128,7 +126,7 @@ fn write_calls(
     Ok(())
 }
 
-// Runs an example over storage of which one call fails, or two.
+// Runs an example over a storage of which one call fails, and over one of which two fail.
 fn try_keepers(
     alloc: Global,
     name: &str,
@@ -142,14 +140,14 @@ fn try_keepers(
     Ok(())
 }
 
-// Returns whether all answers are as stored.
+// Returns whether all answers are the stored ones.
 fn is_as_stored(run_report: &RunReport, stored: &StoredExample) -> bool {
     run_report.answers == stored.answers
         && run_report.rows.as_str() == stored.outcomes
         && !run_report.failed
 }
 
-// Appends a line with whether all answers are as stored.
+// Appends a line that says whether all answers are as stored.
 fn write_answered(page: &mut String, name: &str, is_as_stored: bool) -> Result<(), TrialStop> {
     Ok(writeln!(
         page,
@@ -169,7 +167,7 @@ fn try_in_memory(
     write_answered(page, name, is_as_stored(&run_report, stored))
 }
 
-// Runs an example over storage that isn't in files.
+// Runs an example over storages that aren't in files.
 fn try_memory(
     alloc: Global,
     name: &str,
@@ -182,7 +180,7 @@ fn try_memory(
     try_keepers(alloc, name, stored, wanted.listing.text.as_str(), page)
 }
 
-// Runs the requests of an example in files.
+// Runs the requests of an example over stores in files.
 fn try_requests(
     alloc: Global,
     name: &str,
@@ -193,7 +191,7 @@ fn try_requests(
     try_files(alloc, name, &requests, page)
 }
 
-// Runs a migration in files, after a check that the store is of version 1.
+// Runs a migration over stores in files, after a check that the store is of version 1.
 fn try_older(
     alloc: Global,
     name: &str,
@@ -208,7 +206,7 @@ fn try_older(
     try_files(alloc, name, migration, page)
 }
 
-// Runs the migration of a store of version 1 that an example makes.
+// Runs the migration of the store of version 1 that an example makes.
 fn try_migration(
     alloc: Global,
     name: &str,
@@ -235,7 +233,7 @@ fn try_stored(
     }
 }
 
-/// Runs the example of a file, and appends its results to the page.
+/// Runs the example in the text of a file, and appends its outcomes to the page.
 pub fn try_file(alloc: Global, name: &str, text: &str, page: &mut String) -> Result<(), TrialStop> {
     let (text, migrates) = match text.split_once("% migrate\n") {
         Some((requests, _)) => (requests, true),

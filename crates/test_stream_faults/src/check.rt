@@ -1,24 +1,24 @@
-//! Checks the answers to an example, with or without a failed allocation.
+//! Checks of the answers to an example, with or without a failed allocation.
 use crate::example::Example;
 use crate::run::{End, ExampleRun};
 use std::alloc::{AllocError, Global};
 use std::io;
 use test_office::{Store, store_after};
 
-// More allocations than any run makes before the one that fails.
+// A number of allocations greater than that of any run before the one that fails.
 const MOST: u32 = 10_000;
 
-/// The outcome of an example.
+/// The outcome of an example with at most one failed allocation.
 #[derive(Drop)]
 pub enum ExampleOutcome {
     /// An allocation failed before the first step.
     Early,
-    /// No allocation failed, and these were the answers.
+    /// No allocation failed, and these are the answers.
     Granted(ExampleRun),
     /// One allocation failed, and the answers were right: a step answered with the fault changed
     /// nothing.
     Refused,
-    /// The answers were wrong.
+    /// An answer was wrong, or the state of the store was.
     Wrong,
 }
 
@@ -30,8 +30,8 @@ fn spend(alloc: Global, requests: u32) -> Result<(), AllocError> {
     Ok(())
 }
 
-/// Makes `before` allocations, and runs an example in a new store. With 0, no allocation should
-/// fail.
+/// Makes `before` allocations, and runs an example in a new store. If `before` is 0, no allocation
+/// should fail.
 pub fn outcome_of(alloc: Global, before: u32, example: &Example) -> ExampleOutcome {
     if spend(alloc, before).is_err() {
         return ExampleOutcome::Early;
@@ -42,10 +42,10 @@ pub fn outcome_of(alloc: Global, before: u32, example: &Example) -> ExampleOutco
     }
 }
 
-// Runs an example in a store, and checks it.
+// Runs an example in a store, and checks its answers and the state of the store.
 fn outcome_in(alloc: Global, before: u32, example: &Example, mut store: Store) -> ExampleOutcome {
     let run = example.run(alloc, &mut store, example.steps);
-    // Makes the remaining allocations up to the one that fails, unless the run met it.
+    // Makes the allocations up to the one that fails, unless the run has met it.
     let is_met = before > 0 && spend(alloc, MOST).is_ok();
     let shown = store.shown(alloc);
     if !is_right(alloc, example, &run, shown).unwrap_or(false) {
@@ -58,8 +58,8 @@ fn outcome_in(alloc: Global, before: u32, example: &Example, mut store: Store) -
     }
 }
 
-// Returns whether a store that is given only the steps performed answers them alike and shows the
-// same at its end, and whether all steps were performed but for a fault.
+// Returns whether a store with only the steps performed answers them alike and has the same views
+// at its end, and whether every step without a fault was performed.
 fn is_right(
     alloc: Global,
     example: &Example,
@@ -79,7 +79,8 @@ fn is_right(
     )
 }
 
-// Runs some steps of an example in a store, and returns the answers and what the store then shows.
+// Runs some steps of an example in a store, and returns the answers and the views of the store
+// after them.
 fn run_again(
     alloc: Global,
     example: &Example,

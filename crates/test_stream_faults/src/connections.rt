@@ -10,7 +10,7 @@ use thes_http::serve::ConnectionEnd;
 /// The line that follows each request.
 pub const BEHIND: &str = "%\n";
 
-/// Serves connections in a store. None may import, since the rows before a fault would be
+/// Serves connections in a store. None may import, since a fault would leave the rows before it
 /// performed.
 pub fn run(alloc: Global, store: &mut Store, input: &str) -> ExampleRun {
     let mut run = ExampleRun::new();
@@ -26,7 +26,7 @@ pub fn run(alloc: Global, store: &mut Store, input: &str) -> ExampleRun {
     run
 }
 
-// Returns the end of a step, given how its connection ended and the text written.
+// Returns the end of a step, given the outcome of its connection and the text written.
 fn end_of(served: ConnectionEnd, written: &str) -> End {
     match served {
         ConnectionEnd::Answered(_) if written.ends_with(FAULT) => End::OutOfMemory,

@@ -1,11 +1,11 @@
-//! Reads examples from files.
+//! Examples, and their parsing.
 use crate::connections::BEHIND;
 use crate::run::ExampleRun;
 use crate::{connections, import, script, texts};
 use std::alloc::{AllocError, Global};
 use test_office::Store;
 
-/// What the steps of an example are.
+/// The kind of an example, which says what its steps are.
 #[derive(Clone, Copy, Debug, PartialEq, Eq)]
 pub enum ExampleKind {
     Script,
@@ -23,8 +23,8 @@ pub struct Example<'a> {
 }
 
 impl<'a> Example<'a> {
-    /// Reads an example: its requests, a line `@` with the name of the kind, and its steps. Returns
-    /// `None` for an unknown name.
+    /// Parses an example: its requests, a line `@` with the name of the kind, and its steps.
+    /// Returns `None` for an unknown kind.
     pub fn read(text: &'a str) -> Option<Example<'a>> {
         let (requests, rest) = text.split_once("@ ")?;
         let (name, steps) = rest.split_once('\n')?;
@@ -42,7 +42,7 @@ impl<'a> Example<'a> {
         })
     }
 
-    /// Runs some of the steps in a store.
+    /// Runs these steps in a store, as the kind of the example requires.
     pub fn run(&self, alloc: Global, store: &mut Store, steps: &str) -> ExampleRun {
         match self.kind {
             ExampleKind::Script => script::run(alloc, store, steps),

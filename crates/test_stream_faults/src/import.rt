@@ -1,4 +1,4 @@
-//! Examples of posting files: the steps are lines, of which the first is answered with a heading.
+//! Examples of posting files: the steps are lines, of which the first is answered by a heading.
 use crate::page::FixedPage;
 use crate::run::{End, ExampleRun};
 use std::alloc::Global;
@@ -7,7 +7,7 @@ use test_office::Store;
 use test_office::ways::import_in;
 use thes_base::fault::PipeFault;
 
-/// Imports a posting file into a store; the rows before a fault are performed.
+/// Imports a posting file into a store; a fault leaves the rows before it performed.
 pub fn run(alloc: Global, store: &mut Store, input: &str) -> ExampleRun {
     let (page, ended) = import_file(alloc, store, input.as_bytes(), FixedPage::new());
     let mut run = ExampleRun::new();
@@ -20,7 +20,7 @@ pub fn run(alloc: Global, store: &mut Store, input: &str) -> ExampleRun {
     run
 }
 
-/// Imports a posting file over these devices, and returns the writer and how the import ended.
+/// Imports a posting file over these devices, and returns the writer and the end of the import.
 pub fn import_file<R: Read + Drop, W: Write>(
     alloc: Global,
     store: &mut Store,

@@ -1,8 +1,8 @@
-//! Runs examples, each in a new store, and checks that they are answered correctly when something
-//! fails.
+//! Runs examples, each in a new store, and checks that they are answered correctly if an
+//! allocation, a reader or a writer fails.
 //!
-//! Arguments: the number of allocations to make first, and the files of the examples, whose form
-//! "Stored examples" in CONTRIBUTING.md defines. `tests/builds/refuse-memory` makes one later
+//! The arguments are the number of allocations to make first, and the files of the examples, whose
+//! form "Stored examples" in CONTRIBUTING.md defines. `tests/builds/refuse-memory` makes one later
 //! allocation fail. With 0 allocations none should fail; then the readers and writers of imports,
 //! exports and displays fail instead.
 #![tactic(auto)]

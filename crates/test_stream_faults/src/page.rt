@@ -1,10 +1,10 @@
-//! A page to write to that allocates nothing.
+//! A writer that allocates nothing.
 ghost use Rattle.std.specs.Prelude.{◌≤◌};
 
 use std::io::Write;
 use std::{io, str};
 
-/// A buffer of 4,096 bytes, and the number of bytes written.
+/// A buffer of 4,096 bytes, with the number of bytes written to it.
 #[derive(Drop)]
 pub struct FixedPage {
     bytes: [u8; 4096],
@@ -13,7 +13,7 @@ pub struct FixedPage {
 }
 
 impl FixedPage {
-    /// Returns an empty page.
+    /// Returns a page without text.
     pub fn new() -> FixedPage {
         FixedPage {
             bytes: [0; 4096],

@@ -1,6 +1,6 @@
-//! Runs imports, exports and displays with a reader or a writer that fails at each of its calls in
-//! turn. The output must be a prefix of the whole text; if the reader failed, nothing may be
-//! performed, and if the writer failed, everything.
+//! Imports, exports and displays with a reader or a writer that fails after each number of calls.
+//! The output must be a prefix of the whole text; if the reader failed, nothing may be performed,
+//! and if the writer failed after an import's heading, everything.
 use crate::import::import_file;
 use crate::texts::write_text;
 use Failing::{FullWriter, Reader, Writer};
@@ -13,13 +13,13 @@ use thes_base::fault::PipeFault;
 /// The outcome of a step whose devices fail.
 #[derive(Clone, Copy, Debug, PartialEq, Eq)]
 pub enum FaultResult {
-    /// It ended correctly at each of this number of calls.
+    /// The step ended correctly for each of this number of calls.
     Right(u32),
-    /// It didn't when this device failed after this number of calls.
+    /// The step ended otherwise when this device failed after this number of calls.
     Wrong(Failing, u32),
 }
 
-// How a step ended, the text written, and what the store then shows.
+// The result of a step: its end, the text written, and the views of the store after it.
 #[derive(Drop)]
 struct StepResult {
     ended: Result<(), PipeFault>,
@@ -54,8 +54,11 @@ fn import_with(
     })
 }
 
-// Checks an import with this device failing at each call in turn. If the reader fails, the store
-// must show `before`.
+// The length of the heading of outcomes, which is written before the first row is performed.
+const HEADING: usize = 19;
+
+// Checks an import with this device failing after each number of calls. If the reader fails, or the
+// writer within the heading, the views of the store must be `before`.
 fn check_import_with(
     alloc: Global,
     requests: &str,
@@ -68,6 +71,7 @@ fn check_import_with(
         let asked = import_with(alloc, requests, file, failing, calls)?;
         let shown = match (asked.ended, failing) {
             (Err(_), Reader) => before,
+            (Err(_), _) if asked.text.len() < HEADING => before,
             _ => &whole.shown,
         };
         let is_right = is_written(asked.ended, &asked.text, &whole.text, failing);
@@ -81,7 +85,7 @@ fn check_import_with(
     Ok(FaultResult::Wrong(failing, u32::MAX))
 }
 
-/// Checks an import with the reader or the writer failing at each call in turn.
+/// Checks an import with the reader or the writer failing after each number of calls.
 pub fn check_import(alloc: Global, requests: &str, file: &str) -> io::Result<FaultResult> {
     let before = store_after(alloc, requests)?.shown(alloc)?;
     let whole = import_with(alloc, requests, file, Writer, u32::MAX)?;
@@ -95,7 +99,7 @@ pub fn check_import(alloc: Global, requests: &str, file: &str) -> io::Result<Fau
     Ok(FaultResult::Right(count))
 }
 
-// Checks a text with this writer failing at each call in turn.
+// Checks a text with this writer failing after each number of calls.
 fn check_text_with(
     alloc: Global,
     store: &mut Store,
@@ -115,7 +119,7 @@ fn check_text_with(
     FaultResult::Wrong(failing, u32::MAX)
 }
 
-// Checks a text with each kind of writer failing at each call in turn.
+// Checks a text with each kind of writer failing after each number of calls.
 fn check_text_in(alloc: Global, store: &mut Store, words: &str) -> FaultResult {
     let (text, _) = write_text(alloc, store, words, Vec::new(alloc));
     let mut count = 0u32;
@@ -128,8 +132,8 @@ fn check_text_in(alloc: Global, store: &mut Store, words: &str) -> FaultResult {
     FaultResult::Right(count)
 }
 
-/// Checks a text with the writer failing at each call in turn, and that the store shows the same
-/// before and after.
+/// Checks a text with the writer failing after each number of calls, and that the views of the
+/// store are the same before and after.
 pub fn check_text(alloc: Global, requests: &str, words: &str) -> io::Result<FaultResult> {
     let before = store_after(alloc, requests)?.shown(alloc)?;
     let mut store = store_after(alloc, requests)?;

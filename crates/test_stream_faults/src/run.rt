@@ -1,19 +1,19 @@
-//! The results of a run of an example.
+//! The results of running an example.
 use crate::page::FixedPage;
 use std::io::Write;
 use thes_base::fault::{Fault, PipeFault};
 
-// The greatest number of steps of an example.
+// The greatest number of steps in an example.
 const MOST: usize = 32;
 
-/// How a run or a step ended.
+/// The end of a run or a step.
 #[derive(Clone, Copy, Debug, PartialEq, Eq)]
 pub enum End {
-    /// Everything was performed.
+    /// Every step was performed.
     Done,
-    /// One step was answered with the fault `OutOfMemory`.
+    /// A step was answered with the fault `OutOfMemory`.
     OutOfMemory,
-    /// It ended in a way that isn't allowed.
+    /// The end isn't one that is allowed.
     Wrong,
 }
 
@@ -28,12 +28,12 @@ impl End {
     }
 }
 
-/// The answers to the steps of an example, held in place, since allocations may fail.
+/// The answers to the steps of an example, on the stack, since allocations may fail.
 #[derive(Drop)]
 pub struct ExampleRun {
     /// The answers to the steps that were performed.
     pub page: FixedPage,
-    /// Whether each step was performed.
+    /// Whether each step was performed, by its index.
     pub performed: [bool; 32],
     pub end: End,
 }
@@ -48,7 +48,8 @@ impl ExampleRun {
         }
     }
 
-    /// Records how a step ended, and its answer. A step answered with the fault changed nothing.
+    /// Records the end of a step, and its answer. A step answered with the fault `OutOfMemory` has
+    /// changed nothing.
     pub fn note(&mut self, step: usize, end: End, answer: &str) {
         if end == End::Done && step < MOST && self.page.write_all(answer.as_bytes()).is_ok() {
             self.performed[step] = true;

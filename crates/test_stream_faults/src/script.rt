@@ -4,12 +4,12 @@ use crate::run::{End, ExampleRun};
 use std::alloc::Global;
 use test_office::Store;
 use thes_base::fault::Fault;
-use thes_exchange::script::Ended;
+use thes_requests::script::ScriptEnd;
 
-/// The answer to a line that ran out of memory.
+/// The answer to a line for which memory ran out.
 pub const FAULT: &str = "{\"fault\":\"OutOfMemory\"}\n";
 
-/// Runs a script in a store.
+/// Runs a script in a store, and records its answers.
 pub fn run(alloc: Global, store: &mut Store, input: &str) -> ExampleRun {
     let (page, ended) = store.serve(alloc, input.as_bytes(), FixedPage::new());
     let mut run = ExampleRun::new();
@@ -21,8 +21,8 @@ pub fn run(alloc: Global, store: &mut Store, input: &str) -> ExampleRun {
     run
 }
 
-// Records the answers of a script, and checks how it ended.
-fn note_lines(run: &mut ExampleRun, input: &str, answers: &str, ended: Ended) {
+// Records the answers of a script, and checks its end.
+fn note_lines(run: &mut ExampleRun, input: &str, answers: &str, ended: ScriptEnd) {
     for (step, answer) in answers.split_inclusive('\n').enumerate() {
         let end = if answer == FAULT {
             End::OutOfMemory

@@ -1,5 +1,5 @@
-//! Examples of exports and displays: the steps are lines: `export`, or a display, its scheme and
-//! its language.
+//! Examples of exports and displays: the steps are lines, each `export`, or a display with its
+//! scheme and its language.
 use crate::page::FixedPage;
 use crate::run::{End, ExampleRun};
 use std::alloc::Global;
@@ -11,7 +11,7 @@ use thes_base::number::ResNo;
 use thes_base::text::Tag;
 use thes_http::service::Display;
 
-/// Writes texts of a store; a text that runs out of memory is not written at all.
+/// Writes texts of a store; of a text that runs out of memory nothing may be written.
 pub fn run(alloc: Global, store: &mut Store, input: &str) -> ExampleRun {
     let mut run = ExampleRun::new();
     for (step, words) in input.lines().enumerate() {
@@ -21,7 +21,8 @@ pub fn run(alloc: Global, store: &mut Store, input: &str) -> ExampleRun {
     run
 }
 
-/// Writes a text to a device, and returns the device and how the writing ended.
+/// Writes a text to a device, and returns the device and the fault that stopped the writing, if
+/// any.
 pub fn write_text<W: Write>(
     alloc: Global,
     store: &mut Store,
@@ -36,7 +37,7 @@ pub fn write_text<W: Write>(
     }
 }
 
-// Writes the display of the named scheme in the named language, or nothing if there is none.
+// Writes a display of the scheme and the language named, or nothing if there is no such scheme.
 fn write_display<W: Write>(
     alloc: Global,
     store: &mut Store,

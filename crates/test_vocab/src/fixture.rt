@@ -1,4 +1,4 @@
-//! A vocabulary behind calls without contracts. Each change is checked before it is applied.
+//! A vocabulary behind calls without contracts, each of which checks a change before it applies it.
 ghost use Rattle.std.specs.Prelude.{IsTrue, Some};
 ghost use Rattle.thes_base.specs.Resources.{IsLiveConcept};
 ghost use Rattle.thes_vocab.specs.Vocabulary.{IsLiveOwner, IsReplacement};
@@ -10,7 +10,7 @@ use thes_base::number::ResNo;
 use thes_base::text::{Base, Iri, Note, Tag, Text};
 use thes_vocab::Vocab;
 
-/// The answer to a change.
+/// The answer to a change: done, the number added, the number of labels gained, or the refusal.
 #[derive(Clone, Copy, Debug, PartialEq, Eq)]
 pub enum Answer {
     Done,
@@ -19,19 +19,19 @@ pub enum Answer {
     No(Refusal),
 }
 
-/// A change of a label.
+/// The kind of a change of a label: its addition or its removal.
 #[derive(Clone, Copy)]
 pub enum Change {
     Add,
     Remove,
 }
 
-/// Returns the resource number `n`, or 1 for 0.
+/// Returns the resource's number `n`, or 1 if `n` is 0.
 pub fn no(n: u32) -> ResNo {
     ResNo::new(n.max(1))
 }
 
-/// Builds a label of this kind.
+/// Returns a label of this kind.
 pub fn label(alloc: Global, kind: LabelKind, tag: &str, text: &str) -> Result<Label, ReadStop> {
     let tag = Tag::read(alloc, tag)?;
     let value = match kind {
@@ -43,7 +43,7 @@ pub fn label(alloc: Global, kind: LabelKind, tag: &str, text: &str) -> Result<La
     Ok(Label { tag, value })
 }
 
-// Checks whether the labels of this resource may be changed.
+// Returns whether the labels of this resource may be changed.
 fn is_owner(vocab: &Vocab, n: ResNo) -> bool
     ensures { IsTrue result → IsLiveOwner vocab.now.resources n }
 {
@@ -62,7 +62,7 @@ fn is_live_concept(vocab: &Vocab, n: ResNo) -> bool
     resource.kind == ResourceKind::Concept && resource.live
 }
 
-// Checks whether the target is another live concept of the source's scheme.
+// Returns whether the target is another live concept of the source's scheme.
 fn may_replace(vocab: &Vocab, source: ResNo, target: ResNo) -> bool
     ensures { IsTrue result → IsReplacement vocab.now.resources source (Some target) }
 {
@@ -75,16 +75,16 @@ fn may_replace(vocab: &Vocab, source: ResNo, target: ResNo) -> bool
     source != target && is_live_concept(vocab, target) && from.scheme == to.scheme
 }
 
-/// A vocabulary under test.
+/// A vocabulary under test, whose calls have no contracts.
 #[derive(Drop)]
 pub struct Fixture {
     alloc: Global,
     vocab: Vocab,
 }
 
-// Changes.
+// Changes of the vocabulary, each with its check.
 impl Fixture {
-    /// Creates a vocabulary without resources, under the base of the examples.
+    /// Returns a vocabulary without resources, with the base IRI of the examples.
     pub fn new(alloc: Global) -> Result<Fixture, ReadStop> {
         let base = Base::read(alloc, "https://thesaurus.example/id/")?;
         let vocab = Vocab::new(alloc, base);
@@ -101,28 +101,28 @@ impl Fixture {
         Ok(Answer::Number(self.vocab.add_resource(new)?.get()))
     }
 
-    /// Adds a scheme with an English label.
+    /// Adds a scheme with this English label, unless it is refused.
     pub fn scheme(&mut self, text: &str) -> Result<Answer, ReadStop> {
         let tag = Tag::read(self.alloc, "en")?;
         let text = Text::read(self.alloc, text)?;
         Ok(self.make(NewResource::Scheme(tag, text))?)
     }
 
-    /// Adds a concept with an English label.
+    /// Adds a concept to a scheme with this English label, unless it is refused.
     pub fn concept(&mut self, scheme: u32, text: &str) -> Result<Answer, ReadStop> {
         let tag = Tag::read(self.alloc, "en")?;
         let text = Text::read(self.alloc, text)?;
         Ok(self.make(NewResource::Concept(no(scheme), tag, text))?)
     }
 
-    /// Adds a collection with an English label.
+    /// Adds a collection to a scheme with this English label, unless it is refused.
     pub fn collection(&mut self, scheme: u32, text: &str) -> Result<Answer, ReadStop> {
         let tag = Tag::read(self.alloc, "en")?;
         let text = Text::read(self.alloc, text)?;
         Ok(self.make(NewResource::Collection(no(scheme), tag, text))?)
     }
 
-    /// Adds an outside concept.
+    /// Adds an outside concept with this IRI, unless it is refused.
     pub fn outside(&mut self, iri: &str) -> Result<Answer, ReadStop> {
         let iri = Iri::read(self.alloc, iri)?;
         Ok(self.make(NewResource::Outside(iri))?)
@@ -150,7 +150,7 @@ impl Fixture {
         Answer::Done
     }
 
-    /// Adds or removes a label.
+    /// Adds or removes a label, unless that is refused.
     pub fn change_label(
         &mut self,
         change: Change,
@@ -183,7 +183,8 @@ impl Fixture {
         Ok(Answer::Done)
     }
 
-    /// Replaces a preferred label.
+    /// Replaces the preferred label in a language; the old one stays as an alternative label if
+    /// `keep` is true.
     pub fn relabel(
         &mut self,
         owner: u32,
@@ -196,7 +197,7 @@ impl Fixture {
         Ok(self.rename(no(owner), &tag, &text, keep)?)
     }
 
-    /// Copies the missing labels of the source to the target.
+    /// Copies to the target the labels of the source that it lacks, and answers with their number.
     pub fn take_labels(&mut self, source: u32, target: u32) -> Result<Answer, AllocError> {
         let target = no(target);
         if !is_live_concept(&self.vocab, target) {
@@ -206,7 +207,7 @@ impl Fixture {
         Ok(Answer::Gained(gained))
     }
 
-    /// Marks a concept as dead, without a replacement.
+    /// Deprecates a concept, without a replacement.
     pub fn deprecate(&mut self, n: u32) -> Answer {
         let n = no(n);
         if !is_live_concept(&self.vocab, n) {
@@ -216,7 +217,7 @@ impl Fixture {
         Answer::Done
     }
 
-    /// Marks a concept as dead, with the target as its replacement.
+    /// Deprecates a concept, with the target as its replacement.
     pub fn replace(&mut self, source: u32, target: u32) -> Answer {
         let (source, target) = (no(source), no(target));
         if !is_live_concept(&self.vocab, source) || !may_replace(&self.vocab, source, target) {
@@ -227,39 +228,39 @@ impl Fixture {
     }
 }
 
-// Look-ups.
+// Look-ups in the vocabulary.
 impl Fixture {
     /// Returns the numbers of resources and labels.
     pub fn counts(&self) -> (u64, u64) {
         (self.vocab.resource_count(), self.vocab.label_count())
     }
 
-    /// Returns a resource.
+    /// Returns the resource with this number.
     pub fn resource(&self, n: u32) -> Option<Resource> {
         self.vocab.resource(no(n)).copied()
     }
 
-    /// Checks whether a resource is live.
+    /// Returns whether this resource is live.
     pub fn is_live(&self, n: u32) -> bool {
         self.vocab.is_live(no(n))
     }
 
-    /// Returns the live concepts of a scheme.
+    /// Returns the numbers of the live concepts of a scheme, in ascending order.
     pub fn live_of(&self, scheme: u32) -> &[ResNo] {
         self.vocab.live_of(no(scheme))
     }
 
-    /// Returns the labels of an owner.
+    /// Returns the labels of a resource.
     pub fn labels_of(&self, owner: u32) -> &[Label] {
         self.vocab.labels_of(no(owner))
     }
 
-    /// Returns the number of labels that the target would gain.
+    /// Returns the number of labels that the target would gain from the source.
     pub fn taken_count(&self, source: u32, target: u32) -> u64 {
         self.vocab.taken_count(no(source), no(target))
     }
 
-    /// Returns a preferred label.
+    /// Returns the preferred label of a resource in a language.
     pub fn preferred(&self, owner: u32, tag: &str) -> Result<Option<&str>, ReadStop> {
         let tag = Tag::read(self.alloc, tag)?;
         Ok(match self.vocab.preferred(no(owner), &tag) {
@@ -268,20 +269,20 @@ impl Fixture {
         })
     }
 
-    /// Returns the holder of a preferred label.
+    /// Returns the concept of a scheme that has this preferred label in a language.
     pub fn holder(&self, scheme: u32, tag: &str, text: &str) -> Result<Option<ResNo>, ReadStop> {
         let tag = Tag::read(self.alloc, tag)?;
         let text = Text::read(self.alloc, text)?;
         Ok(self.vocab.holder(no(scheme), &tag, &text))
     }
 
-    /// Returns the number of the outside concept with an IRI.
+    /// Returns the number of the outside concept with this IRI.
     pub fn number_of(&self, iri: &str) -> Result<Option<ResNo>, ReadStop> {
         let iri = Iri::read(self.alloc, iri)?;
         Ok(self.vocab.outside(&iri))
     }
 
-    /// Returns the IRI of an outside concept.
+    /// Returns the IRI of the outside concept with this number.
     pub fn iri_of(&self, n: u32) -> Option<&str> {
         match self.vocab.outside_iri(no(n)) {
             Some(iri) => Some(iri.as_str()),

@@ -1,4 +1,4 @@
-//! Tests of the vocabulary.
+//! Tests of the vocabulary: worked examples on resources and labels.
 #![tactic(auto)]
 
 #[cfg(test)]

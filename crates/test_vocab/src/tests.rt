@@ -1,5 +1,5 @@
-//! The worked examples on resources and labels, each a table of steps: a call and its answer, or a
-//! fact. The tables have items of their own, because a proof that sees a table computes with it.
+//! The worked examples on resources and labels, each a table of steps: a call with its answer, or a
+//! fact. The tables are items of their own, because a proof that sees a table computes with it.
 use crate::fixture::{Answer, Change, Fixture, no};
 use Answer::{Done, Gained, No, Number};
 use Call::{
@@ -34,7 +34,7 @@ enum Call {
     Replace(u32, u32),
 }
 
-// A fact about the vocabulary.
+// A fact about the vocabulary: the expected result of a look-up.
 #[derive(Clone, Copy)]
 enum Fact {
     Counts(u64, u64),
@@ -74,7 +74,7 @@ fn answer(fixture: &mut Fixture, call: Call) -> Result<Answer, ReadStop> {
     }
 }
 
-// Checks that the labels equal the wanted ones, in order.
+// Returns whether the labels equal the wanted ones, in order.
 fn are_labels(labels: &[Label], wanted: &[(LabelKind, &str, &str)]) -> bool {
     labels.len() == wanted.len()
         && labels.iter().zip(wanted.iter()).all(|(l, (kind, tag, text))| {
@@ -82,7 +82,7 @@ fn are_labels(labels: &[Label], wanted: &[(LabelKind, &str, &str)]) -> bool {
         })
 }
 
-// Checks that the numbers equal the wanted ones, in order.
+// Returns whether the numbers equal the wanted ones, in order.
 fn are_numbers(found: &[ResNo], wanted: &[u32]) -> bool {
     found.len() == wanted.len() && found.iter().zip(wanted.iter()).all(|(n, m)| n.get() == *m)
 }
@@ -120,7 +120,7 @@ fn holds(fixture: &Fixture, fact: Fact) -> Result<bool, ReadStop> {
     })
 }
 
-// Runs the steps of a table.
+// Runs the steps of a table in order.
 fn take(rt: &impl Abort, fixture: &mut Fixture, steps: &[Step]) -> Result<(), Fail> {
     for (i, step) in steps.iter().enumerate() {
         match *step {
@@ -139,7 +139,7 @@ static START: [Step; 4] = [
     Do(Concept(1, "Pets"), Number(4)),
 ];
 
-// Runs the steps of a table after those of the start.
+// Runs the steps of `START`, and then those of a table.
 fn expect(rt: &impl Abort, alloc: Global, steps: &[Step]) -> Result<(), Fail> {
     let mut fixture = Fixture::new(alloc)?;
     for table in [&START, steps] {
@@ -272,7 +272,7 @@ fn holders_of_replaced_labels(rt: HostRuntime) -> Result<(), Fail> {
     expect(&rt, rt.alloc(), &HELD)
 }
 
-// The effect of a merge on labels and resources.
+// The facts about labels and resources before and after a merge.
 static MERGED: [Step; 5] = [
     See(TakenCount(2, 3, 1)),
     Do(TakeLabels(2, 3), Gained(1)),

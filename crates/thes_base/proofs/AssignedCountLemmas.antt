@@ -46,7 +46,7 @@ module _ (test : ℕ → Bool) (p : ℕ) where
       ap (λ b. sum_by (one_at p) (cond b (first ∷ filter test (numbers_from (first + 1) n))
       (filter test (numbers_from (first + 1) n)))) e
 
-  -- No number above p is p.
+  -- The number p isn't met in a range that begins above it.
   hits_none : (first n : ℕ) → p < first → hits first n ≡ 0
   hits_none first zero h = refl
   hits_none first (suc n) h =
@@ -55,7 +55,7 @@ module _ (test : ℕ → Bool) (p : ℕ) where
       ⊎_elim (λ (e : test first ≡ true). let a = hits_yes first n e in omega (arith, a, miss, ih))
       (λ (e : test first ≡ false). hits_no first n e ∙ ih) (cases_Bool (test first))
 
-  -- The number p is met once.
+  -- The number p is met once in a range that has it, if it passes the test.
   hits_once : (first n : ℕ) → first ≤ p → p < first + n → test p ≡ true → hits first n ≡ 1
   hits_once first zero l u t = absurd (omega arith)
   hits_once first (suc n) l u t = elim (cases_Bool (eqb p first)) [

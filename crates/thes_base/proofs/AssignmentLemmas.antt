@@ -5,13 +5,13 @@ use Rattle.thes_base.specs.declared.data.History.{History}
 use Rattle.thes_base.specs.Resources.{is_live_concept}
 use Rattle.thes_base.specs.Postings.{place}
 use Rattle.thes_base.specs.State.{State}
-use Rattle.thes_base.specs.Assignments.{AreAssigned}
-use Rattle.thes_base.specs.Legal.{LegalPostings}
+use Rattle.thes_base.specs.Assignments.{PostingsAreAssigned}
+use Rattle.thes_base.specs.Legal.{AreLegalPostings}
 use Rattle.thes_base.proofs.MoveLemmas.{led_by, led_only}
 use Rattle.thes_base.proofs.AssignedCountLemmas.{EachIsAssigned, counts_add_up}
 use Rattle.thes_base.proofs.ResourceLemmas.{live_from_test}
 
-pub assigned_of_legal : (s : State) → LegalPostings s.resources s.histories → AreAssigned s
+pub assigned_of_legal : (s : State) → AreLegalPostings s.resources s.histories → PostingsAreAssigned s
 assigned_of_legal s legal = record {
   at_one_place = λ n h e w.
       let sound = legal.sound n h e in (

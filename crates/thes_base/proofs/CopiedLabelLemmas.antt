@@ -11,20 +11,20 @@ use Rattle.thes_base.specs.Labels.{Label, Labels, HasLabel, is_lexical_kind}
 use Rattle.thes_base.specs.Changes.{label, HasLexicalLabel, has_lexical_label, copied_label_kind, IsCopiedLabel}
 use Rattle.thes_base.specs.Changes.{copied_labels}
 use Rattle.thes_base.specs.Laws.{MergeCopiesLabels}
-use Rattle.thes_base.specs.Legal.{LegalLabels}
+use Rattle.thes_base.specs.Legal.{AreLegalLabels}
 use Rattle.std.proofs.lemmas.Bool.{or_cases, or_left, or_right, and_parts, and_from, not-true, both_ways}
 use Rattle.thes_base.proofs.LabelSetLemmas.{labels_total, labels_exact}
 use Rattle.thes_base.proofs.ListMemberLemmas.{Contains-map, Contains-from_map, Contains-filter, Contains-from_filter}
 use Rattle.thes_base.proofs.SetMemberLemmas.{from_list_of, from_list_has, items_of, items_has}
 
--- A lexical label is copied as a lexical label.
+-- The kind as which a lexical label is copied is again lexical.
 pub name_taken : (k : LabelKind) → is_lexical_kind k ≡ true → is_lexical_kind (copied_label_kind k) ≡ true
 name_taken Pref n = refl
 name_taken Alt n = refl
 name_taken Hidden n = refl
 name_taken Scope n = n
 
--- A lexical label of any kind is a lexical label.
+-- The test for lexical labels finds a lexical label of any kind.
 pub name_of : (labels : Labels) (owner : ℕ) (k : LabelKind) (tag text : List ℕ) → is_lexical_kind k ≡ true
     → HasLabel labels owner k tag text → has_lexical_label labels owner tag text ≡ true
 name_of labels owner Pref tag text n h = or_left _ _ (or_left _ _ h)
@@ -33,14 +33,14 @@ name_of labels owner Hidden tag text n h = or_right _ _ h
 name_of labels owner Scope tag text n h = absurd (cc)
 
 module _ (rs : List Resource) (labels : Labels) (source target : ℕ) where
-  -- The label of the source is given to the target.
+  -- The label is the source's, and a merge copies it to the target.
   pub record IsLabelToCopy (l : Label) : Type 0 where
     pub held : contains labels l ≡ true
     pub owner : l.owner ≡ source
     pub name : is_lexical_kind l.kind ≡ true
     pub free : has_lexical_label labels target l.tag l.text ≡ false
 
-  -- The test of whether a label is given to the target.
+  -- The test of whether a merge copies a label to the target.
   abbrev takes : Label → Bool
   takes l = l.owner == source && (is_lexical_kind l.kind && not (has_lexical_label labels target l.tag l.text))
 
@@ -87,7 +87,7 @@ module _ (rs : List Resource) (labels : Labels) (source target : ℕ) where
       elim (union_cases _ h)
       [ inl old ↦ old | inr new ↦ absurd (never_preferred new.0.kind (ap (λ (l : Label). l.kind) new.2)) ]
 
-  -- A label that the target had differs from one that it is given.
+  -- A lexical label that the target had differs from each copied one.
   mixed : (owner : ℕ) (j k : LabelKind) (t x : List ℕ) (l : Label) → is_lexical_kind k ≡ true → IsLabelToCopy l
       → label owner j t x ≡ copied_label l → HasLabel labels owner k t x → ⊥
   mixed owner j k t x l nk taken is old =
@@ -99,8 +99,6 @@ module _ (rs : List Resource) (labels : Labels) (source target : ℕ) where
       let free = ap (λ (p : List ℕ × List ℕ). has_lexical_label labels target p.0 p.1) (λ i. (g i, w i)) in
       let no_name = taken.free in
       both_ways (has_lexical_label labels target t x) (free ∙ no_name) has
-
-  -- The members of the labels after a merge.
 
   given_of_taken : (q : Label) → (l : Label) × IsLabelToCopy l × (q ≡ copied_label l) → IsCopiedLabel source target
       labels q
@@ -137,8 +135,8 @@ module _ (rs : List Resource) (labels : Labels) (source target : ℕ) where
       (from_list_has labels_total labels_exact _ q
       (subst (λ (y : Label). Contains (map copied_label (filter takes (items labels))) y) (sym is) there))
 
-  module _ (legal : LegalLabels rs labels) where
-    pub labels_merged : CanOwn rs target → LegalLabels rs (union labels (copied_labels source target labels))
+  module _ (legal : AreLegalLabels rs labels) where
+    pub labels_merged : CanOwn rs target → AreLegalLabels rs (union labels (copied_labels source target labels))
     labels_merged can = record {
       owners = λ l held. owner_at l (union_cases l held);
       disjoint = λ owner j k t x nj nk hj hk. disjoint_at owner j k t x nj nk (union_cases _ hj) (union_cases _ hk);
@@ -174,7 +172,7 @@ module _ (rs : List Resource) (labels : Labels) (source target : ℕ) where
             let same = legal.disjoint m.owner l.kind m.kind m.tag m.text tl.name tm.name held tm.held in
             ap (λ (y : Label). y.kind) il ∙ ap copied_label_kind same ∙ sym (ap (λ (y : Label). y.kind) im)
 
--- The labels after a merge are those held before and those given to the target.
+-- The labels after a merge are those held before and those copied to the target.
 pub merge_copies_labels : MergeCopiesLabels
 merge_copies_labels source target labels l = (
   λ held. elim (union_cases [] labels source target l held)

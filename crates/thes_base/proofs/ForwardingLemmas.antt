@@ -14,12 +14,10 @@ use Rattle.thes_base.specs.Resources.{replacements}
 use Rattle.thes_base.specs.Links.{Path, Chain}
 use Rattle.thes_base.specs.Postings.{place_after_moves, AreConsecutiveMoves, path_end, moves_along, move_count}
 use Rattle.thes_base.specs.Changes.{histories_after_post}
-use Rattle.thes_base.specs.Legal.{LegalResources, IsLegalMove, AllMoves, HasMove}
+use Rattle.thes_base.specs.Legal.{AreLegalResources, IsLegalMove, AllMoves, HasMove}
 use Rattle.thes_base.specs.Laws.{AreReplacements, LeadsToEnd}
 use Rattle.thes_base.proofs.MoveLemmas.{all_moves}
 use Rattle.thes_base.proofs.NumberedLemmas.{numbered_bound}
-
--- Moves along a path.
 
 pub along_led : (number from : ℕ) (way : List ℕ) → place_after_moves from (moves_along number from way)
     ≡ path_end from way
@@ -73,8 +71,6 @@ count_posted key rec concept way hs =
     sum_by_push (λ (h : History). length h.moves) hs _ ∙ ap (λ n. move_count hs + n)
     (along_length (move_count hs + 1) concept way)
 
--- Lists in which each number has a property.
-
 pub each_of : (P Q : ℕ → Type 0) → ((y : ℕ) → P y → Q y) → (xs : List ℕ) → AllByRecursion P xs → AllByRecursion Q xs
 each_of P Q gives [] all = tt
 each_of P Q gives (x ∷ xs) all = (gives x all.0, each_of P Q gives xs all.1)
@@ -90,8 +86,6 @@ pub none_twice : IsDistinct eqb []
 unfolding IsDistinct
 none_twice = tt
 
--- Replacements.
-
 module _ (rs : List Resource) where
   pub next_is : (m n : ℕ) → replacement_of rs m ≡ Some n → IsReplacedBy rs m n
   next_is m n = go (entry_at rs m) refl
@@ -104,7 +98,7 @@ module _ (rs : List Resource) where
   pub is_next : (m n : ℕ) → IsReplacedBy rs m n → replacement_of rs m ≡ Some n
   is_next m n (r, at, is) = ap (option_and_then (λ (x : Resource). x.replaced)) at ∙ is
 
-  -- One more step follows a replacement, and none follows if there is none.
+  -- The replacements within one more step begin with the replacement of the concept, if it has one.
   pub within_some : (steps m n : ℕ) → replacement_of rs m ≡ Some n → replacements_within rs (suc steps) m ≡ n
       ∷ replacements_within rs steps n
   within_some steps m n e = ap (λ (o : Option ℕ). elim o [ None ↦ [] | Some k ↦ k ∷ replacements_within rs steps k ]) e
@@ -114,7 +108,7 @@ module _ (rs : List Resource) where
   within_none (suc steps) m e =
       ap (λ (o : Option ℕ). elim o [ None ↦ [] | Some k ↦ k ∷ replacements_within rs steps k ]) e
 
-  -- A property of no step, which one more step keeps, holds of all replacements.
+  -- Induction on the steps: a property of the empty path that each further step keeps holds of all replacements.
   by_steps : (P : ℕ → ℕ → List ℕ → Type 0) → ((from : ℕ) → P 0 from [])
       → ((steps from : ℕ) → replacement_of rs from ≡ None → P (suc steps) from [])
       → ((steps from n : ℕ) (way : List ℕ) → IsReplacedBy rs from n → P steps n way → P (suc steps) from (n ∷ way))
@@ -132,7 +126,7 @@ module _ (rs : List Resource) where
   each_replaced = by_steps (λ steps from way. AreReplacements rs from way) (λ from. tt) (λ steps from e. tt)
       (λ steps from n way step rest. (step, rest))
 
-  -- If the end is replaced, the path has all its steps.
+  -- If the end of a path within a number of steps is replaced, the path has as many steps.
   all_made : (k steps from : ℕ) → IsReplacedBy rs (path_end from (replacements_within rs steps from)) k
       → (length (replacements_within rs steps from) ≡ steps) × ((n : ℕ) × IsReplacedBy rs from n)
   all_made k = by_steps (λ steps from way. IsReplacedBy rs (path_end from way) k → (length way ≡ steps)
@@ -143,7 +137,7 @@ module _ (rs : List Resource) where
   abbrev LedTo : ℕ → ℕ → Type 0
   LedTo = Chain (IsReplacedBy rs)
 
-  module _ (base : List ℕ) (iris : _) (legal : LegalResources base rs iris) where
+  module _ (base : List ℕ) (iris : _) (legal : AreLegalResources base rs iris) where
     replacing : (m n : ℕ) → IsReplacedBy rs m n → (m ≢ n) × IsConcept rs n
     replacing m n (r, at, is) = let each = (legal.each m r at).replaced n is in (λ e. each.1 (sym e), each.2)
 
@@ -156,7 +150,7 @@ module _ (rs : List Resource) where
     led_apart from = each_of (LedTo from) (λ y. eqb from y ≡ false)
         (λ y chain. ne_eqb from y (λ same. legal.no_return from (subst (LedTo from) (sym same) chain)))
 
-    -- Each concept of the path is reached, and none twice.
+    -- Replacements lead from the first concept to each concept of the path, and no concept is on it twice.
     each_once : (steps from : ℕ) → AllByRecursion (LedTo from) (replacements_within rs steps from)
         × IsDistinct eqb (replacements_within rs steps from)
     each_once = by_steps (λ steps from way. AllByRecursion (LedTo from) way × IsDistinct eqb way)
@@ -169,7 +163,7 @@ module _ (rs : List Resource) where
     led_bound : (from y : ℕ) → LedTo from y → (1 ≤ y) × (y ≤ length rs)
     led_bound from y chain = let c = chain_concept from chain.0 y chain.1 in numbered_bound rs y c.0 c.1
 
-    -- There are fewer different resources than such a path would have.
+    -- The path of a replaced concept is shorter than the list of resources, since its concepts differ.
     never_all : (from n : ℕ) → IsReplacedBy rs from n → length (replacements rs from) ≡ length rs → ⊥
     never_all from n (r, at, is) full =
         let bound = numbered_bound rs from r at in
@@ -200,7 +194,7 @@ module _ (rs : List Resource) where
       ends = λ k is. let made = all_made k (length rs) from is in never_all from made.1.0 made.1.1 made.0;
     }
 
-    -- Replacements lead from a concept to a concept by legal moves.
+    -- Replacements lead from a concept to a concept.
     pub end_concept : (from : ℕ) (way : List ℕ) → IsConcept rs from → AreReplacements rs from way
         → IsConcept rs (path_end from way)
     end_concept from [] is steps = is

@@ -26,13 +26,11 @@ module _ {K : Type 0} (word : K → List ℕ) where
   word_exact same x y e = exact_pairs (λ j k. slice_cmp nat_cmp (word j) (word k)) nat_cmp
       (λ j k tied. same j k (exact_bytes _ _ tied)) exact_unsigned x y e
 
--- No two kinds have the same name: each is the first with its name.
-
 link_found : (k : LinkKind) → find (λ j. bytes_eq (link_kind_name k) (link_kind_name j)) link_kinds ≡ Some k
 link_found link.Broader = refl
 link_found _ = refl
 
--- The kinds of typed links.
+-- The kinds of typed links in the order of their names.
 typed_kinds : List TypedKind
 typed_kinds =
     typed.BroaderGeneric ∷ typed.BroaderInstantial ∷ typed.BroaderPartitive

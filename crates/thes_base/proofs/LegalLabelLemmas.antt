@@ -10,9 +10,9 @@ use Rattle.thes_base.specs.declared.data.LabelKind.TheVariants.{Pref, Alt}
 use Rattle.thes_base.specs.Resources.{entry_at, set_entry_at, IsLiveConcept, CanOwn, is_scheme_kind, is_concept_kind}
 use Rattle.thes_base.specs.Resources.{is_collection_kind}
 use Rattle.thes_base.specs.Labels.{Label, Labels, HasLabel, HasPreferred, is_lexical_kind, S13, S14, UniquePreferred}
-use Rattle.thes_base.specs.Changes.{label, dead, replace_preferred, outside_resource}
+use Rattle.thes_base.specs.Changes.{label, resource_after_death, replace_preferred, outside_resource}
 use Rattle.thes_base.specs.Refusals.{LeavesPreferred}
-use Rattle.thes_base.specs.Legal.{LegalLabels}
+use Rattle.thes_base.specs.Legal.{AreLegalLabels}
 use Rattle.thes_base.proofs.NumberedLemmas.{push_new, numbered_bound}
 use Rattle.thes_base.proofs.ResourceLemmas.{passes_push, passes_pop, passes_dead, passes_before, scheme_push}
 use Rattle.thes_base.proofs.ConditionLemmas.{owner_exists}
@@ -21,7 +21,7 @@ use Rattle.thes_base.proofs.LabelSetLemmas.{same_or_not}
 use Rattle.thes_base.proofs.ReplacePreferredLemmas.{IsReplacedLabel, renamed_cases, renamed_fresh, renamed_old}
 use Rattle.thes_base.proofs.UniquePreferredLemmas.{dead_unique}
 
--- The kind of a resource may own labels.
+-- The resource is of a kind that may own labels.
 abbrev pub MayOwn : Resource → Type 0
 MayOwn r = (is_scheme_kind r.kind ≡ true) ⊎ (is_concept_kind r.kind ≡ true) ⊎ (is_collection_kind r.kind ≡ true)
 
@@ -46,8 +46,9 @@ own_new rs r (inl k) = inl (r, push_new rs r, k)
 own_new rs r (inr (inl k)) = inr (inl (r, push_new rs r, k))
 own_new rs r (inr (inr k)) = inr (inr (r, push_new rs r, k))
 
--- A resource is created with a preferred label.
-module _ (rs : List Resource) (labels : Labels) (r : Resource) (tag text : List ℕ) (legal : LegalLabels rs labels) where
+-- Assumes that a resource is created with a preferred label.
+module _ (rs : List Resource) (labels : Labels) (r : Resource) (tag text : List ℕ)
+    (legal : AreLegalLabels rs labels) where
   abbrev new_label : Label
   new_label = label (length rs + 1) Pref tag text
 
@@ -55,9 +56,9 @@ module _ (rs : List Resource) (labels : Labels) (r : Resource) (tag text : List 
   new_apart l held e = let o = owner_exists rs l.owner (legal.owners l held) in let b =
       numbered_bound rs l.owner o.0 o.1 in omega (arith, b, e)
 
-  pub labels_made : MayOwn r → UniquePreferred (rs ++ r ∷ []) (insert labels new_label) → LegalLabels (rs ++ r ∷ [])
-      (insert labels new_label)
-  labels_made may unique = record {
+  pub legal_labels_with_new : MayOwn r → UniquePreferred (rs ++ r ∷ []) (insert labels new_label)
+      → AreLegalLabels (rs ++ r ∷ []) (insert labels new_label)
+  legal_labels_with_new may unique = record {
     owners = λ l held. owner_at l (inserted_cases labels new_label l held);
     disjoint = λ owner j k t x nj nk hj hk. disjoint_at owner j k t x nj nk (inserted_cases labels new_label _ hj)
         (inserted_cases labels new_label _ hk);
@@ -102,9 +103,9 @@ outside_owns_none (inl e) = cc
 outside_owns_none (inr (inl e)) = cc
 outside_owns_none (inr (inr e)) = cc
 
--- A resource is created without a label.
-pub labels_push : (rs : List Resource) (labels : Labels) (r : Resource) → (MayOwn r → ⊥) → LegalLabels rs labels
-    → LegalLabels (rs ++ r ∷ []) labels
+-- The labels stay legal if a resource is created that can't own any.
+pub labels_push : (rs : List Resource) (labels : Labels) (r : Resource) → (MayOwn r → ⊥) → AreLegalLabels rs labels
+    → AreLegalLabels (rs ++ r ∷ []) labels
 labels_push rs labels r never legal = record {
   owners = λ l held. own_push rs r l.owner (legal.owners l held);
   disjoint = legal.disjoint;
@@ -127,10 +128,10 @@ labels_push rs labels r never legal = record {
     named_at n (inl o) = legal.named n o
     named_at n (inr (_, may)) = absurd (never may)
 
--- A label is added that breaks no condition.
+-- The labels stay legal if one is added that breaks no condition.
 pub labels_added : (rs : List Resource) (labels : Labels) (l : Label) → CanOwn rs l.owner → S13 (insert labels l)
-    → S14 (insert labels l) → UniquePreferred rs (insert labels l) → LegalLabels rs labels
-    → LegalLabels rs (insert labels l)
+    → S14 (insert labels l) → UniquePreferred rs (insert labels l) → AreLegalLabels rs labels
+    → AreLegalLabels rs (insert labels l)
 labels_added rs labels l owner s13 s14 p1 legal = record {
   owners = λ m held. owner_at m (inserted_cases labels l m held);
   disjoint = s13;
@@ -143,9 +144,9 @@ labels_added rs labels l owner s13 s14 p1 legal = record {
     owner_at m (inl is) = subst (λ (x : Label). CanOwn rs x.owner) (sym is) owner
     owner_at m (inr old) = legal.owners m old
 
--- A label is removed that leaves its owner a preferred one.
+-- The labels stay legal if one is removed that leaves its owner a preferred one.
 pub labels_dropped : (rs : List Resource) (labels : Labels) (l : Label) → LeavesPreferred labels l
-    → LegalLabels rs labels → LegalLabels rs (remove labels l)
+    → AreLegalLabels rs labels → AreLegalLabels rs (remove labels l)
 labels_dropped rs labels l leaves legal = record {
   owners = λ m held. legal.owners m (removed_cases labels l m held).1;
   disjoint = λ owner j k t x nj nk hj hk. legal.disjoint owner j k t x nj nk (removed_cases labels l _ hj).1
@@ -170,15 +171,15 @@ labels_dropped rs labels l leaves legal = record {
               (removed_kept labels l _ apart other),
         )
 
--- The preferred label in a tag is replaced.
+-- Assumes that the preferred label in a tag is replaced.
 module _ (rs : List Resource) (labels : Labels) (owner : ℕ) (tag text : List ℕ) (keep : Bool) (old : List ℕ)
-    (legal : LegalLabels rs labels) (has_old : HasLabel labels owner Pref tag old) (can : CanOwn rs owner) where
+    (legal : AreLegalLabels rs labels) (has_old : HasLabel labels owner Pref tag old) (can : CanOwn rs owner) where
   abbrev Cases : Label → Type 0
   Cases = IsReplacedLabel labels owner tag text old keep
 
   pub labels_renamed : S13 (replace_preferred owner tag text keep old labels)
       → UniquePreferred rs (replace_preferred owner tag text keep old labels)
-      → LegalLabels rs (replace_preferred owner tag text keep old labels)
+      → AreLegalLabels rs (replace_preferred owner tag text keep old labels)
   labels_renamed s13 p1 = record {
     owners = λ l held. owner_at l (renamed_cases labels owner tag text old keep l held);
     disjoint = s13;
@@ -226,19 +227,20 @@ module _ (rs : List Resource) (labels : Labels) (owner : ℕ) (tag text : List �
       )
       named_at n t x held (inr apart) = (t, x, renamed_old labels owner tag text old keep _ apart held)
 
--- A resource dies.
+-- Assumes that a resource was merged or deprecated.
 module _ (rs : List Resource) (n : ℕ) (rep : Option ℕ) (r : Resource) (at : entry_at rs n ≡ Some r) where
-  own_dead : (m : ℕ) → CanOwn rs m → CanOwn (set_entry_at rs n (dead rep r)) m
+  own_dead : (m : ℕ) → CanOwn rs m → CanOwn (set_entry_at rs n (resource_after_death rep r)) m
   own_dead m (inl o) = inl (passes_dead rs n rep r at (λ x. is_scheme_kind x.kind) (λ x. refl) m o)
   own_dead m (inr (inl o)) = inr (inl (passes_dead rs n rep r at (λ x. is_concept_kind x.kind) (λ x. refl) m o))
   own_dead m (inr (inr o)) = inr (inr (passes_dead rs n rep r at (λ x. is_collection_kind x.kind) (λ x. refl) m o))
 
-  own_before : (m : ℕ) → CanOwn (set_entry_at rs n (dead rep r)) m → CanOwn rs m
+  own_before : (m : ℕ) → CanOwn (set_entry_at rs n (resource_after_death rep r)) m → CanOwn rs m
   own_before m (inl o) = inl (passes_before rs n rep r at (λ x. is_scheme_kind x.kind) (λ x. refl) m o)
   own_before m (inr (inl o)) = inr (inl (passes_before rs n rep r at (λ x. is_concept_kind x.kind) (λ x. refl) m o))
   own_before m (inr (inr o)) = inr (inr (passes_before rs n rep r at (λ x. is_collection_kind x.kind) (λ x. refl) m o))
 
-  pub labels_dead : (labels : Labels) → LegalLabels rs labels → LegalLabels (set_entry_at rs n (dead rep r)) labels
+  pub labels_dead : (labels : Labels) → AreLegalLabels rs labels
+      → AreLegalLabels (set_entry_at rs n (resource_after_death rep r)) labels
   labels_dead labels legal = record {
     owners = λ l held. own_dead l.owner (legal.owners l held);
     disjoint = legal.disjoint;

@@ -13,13 +13,13 @@ use Rattle.thes_base.specs.declared.data.Direction.{Direction}
 use Rattle.thes_base.specs.Resources.{entry_at, set_entry_at, Exists, IsResourceThat, IsConcept, IsCollection}
 use Rattle.thes_base.specs.Resources.{IsOutside, IsLive, scheme_of, is_outside, is_concept_kind, is_collection_kind}
 use Rattle.thes_base.specs.Resources.{is_outside_kind}
-use Rattle.thes_base.specs.Links.{Links, HeldIn, IsJoined, IsBroader, broader_direction, related_direction}
+use Rattle.thes_base.specs.Links.{Links, Holds, IsJoined, IsNarrower, broader_direction, related_direction}
 use Rattle.thes_base.specs.Links.{exact_direction, disjoint_direction, NoCycle, S27, S46, form_of, is_symmetric}
 use Rattle.thes_base.specs.Links.{reversed_link, normal_form, redirect, redirect_link, links_after_merge}
 use Rattle.thes_base.specs.Links.{links_after_deprecation}
-use Rattle.thes_base.specs.Changes.{dead}
+use Rattle.thes_base.specs.Changes.{resource_after_death}
 use Rattle.thes_base.specs.Refusals.{AreEnds, HaveSchemes}
-use Rattle.thes_base.specs.Legal.{IsLegalLink, LegalLinks}
+use Rattle.thes_base.specs.Legal.{IsLegalLink, AreLegalLinks}
 use Rattle.thes_base.proofs.ResourceLemmas.{passes_push, passes_pop, passes_before, never_both, scheme_push}
 use Rattle.thes_base.proofs.ResourceLemmas.{outside_push, passes_dead, live_dead, scheme_dead, outside_dead}
 use Rattle.thes_base.proofs.LegalResourceLemmas.{path_map}
@@ -32,7 +32,7 @@ use Rattle.thes_base.proofs.SetMemberLemmas.{removed_cases}
 use Rattle.thes_base.proofs.LinkLemmas.{sent_never}
 use Rattle.std.proofs.lemmas.Bool.{and_parts, and_right, or_parts, eqb-false, ltb-true, le-ltb}
 
--- Fewer links break no more rules.
+-- A subset of links breaks no rule that the set doesn't break.
 module _ (Few Many : Link → Type 0) (each : (l : Link) → Few l → Many l) where
   joined_more : (way : LinkKind → Direction) (x y : ℕ) → IsJoined Few way x y → IsJoined Many way x y
   joined_more way x y (l, held, leads) = (l, each l held, leads)
@@ -43,7 +43,7 @@ module _ (Few Many : Link → Type 0) (each : (l : Link) → Few l → Many l) w
         none =
             λ x chain. rule.none x (
               chain.0,
-              path_map (IsBroader Few) (IsBroader Many) (joined_more broader_direction) x
+              path_map (IsNarrower Few) (IsNarrower Many) (joined_more broader_direction) x
                   chain.0 x chain.1,
             );
       }
@@ -51,7 +51,7 @@ module _ (Few Many : Link → Type 0) (each : (l : Link) → Few l → Many l) w
   pub fewer_s27 : S27 Many → S27 Few
   fewer_s27 rule = record {
     none = λ x y related chain. rule.none x y (joined_more related_direction x y related)
-        (chain.0, path_map (IsBroader Few) (IsBroader Many) (joined_more broader_direction) x chain.0 y chain.1);
+        (chain.0, path_map (IsNarrower Few) (IsNarrower Many) (joined_more broader_direction) x chain.0 y chain.1);
   }
 
   pub fewer_s46 : S46 Many → S46 Few
@@ -66,7 +66,7 @@ module _ (Few Many : Link → Type 0) (each : (l : Link) → Few l → Many l) w
             (joined_more disjoint_direction x y apart);
       }
 
--- Resources change, but the ends of the link stay what they were.
+-- Assumes that resources change, but keep what a link requires of its ends.
 module _ (rs new : List Resource) (l : Link) where
   pub record StaysAt (n : ℕ) : Type 0 where
     pub concept : IsConcept rs n → IsConcept new n
@@ -115,7 +115,7 @@ stays_push rs r l n known = record {
     old (inr (at, _)) = absurd (let b = numbered_bound rs n known.0 known.1 in omega (arith, b, at))
 
 pub stays_dead : (rs : List Resource) (n : ℕ) (rep : Option ℕ) (r : Resource) → entry_at rs n ≡ Some r
-    → (l : Link) (m : ℕ) → m ≢ n → Exists rs m → StaysAt rs (set_entry_at rs n (dead rep r)) l m
+    → (l : Link) (m : ℕ) → m ≢ n → Exists rs m → StaysAt rs (set_entry_at rs n (resource_after_death rep r)) l m
 stays_dead rs n rep r at l m apart known = record {
   concept = passes_dead rs n rep r at (λ x. is_concept_kind x.kind) (λ x. refl) m;
   concept_before = passes_before rs n rep r at (λ x. is_concept_kind x.kind) (λ x. refl) m;
@@ -126,8 +126,8 @@ stays_dead rs n rep r at l m apart known = record {
   is_out = outside_dead rs n rep r at m known;
 }
 
-pub links_push : (rs : List Resource) (r : Resource) (links : Links) → LegalLinks rs links → LegalLinks (rs ++ r ∷ [])
-    links
+pub links_push : (rs : List Resource) (r : Resource) (links : Links) → AreLegalLinks rs links
+    → AreLegalLinks (rs ++ r ∷ []) links
 links_push rs r links legal = record {
   each = λ l held.
       let was = legal.each l held in
@@ -138,39 +138,40 @@ links_push rs r links legal = record {
   s46 = legal.s46;
 }
 
--- A link is removed.
-link_removed_kept : (links : Links) (l m : Link) → HeldIn (remove links l) m → HeldIn links m
+-- A link held after a removal was held before.
+link_removed_kept : (links : Links) (l m : Link) → Holds (remove links l) m → Holds links m
 link_removed_kept links l m held = (removed_cases links_total links_exact links l m held).1
 
-pub links_dropped : (rs : List Resource) (links : Links) (l : Link) → LegalLinks rs links
-    → LegalLinks rs (remove links l)
+pub links_dropped : (rs : List Resource) (links : Links) (l : Link) → AreLegalLinks rs links
+    → AreLegalLinks rs (remove links l)
 links_dropped rs links l legal = record {
   each = λ m held. legal.each m (link_removed_kept links l m held);
-  no_cycle = fewer_no_cycle (HeldIn (remove links l)) (HeldIn links) (link_removed_kept links l) legal.no_cycle;
-  s27 = fewer_s27 (HeldIn (remove links l)) (HeldIn links) (link_removed_kept links l) legal.s27;
-  s46 = fewer_s46 (HeldIn (remove links l)) (HeldIn links) (link_removed_kept links l) legal.s46;
+  no_cycle = fewer_no_cycle (Holds (remove links l)) (Holds links) (link_removed_kept links l) legal.no_cycle;
+  s27 = fewer_s27 (Holds (remove links l)) (Holds links) (link_removed_kept links l) legal.s27;
+  s46 = fewer_s46 (Holds (remove links l)) (Holds links) (link_removed_kept links l) legal.s46;
 }
 
--- A concept dies, and its links are removed.
+-- The links stay legal if a concept dies and its links are removed.
 pub links_without : (rs : List Resource) (links : Links) (n : ℕ) (rep : Option ℕ) (r : Resource) → entry_at rs n
-    ≡ Some r → LegalLinks rs links → LegalLinks (set_entry_at rs n (dead rep r)) (links_after_deprecation n links)
+    ≡ Some r → AreLegalLinks rs links → AreLegalLinks (set_entry_at rs n (resource_after_death rep r))
+    (links_after_deprecation n links)
 links_without rs links n rep r at legal = record {
   each = λ l held.
       let kept = without_node_from n links l held in
       let was = legal.each l kept.0 in
       let known = ends_exist rs (form_of l.kind) l.a l.b was.ends in
-      link_stays rs (set_entry_at rs n (dead rep r)) l
+      link_stays rs (set_entry_at rs n (resource_after_death rep r)) l
       (stays_dead rs n rep r at l l.a (λ a. kept.1 (inl a)) known.0)
       (stays_dead rs n rep r at l l.b (λ b. kept.1 (inr b)) known.1) was;
-  no_cycle = fewer_no_cycle (HeldIn (links_after_deprecation n links)) (HeldIn links) still legal.no_cycle;
-  s27 = fewer_s27 (HeldIn (links_after_deprecation n links)) (HeldIn links) still legal.s27;
-  s46 = fewer_s46 (HeldIn (links_after_deprecation n links)) (HeldIn links) still legal.s46;
+  no_cycle = fewer_no_cycle (Holds (links_after_deprecation n links)) (Holds links) still legal.no_cycle;
+  s27 = fewer_s27 (Holds (links_after_deprecation n links)) (Holds links) still legal.s27;
+  s46 = fewer_s46 (Holds (links_after_deprecation n links)) (Holds links) still legal.s46;
 }
   where
-    still : (l : Link) → HeldIn (links_after_deprecation n links) l → HeldIn links l
+    still : (l : Link) → Holds (links_after_deprecation n links) l → Holds links l
     still l held = (without_node_from n links l held).0
 
--- A link that is legal up to normal form.
+-- The link is legal, except that its ends may have to be swapped.
 pub record IsProper (rs : List Resource) (l : Link) : Type 0 where
   pub ends : AreEnds rs (form_of l.kind) l.a l.b
   pub live : IsLive rs l.a × IsLive rs l.b
@@ -217,7 +218,7 @@ schemes_exchanged rs Membership a b is ends e = sym e
 pub two_lts : (a b : ℕ) → nat_lt b a ≡ true → nat_lt a b ≡ false
 two_lts a b e = let below = ltb-true b a e in le-ltb a b (omega (arith, below))
 
--- The normal form of such a link is legal.
+-- A link that is legal but for the order of its ends is legal in normal form.
 pub norm_legal : (rs : List Resource) (l : Link) → IsProper rs l → IsLegalLink rs (normal_form (is_outside rs) l)
 norm_legal rs l proper = go (is_symmetric (is_outside rs l.a || is_outside rs l.b) l.kind && nat_lt l.b l.a) refl
   where
@@ -243,12 +244,12 @@ norm_legal rs l proper = go (is_symmetric (is_outside rs l.a || is_outside rs l.
               (two_lts l.a l.b parts.1));
         }
 
--- A link is added with which the links break no rule.
-pub links_added : (rs : List Resource) (links : Links) (l : Link) → LegalLinks rs links → IsProper rs l
-    → NoCycle (HeldIn (insert links (normal_form (is_outside rs) l)))
-    → S27 (HeldIn (insert links (normal_form (is_outside rs) l)))
-    → S46 (HeldIn (insert links (normal_form (is_outside rs) l)))
-    → LegalLinks rs (insert links (normal_form (is_outside rs) l))
+-- The links stay legal if one is added with which they break no rule.
+pub links_added : (rs : List Resource) (links : Links) (l : Link) → AreLegalLinks rs links → IsProper rs l
+    → NoCycle (Holds (insert links (normal_form (is_outside rs) l)))
+    → S27 (Holds (insert links (normal_form (is_outside rs) l)))
+    → S46 (Holds (insert links (normal_form (is_outside rs) l)))
+    → AreLegalLinks rs (insert links (normal_form (is_outside rs) l))
 links_added rs links l legal proper c1 s27 s46 =
     record {
       each = λ m held. each_at m (link_inserted_cases links (normal_form (is_outside rs) l) m held);
@@ -258,11 +259,11 @@ links_added rs links l legal proper c1 s27 s46 =
       s46 = s46;
     }
   where
-    each_at : (m : Link) → (m ≡ normal_form (is_outside rs) l) ⊎ HeldIn links m → IsLegalLink rs m
+    each_at : (m : Link) → (m ≡ normal_form (is_outside rs) l) ⊎ Holds links m → IsLegalLink rs m
     each_at m (inl is) = subst (IsLegalLink rs) (sym is) (norm_legal rs l proper)
     each_at m (inr old) = legal.each m old
 
--- The source of a merge dies, and its links are redirected to the target.
+-- Assumes that the source of a merge dies, and its links are redirected to the target.
 module _ (rs : List Resource) (source target : ℕ) (live_s : IsLive rs source) (live_t : IsLive rs target)
     (concept_s : IsConcept rs source) (concept_t : IsConcept rs target) (apart : source ≢ target)
     (schemes : scheme_of rs source ≡ scheme_of rs target) where
@@ -334,10 +335,11 @@ module _ (rs : List Resource) (source target : ℕ) (live_s : IsLive rs source) 
 
   -- The links after a merge are legal if they break no rule.
   pub links_contracted : (links : Links) (rep : Option ℕ) (r : Resource) → entry_at rs source ≡ Some r
-      → LegalLinks rs links → NoCycle (HeldIn (links_after_merge (is_outside rs) source target links))
-      → S27 (HeldIn (links_after_merge (is_outside rs) source target links))
-      → S46 (HeldIn (links_after_merge (is_outside rs) source target links))
-      → LegalLinks (set_entry_at rs source (dead rep r)) (links_after_merge (is_outside rs) source target links)
+      → AreLegalLinks rs links → NoCycle (Holds (links_after_merge (is_outside rs) source target links))
+      → S27 (Holds (links_after_merge (is_outside rs) source target links))
+      → S46 (Holds (links_after_merge (is_outside rs) source target links))
+      → AreLegalLinks (set_entry_at rs source (resource_after_death rep r))
+      (links_after_merge (is_outside rs) source target links)
   links_contracted links rep r at legal c1 s27 s46 = record { each = each_at; no_cycle = c1; s27 = s27; s46 = s46 }
     where
       -- Each end of the normal form is a redirected end of the link.
@@ -350,8 +352,8 @@ module _ (rs : List Resource) (source target : ℕ) (live_s : IsLive rs source) 
           go false = (pa, pb)
 
       -- Each link after a merge is legal.
-      each_at : (m : Link) → HeldIn (links_after_merge (is_outside rs) source target links) m
-          → IsLegalLink (set_entry_at rs source (dead rep r)) m
+      each_at : (m : Link) → Holds (links_after_merge (is_outside rs) source target links) m
+          → IsLegalLink (set_entry_at rs source (resource_after_death rep r)) m
       each_at m held =
           let merged = contracted_from (is_outside rs) source target links m held in
           let l = merged.0 in
@@ -361,7 +363,7 @@ module _ (rs : List Resource) (source target : ℕ) (live_s : IsLive rs source) 
           ok.ends in
           let far = end_of (redirect_link source target l) (λ n. n ≢ source) (sent_never source target apart l.a)
           (sent_never source target apart l.b) in
-          subst (IsLegalLink (set_entry_at rs source (dead rep r))) (sym merged.3)
-          (link_stays rs (set_entry_at rs source (dead rep r))
+          subst (IsLegalLink (set_entry_at rs source (resource_after_death rep r))) (sym merged.3)
+          (link_stays rs (set_entry_at rs source (resource_after_death rep r))
           (normal_form (is_outside rs) (redirect_link source target l))
           (stays_dead rs source rep r at _ _ far.0 known.0) (stays_dead rs source rep r at _ _ far.1 known.1) ok)

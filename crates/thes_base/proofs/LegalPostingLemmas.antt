@@ -15,7 +15,7 @@ use Rattle.thes_base.specs.Postings.{place_after_moves, place, path_end, histori
 use Rattle.thes_base.specs.Postings.{history_after_withdrawal}
 use Rattle.thes_base.specs.State.{State}
 use Rattle.thes_base.specs.Changes.{new_history, state_after_withdrawal}
-use Rattle.thes_base.specs.Legal.{LegalPostings, IsLegalHistory, IsLegalMove, AllMoves, HasMove}
+use Rattle.thes_base.specs.Legal.{AreLegalPostings, IsLegalHistory, IsLegalMove, AllMoves, HasMove}
 use Rattle.thes_base.proofs.ForwardingLemmas.{along_led, along_follows, along_numbers, along_has, count_posted}
 use Rattle.thes_base.proofs.NumberedLemmas.{push_old, push_new, push_cases, numbered_bound, set_cases, set_other}
 use Rattle.thes_base.proofs.NumberedLemmas.{set_same}
@@ -34,7 +34,7 @@ place_concept rs from (m ∷ moves) at all = place_concept rs m.target moves all
 pub postings_resources : (rs new : List Resource) (hs : List History) → ((n : ℕ) → IsConcept rs n → IsConcept new n)
     → ((n : ℕ) (h : History) → entry_at hs n ≡ Some h → h.withdrawn ≡ false → is_live_concept rs (place h) ≡ true
     → is_live_concept new (place h) ≡ true)
-    → LegalPostings rs hs → LegalPostings new hs
+    → AreLegalPostings rs hs → AreLegalPostings new hs
 postings_resources rs new hs concepts live legal = record {
   few = legal.few;
   few_moves = legal.few_moves;
@@ -49,10 +49,9 @@ postings_resources rs new hs concepts live legal = record {
   numbers = legal.numbers;
 }
 
--- A number is within a bound or above it.
--- A posting is added with the moves along its path.
+-- Assumes that a posting is added with the moves along its path.
 module _ (rs : List Resource) (hs : List History) (key rec : List ℕ) (concept : ℕ) (way : List ℕ)
-    (legal : LegalPostings rs hs) where
+    (legal : AreLegalPostings rs hs) where
   abbrev new : History
   new = new_history key rec concept way hs
 
@@ -62,7 +61,7 @@ module _ (rs : List Resource) (hs : List History) (key rec : List ℕ) (concept 
   -- The histories after a posting are legal.
   pub postings_push : length hs + 1 < 2 ^ 32 → move_count (hs ++ new ∷ []) < 2 ^ 32 → IsConcept rs concept
       → AllMoves (IsLegalMove rs) new.moves → is_live_concept rs (path_end concept way) ≡ true
-      → ((n : ℕ) (h : History) → entry_at hs n ≡ Some h → h.key ≢ key) → LegalPostings rs (hs ++ new ∷ [])
+      → ((n : ℕ) (h : History) → entry_at hs n ≡ Some h → h.key ≢ key) → AreLegalPostings rs (hs ++ new ∷ [])
   postings_push few few_moves first moves live fresh = record {
     few = (let n = length-append hs (new ∷ []) in omega (arith, n, few));
     few_moves = few_moves;
@@ -158,7 +157,7 @@ count_set_numbered hs zero g h e same = absurd (cc)
 count_set_numbered hs (suc n) g h e same = ap (λ k. move_count (slice_set hs k h)) (let q : suc n - 1 ≡ n =
     omega arith in q) ∙ count_set hs n g h e same
 
--- The known history is withdrawn.
+-- The state after a withdrawal has the withdrawn history in place of the one with the number.
 pub withdrawn_at : (s : State) (n : ℕ) (h : History) → entry_at s.histories n ≡ Some h → state_after_withdrawal n s
     ≡ record s { histories = set_entry_at s.histories n (history_after_withdrawal h) }
 withdrawn_at s n h e =
@@ -168,11 +167,11 @@ withdrawn_at s n h e =
           elim o [ None ↦ s.histories | Some g ↦ set_entry_at s.histories n (history_after_withdrawal g) ];
     }) e
 
--- A posting is withdrawn.
-module _ (rs : List Resource) (hs : List History) (n : ℕ) (h : History) (legal : LegalPostings rs hs)
+-- Assumes that a posting is withdrawn.
+module _ (rs : List Resource) (hs : List History) (n : ℕ) (h : History) (legal : AreLegalPostings rs hs)
     (e : entry_at hs n ≡ Some h) where
   -- The histories after a withdrawal are legal.
-  pub postings_set : LegalPostings rs (set_entry_at hs n (history_after_withdrawal h))
+  pub postings_set : AreLegalPostings rs (set_entry_at hs n (history_after_withdrawal h))
   postings_set =
       let b = numbered_bound hs n h e in
       let same = count_set_numbered hs n h (history_after_withdrawal h) e refl in
@@ -241,14 +240,14 @@ module _ (rs : List Resource) (hs : List History) (n : ℕ) (h : History) (legal
         has,
       )
 
-pub postings_withdrawn : (s : State) (n : ℕ) (h : History) → LegalPostings s.resources s.histories
-    → entry_at s.histories n ≡ Some h → LegalPostings s.resources (state_after_withdrawal n s).histories
-postings_withdrawn s n h legal e = subst (λ (x : State). LegalPostings s.resources x.histories)
+pub postings_withdrawn : (s : State) (n : ℕ) (h : History) → AreLegalPostings s.resources s.histories
+    → entry_at s.histories n ≡ Some h → AreLegalPostings s.resources (state_after_withdrawal n s).histories
+postings_withdrawn s n h legal e = subst (λ (x : State). AreLegalPostings s.resources x.histories)
     (sym (withdrawn_at s n h e)) (postings_set s.resources s.histories n h legal e)
 
--- Postings are moved to a live concept that isn't their place.
+-- Assumes that postings are moved to a live concept that isn't their place.
 module _ (rs : List Resource) (hs : List History) (passes : History → Bool) (target : ℕ)
-    (legal : LegalPostings rs hs) where
+    (legal : AreLegalPostings rs hs) where
   abbrev start : ℕ
   start = move_count hs + 1
 
@@ -257,7 +256,7 @@ module _ (rs : List Resource) (hs : List History) (passes : History → Bool) (t
 
   -- The histories after the moves are legal.
   pub postings_moved : is_live_concept rs target ≡ true → ((n : ℕ) (h : History) → entry_at hs n ≡ Some h → passes h
-      ≡ true → place h ≢ target) → move_count moved_all < 2 ^ 32 → LegalPostings rs moved_all
+      ≡ true → place h ≢ target) → move_count moved_all < 2 ^ 32 → AreLegalPostings rs moved_all
   postings_moved live apart few_moves = record {
     few = (let q = length_moved passes target start hs in let l = legal.few in omega (arith, q, l));
     few_moves = few_moves;

@@ -13,8 +13,9 @@ use Rattle.thes_base.specs.Resources.{Iris, entry_at, set_entry_at, Exists, IsSc
 use Rattle.thes_base.specs.Resources.{IsOutside, IsLive, IsReplacedBy, BeginsWith, scheme_of, is_scheme_kind}
 use Rattle.thes_base.specs.Resources.{is_concept_kind, is_collection_kind, is_outside_kind}
 use Rattle.thes_base.specs.Links.{Path}
-use Rattle.thes_base.specs.Changes.{dead, scheme_resource, concept_resource, collection_resource, outside_resource}
-use Rattle.thes_base.specs.Legal.{IsLegalResource, AreLegalIris, LegalResources}
+use Rattle.thes_base.specs.Changes.{resource_after_death, scheme_resource, concept_resource, collection_resource}
+use Rattle.thes_base.specs.Changes.{outside_resource}
+use Rattle.thes_base.specs.Legal.{IsLegalResource, AreLegalIris, AreLegalResources}
 use Rattle.thes_base.proofs.NumberedLemmas.{push_new, push_cases, numbered_bound}
 use Rattle.thes_base.proofs.ResourceLemmas.{passes_push, passes_pop, scheme_push, passes_dead, passes_before}
 use Rattle.thes_base.proofs.ResourceLemmas.{scheme_dead, dead_cases, one_resource, scheme_at}
@@ -89,8 +90,8 @@ scheme_fit rs = record { live = refl; replaced = refl; scheme = λ k. absurd (no
 pub outside_fit : (rs : List Resource) → IsFit rs outside_resource
 outside_fit rs = record { live = refl; replaced = refl; scheme = λ k. absurd (no_kind k); no_scheme = λ _. refl }
 
--- A resource is created.
-module _ (base : List ℕ) (rs : List Resource) (iris : Iris) (r : Resource) (legal : LegalResources base rs iris)
+-- Assumes that a live resource is created.
+module _ (base : List ℕ) (rs : List Resource) (iris : Iris) (r : Resource) (legal : AreLegalResources base rs iris)
     (fit : IsFit rs r) where
   -- Each resource after a creation is legal.
   each_push : (n : ℕ) (q : Resource) → (entry_at rs n ≡ Some q) ⊎ ((n ≡ length rs + 1) × (q ≡ r))
@@ -101,7 +102,7 @@ module _ (base : List ℕ) (rs : List Resource) (iris : Iris) (r : Resource) (le
         scheme = λ k. let has = was.scheme k in
             (has.0, has.1, passes_push rs r (λ x. is_scheme_kind x.kind) has.0 has.2);
         no_scheme = was.no_scheme;
-        dead = was.dead;
+        dead_is_concept = was.dead_is_concept;
         replaced = λ m e. let has = was.replaced m e in (
           has.0,
           has.1,
@@ -112,7 +113,7 @@ module _ (base : List ℕ) (rs : List Resource) (iris : Iris) (r : Resource) (le
   each_push n q (inr (at, is)) = subst (IsLegalResource (rs ++ r ∷ []) n) (sym is) (record {
     scheme = λ k. let has = fit.scheme k in (has.0, has.1, passes_push rs r (λ x. is_scheme_kind x.kind) has.0 has.2);
     no_scheme = fit.no_scheme;
-    dead = λ e. let l = fit.live in absurd (cc);
+    dead_is_concept = λ e. let l = fit.live in absurd (cc);
     replaced = λ m e. let l = fit.replaced in absurd (cc);
   })
 
@@ -127,7 +128,7 @@ module _ (base : List ℕ) (rs : List Resource) (iris : Iris) (r : Resource) (le
   each_pushed n q e = each_push n q (push_cases rs r q n e)
 
   push_fields : length rs + 1 < 2 ^ 32 → (new : Iris) → AreLegalIris base (rs ++ r ∷ []) new
-      → LegalResources base (rs ++ r ∷ []) new
+      → AreLegalResources base (rs ++ r ∷ []) new
   push_fields few new ok = record {
     few = (let n = length-append rs (r ∷ []) in omega (arith, n, few));
     each = each_pushed;
@@ -139,7 +140,7 @@ module _ (base : List ℕ) (rs : List Resource) (iris : Iris) (r : Resource) (le
     outside = ok;
   }
 
-  -- A resource other than an outside concept is created.
+  -- The IRIs stay legal if a resource other than an outside concept is created.
   pub iris_push : is_outside_kind r.kind ≡ false → AreLegalIris base (rs ++ r ∷ []) iris
   iris_push inside = record {
     each = λ n o. old n (passes_pop rs r (λ x. is_outside_kind x.kind) n o);
@@ -153,12 +154,13 @@ module _ (base : List ℕ) (rs : List Resource) (iris : Iris) (r : Resource) (le
       old n (inl o) = legal.outside.each n o
       old n (inr (_, o)) = absurd (cc)
 
-  pub resources_push : length rs + 1 < 2 ^ 32 → is_outside_kind r.kind ≡ false → LegalResources base (rs ++ r ∷ []) iris
+  pub resources_push : length rs + 1 < 2 ^ 32 → is_outside_kind r.kind ≡ false
+      → AreLegalResources base (rs ++ r ∷ []) iris
   resources_push few inside = push_fields few iris (iris_push inside)
 
-  -- An outside concept is created with an IRI that no other has.
+  -- The resources stay legal if an outside concept is created with an IRI that no other has.
   pub resources_push_outside : (iri : List ℕ) → length rs + 1 < 2 ^ 32 → is_outside_kind r.kind ≡ true
-      → (BeginsWith iri base → ⊥) → ((n : ℕ) → dict.get iris n ≢ Some iri) → LegalResources base (rs ++ r ∷ [])
+      → (BeginsWith iri base → ⊥) → ((n : ℕ) → dict.get iris n ≢ Some iri) → AreLegalResources base (rs ++ r ∷ [])
       (dict.insert iris (length rs + 1) iri)
   resources_push_outside iri few outside foreign fresh = push_fields few (dict.insert iris (length rs + 1) iri)
       (record {
@@ -211,14 +213,14 @@ module _ (base : List ℕ) (rs : List Resource) (iris : Iris) (r : Resource) (le
       foreign_at n x (inl (_, is)) begins = foreign (subst (λ y. BeginsWith y base) is begins)
       foreign_at n x (inr e) begins = legal.outside.foreign n x e begins
 
--- A live concept dies, and is replaced by a live concept of its scheme, if by any.
+-- Assumes that a live concept dies, and that its replacement, if it has one, is a live concept of its scheme.
 module _ (base : List ℕ) (rs : List Resource) (iris : Iris) (n : ℕ) (rep : Option ℕ) (r : Resource)
-    (at : entry_at rs n ≡ Some r) (legal : LegalResources base rs iris) (concept : is_concept_kind r.kind ≡ true)
+    (at : entry_at rs n ≡ Some r) (legal : AreLegalResources base rs iris) (concept : is_concept_kind r.kind ≡ true)
     (fit : (m : ℕ) → rep ≡ Some m → (m ≢ n) × IsConcept rs m × IsLive rs m × (scheme_of rs m ≡ r.scheme)) where
   -- The resources after a death are legal.
-  pub resources_dead : LegalResources base (set_entry_at rs n (dead rep r)) iris
+  pub resources_dead : AreLegalResources base (set_entry_at rs n (resource_after_death rep r)) iris
   resources_dead = record {
-    few = (let q = length-set rs (n - 1) (dead rep r) in let l = legal.few in omega (arith, q, l));
+    few = (let q = length-set rs (n - 1) (resource_after_death rep r) in let l = legal.few in omega (arith, q, l));
     each = λ m q e. each_at m q (dead_cases rs n rep r at m q e);
     no_return = λ m chain. legal.no_return m (chain.0, old_path m chain.0 m chain.1 (first m chain.0 m chain.1));
     outside = record {
@@ -230,22 +232,23 @@ module _ (base : List ℕ) (rs : List Resource) (iris : Iris) (n : ℕ) (rep : O
     };
   }
     where
-      still_scheme : (m : ℕ) → IsScheme rs m → IsScheme (set_entry_at rs n (dead rep r)) m
+      still_scheme : (m : ℕ) → IsScheme rs m → IsScheme (set_entry_at rs n (resource_after_death rep r)) m
       still_scheme = passes_dead rs n rep r at (λ x. is_scheme_kind x.kind) (λ x. refl)
 
-      still_concept : (m : ℕ) → IsConcept rs m → IsConcept (set_entry_at rs n (dead rep r)) m
+      still_concept : (m : ℕ) → IsConcept rs m → IsConcept (set_entry_at rs n (resource_after_death rep r)) m
       still_concept = passes_dead rs n rep r at (λ x. is_concept_kind x.kind) (λ x. refl)
 
       -- Each resource after a death is legal.
-      each_at : (m : ℕ) (q : Resource) → ((m ≡ n) × (q ≡ dead rep r)) ⊎ ((m ≢ n) × (entry_at rs m ≡ Some q))
-          → IsLegalResource (set_entry_at rs n (dead rep r)) m q
+      each_at : (m : ℕ) (q : Resource) → ((m ≡ n) × (q ≡ resource_after_death rep r))
+          ⊎ ((m ≢ n) × (entry_at rs m ≡ Some q))
+          → IsLegalResource (set_entry_at rs n (resource_after_death rep r)) m q
       each_at m q (inl (here, is)) =
           let was = legal.each n r at in
-          subst (λ (x : ℕ × Resource). IsLegalResource (set_entry_at rs n (dead rep r)) x.0 x.1)
+          subst (λ (x : ℕ × Resource). IsLegalResource (set_entry_at rs n (resource_after_death rep r)) x.0 x.1)
           (λ i. (sym here i, sym is i)) (record {
             scheme = λ k. let has = was.scheme k in (has.0, has.1, still_scheme has.0 has.2);
             no_scheme = was.no_scheme;
-            dead = λ _. concept;
+            dead_is_concept = λ _. concept;
             replaced = λ k e. let has = fit k e in
                 (refl, has.0, still_concept k has.1, scheme_dead rs n rep r at k (has.1.0, has.1.1) ∙ has.3);
           })
@@ -254,25 +257,26 @@ module _ (base : List ℕ) (rs : List Resource) (iris : Iris) (n : ℕ) (rep : O
           record {
             scheme = λ k. let has = was.scheme k in (has.0, has.1, still_scheme has.0 has.2);
             no_scheme = was.no_scheme;
-            dead = was.dead;
+            dead_is_concept = was.dead_is_concept;
             replaced = λ k e. let has = was.replaced k e in
                 (has.0, has.1, still_concept k has.2, scheme_dead rs n rep r at k (has.2.0, has.2.1) ∙ has.3);
           }
 
-      -- A step is an old one, or the one to the replacement.
-      step : (x y : ℕ) → IsReplacedBy (set_entry_at rs n (dead rep r)) x y → IsReplacedBy rs x y ⊎ (rep ≡ Some y)
+      -- A replacement after the death is an old one, or that of the dead concept.
+      step : (x y : ℕ) → IsReplacedBy (set_entry_at rs n (resource_after_death rep r)) x y → IsReplacedBy rs x y
+          ⊎ (rep ≡ Some y)
       step x y (q, is, by) = go (dead_cases rs n rep r at x q is)
         where
-          go : ((x ≡ n) × (q ≡ dead rep r)) ⊎ ((x ≢ n) × (entry_at rs x ≡ Some q)) → IsReplacedBy rs x y
+          go : ((x ≡ n) × (q ≡ resource_after_death rep r)) ⊎ ((x ≢ n) × (entry_at rs x ≡ Some q)) → IsReplacedBy rs x y
               ⊎ (rep ≡ Some y)
           go (inl (_, same)) = inr (sym (ap (λ (z : Resource). z.replaced) same) ∙ by)
           go (inr (_, old)) = inl (q, old, by)
 
       -- The replacement isn't replaced.
-      stays : (x y : ℕ) → rep ≡ Some x → IsReplacedBy (set_entry_at rs n (dead rep r)) x y → ⊥
+      stays : (x y : ℕ) → rep ≡ Some x → IsReplacedBy (set_entry_at rs n (resource_after_death rep r)) x y → ⊥
       stays x y is (q, found, by) = go (dead_cases rs n rep r at x q found)
         where
-          go : ((x ≡ n) × (q ≡ dead rep r)) ⊎ ((x ≢ n) × (entry_at rs x ≡ Some q)) → ⊥
+          go : ((x ≡ n) × (q ≡ resource_after_death rep r)) ⊎ ((x ≢ n) × (entry_at rs x ≡ Some q)) → ⊥
           go (inl (here, _)) = (fit x is).0 here
           go (inr (_, old)) =
               let dies = ((legal.each x q old).replaced y by).0 in
@@ -281,26 +285,28 @@ module _ (base : List ℕ) (rs : List Resource) (iris : Iris) (n : ℕ) (rep : O
               let hit = lives.2 in
               cc
 
-      -- The first step of a path.
-      first : (x : ℕ) (zs : List ℕ) (y : ℕ) → Path (IsReplacedBy (set_entry_at rs n (dead rep r))) x zs y → (z : ℕ)
-          × IsReplacedBy (set_entry_at rs n (dead rep r)) x z
+      -- A path begins with a step.
+      first : (x : ℕ) (zs : List ℕ) (y : ℕ) → Path (IsReplacedBy (set_entry_at rs n (resource_after_death rep r))) x zs
+          y → (z : ℕ)
+          × IsReplacedBy (set_entry_at rs n (resource_after_death rep r)) x z
       first x [] y one = (y, one)
       first x (z ∷ zs) y path = (z, path.0)
 
-      -- A path that can be continued is an old one.
-      old_path : (x : ℕ) (zs : List ℕ) (y : ℕ) → Path (IsReplacedBy (set_entry_at rs n (dead rep r))) x zs y → (z : ℕ)
-          × IsReplacedBy (set_entry_at rs n (dead rep r)) y z → Path (IsReplacedBy rs) x zs y
+      -- A path that a further step continues was a path before the death.
+      old_path : (x : ℕ) (zs : List ℕ) (y : ℕ) → Path (IsReplacedBy (set_entry_at rs n (resource_after_death rep r))) x
+          zs y → (z : ℕ)
+          × IsReplacedBy (set_entry_at rs n (resource_after_death rep r)) y z → Path (IsReplacedBy rs) x zs y
       old_path x [] y one on = elim (step x y one) [ inl old ↦ old | inr is ↦ absurd (stays y on.0 is on.1) ]
       old_path x (z ∷ zs) y path on = elim (step x z path.0) [
         | inl old ↦ (old, old_path z zs y path.1 on)
         | inr is ↦ absurd (let f = first z zs y path.1 in stays z f.0 is f.1)
       ]
 
--- A concept is replaced by a live one of its scheme.
+-- The resources stay legal if a concept is replaced by a live one of its scheme.
 pub resources_merged : (base : List ℕ) (rs : List Resource) (iris : Iris) (source target : ℕ) (r : Resource)
-    → entry_at rs source ≡ Some r → LegalResources base rs iris
+    → entry_at rs source ≡ Some r → AreLegalResources base rs iris
     → IsConcept rs source → IsConcept rs target → IsLive rs target → source ≢ target → scheme_of rs source
-    ≡ scheme_of rs target → LegalResources base (set_entry_at rs source (dead (Some target) r)) iris
+    ≡ scheme_of rs target → AreLegalResources base (set_entry_at rs source (resource_after_death (Some target) r)) iris
 resources_merged base rs iris source target r at legal concept concept_target live_target apart schemes =
     resources_dead base rs iris source (Some target) r
     at legal (subst (λ (x : Resource). is_concept_kind x.kind ≡ true)

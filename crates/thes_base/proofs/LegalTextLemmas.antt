@@ -15,7 +15,7 @@ use Rattle.thes_base.specs.Resources.{Iris, entry_at, set_entry_at}
 use Rattle.thes_base.specs.Labels.{Label, Labels, preferred_label_in, is_lexical_kind}
 use Rattle.thes_base.specs.Postings.{history_after_withdrawal, histories_after_moves}
 use Rattle.thes_base.specs.State.{State, empty_state}
-use Rattle.thes_base.specs.Texts.{IsLabelForm, IsPostingForm, HasForms, HaveForms}
+use Rattle.thes_base.specs.Texts.{IsLabelForm, IsPostingForm, CommandHasForms, StateHasForms}
 use Rattle.thes_base.specs.Changes.{label, next_number, replace_preferred, copied_label_kind, copied_labels}
 use Rattle.thes_base.specs.Refusals.{Setting}
 use Rattle.thes_base.specs.Machine.{Step, next_state, owned_label}
@@ -27,15 +27,15 @@ use Rattle.thes_base.proofs.CopiedLabelLemmas.{union_cases}
 use Rattle.thes_base.proofs.PreferredLemmas.{preferred_found}
 use Rattle.thes_base.proofs.LegalResourceLemmas.{iri_cases, no_iri}
 
--- The label has its form.
+-- The tag and text of the label have their forms.
 abbrev IsFormed : Label → Type 0
 IsFormed l = IsLabelForm l.kind l.tag l.text
 
--- All labels have their forms.
+-- The tags and texts of all labels have their forms.
 abbrev AreFormed : Labels → Type 0
 AreFormed labels = (l : Label) → set.contains labels l ≡ true → IsFormed l
 
--- All postings have their forms.
+-- The key and record name of each posting have their forms.
 abbrev ArePostingForms : List History → Type 0
 ArePostingForms hs = (n : ℕ) (h : History) → entry_at hs n ≡ Some h → IsPostingForm h.key h.rec
 
@@ -43,7 +43,7 @@ formed_insert : (labels : Labels) (l : Label) → IsFormed l → AreFormed label
 formed_insert labels l form each q held = elim (inserted_cases labels l q held)
     [ inl is ↦ subst IsFormed (sym is) form | inr old ↦ each q old ]
 
--- The text of a preferred label may be that of an alternative one.
+-- A tag and a text that a preferred label may have, an alternative label may have also.
 alternative : (tag text : List ℕ) → IsLabelForm Pref tag text → IsLabelForm Alt tag text
 alternative tag text form = record { tag_form = form.tag_form; text_form = form.text_form }
 
@@ -59,7 +59,7 @@ formed_renamed labels owner tag text keep form each (Some old) is =
       | inr (inr before) ↦ each q before.1
     ]
 
--- A copied label keeps its form.
+-- A copied label has the form for its kind.
 taken_form : (kind : LabelKind) (tag text : List ℕ) → is_lexical_kind kind ≡ true → IsLabelForm kind tag text
     → IsLabelForm (copied_label_kind kind) tag text
 taken_form Pref tag text name form = alternative tag text form
@@ -110,9 +110,9 @@ forms_withdrawn hs posting each (Some h) at =
       | inr old ↦ each n g old.1
     ]
 
-module _ (base : List ℕ) (s : State) (texts : HaveForms base s) where
+module _ (base : List ℕ) (s : State) (texts : StateHasForms base s) where
   with_labels : (resources : List Resource) (labels : Labels) → AreFormed labels
-      → HaveForms base (record s { resources = resources; labels = labels })
+      → StateHasForms base (record s { resources = resources; labels = labels })
   with_labels resources labels each = record {
     base_form = texts.base_form;
     iris = texts.iris;
@@ -122,7 +122,7 @@ module _ (base : List ℕ) (s : State) (texts : HaveForms base s) where
   }
 
   -- The texts of the next state have their forms.
-  texts_next : (command : Command) → HasForms command → HaveForms base (next_state command s)
+  texts_next : (command : Command) → CommandHasForms command → StateHasForms base (next_state command s)
   texts_next (request.Scheme tag text) form =
       with_labels _ _ (formed_insert s.labels (label (next_number s) Pref tag text) form texts.labels)
   texts_next (request.Concept scheme tag text) form =
@@ -194,22 +194,22 @@ module _ (base : List ℕ) (s : State) (texts : HaveForms base s) where
         refl;
   }
 
--- A request leaves the state as it is, or leads to the next one.
+-- A request leaves the state unchanged, or leads to the next state.
 step_either : (setting : Setting) (s t : State) (command : Command) (answer : Answer) → Step setting s command answer
     t → (t ≡ s) ⊎ (t ≡ next_state command s)
 step_either setting s t command answer (inl (known, same)) = inl same
 step_either setting s t command answer (inr (new, inl (r, row, is, same))) = inl same
 step_either setting s t command answer (inr (new, inr (row, is, made))) = inr made
 
-pub step_texts : (setting : Setting) (s t : State) (command : Command) (answer : Answer) → HasForms command
-    → HaveForms setting.base s → Step setting s command answer t → HaveForms setting.base t
+pub step_texts : (setting : Setting) (s t : State) (command : Command) (answer : Answer) → CommandHasForms command
+    → StateHasForms setting.base s → Step setting s command answer t → StateHasForms setting.base t
 step_texts setting s t command answer forms texts step = elim (step_either setting s t command answer step) [
-  | inl same ↦ subst (HaveForms setting.base) (sym same) texts
-  | inr made ↦ subst (HaveForms setting.base) (sym made) (texts_next setting.base s texts command forms)
+  | inl same ↦ subst (StateHasForms setting.base) (sym same) texts
+  | inr made ↦ subst (StateHasForms setting.base) (sym made) (texts_next setting.base s texts command forms)
 ]
 
 -- The empty state has no text.
-pub texts_empty : (base : List ℕ) → IsBase base → HaveForms base empty_state
+pub texts_empty : (base : List ℕ) → IsBase base → StateHasForms base empty_state
 texts_empty base form = record {
   base_form = form;
   iris = λ n iri e. absurd (no_iri n iri e);

@@ -5,7 +5,7 @@ use Rattle.std.specs.Prelude.{◌==◌, filter}
 use Rattle.std.specs.FinSet as set
 use Rattle.std.proofs.lemmas.Bool.{cases_Bool}
 use Rattle.thes_base.specs.declared.data.Link.{Link}
-use Rattle.thes_base.specs.Links.{Links, HeldIn, link_cmp, normal_form, redirect, redirect_link, links_after_merge}
+use Rattle.thes_base.specs.Links.{Links, Holds, link_cmp, normal_form, redirect, redirect_link, links_after_merge}
 use Rattle.thes_base.proofs.ListMemberLemmas.{Contains-map, Contains-filter}
 use Rattle.thes_base.proofs.LinkSetLemmas.{links_total, links_exact}
 use Rattle.thes_base.proofs.SetMemberLemmas.{len_inserted, len_there, from_list_of, from_list_has}
@@ -13,7 +13,7 @@ use Rattle.thes_base.proofs.SetMemberLemmas.{len_inserted, len_there, from_list_
 len_new : (links : Links) (l : Link) → set.contains links l ≡ false → set.len (set.insert links l) ≡ set.len links + 1
 len_new = len_inserted links_total links_exact
 
-len_old : (links : Links) (l : Link) → HeldIn links l → set.len (set.insert links l) ≡ set.len links
+len_old : (links : Links) (l : Link) → Holds links l → set.len (set.insert links l) ≡ set.len links
 len_old = len_there links_total links_exact
 
 len_grows : (links : Links) (l : Link) → (set.len links ≤ set.len (set.insert links l))
@@ -23,7 +23,7 @@ len_grows links l = elim (cases_Bool (set.contains links l)) [
   | inr fresh ↦ let e = len_new links l fresh in (omega (arith, e), omega (arith, e))
 ]
 
--- The images of some links of a list.
+-- Maps the links of a list that pass a test, and collects the results in a set.
 module _ (passes : Link → Bool) (send : Link → Link) where
   abbrev image : List Link → Links
   image ls = set.from_list (map send (filter passes ls))
@@ -36,14 +36,14 @@ module _ (passes : Link → Bool) (send : Link → Link) where
   image_no l ls miss =
       ap (λ b. set.from_list {R = link_cmp} (map send (cond b (l ∷ filter passes ls) (filter passes ls)))) miss
 
-  -- The image of each link is in the set.
-  in_image : (l : Link) (ls : List Link) → HeldIn (set.from_list ls) l → passes l ≡ true → HeldIn (image ls) (send l)
+  -- The set has the image of each link of the list that passes the test.
+  in_image : (l : Link) (ls : List Link) → Holds (set.from_list ls) l → passes l ≡ true → Holds (image ls) (send l)
   in_image l ls there hit =
       from_list_has links_total links_exact (map send (filter passes ls)) (send l)
       (Contains-map send (filter passes ls) l
       (Contains-filter passes ls l (from_list_of links_total links_exact ls l there) hit))
 
-  -- The images of a list of links are at most as many as its different links.
+  -- The set has at most as many links as the list has different ones.
   image_fewer : (ls : List Link) → set.len (image ls) ≤ set.len (set.from_list {R = link_cmp} ls)
   image_fewer [] = omega arith
   image_fewer (l ∷ ls) =
@@ -61,7 +61,7 @@ module _ (passes : Link → Bool) (send : Link → Link) where
             ]
       ]
 
--- A set is the set of its own list.
+-- The set of a set's items is that set.
 listed_again : (links : Links) → set.from_list (set.items links) ≡ links
 listed_again links = set.same_set links_total links_exact _ _
     (λ q. set.contains-from_list links_total (set.items links) q ∙ sym (set.contains-items links q))

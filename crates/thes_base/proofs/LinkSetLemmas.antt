@@ -11,7 +11,7 @@ use Rattle.thes_base.specs.declared.data.Link.{Link}
 use Rattle.thes_base.specs.declared.data.LinkKind.{LinkKind}
 use Rattle.thes_base.specs.declared.data.LinkKind.TheVariants.{Broader}
 use Rattle.thes_base.specs.Resources.{entry_at}
-use Rattle.thes_base.specs.Links.{Links, link_cmp, link_kinds, link_kind_no, HeldIn, normal_form, redirect}
+use Rattle.thes_base.specs.Links.{Links, link_cmp, link_kinds, link_kind_no, Holds, normal_form, redirect}
 use Rattle.thes_base.specs.Links.{redirect_link, links_after_merge, links_after_deprecation, IsHeldAfterMerge}
 use Rattle.thes_base.specs.Links.{IsHeldAfterDeprecation}
 use Rattle.thes_base.proofs.InjectiveCodeLemmas.{one_to_one}
@@ -43,15 +43,15 @@ links_exact x y e =
     (exact_pairs nat_cmp nat_cmp exact_unsigned exact_unsigned) (x.kind, (x.a, x.b)) (y.kind, (y.a, y.b)) e)
 
 -- A link after an insertion is the inserted one or an old one.
-pub link_inserted_cases : (links : Links) (l m : Link) → HeldIn (insert links l) m → (m ≡ l) ⊎ HeldIn links m
+pub link_inserted_cases : (links : Links) (l m : Link) → Holds (insert links l) m → (m ≡ l) ⊎ Holds links m
 link_inserted_cases = inserted_cases links_total links_exact
 
 -- A retained link is an old one that passes the test.
-pub link_retained : (links : Links) (test : Link → Bool) (m : Link) → HeldIn (retain links test) m → HeldIn links m
+pub link_retained : (links : Links) (test : Link → Bool) (m : Link) → Holds (retain links test) m → Holds links m
     × (test m ≡ true)
 link_retained = retained_from links_total links_exact
 
--- The links held after a merge.
+-- A link is held after a merge exactly when it is the redirected normal form of one held before.
 module _ (is_outside : ℕ → Bool) (source target : ℕ) (links : Links) where
   abbrev stays : Link → Bool
   stays l = not (redirect source target l.a == redirect source target l.b)
@@ -59,7 +59,7 @@ module _ (is_outside : ℕ → Bool) (source target : ℕ) (links : Links) where
   abbrev becomes : Link → Link
   becomes l = normal_form is_outside (redirect_link source target l)
 
-  pub contracted_from : (m : Link) → HeldIn (links_after_merge is_outside source target links) m
+  pub contracted_from : (m : Link) → Holds (links_after_merge is_outside source target links) m
       → IsHeldAfterMerge is_outside source target links m
   contracted_from m held =
       let made = Contains-from_map becomes (filter stays (items links)) m
@@ -68,29 +68,29 @@ module _ (is_outside : ℕ → Bool) (source target : ℕ) (links : Links) where
       (made.0, items_of links_total links_exact links made.0 kept.0, eqb-false _ _ (not-true _ kept.1), sym made.2)
 
   pub contracted_to : (m : Link) → IsHeldAfterMerge is_outside source target links m
-      → HeldIn (links_after_merge is_outside source target links) m
+      → Holds (links_after_merge is_outside source target links) m
   contracted_to m (l, held, two, is) =
       let kept = Contains-filter stays (items links) l (items_has links_total links_exact links l held)
       (not_from_false _ (ne_eqb _ _ two)) in
-      subst (HeldIn (links_after_merge is_outside source target links)) (sym is)
+      subst (Holds (links_after_merge is_outside source target links)) (sym is)
       (from_list_has links_total links_exact _ (becomes l) (Contains-map becomes (filter stays (items links)) l kept))
 
--- The links held after a deprecation.
+-- A link is held after a deprecation exactly when it was held before and the concept is none of its ends.
 module _ (n : ℕ) (links : Links) where
   abbrev away : Link → Bool
   away l = not (l.a == n || l.b == n)
 
-  pub without_node_from : (m : Link) → HeldIn (links_after_deprecation n links) m → IsHeldAfterDeprecation n links m
+  pub without_node_from : (m : Link) → Holds (links_after_deprecation n links) m → IsHeldAfterDeprecation n links m
   without_node_from m held =
       (kept.0, λ at. elim at [ inl a ↦ eqb-false m.a n ends.0 a | inr b ↦ eqb-false m.b n ends.1 b ])
     where
-      kept : HeldIn links m × (away m ≡ true)
+      kept : Holds links m × (away m ≡ true)
       kept = retained_from links_total links_exact links away m held
 
       ends : ((m.a == n) ≡ false) × ((m.b == n) ≡ false)
       ends = or_parts (m.a == n) (m.b == n) (not-true _ kept.1)
 
-  pub without_node_to : (m : Link) → IsHeldAfterDeprecation n links m → HeldIn (links_after_deprecation n links) m
+  pub without_node_to : (m : Link) → IsHeldAfterDeprecation n links m → Holds (links_after_deprecation n links) m
   without_node_to m (held, off) =
       retained_to links_total links_exact links away m held
       (not_from_false _ (or_from (m.a == n) (m.b == n) (ne_eqb m.a n (λ a. off (inl a)))

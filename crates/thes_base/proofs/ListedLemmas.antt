@@ -10,8 +10,9 @@ use Rattle.thes_base.specs.declared.data.History.{History}
 use Rattle.thes_base.specs.State.{State}
 use Rattle.thes_base.specs.Changes.{is_listed}
 use Rattle.thes_base.specs.RefusalRules.{accepted}
-use Rattle.thes_base.specs.Refusals.{EachOnce, EachListed, IsKnownPosting, unless_split_postings}
-use Rattle.thes_base.specs.Legal.{Legal}
+use Rattle.thes_base.specs.Refusals.{EachOnce, EachListed, IsKnownPosting}
+use Rattle.thes_base.specs.RuleParts.{unless_split_postings}
+use Rattle.thes_base.specs.Legal.{IsLegalState}
 use Rattle.thes_base.proofs.RefusalRuleLemmas.{passed_unless}
 use Rattle.thes_base.proofs.NumberedLemmas.{numbered_bound}
 
@@ -21,7 +22,7 @@ either_one true false apart = refl
 either_one false true apart = refl
 either_one false false apart = refl
 
--- If no history passes both tests, those that pass either are as many as those of both together.
+-- If every history that passes one test fails the other, the number that pass either is the sum of both numbers.
 count_either : (p q : History → Bool) → ((h : History) → p h ≡ true → q h ≡ false) → (hs : List History)
     → count_by (λ h. p h || q h) hs ≡ count_by p hs + count_by q hs
 count_either p q apart [] = refl
@@ -38,7 +39,7 @@ count_nothing [] = refl
 count_nothing (h ∷ hs) = let a = sum_by-cons (λ (x : History). 0) h hs in let ih = count_nothing hs in
     omega (arith, a, ih)
 
--- The histories have consecutive numbers from the first on.
+-- The histories have the numbers from `first` on, in order.
 abbrev pub NumberedFrom : ℕ → List History → Type 0
 NumberedFrom first [] = Unit {0}
 NumberedFrom first (h ∷ hs) = (h.number ≡ first) × NumberedFrom (first + 1) hs
@@ -51,7 +52,7 @@ numbered_from first (h ∷ hs) each = (
   numbered_from (first + 1) hs (λ i g at. let e = each (suc i) g at in omega (arith, e)),
 )
 
--- No history has a number outside the range, and one has each number within.
+-- The list has no history with a number outside its range, and one with each number of the range.
 module _ (n : ℕ) where
   abbrev has_number : History → Bool
   has_number h = eqb n h.number
@@ -90,7 +91,7 @@ module _ (n : ℕ) where
             count_miss h hs miss ∙ count_once (first + 1) hs from.1 (omega (arith, other, at)) (omega arith)
       ]
 
--- Different numbers list as many histories.
+-- A list of different known numbers lists as many histories as it has numbers.
 count_listed : (hs : List History) → NumberedFrom 1 hs → (ns : List ℕ) → EachOnce ns → EachListed (IsKnownPosting hs)
     ns → count_by (is_listed ns) hs ≡ length ns
 count_listed hs from [] once known = count_nothing hs
@@ -103,8 +104,8 @@ count_listed hs from (n ∷ ns) once known =
     let ih = count_listed hs from ns once.1 known.1 in
     omega (arith, both, one, ih)
 
--- An accepted split lists as many postings as numbers.
-pub listed_count : (base : List ℕ) (s : State) (source : ℕ) (postings : List ℕ) → Legal base s
+-- An accepted split lists as many postings as it has numbers.
+pub listed_count : (base : List ℕ) (s : State) (source : ℕ) (postings : List ℕ) → IsLegalState base s
     → unless_split_postings s.histories source postings accepted None → count_by (is_listed postings) s.histories
     ≡ length postings
 listed_count base s source postings legal row =

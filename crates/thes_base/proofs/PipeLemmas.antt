@@ -8,7 +8,7 @@ use Rattle.std.proofs.lemmas.List.{take_rest}
 use Rattle.thes_base.specs.Pipe.{AppendsPrefix, calls_of, calls_after, calls_limit, PaysCalls, KeepsSharedCallLimit}
 use Rattle.thes_base.specs.declared.pipe.Pipe.{Pipe}
 
--- The next n bytes of a list of which a prefix is written.
+-- Writing the next n bytes after a prefix of a list writes a longer prefix.
 pub appends_more : (a b c : Option (List ℕ)) (s : List ℕ) (i n : ℕ) → Appends a b (take i s)
     → Appends b c (take n (drop i s)) → Appends a c (take (i + n) s)
 appends_more a b c s i n f g = rw (take-add i n s) (Appends-trans a b c (take i s) (take n (drop i s)) f g)
@@ -21,7 +21,7 @@ pub front_of_rest : (a b : Option (List ℕ)) (s : List ℕ) (i n : ℕ)
     → Appends a b (take n (take (length s - i) (drop i s))) → Appends a b (take n (drop i s))
 front_of_rest a b s i n f = rw take_rest at f
 
--- A prefix of the second text is written after the whole first one.
+-- Writing the first text and then a prefix of the second writes a prefix of both together.
 pub appends_front_then : (a b c : Option (List ℕ)) (xs ys : List ℕ) → Appends a b xs → AppendsPrefix b c ys
     → AppendsPrefix a c (xs ++ ys)
 appends_front_then a b c xs ys f s = record {
@@ -30,7 +30,7 @@ appends_front_then a b c xs ys f s = record {
   front = rw (take-append-add xs ys s.count) (Appends-trans a b c xs (take s.count ys) f s.front);
 }
 
--- An engine's call with two pipes has `left` of its budget.
+-- A call of an engine with two pipes has `left` of its budget left.
 pub record HasLeft {R W : Type 0} (reader reader' : Pipe R) (writer writer' : Pipe W) (left : ℕ) : Type 0 where
   pub reads : ℕ
   pub writes : ℕ

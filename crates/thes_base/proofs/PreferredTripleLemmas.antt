@@ -39,11 +39,11 @@ module _ (base : List ℕ) (s : State) (apart : (m n : ℕ) → Exists s.resourc
           never : r.live ≡ false → r.live ≡ true → ⊥
           never f t = cc
 
-  -- Unique preferred labels are unique by the triples.
+  -- If preferred labels are unique by the rule, they are by the triples.
   holds : UniquePreferred s.resources s.labels → skos.MeetsUniquePreferred T
   holds unique = record { one = λ x y scheme tag text cx cy hx hy. go x y scheme tag text cx cy hx hy }
     where
-      -- The number of a current concept, with that of its scheme.
+      -- The IRIs of a current concept and its scheme are those of a live concept and its scheme.
       current : (x scheme : List ℕ) → skos.IsCurrentConcept T x scheme → (n : ℕ) × (m : ℕ) × IsLiveConcept s.resources
           n × (scheme_of s.resources n ≡ Some m) × Exists s.resources m × (x ≡ iri n) × (scheme ≡ iri m)
       current x scheme c = at c.concept c.within
@@ -80,7 +80,7 @@ module _ (base : List ℕ) (s : State) (apart : (m n : ℕ) → Exists s.resourc
           (subst (λ k. HasLabel s.labels k Pref tag text) qb hq) in
           a.5 ∙ ap iri same ∙ sym b.5
 
-  -- Preferred labels that are unique by the triples are unique.
+  -- If preferred labels are unique by the triples, they are by the rule.
   back : skos.MeetsUniquePreferred T → UniquePreferred s.resources s.labels
   back rule m n scheme tag text live_m live_n in_m in_n has_m has_n =
       apart m n (known m live_m) (known n live_n)

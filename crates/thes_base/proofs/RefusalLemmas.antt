@@ -9,16 +9,19 @@ use Rattle.thes_base.specs.declared.fault.Refusal.TheVariants as no
 use Rattle.thes_base.specs.RefusalRules.{RefusalRule, refused_if, refused_unless, accepted}
 use Rattle.thes_base.specs.Resources.{set_entry_at, Exists, scheme_of, is_outside, is_outside_kind}
 use Rattle.std.specs.FinSet.{contains, insert}
-use Rattle.thes_base.specs.Links.{HeldIn, NoCycle, S27, S46, form_of, is_symmetric, reversed_link, normal_form}
-use Rattle.thes_base.specs.Links.{redirect, redirect_link, links_after_merge, unless_links_consistent}
+use Rattle.thes_base.specs.Links.{Holds, NoCycle, S27, S46, form_of, is_symmetric, reversed_link, normal_form}
+use Rattle.thes_base.specs.Links.{redirect, redirect_link, links_after_merge}
+use Rattle.thes_base.specs.RuleParts.{unless_links_consistent}
 use Rattle.thes_base.specs.State.{State}
 use Rattle.thes_base.specs.Triples.{Triple, IsAsserted}
 use Rattle.thes_base.specs.Skos as skos
 use Rattle.thes_base.specs.Changes.{label, next_number, state_after_creation, concept_resource, replace_preferred}
-use Rattle.thes_base.specs.Changes.{state_after_link, dead, state_after_merge}
-use Rattle.thes_base.specs.Refusals.{Setting, EachListed, IsKnownPosting, IsStanding, unless_scheme, unless_unique}
-use Rattle.thes_base.specs.Refusals.{unless_owner, unless_label, unless_relabel, unless_ends, unless_pair}
-use Rattle.thes_base.specs.Refusals.{unless_live_concept, unless_split_postings, unless_within_limits}
+use Rattle.thes_base.specs.Changes.{state_after_link, resource_after_death, state_after_merge}
+use Rattle.thes_base.specs.Refusals.{Setting, EachListed, IsKnownPosting, IsNotWithdrawn}
+use Rattle.thes_base.specs.RuleParts.{unless_scheme, unless_unique}
+use Rattle.thes_base.specs.RuleParts.{unless_owner, unless_new_label, unless_replaceable_preferred, unless_ends}
+use Rattle.thes_base.specs.RuleParts.{unless_pair}
+use Rattle.thes_base.specs.RuleParts.{unless_live_concept, unless_split_postings, unless_within_limits}
 use Rattle.thes_base.specs.Machine.{next_state, owned_label, link}
 use Rattle.thes_base.specs.declared.request.Command.{Command}
 use Rattle.thes_base.specs.declared.data.History.{History}
@@ -27,7 +30,7 @@ use Rattle.thes_base.specs.declared.data.LabelKind.TheVariants.{Pref}
 use Rattle.thes_base.specs.Data.{LabelData}
 use Rattle.thes_base.specs.Labels.{Label, Labels, HasLabel, preferred_label_in, S13, S14, UniquePreferred}
 use Rattle.thes_base.specs.declared.request.Command.TheVariants as request
-use Rattle.thes_base.specs.Legal.{Legal}
+use Rattle.thes_base.specs.Legal.{IsLegalState}
 use Rattle.thes_base.specs.Laws.{RulesAgreeWithTriples, RefusalsMatchTriples, RefusalMatchesTriples}
 use Rattle.thes_base.specs.Laws.{checks_of_uniqueness, checks_of_relabelling, checks_of_labelling}
 use Rattle.thes_base.specs.Laws.{checks_of_relations}
@@ -44,8 +47,6 @@ use Rattle.thes_base.proofs.ConditionLemmas.{owner_exists, ends_exist}
 use Rattle.thes_base.proofs.LinkSetLemmas.{link_inserted_cases, contracted_from}
 use Rattle.thes_base.proofs.CopiedLabelLemmas.{labels_merged}
 use Rattle.thes_base.proofs.MachineLemmas.{rules_agree, triples_match_rules}
-
--- Rules that refuse by the first of their conditions that the triples break.
 
 abbrev unless_triples_consistent : (Triple → Type 0) → RefusalRule → RefusalRule
 unless_triples_consistent T rest =
@@ -65,7 +66,7 @@ unless_triples_labelled T rest =
     (refused_unless (skos.MeetsS14 T) no.S14
     (unless_triples_unique T rest))
 
--- Conditions that hold together, and equivalent rests, make equivalent rules.
+-- Rules with equivalent conditions and equivalent remaining rules are equivalent.
 module _ (C D : Type 0) (name : Refusal) (rest other : RefusalRule) (answer : Option Refusal) where
   unless_to : (C → D) → (D → C) → (rest answer → other answer) → refused_unless C name rest answer
       → refused_unless D name other answer
@@ -80,11 +81,11 @@ unless_same C D name rest other answer same says = (
       says.1,
 )
 
--- If the conditions agree with the rules, the rules of refusal are equivalent.
+-- If the conditions on triples agree with the rules, the rules of refusal are equivalent.
 module _ (base : List ℕ) (s : State) (seen : RulesAgreeWithTriples base s) (rest : RefusalRule)
     (answer : Option Refusal) where
   abbrev held : Link → Type 0
-  held = HeldIn s.links
+  held = Holds s.links
 
   abbrev triples : Triple → Type 0
   triples = IsAsserted base s
@@ -118,7 +119,7 @@ module _ (base : List ℕ) (s : State) (seen : RulesAgreeWithTriples base s) (re
       (unless_same (S14 s.labels) (skos.MeetsS14 triples) no.S14 unique (unless_triples_unique triples rest) answer
       seen.s14 unique_seen)
 
--- Both ends of a link are resources.
+-- Both ends of the link are resources.
 abbrev HasEnds : List Resource → Link → Type 0
 HasEnds rs l = Exists rs l.a × Exists rs l.b
 
@@ -137,8 +138,8 @@ sent_exists rs source target n to known = go (n == source)
     go true = to
     go false = known
 
-module _ (base : List ℕ) (s : State) (legal : Legal base s) where
-  held_ends : (l : Link) → HeldIn s.links l → HasEnds s.resources l
+module _ (base : List ℕ) (s : State) (legal : IsLegalState base s) where
+  held_ends : (l : Link) → Holds s.links l → HasEnds s.resources l
   held_ends l held = ends_exist s.resources (form_of l.kind) l.a l.b (legal.links.each l held).ends
 
   link_seen : (l : Link) → HasEnds s.resources l → RulesAgreeWithTriples base (state_after_link l s)
@@ -147,13 +148,13 @@ module _ (base : List ℕ) (s : State) (legal : Legal base s) where
       (λ m held. ends_at m (link_inserted_cases s.links (normal_form (is_outside s.resources) l) m held))
       (λ m held. owner_exists s.resources m.owner (legal.labels.owners m held))
     where
-      ends_at : (m : Link) → (m ≡ normal_form (is_outside s.resources) l) ⊎ HeldIn s.links m → HasEnds s.resources m
+      ends_at : (m : Link) → (m ≡ normal_form (is_outside s.resources) l) ⊎ Holds s.links m → HasEnds s.resources m
       ends_at m (inl is) = subst (HasEnds s.resources) (sym is) (norm_ends s.resources (is_outside s.resources) l known)
       ends_at m (inr old) = held_ends m old
 
   -- The ends of links after a merge are resources.
   contracted_ends : (source target : ℕ) → Exists s.resources target → (m : Link)
-      → HeldIn (links_after_merge (is_outside s.resources) source target s.links) m → HasEnds s.resources m
+      → Holds (links_after_merge (is_outside s.resources) source target s.links) m → HasEnds s.resources m
   contracted_ends source target to m held =
       let before = contracted_from (is_outside s.resources) source target s.links m held in
       let l = before.0 in
@@ -182,7 +183,7 @@ module _ (base : List ℕ) (s : State) (legal : Legal base s) where
       (triples_match_rules base
       (record (state_after_merge source target s) {
         resources =
-            set_entry_at s.resources source (dead (Some target) r);
+            set_entry_at s.resources source (resource_after_death (Some target) r);
       })
       (resources_merged base s.resources s.iris source target r at legal.resources kinds.0.0 kinds.0.1 live.0.1
       apart.0 schemes.0)
@@ -218,7 +219,7 @@ module _ (base : List ℕ) (s : State) (legal : Legal base s) where
           (r, push_new s.resources r)
       owner_at l (inr old) = still l.owner (owner_known l old)
 
-  -- The conditions agree with the rules for other labels of known owners.
+  -- The conditions agree with the rules for other labels, if their owners exist.
   relabelled_seen : (labels : Labels) → ((l : Label) → contains labels l ≡ true → Exists s.resources l.owner)
       → RulesAgreeWithTriples base (record s { labels = labels })
   relabelled_seen labels owners = triples_match_rules base (record s { labels = labels }) legal.resources held_ends
@@ -241,7 +242,7 @@ module _ (base : List ℕ) (s : State) (legal : Legal base s) where
         | inr (inr before) ↦ owner_known q before.1
       ]
 
--- If the condition passes the check, the rest decides.
+-- If the condition doesn't hold, the remaining rule decides.
 past_if : {sentence rest : Type 0} {name : Refusal} {answer : Option Refusal} → (¬ sentence)
     → (sentence × (answer ≡ Some name)) ⊎ ((¬ sentence) × rest) → rest
 past_if holds_not (inl (holds, is)) = absurd (holds_not holds)
@@ -252,7 +253,7 @@ past_unless : {condition rest : Type 0} {name : Refusal} {answer : Option Refusa
 past_unless holds (inl (fails, is)) = absurd (fails holds)
 past_unless holds (inr (_, says)) = says
 
-module _ (setting : Setting) (s : State) (legal : Legal setting.base s) where
+module _ (setting : Setting) (s : State) (legal : IsLegalState setting.base s) where
   abbrev room : Command → RefusalRule
   room command = unless_within_limits setting s (next_state command s)
 
@@ -278,7 +279,7 @@ module _ (setting : Setting) (s : State) (legal : Legal setting.base s) where
       (λ q held. added_owner setting.base s legal (owned_label owner l) q (passed_unless may).0 held) in
       let same = labelled_seen setting.base after seen (room command) answer in
       let part = owner_part s.resources owner in
-      let rest : RefusalRule = unless_label s.labels after.resources after.labels (owned_label owner l)
+      let rest : RefusalRule = unless_new_label s.labels after.resources after.labels (owned_label owner l)
       (room command) in (
         λ row. same.0 (past_if new (part.past rest answer may row)),
         λ row. part.passes rest answer may
@@ -295,14 +296,15 @@ module _ (setting : Setting) (s : State) (legal : Legal setting.base s) where
       tag text keep (passed_unless may).0 (preferred_label_in s.labels owner tag) q held) in
       let same = disjoint_seen setting.base after seen (room command) answer in
       let part = owner_part s.resources owner in
-      let rest : RefusalRule = unless_relabel s.labels after.resources after.labels owner tag (room command) in (
+      let rest : RefusalRule = unless_replaceable_preferred s.labels after.resources after.labels owner tag
+      (room command) in (
         λ row. same.0 (past_unless (old, has) (part.past rest answer may row)),
         λ row. part.passes rest answer may
             (inr ((old, has), same.1 row)),
       )
 
   by_link : (kind : LinkKind) (a b : ℕ) → unless_ends s.resources (link kind a b) accepted None
-      → (¬ HeldIn s.links (normal_form (is_outside s.resources) (link kind a b))) → RefusalMatchesTriples setting s
+      → (¬ Holds s.links (normal_form (is_outside s.resources) (link kind a b))) → RefusalMatchesTriples setting s
       (request.Link kind a b) checks_of_relations
   by_link kind a b may new answer =
       let command = request.Link kind a b in
@@ -311,8 +313,8 @@ module _ (setting : Setting) (s : State) (legal : Legal setting.base s) where
       consistent_seen setting.base after (link_seen setting.base s legal (link kind a b) (passed_unless may).0)
       (room command) answer in
       let part = ends_part s.resources (link kind a b) in
-      let rest : RefusalRule = refused_if (HeldIn s.links (normal_form (is_outside s.resources) (link kind a b)))
-      no.LinkThere (unless_links_consistent (HeldIn after.links) (room command)) in (
+      let rest : RefusalRule = refused_if (Holds s.links (normal_form (is_outside s.resources) (link kind a b)))
+      no.LinkThere (unless_links_consistent (Holds after.links) (room command)) in (
         λ row. same.0 (past_if new (part.past rest answer may row)),
         λ row. part.passes rest answer may
             (inr (new, same.1 row)),
@@ -326,7 +328,7 @@ module _ (setting : Setting) (s : State) (legal : Legal setting.base s) where
       let same = consistent_seen setting.base after (merge_seen setting.base s legal source target may) (room command)
       answer in
       let part = pair_part s.resources source target in
-      let rest : RefusalRule = unless_links_consistent (HeldIn after.links) (room command) in
+      let rest : RefusalRule = unless_links_consistent (Holds after.links) (room command) in
       (λ row. same.0 (part.past rest answer may row), λ row. part.passes rest answer may (same.1 row))
 
   -- The refusal of a split can be read off the triples after it.
@@ -351,8 +353,8 @@ module _ (setting : Setting) (s : State) (legal : Legal setting.base s) where
             may (listing.passes last answer listed (same.1 row)),
       )
 
--- Each listed posting that isn't withdrawn is known.
-known_listed : (histories : List History) (postings : List ℕ) → EachListed (IsStanding histories) postings
+-- Each listed posting that isn't withdrawn is a known posting.
+known_listed : (histories : List History) (postings : List ℕ) → EachListed (IsNotWithdrawn histories) postings
     → EachListed (IsKnownPosting histories) postings
 known_listed histories [] each = tt
 known_listed histories (n ∷ ns) each = ((each.0.0, each.0.1), known_listed histories ns each.1)

@@ -1,10 +1,10 @@
--- Checks give at most one answer, and never none.
+-- Checks give at most one answer, and it isn't the case that they give none.
 use Rattle.std.proofs.Common.{◌≡◌, ◌⊎◌, ℕ, sym, ap, ◌∙◌, refl, ⊎_elim, inl, inr, List, [], ◌∷◌}
 use Rattle.std.specs.Prelude.{Option, None, Some}
 use Rattle.thes_base.specs.declared.fault.Refusal.{Refusal}
 use Rattle.thes_base.specs.RefusalRules.{Check, ◌when◌, ◌unless◌, ◌for_some◌, IsFirstRefusal}
 
--- Each check that names a number holds for at most one.
+-- Each check that names a number holds for at most one number.
 abbrev pub GiveOneAnswer : List Check → Type 0
 GiveOneAnswer [] = Unit {0}
 GiveOneAnswer (name when sentence ∷ checks) = GiveOneAnswer checks
@@ -29,7 +29,7 @@ one_first_refusal (name for_some sentence ∷ checks) one a b (inl p) (inr q) = 
 one_first_refusal (name for_some sentence ∷ checks) one a b (inr p) (inl q) = absurd (p.0 q.0 q.1)
 one_first_refusal (name for_some sentence ∷ checks) one a b (inr p) (inr q) = one_first_refusal checks one.1 a b p.1 q.1
 
--- Checks never give no answer.
+-- It isn't the case that checks give no answer.
 pub some_first_refusal : (checks : List Check) → ¬ (¬ ((answer : Option Refusal) × IsFirstRefusal checks answer))
 some_first_refusal [] none = none (None, refl)
 some_first_refusal (name when sentence ∷ checks) none =
@@ -40,7 +40,7 @@ some_first_refusal (name for_some sentence ∷ checks) none =
     some_first_refusal checks
     (λ rest. none (rest.0, inr (λ n holds. none (Some (name n), inl (n, holds, refl)), rest.1)))
 
--- An accepted request passes the check.
+-- If a check with a condition accepts, its condition doesn't hold.
 pub passed_if : {sentence rest : Type 0} {name : Refusal} → (sentence × (None ≡ Some name)) ⊎ ((¬ sentence) × rest)
     → (¬ sentence) × rest
 passed_if {sentence} {rest} {name} row = ⊎_elim (λ (p : sentence × (None ≡ Some name)). absurd (cc))

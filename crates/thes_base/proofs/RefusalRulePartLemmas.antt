@@ -1,4 +1,5 @@
--- A part of a rule, checked alone, decides for the rule: if it refuses, the rule refuses alike; else the rest decides.
+-- A part of a rule, checked alone, decides for the rule: if it refuses, the rule refuses alike, or else the remaining
+-- rule decides.
 use Rattle.std.proofs.Common.{ℕ, inl, inr, refl}
 use Rattle.std.specs.Prelude.{Option, None, Some, List}
 use Rattle.thes_base.specs.declared.data.Resource.{Resource}
@@ -9,17 +10,18 @@ use Rattle.thes_base.specs.declared.fault.Refusal.TheVariants as no
 use Rattle.thes_base.specs.RefusalRules.{RefusalRule, refused_if, refused_unless, accepted}
 use Rattle.thes_base.specs.Resources.{IsScheme}
 use Rattle.thes_base.specs.Labels.{Labels}
-use Rattle.thes_base.specs.Refusals.{unless_unique, unless_resource, unless_scheme, unless_owner, unless_relabel}
-use Rattle.thes_base.specs.Refusals.{unless_ends, unless_live_concept, unless_pair, unless_split_postings}
+use Rattle.thes_base.specs.RuleParts.{unless_unique, unless_resource, unless_scheme, unless_owner}
+use Rattle.thes_base.specs.RuleParts.{unless_replaceable_preferred}
+use Rattle.thes_base.specs.RuleParts.{unless_ends, unless_live_concept, unless_pair, unless_split_postings}
 
--- A part of a rule, as a function of the rest.
+-- The function is a part of a rule: what it does before `accepted` it does before any remaining rule.
 pub record IsRulePart (part : RefusalRule → RefusalRule) : Type 1 where
   pub stops : (rest : RefusalRule) (name : Refusal) → part accepted (Some name) → part rest (Some name)
   pub passes : (rest : RefusalRule) (answer : Option Refusal) → part accepted None → rest answer → part rest answer
   pub opens : (rest : RefusalRule) → part rest None → part accepted None × rest None
   pub past : (rest : RefusalRule) (answer : Option Refusal) → part accepted None → part rest answer → rest answer
 
--- The empty part.
+-- The part without checks.
 nothing : IsRulePart (λ rest. rest)
 nothing = record {
   stops = λ rest name e. absurd (cc);
@@ -29,7 +31,7 @@ nothing = record {
   past = λ rest answer e says. says;
 }
 
--- A check that refuses if a condition holds, before a part, is a part.
+-- A check that refuses if a condition holds, followed by a part, is a part.
 then_if : (sentence : Type 0) (name : Refusal) (part : RefusalRule → RefusalRule) → IsRulePart part
     → IsRulePart (λ rest. refused_if sentence name (part rest))
 then_if sentence name part is = record { stops = stops; passes = passes; opens = opens; past = past }
@@ -55,7 +57,7 @@ then_if sentence name part is = record { stops = stops; passes = passes; opens =
     past rest answer (inr (holds_not, part_passes)) (inl (holds, e)) = absurd (holds_not holds)
     past rest answer (inr (holds_not, part_passes)) (inr (_, says)) = is.past rest answer part_passes says
 
--- A check that refuses unless a condition holds, before a part, is a part.
+-- A check that refuses unless a condition holds, followed by a part, is a part.
 then_unless : (condition : Type 0) (name : Refusal) (part : RefusalRule → RefusalRule) → IsRulePart part
     → IsRulePart (λ rest. refused_unless condition name (part rest))
 then_unless condition name part is = record { stops = stops; passes = passes; opens = opens; past = past }
@@ -81,8 +83,6 @@ then_unless condition name part is = record { stops = stops; passes = passes; op
     past rest answer (inr (holds, part_passes)) (inl (holds_not, e)) = absurd (holds_not holds)
     past rest answer (inr (holds, part_passes)) (inr (_, says)) = is.past rest answer part_passes says
 
--- The parts of the rules of requests.
-
 pub unique_part : (resources : List Resource) (labels : Labels) → IsRulePart (unless_unique resources labels)
 unique_part resources labels = then_unless _ _ (λ rest. rest) nothing
 
@@ -98,7 +98,7 @@ pub owner_part : (resources : List Resource) (n : ℕ) → IsRulePart (unless_ow
 owner_part resources n = then_unless _ _ _ (then_unless _ _ _ (then_unless _ _ (λ rest. rest) nothing))
 
 pub relabelled_part : (labels : Labels) (resources : List Resource) (after : Labels) (owner : ℕ) (tag : List ℕ)
-    → IsRulePart (unless_relabel labels resources after owner tag)
+    → IsRulePart (unless_replaceable_preferred labels resources after owner tag)
 relabelled_part labels resources after owner tag = then_unless _ _ _ (then_unless _ _ _ (unique_part resources after))
 
 pub ends_part : (resources : List Resource) (l : Link) → IsRulePart (unless_ends resources l)

@@ -13,13 +13,13 @@ use Rattle.std.proofs.lemmas.Bool.{not_from_false, both_ways, false_from_ne_true
 use Rattle.std.proofs.lemmas.Cmp.{eq_by_cmp_equiv}
 use Rattle.std.proofs.lemmas.Map.Views.{list_any-from_Contains, Contains-from_any}
 
--- The second test of a disjunction may come first.
+-- The first two tests of a disjunction may be swapped.
 pub or_swap : (a b c : Bool) → (a || (b || c)) ≡ (b || (a || c))
 or_swap true true c = refl
 or_swap true false c = refl
 or_swap false b c = refl
 
--- Consecutive orders are associative.
+-- Two orders in sequence are equal exactly when both are.
 pub both_equal : (a b : Ordering) → is_eq (ordering_then a b) ≡ (is_eq a && is_eq b)
 both_equal Less b = refl
 both_equal Equal b = refl
@@ -43,8 +43,6 @@ module _ {K : Type 0} {R : K → K → Ordering} (total : IsTotalOrder R) (exact
     | inr e ↦ inr (λ same. both_ways _ e (tied_to x y same))
   ]
 
-  -- Insertion.
-
   pub inserted_cases : (s : FinSet R) (k q : K) → contains (insert s k) q ≡ true → (q ≡ k) ⊎ (contains s q ≡ true)
   inserted_cases s k q e = elim (or_cases _ _ (sym (contains-insert total s k q) ∙ e))
       [ inl same ↦ inl (tied q k same) | inr old ↦ inr old ]
@@ -62,8 +60,6 @@ module _ {K : Type 0} {R : K → K → Ordering} (total : IsTotalOrder R) (exact
   pub len_there : (s : FinSet R) (k : K) → contains s k ≡ true → len (insert s k) ≡ len s
   len_there s k there = len-insert total s k ∙ ap (λ b. cond b (len s) (len s + 1)) there
 
-  -- Removal.
-
   pub removed_cases : (s : FinSet R) (k q : K) → contains (remove s k) q ≡ true → (q ≢ k) × (contains s q ≡ true)
   removed_cases s k q e =
       let both = and_parts _ _ (sym (contains-remove total s k q) ∙ e) in
@@ -72,8 +68,6 @@ module _ {K : Type 0} {R : K → K → Ordering} (total : IsTotalOrder R) (exact
   pub removed_kept : (s : FinSet R) (k q : K) → q ≢ k → contains s q ≡ true → contains (remove s k) q ≡ true
   removed_kept s k q other e = contains-remove total s k q
       ∙ and_from _ _ (not_from_false _ (false_from_ne_true _ (λ same. other (tied q k same)))) e
-
-  -- Retained members.
 
   retained : (s : FinSet R) (test : K → Bool) (q : K) → contains (retain s test) q ≡ (contains s q && test q)
   retained s test q = contains-retain s test q (λ x t. ap test (sym (exact q x t)))
@@ -86,8 +80,6 @@ module _ {K : Type 0} {R : K → K → Ordering} (total : IsTotalOrder R) (exact
       → contains (retain s test) q ≡ true
   retained_to s test q e passes = retained s test q ∙ and_from _ _ e passes
 
-  -- The set of a list, and the list of a set.
-
   pub from_list_of : (ks : List K) (q : K) → contains (from_list {R = R} ks) q ≡ true → Contains ks q
   from_list_of ks q e = Contains-from_any tied q ks (sym (contains-from_list total ks q) ∙ e)
 
@@ -99,8 +91,6 @@ module _ {K : Type 0} {R : K → K → Ordering} (total : IsTotalOrder R) (exact
 
   pub items_has : (s : FinSet R) (q : K) → contains s q ≡ true → Contains (items s) q
   items_has s q e = Contains-from_any tied q (items s) (sym (contains-items s q) ∙ e)
-
-  -- Unions and equality.
 
   pub union_cases : (s t : FinSet R) (q : K) → contains (union s t) q ≡ true → (contains s q ≡ true)
       ⊎ (contains t q ≡ true)

@@ -1,16 +1,16 @@
 -- A sound state is legal except for the forms of its texts, which requests without forms could break.
 use Rattle.std.proofs.Common.{List, ℕ}
 use Rattle.thes_base.specs.State.{State}
-use Rattle.thes_base.specs.Legal.{Legal, LegalResources, LegalLabels, LegalLinks, LegalPostings}
-use Rattle.thes_base.specs.Texts.{HaveForms, LegalTexts}
+use Rattle.thes_base.specs.Legal.{IsLegalState, AreLegalResources, AreLegalLabels, AreLegalLinks, AreLegalPostings}
+use Rattle.thes_base.specs.Texts.{StateHasForms, HasLegalTexts}
 
 pub record IsSound (base : List ℕ) (s : State) : Type 0 where
-  pub resources : LegalResources base s.resources s.iris
-  pub labels : LegalLabels s.resources s.labels
-  pub links : LegalLinks s.resources s.links
-  pub postings : LegalPostings s.resources s.histories
+  pub resources : AreLegalResources base s.resources s.iris
+  pub labels : AreLegalLabels s.resources s.labels
+  pub links : AreLegalLinks s.resources s.links
+  pub postings : AreLegalPostings s.resources s.histories
 
-pub sound_of_legal : (base : List ℕ) (s : State) → Legal base s → IsSound base s
+pub sound_of_legal : (base : List ℕ) (s : State) → IsLegalState base s → IsSound base s
 sound_of_legal base s legal = record {
   resources = legal.resources;
   labels = legal.labels;
@@ -18,8 +18,8 @@ sound_of_legal base s legal = record {
   postings = legal.postings;
 }
 
-pub legal_of_sound : (base : List ℕ) (s : State) → IsSound base s → HaveForms base s → Legal base s
-unfolding LegalTexts
+pub legal_of_sound : (base : List ℕ) (s : State) → IsSound base s → StateHasForms base s → IsLegalState base s
+unfolding HasLegalTexts
 legal_of_sound base s sound texts = record {
   resources = sound.resources;
   labels = sound.labels;
@@ -28,6 +28,6 @@ legal_of_sound base s sound texts = record {
   texts = texts;
 }
 
-pub forms_of_legal : (base : List ℕ) (s : State) → Legal base s → HaveForms base s
-unfolding LegalTexts
+pub forms_of_legal : (base : List ℕ) (s : State) → IsLegalState base s → StateHasForms base s
+unfolding HasLegalTexts
 forms_of_legal base s legal = legal.texts

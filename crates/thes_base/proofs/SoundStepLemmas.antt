@@ -18,17 +18,18 @@ use Rattle.thes_base.specs.Labels.{Label, preferred_label_in, UniquePreferred, S
 use Rattle.thes_base.specs.Links.{normal_form}
 use Rattle.thes_base.specs.Postings.{place, is_assigned_to, assigned_count, move_count, path_end}
 use Rattle.thes_base.specs.State.{State, IsWithinLimits}
-use Rattle.thes_base.specs.Changes.{state_after_creation, state_after_outside, replace_preferred, dead}
+use Rattle.thes_base.specs.Changes.{state_after_creation, state_after_outside, replace_preferred, resource_after_death}
 use Rattle.thes_base.specs.Changes.{state_after_deprecation, state_after_merge, state_after_split, is_listed}
 use Rattle.thes_base.specs.Changes.{new_history, state_after_post, scheme_resource, concept_resource}
 use Rattle.thes_base.specs.Changes.{collection_resource, outside_resource, next_number}
-use Rattle.thes_base.specs.Refusals.{Setting, IsSetting, unless_within_limits}
+use Rattle.thes_base.specs.Refusals.{Setting, IsSetting}
+use Rattle.thes_base.specs.RuleParts.{unless_within_limits}
 use Rattle.thes_base.specs.Machine.{HasNewKey, refusal_rule_of, next_state, owned_label, link}
 use Rattle.thes_base.specs.Data.{LabelData}
 use Rattle.thes_base.specs.declared.data.LinkKind.{LinkKind}
 use Rattle.thes_base.specs.declared.request.Command.{Command}
 use Rattle.thes_base.specs.declared.request.Command.TheVariants as request
-use Rattle.thes_base.specs.Legal.{LegalPostings}
+use Rattle.thes_base.specs.Legal.{AreLegalPostings}
 use Rattle.thes_base.proofs.SoundStateLemmas.{IsSound}
 use Rattle.thes_base.proofs.RefusalRuleLemmas.{passed_if, passed_unless}
 use Rattle.thes_base.proofs.NumberedLemmas.{push_new, numbered_bound}
@@ -38,7 +39,8 @@ use Rattle.thes_base.proofs.ResourceLemmas.{live_of_parts, live_from_test, test_
 use Rattle.thes_base.proofs.LegalResourceLemmas.{IsFit, scheme_fit, concept_fit, collection_fit, outside_fit}
 use Rattle.thes_base.proofs.LegalResourceLemmas.{own_scheme, resources_push, resources_push_outside, resources_dead}
 use Rattle.thes_base.proofs.LegalResourceLemmas.{resources_merged}
-use Rattle.thes_base.proofs.LegalLabelLemmas.{MayOwn, outside_owns_none, labels_made, labels_push, labels_added}
+use Rattle.thes_base.proofs.LegalLabelLemmas.{MayOwn, outside_owns_none, legal_labels_with_new, labels_push}
+use Rattle.thes_base.proofs.LegalLabelLemmas.{labels_added}
 use Rattle.thes_base.proofs.LegalLabelLemmas.{labels_dropped, labels_renamed, labels_dead}
 use Rattle.thes_base.proofs.CopiedLabelLemmas.{labels_merged}
 use Rattle.thes_base.proofs.PreferredLemmas.{preferred_found}
@@ -61,20 +63,20 @@ module _ (setting : Setting) (fit : IsSetting setting) (s : State) (sound : IsSo
 
   few_resources : (after : State) → IsWithinLimits setting.limits s after → length after.resources < 2 ^ 32
   few_resources after within = bounded setting.limits.resources (length s.resources) (length after.resources)
-      fit.resources sound.resources.few within.resources
+      fit.limits.resources sound.resources.few within.resources
 
   few_postings : (after : State) → IsWithinLimits setting.limits s after → length after.histories < 2 ^ 32
   few_postings after within = bounded setting.limits.postings (length s.histories) (length after.histories)
-      fit.postings sound.postings.few within.postings
+      fit.limits.postings sound.postings.few within.postings
 
   few_moves : (after : State) → IsWithinLimits setting.limits s after → move_count after.histories < 2 ^ 32
   few_moves after within = bounded setting.limits.moves (move_count s.histories) (move_count after.histories)
-      fit.moves sound.postings.few_moves within.moves
+      fit.limits.moves sound.postings.few_moves within.moves
 
   pushed : (r : Resource) → length (s.resources ++ r ∷ []) < 2 ^ 32 → length s.resources + 1 < 2 ^ 32
   pushed r l = let n = length-append s.resources (r ∷ []) in omega (arith, l, n)
 
-  postings_kept : (r : Resource) → LegalPostings (s.resources ++ r ∷ []) s.histories
+  postings_kept : (r : Resource) → AreLegalPostings (s.resources ++ r ∷ []) s.histories
   postings_kept r = postings_resources s.resources (s.resources ++ r ∷ []) s.histories
       (passes_push s.resources r (λ x. is_concept_kind x.kind))
       (λ n h e w live. test_from_live (s.resources ++ r ∷ []) (place h)
@@ -89,7 +91,7 @@ module _ (setting : Setting) (fit : IsSetting setting) (s : State) (sound : IsSo
   sound_made r tag text ok may inside unique within = record {
     resources = resources_push setting.base s.resources s.iris r sound.resources ok
         (pushed r (few_resources (state_after_creation r tag text s) within)) inside;
-    labels = labels_made s.resources s.labels r tag text sound.labels may unique;
+    labels = legal_labels_with_new s.resources s.labels r tag text sound.labels may unique;
     links = links_push s.resources r s.links sound.links;
     postings = postings_kept r;
   }
@@ -245,7 +247,7 @@ module _ (setting : Setting) (fit : IsSetting setting) (s : State) (sound : IsSo
         sound.postings;
   }
 
-  -- If a concept has no postings, no history is assigned to it.
+  -- If no posting is assigned to a concept, no history is.
   none_stands : (concept : ℕ) (hs : List History) (i : ℕ) (h : History) → assigned_count concept hs ≡ 0
       → slice_get hs i ≡ Some h → is_assigned_to concept h ≡ false
   none_stands concept [] i h none e = absurd (cc)
@@ -286,7 +288,8 @@ module _ (setting : Setting) (fit : IsSetting setting) (s : State) (sound : IsSo
                 is.2) (λ m e. absurd (cc));
             labels = labels_dead s.resources concept None r at s.labels sound.labels;
             links = links_without s.resources s.links concept None r at sound.links;
-            postings = postings_resources s.resources (set_entry_at s.resources concept (dead None r)) s.histories
+            postings = postings_resources s.resources (set_entry_at s.resources concept (resource_after_death None r))
+                s.histories
                 (passes_dead s.resources concept None r at (λ x. is_concept_kind x.kind) (λ x. refl))
                 (λ n h e w live. live_concept_dead s.resources concept None r at (place h) (away n h e w) live)
                 sound.postings;
@@ -323,7 +326,8 @@ module _ (setting : Setting) (fit : IsSetting setting) (s : State) (sound : IsSo
             at _ (labels_merged s.resources s.labels source target sound.labels (inr (inl kinds.0.1)));
         links = links_contracted s.resources source target live.0.0 live.0.1 kinds.0.0 kinds.0.1 apart.0 schemes.0
             s.links (Some target) r at sound.links c1.0 s27.0 s46.0;
-        postings = postings_resources s.resources (set_entry_at s.resources source (dead (Some target) r))
+        postings = postings_resources s.resources
+            (set_entry_at s.resources source (resource_after_death (Some target) r))
             (state_after_merge source target s).histories (passes_dead s.resources source (Some target) r
             at (λ x. is_concept_kind x.kind) (λ x. refl)) (λ n h e w is_live. live_concept_dead s.resources source
             (Some target) r at (place h) (gone n h e w) is_live) moved;
@@ -401,7 +405,7 @@ module _ (setting : Setting) (fit : IsSetting setting) (s : State) (sound : IsSo
             (concept_fit s.resources (scheme_of s.resources source)
             (own_scheme s.resources sound.resources.each source kind.0))
             (pushed new (few_resources (state_after_split source tag text postings s) within.0)) refl;
-        labels = labels_made s.resources s.labels new tag text sound.labels (inr (inl refl)) unique.0;
+        labels = legal_labels_with_new s.resources s.labels new tag text sound.labels (inr (inl refl)) unique.0;
         links = links_push s.resources new s.links sound.links;
         postings = postings_moved (s.resources ++ new ∷ []) s.histories (is_listed postings) (next_number s)
             (postings_kept new) (test_from_live (s.resources ++ new ∷ []) (next_number s)

@@ -1,4 +1,4 @@
--- A language tag is split at its hyphens, and stays one in lower case.
+-- A language tag is split at its hyphens, and its lower case is a tag.
 use Rattle.std.specs.Prelude.{IsTrue, MatchBool, ◌≡◌, ℕ, ◌≤◌, ◌<◌, ◌==◌, ◌↔◌, Bool, true, false, cond, List, [], ◌∷◌}
 use Rattle.std.specs.Prelude.{length, map, All, refl}
 use Rattle.std.specs.Char.{IsAsciiAlphabetic, IsAsciiAlphanumeric, to_ascii_lowercase}
@@ -15,7 +15,7 @@ use Rattle.thes_base.specs.Forms.{IsTagPart, AreTagParts, IsTag, HasStoredForm, 
 abbrev is_hyphen : ℕ → Bool
 is_hyphen b = b == 45
 
--- A text without a hyphen is its only part.
+-- A text without a hyphen is a tag exactly when it is one part of letters.
 pub whole_tag : (text : List ℕ) → length text ≤ 35 → position_or_len is_hyphen text ≡ length text → IsTag text
     ↔ IsTagPart IsAsciiAlphabetic text
 whole_tag text short none =
@@ -29,7 +29,8 @@ whole_tag text short none =
       },
     )
 
--- The first hyphen ends the first part.
+-- A text with a hyphen is a tag exactly when what precedes the hyphen is a part of letters, and all further parts are
+-- of letters and digits.
 pub cut_tag : (text first rest : List ℕ) → length text ≤ 35 → position_or_len is_hyphen text < length text → first
     ≡ before_first is_hyphen text → rest ≡ after_first is_hyphen text → IsTag text
     ↔ (IsTagPart IsAsciiAlphabetic first × All (IsTagPart IsAsciiAlphanumeric) (slice_split is_hyphen rest))
@@ -88,11 +89,11 @@ lower_twice : (xs : List ℕ) → map to_ascii_lowercase (map to_ascii_lowercase
 lower_twice [] = refl
 lower_twice (x ∷ xs) = rw (lowercase-lowercase x, lower_twice xs) refl
 
--- A tag in lower case is as it is stored.
+-- The lower case of a tag is a tag in its stored spelling.
 pub kept_tag : (text : List ℕ) → IsTag text → HasStoredForm IsTag true (stored_text true text)
 kept_tag text tag = record { form = lower_tag text tag; stays = lower_twice text }
 
--- A loop that stops at the first part that fails checks all parts.
+-- A loop that stops at the first part that fails returns whether all parts pass.
 pub all_or_one_fails : {X : Type 0} (P : X → Type 0) (r : Bool) (xs : List X)
     → MatchBool r (AllWithin P xs 0 (length xs)) ((k : ℕ) × (k < length xs) × HoldsAt (λ x. ¬ P x) xs k) → IsTrue r
     ↔ All P xs

@@ -7,7 +7,7 @@ use Rattle.thes_base.specs.declared.data.Resource.{Resource}
 use Rattle.thes_base.specs.declared.data.LabelKind.TheVariants.{Pref}
 use Rattle.thes_base.specs.Resources.{entry_at, set_entry_at, IsLiveConcept, scheme_of, is_concept_kind}
 use Rattle.thes_base.specs.Labels.{Label, Labels, HasLabel, UniquePreferred, IsPreferredTaken}
-use Rattle.thes_base.specs.Changes.{label, dead}
+use Rattle.thes_base.specs.Changes.{label, resource_after_death}
 pub use Rattle.thes_base.proofs.ResourceLemmas.{scheme_at}
 use Rattle.thes_base.proofs.LabelSetLemmas.{inserted_cases, inserted_kept, inserted_new}
 use Rattle.thes_base.proofs.NumberedLemmas.{push_old, push_new, push_cases, numbered_bound, set_cases}
@@ -15,7 +15,7 @@ use Rattle.thes_base.proofs.NumberedLemmas.{push_old, push_new, push_cases, numb
 abbrev Owners : List Resource → Labels → Type 0
 Owners rs labels = (l : Label) → contains labels l ≡ true → (1 ≤ l.owner) × (l.owner ≤ length rs)
 
--- A label is the new resource's or an old one.
+-- A preferred label after a creation is that of the new resource or an old one.
 label_cases : (rs : List Resource) (labels : Labels) (tag text : List ℕ) → Owners rs labels → (n : ℕ) (t x : List ℕ)
     → HasLabel (insert labels (label (length rs + 1) Pref tag text)) n Pref t x
     → ((n ≡ length rs + 1) × (t ≡ tag) × (x ≡ text)) ⊎ ((n ≤ length rs) × HasLabel labels n Pref t x)
@@ -29,7 +29,7 @@ label_cases rs labels tag text owners n t x h =
     (λ (e : contains labels (label n Pref t x) ≡ true). inr ((owners _ e).1, e))
     (inserted_cases labels (label (length rs + 1) Pref tag text) (label n Pref t x) h)
 
--- A new preferred label stays unique if no live concept of the scheme has it.
+-- Preferred labels stay unique after a creation if no live concept of the scheme has the new one.
 pub made_unique : (rs : List Resource) (labels : Labels) (r : Resource) (tag text : List ℕ) → Owners rs labels
     → UniquePreferred rs labels → ((scheme : ℕ) → (is_concept_kind r.kind && r.live) ≡ true → r.scheme ≡ Some scheme
     → ¬ IsPreferredTaken rs labels scheme tag text) → UniquePreferred (rs ++ r ∷ [])
@@ -84,7 +84,7 @@ made_unique rs labels r tag text owners p1 free m n scheme t x lm ln sm sn hm hn
         (λ (c : (k ≤ length rs) × HasLabel labels k Pref t x). absurd (omega (arith, c.0, ok)))
         (label_cases rs labels tag text owners k t x hk)
 
--- A new preferred label isn't unique if a live concept of the scheme has it.
+-- Preferred labels aren't unique after a creation if a live concept of the scheme has the new one.
 pub taken_breaks : (rs : List Resource) (labels : Labels) (scheme : ℕ) (r : Resource) (tag text : List ℕ)
     → (is_concept_kind r.kind && r.live) ≡ true → r.scheme ≡ Some scheme → IsPreferredTaken rs labels scheme tag text
     → ¬ UniquePreferred (rs ++ r ∷ []) (insert labels (label (length rs + 1) Pref tag text))
@@ -103,14 +103,14 @@ and_false : (a : Bool) → (a && false) ≡ true → ⊥
 and_false true e = absurd (cc)
 and_false false e = absurd (cc)
 
--- A live concept after a death was one before.
+-- A live concept after a death was live before, in the same scheme.
 pub live_before : (rs : List Resource) (n : ℕ) (rep : Option ℕ) (r : Resource) → entry_at rs n ≡ Some r → (m : ℕ)
-    → IsLiveConcept (set_entry_at rs n (dead rep r)) m → (m ≢ n) × IsLiveConcept rs m
-    × (scheme_of (set_entry_at rs n (dead rep r)) m ≡ scheme_of rs m)
+    → IsLiveConcept (set_entry_at rs n (resource_after_death rep r)) m → (m ≢ n) × IsLiveConcept rs m
+    × (scheme_of (set_entry_at rs n (resource_after_death rep r)) m ≡ scheme_of rs m)
 live_before rs n rep r e m live =
     let b = numbered_bound rs n r e in
     ⊎_elim
-    (λ (c : (m ≡ n) × (live.0 ≡ dead rep r)).
+    (λ (c : (m ≡ n) × (live.0 ≡ resource_after_death rep r)).
     absurd (and_false _ (subst (λ (y : Resource). (is_concept_kind y.kind && y.live) ≡ true) c.1 live.2)))
     (λ (c : (m ≢ n) × (entry_at rs m ≡ Some live.0)). (
       c.0,
@@ -118,11 +118,11 @@ live_before rs n rep r e m live =
       scheme_at _ m live.0 live.1
           ∙ sym (scheme_at rs m live.0 c.1),
     ))
-    (set_cases rs (dead rep r) live.0 n m b.0 live.1)
+    (set_cases rs (resource_after_death rep r) live.0 n m b.0 live.1)
 
--- A death keeps preferred labels unique.
+-- Preferred labels stay unique after a death.
 pub dead_unique : (rs : List Resource) (labels : Labels) (n : ℕ) (rep : Option ℕ) (r : Resource) → entry_at rs n
-    ≡ Some r → UniquePreferred rs labels → UniquePreferred (set_entry_at rs n (dead rep r)) labels
+    ≡ Some r → UniquePreferred rs labels → UniquePreferred (set_entry_at rs n (resource_after_death rep r)) labels
 dead_unique rs labels n rep r e p1 j k scheme t x lj lk sj sk hj hk =
     let bj = live_before rs n rep r e j lj in
     let bk = live_before rs n rep r e k lk in

@@ -8,16 +8,16 @@ use Rattle.thes_base.specs.Resources.{entry_at, IsLiveConcept, is_live_concept}
 use Rattle.thes_base.specs.Postings.{assigned_count, withdrawn_count}
 use Rattle.thes_base.specs.State.{State}
 
--- The n numbers from `first` on.
+-- The n numbers from `first` on, in ascending order.
 abbrev pub numbers_from : Number → ℕ → List Number
 numbers_from first zero = []
 numbers_from first (suc n) = first ∷ numbers_from (first + 1) n
 
--- The numbers of the live concepts in rising order.
+-- The numbers of the live concepts in ascending order.
 abbrev pub live_concepts : List Resource → List Number
 live_concepts resources = filter (is_live_concept resources) (numbers_from 1 (length resources))
 
--- The moves lead from one concept to another: each starts where the one before it ended.
+-- The moves lead from one concept to another: each starts at the target of the move before it.
 abbrev pub MovesLead : Number → List Move → Number → Type 0
 MovesLead from [] to = to ≡ from
 MovesLead from (m ∷ moves) to = (m.source ≡ from) × MovesLead m.target moves to
@@ -30,7 +30,7 @@ pub record IsPlace (resources : List Resource) (h : History) (concept : Number) 
 
 -- Each posting not withdrawn is assigned to one live concept, to which its moves lead from its first; and the counts of
 -- the live concepts add up to the postings accepted less those withdrawn.
-pub record AreAssigned (s : State) : Type 0 where
+pub record PostingsAreAssigned (s : State) : Type 0 where
   pub at_one_place :
       (n : Number) (h : History) → entry_at s.histories n ≡ Some h → h.withdrawn ≡ false
       → (concept : Number) × IsPlace s.resources h concept

@@ -11,14 +11,14 @@ use Rattle.thes_base.specs.RefusalRules.{Check, ◌when◌, ◌unless◌, ◌for
 use Rattle.thes_base.specs.Resources.{Exists, IsScheme, IsConcept, IsLive, CanOwn, BeginsWith, scheme_of, is_outside}
 use Rattle.thes_base.specs.Resources.{replacements}
 use Rattle.thes_base.specs.Labels.{HasLabel, S13, S14, UniquePreferred}
-use Rattle.thes_base.specs.Links.{HeldIn, NoCycle, S27, S46, form_of, normal_form}
+use Rattle.thes_base.specs.Links.{Holds, NoCycle, S27, S46, form_of, normal_form}
 use Rattle.thes_base.specs.Postings.{assigned_count, path_end}
 use Rattle.thes_base.specs.State.{State, IsWithinLimits}
 use Rattle.thes_base.specs.Changes.{owned_label, link}
 use Rattle.thes_base.specs.Refusals.{Setting, LeavesPreferred, AreEnds, HaveSchemes, EachOnce, EachListed}
-use Rattle.thes_base.specs.Refusals.{IsKnownPosting, IsStanding, IsPlacedAt}
+use Rattle.thes_base.specs.Refusals.{IsKnownPosting, IsNotWithdrawn, IsPlacedAt}
 
--- The checks of a request, given the state before it and the state after it if it is accepted.
+-- The checks of a request in order, given the state before it and the state after it if it is accepted.
 abbrev pub checks_of : Setting → State → State → Command → List Check
 checks_of setting s after (request.Scheme tag text) =
     no.TooMany unless IsWithinLimits setting.limits s after
@@ -71,10 +71,10 @@ checks_of setting s after (request.Link kind a b) =
     ∷ no.NotLive unless (IsLive s.resources a × IsLive s.resources b)
     ∷ no.SameResource when (a ≡ b)
     ∷ no.OtherScheme unless HaveSchemes s.resources (form_of kind) a b
-    ∷ no.LinkThere when HeldIn s.links (normal_form (is_outside s.resources) (link kind a b))
-    ∷ no.Cycle unless NoCycle (HeldIn after.links)
-    ∷ no.S27 unless S27 (HeldIn after.links)
-    ∷ no.S46 unless S46 (HeldIn after.links)
+    ∷ no.LinkThere when Holds s.links (normal_form (is_outside s.resources) (link kind a b))
+    ∷ no.Cycle unless NoCycle (Holds after.links)
+    ∷ no.S27 unless S27 (Holds after.links)
+    ∷ no.S46 unless S46 (Holds after.links)
     ∷ no.TooMany unless IsWithinLimits setting.limits s after
     ∷ []
 checks_of setting s after (request.Unlink kind a b) =
@@ -83,7 +83,7 @@ checks_of setting s after (request.Unlink kind a b) =
     ∷ no.NotLive unless (IsLive s.resources a × IsLive s.resources b)
     ∷ no.SameResource when (a ≡ b)
     ∷ no.OtherScheme unless HaveSchemes s.resources (form_of kind) a b
-    ∷ no.NoSuchLink unless HeldIn s.links (normal_form (is_outside s.resources) (link kind a b))
+    ∷ no.NoSuchLink unless Holds s.links (normal_form (is_outside s.resources) (link kind a b))
     ∷ []
 checks_of setting s after (request.Deprecate concept) =
     no.UnknownResource unless Exists s.resources concept
@@ -97,9 +97,9 @@ checks_of setting s after (request.Merge source target) =
     ∷ no.NotLive unless (IsLive s.resources source × IsLive s.resources target)
     ∷ no.SameResource when (source ≡ target)
     ∷ no.OtherScheme unless (scheme_of s.resources source ≡ scheme_of s.resources target)
-    ∷ no.Cycle unless NoCycle (HeldIn after.links)
-    ∷ no.S27 unless S27 (HeldIn after.links)
-    ∷ no.S46 unless S46 (HeldIn after.links)
+    ∷ no.Cycle unless NoCycle (Holds after.links)
+    ∷ no.S27 unless S27 (Holds after.links)
+    ∷ no.S46 unless S46 (Holds after.links)
     ∷ no.TooMany unless IsWithinLimits setting.limits s after
     ∷ []
 checks_of setting s after (request.Split source tag text postings) =
@@ -108,7 +108,7 @@ checks_of setting s after (request.Split source tag text postings) =
     ∷ no.NotLive unless IsLive s.resources source
     ∷ no.ListedTwice unless EachOnce postings
     ∷ no.UnknownPosting unless EachListed (IsKnownPosting s.histories) postings
-    ∷ no.Withdrawn unless EachListed (IsStanding s.histories) postings
+    ∷ no.Withdrawn unless EachListed (IsNotWithdrawn s.histories) postings
     ∷ no.NotAtSource unless EachListed (IsPlacedAt s.histories source) postings
     ∷ no.PreferredTaken unless UniquePreferred after.resources after.labels
     ∷ no.TooMany unless IsWithinLimits setting.limits s after
@@ -121,5 +121,5 @@ checks_of setting s after (request.Post key rec concept) =
     ∷ []
 checks_of setting s after (request.Withdraw posting) =
     no.UnknownPosting unless IsKnownPosting s.histories posting
-    ∷ no.Withdrawn unless IsStanding s.histories posting
+    ∷ no.Withdrawn unless IsNotWithdrawn s.histories posting
     ∷ []

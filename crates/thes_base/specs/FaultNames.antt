@@ -1,4 +1,4 @@
--- The number and the name of each refusal and each fault, and the texts that are printed for them.
+-- The number and the name of each refusal and each fault, and the texts that messages print for them.
 use Rattle.std.specs.Prelude.{ℕ, codes, ◌++◌}
 use Rattle.thes_base.specs.Types.{Bytes}
 use Rattle.thes_base.specs.declared.fault.Refusal.{Refusal}
@@ -20,12 +20,12 @@ use Rattle.thes_base.specs.declared.fault.ReadStop.TheVariants as stops
 use Rattle.thes_base.specs.declared.fault.PipeFault.{PipeFault}
 use Rattle.thes_base.specs.declared.fault.PipeFault.TheVariants.{Read, Write, TooLong, Fault}
 
--- A number with the name that is printed for it.
+-- The number of a refusal or a fault, with the name that is printed for it.
 pub record Code : Type 0 where
   pub number : ℕ
   pub name : Bytes
 
--- The code of a fault in a form.
+-- The code of a fault in a text's form: 1 to 8.
 abbrev pub form_code : FormFault → Code
 form_code BadTag = record { number = 1; name = codes "BadTag" }
 form_code BadText = record { number = 2; name = codes "BadText" }
@@ -36,7 +36,7 @@ form_code BadNumber = record { number = 6; name = codes "BadNumber" }
 form_code NotJson = record { number = 7; name = codes "NotJson" }
 form_code BadShape = record { number = 8; name = codes "BadShape" }
 
--- The code of a refusal.
+-- The code of a refusal: 10 to 33.
 abbrev pub refusal_code : Refusal → Code
 refusal_code UnknownResource = record { number = 10; name = codes "UnknownResource" }
 refusal_code WrongKind = record { number = 11; name = codes "WrongKind" }
@@ -63,7 +63,7 @@ refusal_code KeyReused = record { number = 31; name = codes "KeyReused" }
 refusal_code (OutsideKnown n) = record { number = 32; name = codes "OutsideKnown" }
 refusal_code TooMany = record { number = 33; name = codes "TooMany" }
 
--- The code of a fault.
+-- The code of a fault of an office: 40 to 44. That of a bad store doesn't name the table.
 abbrev pub fault_code : outer.Fault → Code
 fault_code OutOfMemory = record { number = 40; name = codes "OutOfMemory" }
 fault_code Store = record { number = 41; name = codes "Store" }
@@ -71,14 +71,14 @@ fault_code (BadStore table) = record { number = 42; name = codes "BadStore" }
 fault_code NewerStore = record { number = 43; name = codes "NewerStore" }
 fault_code OlderStore = record { number = 44; name = codes "OlderStore" }
 
--- The code of a fault in reading or writing.
+-- The code of a fault in reading or writing: 50 to 52, or that of the office's fault.
 abbrev pub pipe_code : PipeFault → Code
 pipe_code Read = record { number = 50; name = codes "Read" }
 pipe_code Write = record { number = 51; name = codes "Write" }
 pipe_code TooLong = record { number = 52; name = codes "TooLong" }
 pipe_code (Fault fault) = fault_code fault
 
--- The name of a table.
+-- The name of a table, in the database and in messages.
 abbrev pub table_name : Table → Bytes
 table_name Meta = codes "meta"
 table_name Resource = codes "resource"
@@ -97,12 +97,12 @@ fault_text (BadStore table) = codes "BadStore " ++ table_name table
 fault_text NewerStore = (fault_code NewerStore).name
 fault_text OlderStore = (fault_code OlderStore).name
 
--- The printed text of the reason why a text was not read.
+-- The printed text of the reason why reading a text failed: the name of the fault.
 abbrev pub stop_text : ReadStop → Bytes
 stop_text (stops.Form fault) = (form_code fault).name
 stop_text stops.OutOfMemory = (fault_code OutOfMemory).name
 
--- The printed text of a fault in reading or writing.
+-- The printed text of a fault in reading or writing: its name, or the text of the office's fault.
 abbrev pub pipe_text : PipeFault → Bytes
 pipe_text Read = (pipe_code Read).name
 pipe_text Write = (pipe_code Write).name

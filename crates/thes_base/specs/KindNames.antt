@@ -6,7 +6,7 @@ use Rattle.thes_base.specs.declared.data.LinkKind.TheVariants as link
 use Rattle.thes_base.specs.declared.data.TypedKind.{TypedKind}
 use Rattle.thes_base.specs.declared.data.TypedKind.TheVariants as typed
 
--- The name of a kind of link.
+-- The name of a kind of link in requests and views.
 abbrev pub link_kind_name : LinkKind → Bytes
 link_kind_name link.Broader = codes "broader"
 link_kind_name link.Related = codes "related"
@@ -20,7 +20,7 @@ link_kind_name link.BroaderGeneric = codes "broaderGeneric"
 link_kind_name link.BroaderPartitive = codes "broaderPartitive"
 link_kind_name link.BroaderInstantial = codes "broaderInstantial"
 
--- The name of a typed hierarchical link as seen from one end.
+-- The name of a typed hierarchical link in views, seen from one end.
 abbrev pub typed_kind_name : TypedKind → Bytes
 typed_kind_name typed.BroaderGeneric = codes "broaderGeneric"
 typed_kind_name typed.BroaderInstantial = codes "broaderInstantial"

@@ -4,21 +4,22 @@ use Rattle.std.specs.Prelude.{◌≡◌, ◌⊎◌, List, [], ◌∷◌, Option,
 use Rattle.thes_base.specs.Types.{Number}
 use Rattle.thes_base.specs.declared.fault.Refusal.{Refusal}
 
--- A rule: the answers that may be given, a refusal or none.
+-- A rule for refusals: it holds of the answers that may be given, a refusal or none.
 abbrev pub RefusalRule : Type 1
 RefusalRule = Option Refusal → Type 0
 
--- Refuses by the name if the condition holds, or else decides by the rest.
+-- Refuses with the name if the condition holds, or else decides by the remaining rule.
 abbrev pub refused_if : Type 0 → Refusal → RefusalRule → RefusalRule
 refused_if condition name rest answer =
     (condition × (answer ≡ Some name)) ⊎ ((¬ condition) × rest answer)
 
--- Refuses by the name if the condition fails, or else decides by the rest.
+-- Refuses with the name unless the condition holds, or else decides by the remaining rule.
 abbrev pub refused_unless : Type 0 → Refusal → RefusalRule → RefusalRule
 refused_unless condition name rest answer =
     ((¬ condition) × (answer ≡ Some name)) ⊎ (condition × rest answer)
 
--- Refuses by the name with a number for which the condition holds, or else decides by the rest.
+-- Refuses with the refusal that names a number for which the condition holds, or if there is none decides by the
+-- remaining rule.
 abbrev pub refused_for : (Number → Type 0) → (Number → Refusal) → RefusalRule → RefusalRule
 refused_for condition name rest answer =
     ((n : Number) × condition n × (answer ≡ Some (name n)))
@@ -28,7 +29,7 @@ refused_for condition name rest answer =
 abbrev pub accepted : RefusalRule
 accepted answer = answer ≡ None
 
--- Refuses by the first refusal found so far, or else decides by the rest.
+-- Refuses with the refusal found so far, or if there is none decides by the remaining rule.
 abbrev pub refusal_or_rest : Option Refusal → RefusalRule → RefusalRule
 refusal_or_rest (Some name) rest answer = answer ≡ Some name
 refusal_or_rest None rest answer = rest answer

@@ -13,7 +13,7 @@ use Rattle.thes_base.specs.Resources.{entry_at}
 use Rattle.thes_base.specs.Labels.{Label}
 use Rattle.thes_base.specs.State.{State}
 
--- The text has the form for a label of the kind: a note's for a scope note, else a label's text.
+-- The text has the form for a label of the kind: that of a note for a scope note, or else that of a label.
 abbrev pub IsLabelText : LabelKind → Text → Type 0
 IsLabelText Pref text = IsText text
 IsLabelText Alt text = IsText text
@@ -31,29 +31,29 @@ pub record IsPostingForm (key : Key) (rec : RecordName) : Type 0 where
   pub rec_form : IsRecordName rec
 
 -- Each text of the request has its form.
-abbrev pub HasForms : Command → Type 0
-HasForms (request.Scheme tag text) = IsLabelForm Pref tag text
-HasForms (request.Concept scheme tag text) = IsLabelForm Pref tag text
-HasForms (request.Collection scheme tag text) = IsLabelForm Pref tag text
-HasForms (request.Outside iri) = IsIri iri
-HasForms (request.AddLabel owner l) = IsLabelForm l.kind l.tag l.text
-HasForms (request.DropLabel owner l) = IsLabelForm l.kind l.tag l.text
-HasForms (request.Relabel owner tag text keep) = IsLabelForm Pref tag text
-HasForms (request.Link kind a b) = Unit {0}
-HasForms (request.Unlink kind a b) = Unit {0}
-HasForms (request.Deprecate concept) = Unit {0}
-HasForms (request.Merge source target) = Unit {0}
-HasForms (request.Split source tag text postings) = IsLabelForm Pref tag text
-HasForms (request.Post key rec concept) = IsPostingForm key rec
-HasForms (request.Withdraw posting) = Unit {0}
+abbrev pub CommandHasForms : Command → Type 0
+CommandHasForms (request.Scheme tag text) = IsLabelForm Pref tag text
+CommandHasForms (request.Concept scheme tag text) = IsLabelForm Pref tag text
+CommandHasForms (request.Collection scheme tag text) = IsLabelForm Pref tag text
+CommandHasForms (request.Outside iri) = IsIri iri
+CommandHasForms (request.AddLabel owner l) = IsLabelForm l.kind l.tag l.text
+CommandHasForms (request.DropLabel owner l) = IsLabelForm l.kind l.tag l.text
+CommandHasForms (request.Relabel owner tag text keep) = IsLabelForm Pref tag text
+CommandHasForms (request.Link kind a b) = Unit {0}
+CommandHasForms (request.Unlink kind a b) = Unit {0}
+CommandHasForms (request.Deprecate concept) = Unit {0}
+CommandHasForms (request.Merge source target) = Unit {0}
+CommandHasForms (request.Split source tag text postings) = IsLabelForm Pref tag text
+CommandHasForms (request.Post key rec concept) = IsPostingForm key rec
+CommandHasForms (request.Withdraw posting) = Unit {0}
 
--- Each text of the state has its form, and the base is one.
-pub record HaveForms (base : Iri) (s : State) : Type 0 where
+-- Each text of the state has its form, and the base has the form of a base.
+pub record StateHasForms (base : Iri) (s : State) : Type 0 where
   pub base_form : IsBase base
   pub iris : (n : Number) (iri : Iri) → dict.get s.iris n ≡ Some iri → IsIri iri
   pub labels : (l : Label) → set.contains s.labels l ≡ true → IsLabelForm l.kind l.tag l.text
   pub postings : (n : Number) (h : History) → entry_at s.histories n ≡ Some h → IsPostingForm h.key h.rec
 
--- `HaveForms` as one fact, which proof search doesn't take apart.
-unfoldable pub LegalTexts : Iri → State → Type 0
-LegalTexts base s = HaveForms base s
+-- `StateHasForms` as one fact, which proof search doesn't take apart.
+unfoldable pub HasLegalTexts : Iri → State → Type 0
+HasLegalTexts base s = StateHasForms base s

@@ -1,4 +1,5 @@
--- Names for the plain types as which contracts see texts and numbers. They restrict nothing: forms are in Forms.
+-- Names for the plain types by which contracts represent texts and numbers. They restrict nothing: Forms defines the
+-- forms.
 use Rattle.std.specs.Prelude.{ℕ, List}
 
 -- A text as the list of its bytes in UTF-8.
@@ -9,22 +10,22 @@ Bytes = List ℕ
 abbrev pub Tag : Type 0
 Tag = Bytes
 
--- The text of a label or a note.
+-- The text of a label or a scope note.
 abbrev pub Text : Type 0
 Text = Bytes
 
--- An IRI.
+-- The IRI of a resource, or a store's base.
 abbrev pub Iri : Type 0
 Iri = Bytes
 
--- The key under which a sender posts.
+-- The key under which a sender posts, and by which a repeated Post is recognized.
 abbrev pub Key : Type 0
 Key = Bytes
 
--- The name of a catalogue record.
+-- The name of a catalogue record, which has no meaning to the machine.
 abbrev pub RecordName : Type 0
 RecordName = Bytes
 
--- The number of a resource, a posting or a move.
+-- The number of a resource, a posting or a move, in a sequence of its own sort.
 abbrev pub Number : Type 0
 Number = ℕ

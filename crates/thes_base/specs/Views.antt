@@ -1,4 +1,4 @@
--- The views of a state that queries are answered with. Lists are in order, without duplicates.
+-- The views of a state with which queries are answered. Their lists are sorted, without duplicates.
 use Rattle.std.specs.Prelude.{◌≡◌, ◌⊎◌, ◌-◌, ℕ, List, filter, Bool, ◌&&◌, ◌==◌, length, Option, Some}
 use Rattle.thes_base.specs.Types.{Bytes, Tag, Text, Number}
 use Rattle.std.specs.declared.cmp.Ordering.{Ordering}
@@ -17,12 +17,10 @@ use Rattle.thes_base.specs.declared.data.TypedKind.TheVariants as typed
 use Rattle.thes_base.specs.Listing.{IsListing}
 use Rattle.thes_base.specs.Resources.{entry_at}
 use Rattle.thes_base.specs.Labels.{HasLabel}
-use Rattle.thes_base.specs.Links.{Links, HeldIn, IsHierarchical}
+use Rattle.thes_base.specs.Links.{Links, Holds, IsHierarchical}
 use Rattle.thes_base.specs.KindNames.{link_kind_name, typed_kind_name}
 use Rattle.thes_base.specs.Postings.{is_assigned_to, assigned_count, accepted_count, withdrawn_count}
 use Rattle.thes_base.specs.State.{State}
-
--- Postings.
 
 -- The numbers of postings accepted, withdrawn, and not withdrawn.
 abbrev pub totals_of : List History → Totals
@@ -37,11 +35,9 @@ totals_of histories =
 abbrev pub assigned_histories : Number → List History → List History
 assigned_histories concept histories = filter (is_assigned_to concept) histories
 
--- Mappings.
-
 -- A link of the kind from a to b is held.
 abbrev pub HasLink : Links → LinkKind → Number → Number → Type 0
-HasLink links kind a b = HeldIn links (record { kind = kind; a = a; b = b })
+HasLink links kind a b = Holds links (record { kind = kind; a = a; b = b })
 
 -- Concept n has the mapping, as seen from n: a broader match of one end is a narrower match of the other (SKOS: S43),
 -- and the other kinds are symmetric (SKOS: S44).
@@ -53,15 +49,13 @@ IsMapping links n (Broad, m) = HasLink links Broad n m ⊎ HasLink links Narrow 
 IsMapping links n (Narrow, m) = HasLink links Narrow n m ⊎ HasLink links Broad m n
 IsMapping links n (_, m) = ⊥
 
--- The order of pairs of a kind and a number: by the kind's name, then by number.
+-- The order of pairs of a kind and a number: by the kind's name, then by the number.
 abbrev pub kind_name_cmp : {K : Type 0} → (K → Bytes) → K × Number → K × Number → Ordering
 kind_name_cmp word x y = ordering_then (slice_cmp nat_cmp (word x.0) (word y.0)) (nat_cmp x.1 y.1)
 
--- The order of mappings: by name, then by number.
+-- The order of mappings: by the kind's name, then by the number of the other concept.
 abbrev pub mapping_cmp : LinkKind × Number → LinkKind × Number → Ordering
 mapping_cmp = kind_name_cmp link_kind_name
-
--- Hierarchical links.
 
 -- Concept a has the broader concept b in its scheme, by a link of any type.
 abbrev pub HasBroader : Links → Number → Number → Type 0
@@ -76,11 +70,9 @@ IsTypedLink links n (typed.NarrowerGeneric, m) = HasLink links BroaderGeneric m 
 IsTypedLink links n (typed.NarrowerPartitive, m) = HasLink links BroaderPartitive m n
 IsTypedLink links n (typed.NarrowerInstantial, m) = HasLink links BroaderInstantial m n
 
--- The order of typed hierarchical links: by name, then by number.
+-- The order of typed hierarchical links: by the kind's name, then by the number of the other concept.
 abbrev pub typed_cmp : TypedKind × Number → TypedKind × Number → Ordering
 typed_cmp = kind_name_cmp typed_kind_name
-
--- Concepts.
 
 -- A text with its language tag.
 pub record TaggedText : Type 0 where
@@ -111,11 +103,11 @@ pub record ConceptDetails : Type 0 where
   pub typed : List (TypedKind × Number)
 
 module _ (s : State) (n : Number) where
-  -- The texts are the labels of the kind that resource n has, in order.
+  -- The texts are the labels of the kind that resource n has, each once, ordered by tag and text.
   abbrev pub AreLabels : LabelKind → List TaggedText → Type 0
   AreLabels kind labels = IsListing tagged_text_cmp (λ t. HasLabel s.labels n kind t.tag t.text) labels
 
-  -- The view shows concept n; `top` says that it is live and has no broader concept in its scheme.
+  -- The view describes concept n; `top` states that it is live and has no broader concept in its scheme.
   pub record AreDetailsOf (c : ConceptDetails) : Type 0 where
     pub resource : Resource
     pub found : entry_at s.resources n ≡ Some resource

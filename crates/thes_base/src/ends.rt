@@ -1,4 +1,4 @@
-//! Which resources a kind of link may join.
+//! Checks on the ends of links: their kinds, and whether they are in one scheme.
 ghost use Rattle.std.specs.Prelude.{◌≡◌, ◌↔◌, ℕ, List, Some, IsTrue};
 ghost use Rattle.thes_base.specs.declared.data.Resource.{Resource};
 ghost use Rattle.thes_base.specs.Resources.{entry_at};
@@ -8,7 +8,7 @@ ghost use Rattle.thes_base.specs.Refusals.{AreEnds, HaveSchemes};
 use crate::data::{LinkForm, LinkKind, Resource, ResourceKind};
 
 impl LinkKind {
-    /// Returns the form of the kind: which ends it joins.
+    /// Returns the form of the kind: a relation within a scheme, a mapping or a membership.
     pub fn form(self) -> LinkForm
         ensures { result ≡ form_of self }
     {
@@ -47,7 +47,7 @@ impl LinkForm {
         }
     }
 
-    /// Checks whether the schemes of both ends are as the form requires.
+    /// Checks whether both ends are in one scheme, or for a mapping to a concept in different ones.
     pub fn have_schemes(self, a: &Resource, b: &Resource) -> bool
         ensures { (resources : List Resource) (m n : ℕ)
             → entry_at resources m ≡ Some a.now → entry_at resources n ≡ Some b.now

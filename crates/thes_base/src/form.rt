@@ -1,4 +1,4 @@
-//! The forms of texts, each with the fault for a text that lacks it.
+//! The forms of texts, each with its greatest size and the fault for a text that lacks it.
 ghost use Rattle.std.specs.Prelude.{◌==◌, ◌↔◌, All, IsTrue, Bool, true, false, List, ℕ};
 ghost use Rattle.std.specs.List.{slice_split};
 ghost use Rattle.std.specs.Char.{IsAsciiAlphabetic, IsAsciiAlphanumeric};
@@ -8,7 +8,8 @@ ghost use Rattle.thes_base.specs.declared.fault.FormFault.TheVariants.{BadText, 
 
 use crate::fault::FormFault;
 
-/// A form of texts.
+/// A rule for texts, with the fault for a text that breaks it, and whether texts are stored in
+/// lower case.
 pub trait Form {
     ghost is_form: { List ℕ → Type 0 };
 
@@ -22,13 +23,14 @@ pub trait Form {
     /// Whether texts of the form are stored with their ASCII letters in lower case.
     const LOWERED: bool;
 
-    /// Checks whether a text has the form. If it does, so does the text as it is stored.
+    /// Checks whether a text has the form; if so, its stored spelling also has it.
     fn has_form(text: &str) -> bool
         ensures form { IsTrue result ↔ is_form text.now }
-        ensures stays { IsTrue result → HasStoredForm is_form LOWERED (stored_text LOWERED text.now) };
+        ensures stays { IsTrue result → HasStoredForm is_form LOWERED
+            (stored_text LOWERED text.now) };
 }
 
-/// The form of a label's text.
+/// The form of a label's text: one line of 1 to 256 bytes, without a space at either end.
 #[derive(Drop)]
 pub enum TextForm {}
 
@@ -48,7 +50,7 @@ impl Form for TextForm {
     }
 }
 
-/// The form of a scope note.
+/// The form of a scope note: one line of 1 to 2,000 bytes, without a space at either end.
 #[derive(Drop)]
 pub enum NoteForm {}
 
@@ -68,7 +70,7 @@ impl Form for NoteForm {
     }
 }
 
-/// The form of the name of a catalogue record.
+/// The form of the name of a catalogue record: one line of 1 to 128 bytes.
 #[derive(Drop)]
 pub enum RecordNameForm {}
 
@@ -88,7 +90,7 @@ impl Form for RecordNameForm {
     }
 }
 
-/// The form of a sender's key for a posting.
+/// The form of a sender's key for a posting: 1 to 64 visible ASCII characters.
 #[derive(Drop)]
 pub enum KeyForm {}
 
@@ -108,7 +110,8 @@ impl Form for KeyForm {
     }
 }
 
-/// The form of a language tag.
+/// The form of a language tag: at most 35 bytes, in parts of 1 to 8 letters or digits, separated by
+/// hyphens; the first part has only letters.
 #[derive(Drop)]
 pub enum TagForm {}
 
@@ -128,7 +131,7 @@ impl Form for TagForm {
     }
 }
 
-/// The form of the IRI of an outside concept.
+/// The form of the IRI of an outside concept: at most 512 bytes.
 #[derive(Drop)]
 pub enum IriForm {}
 
@@ -148,7 +151,7 @@ impl Form for IriForm {
     }
 }
 
-/// The form of a store's base: the prefix of the IRIs of its own resources.
+/// The form of a store's base, the prefix of the IRIs of its own resources: at most 200 bytes.
 #[derive(Drop)]
 pub enum BaseForm {}
 
@@ -191,7 +194,8 @@ fn is_key(text: &str) -> bool
     1 <= bytes.len() && bytes.len() <= 64 && bytes.iter().all(|b| 0x21 <= *b && *b <= 0x7e)
 }
 
-// Checks for at most 35 bytes: a part of letters, then any number of parts, separated by hyphens.
+// Checks for at most 35 bytes: a part of letters, then any number of parts of letters and digits,
+// separated by hyphens.
 fn is_tag(text: &str) -> bool
     ensures { IsTrue result ↔ IsTag text.now }
 {
@@ -235,7 +239,7 @@ fn is_iri(most: usize, text: &str) -> bool
         }
 }
 
-// Checks for a letter, followed by letters, digits, `+`, `-` and `.`.
+// Checks for an ASCII letter, followed by letters, digits, `+`, `-` and `.`.
 fn is_iri_scheme(scheme: &str) -> bool
     ensures { IsTrue result ↔ IsIriScheme scheme.now }
 {
@@ -244,7 +248,7 @@ fn is_iri_scheme(scheme: &str) -> bool
         && bytes.iter().all(|b| b.is_ascii_alphanumeric() || *b == b'+' || *b == b'-' || *b == b'.')
 }
 
-// Checks for at least one character, each allowed in an IRI.
+// Checks for at least one byte, each allowed in an IRI.
 fn is_iri_rest(rest: &str) -> bool
     ensures { IsTrue result ↔ IsIriRest rest.now }
 {

@@ -5,7 +5,7 @@ ghost use Rattle.thes_base.specs.KindNames.{link_kind_name, typed_kind_name};
 use crate::data::{LinkKind, TypedKind};
 
 impl LinkKind {
-    /// Returns the kind's name in requests and views.
+    /// Returns the kind's name in requests and views, for example `relMatch`.
     pub fn name(self) -> &'static str
         ensures { result.now ≡ link_kind_name self }
     {
@@ -26,7 +26,8 @@ impl LinkKind {
 }
 
 impl TypedKind {
-    /// Returns the kind's name in views, which says whether the other end is broader or narrower.
+    /// Returns the kind's name in views, for example `broaderGeneric` where the other end is
+    /// broader.
     pub fn name(self) -> &'static str
         ensures { result.now ≡ typed_kind_name self }
     {

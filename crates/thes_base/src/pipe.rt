@@ -3,14 +3,14 @@ ghost use Rattle.std.specs.Prelude.{◌≡◌, ◌≢◌, ◌+◌, ◌<◌, leng
 ghost use Rattle.std.specs.Io.{ReadsAtMost, WritesAtMost};
 ghost use Rattle.std.specs.Io.KnownBytes.{ReadConsumes, WriteAppends, Appends};
 ghost use Rattle.std.specs.IoError.{error_kind};
-ghost use Rattle.thes_base.specs.Pipe.{device_of, failed_of, ended_of, denied_of, calls_of, calls_after as calls_after, IsFresh, KeepsCallLimit, PaysCalls, calls_limit, unread_bytes, written_bytes, AppendsPrefix, IsPartialWrite, reading_fault, writing_fault};
+ghost use Rattle.thes_base.specs.Pipe.{device_of, failed_of, ended_of, denied_of, calls_of, calls_after, IsFresh, KeepsCallLimit, PaysCalls, calls_limit, unread_bytes, written_bytes, AppendsPrefix, IsPartialWrite, reading_fault, writing_fault};
 
 use crate::fault::PipeFault;
 use std::io;
 use std::io::{ErrorKind, Read, Write};
 use std::marker::Model;
 
-/// The number of reads and writes that one call of an engine may still make over all its pipes.
+/// The number of reads and writes that one call may still make over all its pipes.
 #[derive(Drop)]
 pub struct Budget {
     left: u32,
@@ -41,21 +41,21 @@ pub struct Pipe<T> {
     failed: bool,
     ended: bool,
     denied: bool,
-    // Saturates.
+    // The number of reads and writes, which saturates.
     calls: u64,
 }
 
-/// The reason why a pipe stopped.
+/// The reason why a pipe's read or write stopped early.
 #[derive(Clone, Copy, Debug, PartialEq, Eq)]
 pub enum Stop {
-    /// The device failed.
+    /// The device failed to read or to write.
     Failed,
-    /// The budget is used up.
+    /// The call has used up its budget of reads and writes.
     TooLong,
 }
 
 impl Stop {
-    /// Returns the fault that an engine reports when its reader stopped.
+    /// Returns the fault to report if a reader stopped for this reason.
     pub fn reader_fault(self) -> PipeFault
         ensures { result ≡ reading_fault self }
     {
@@ -65,7 +65,7 @@ impl Stop {
         }
     }
 
-    /// Returns the fault that an engine reports when its writer stopped.
+    /// Returns the fault to report if a writer stopped for this reason.
     pub fn writer_fault(self) -> PipeFault
         ensures { result ≡ writing_fault self }
     {
@@ -84,7 +84,7 @@ fn is_failure(error: &io::Error) -> bool
 }
 
 impl<T> Pipe<T> {
-    /// Creates a pipe with an empty record.
+    /// Creates a pipe over a device, with nothing recorded of its use.
     pub fn new(device: T) -> Pipe<T>
         ensures device { device_of result ≡ device }
         ensures fresh { IsFresh result }
@@ -99,7 +99,8 @@ impl<T> Pipe<T> {
         }
     }
 
-    /// Returns whether the device failed.
+    /// Returns whether a read or a write has failed: `Interrupted` isn't a failure, a write of no
+    /// bytes is one.
     pub fn failed(&self) -> bool
         ensures { result ≡ failed_of self.now }
     {
@@ -120,14 +121,14 @@ impl<T> Pipe<T> {
         self.denied
     }
 
-    /// Returns the number of reads or writes made, which saturates at 18,446,744,073,709,551,615.
+    /// Returns the number of reads or writes made; it saturates at `u64::MAX`.
     pub fn calls(&self) -> u64
         ensures { result ≡ calls_of self.now }
     {
         self.calls
     }
 
-    /// Returns the reader or writer.
+    /// Returns the reader or writer, and drops the record of its use.
     pub fn into_device(self) -> T
         ensures { result ≡ device_of self }
     {
@@ -137,7 +138,7 @@ impl<T> Pipe<T> {
 }
 
 impl<R: Read> Pipe<R> {
-    /// Reads from the device in one call.
+    /// Calls the device's `read` once, whatever it returns, and takes one call off the budget.
     pub fn read_once(&mut self, budget: &mut Budget, buf: &mut [u8]) -> io::Result<usize>
         requires room { 0 < length buf.old }
         requires left { 0 < budget.old }
@@ -145,8 +146,8 @@ impl<R: Read> Pipe<R> {
         ensures bytes { ReadConsumes (unread_bytes R.remaining self.old)
             (unread_bytes R.remaining self.new) result buf.new }
 
-        // Records the end exactly when no byte came, and a failure exactly when an error other
-        // than Interrupted came.
+        // Records the end exactly if the call returned no byte, and a failure exactly if it
+        // returned an error other than Interrupted.
         ensures ended { IfOk result (λ n. IsTrue (ended_of self.new)
             ↔ (IsTrue (ended_of self.old) ⊎ (n ≡ 0))) }
         ensures not_ended { OnErr result (ended_of self.new ≡ ended_of self.old) }
@@ -168,7 +169,7 @@ impl<R: Read> Pipe<R> {
         result
     }
 
-    /// Reads at least one byte, or none at the end of the input. Retries after `Interrupted`.
+    /// Reads at least one byte, or none at the end of the input; retries after `Interrupted`.
     pub fn read(&mut self, budget: &mut Budget, buf: &mut [u8]) -> Result<usize, Stop>
         requires room { 0 < length buf.old }
         requires fresh { IsFresh self.old }
@@ -199,7 +200,7 @@ impl<R: Read> Pipe<R> {
 }
 
 impl<W: Write> Pipe<W> {
-    /// Writes to the device in one call.
+    /// Calls the device's `write` once, whatever it returns, and takes one call off the budget.
     pub fn write_once(&mut self, budget: &mut Budget, bytes: &[u8]) -> io::Result<usize>
         requires some { 0 < length bytes.now }
         requires left { 0 < budget.old }
@@ -207,8 +208,8 @@ impl<W: Write> Pipe<W> {
         ensures bytes { WriteAppends (written_bytes W.contents self.old)
             (written_bytes W.contents self.new) result bytes.now }
 
-        // Records a failure exactly when no byte was taken, or an error other than Interrupted
-        // came.
+        // Records a failure exactly if the call wrote no byte, or returned an error other than
+        // Interrupted.
         ensures stuck { IfOk result (λ n. IsTrue (failed_of self.new)
             ↔ (IsTrue (failed_of self.old) ⊎ (n ≡ 0))) }
         ensures failed { IfErr result (λ e. IsTrue (failed_of self.new)
@@ -229,7 +230,8 @@ impl<W: Write> Pipe<W> {
         result
     }
 
-    /// Writes all bytes, or a prefix of them if it stops. Retries after `Interrupted`.
+    /// Writes all bytes, or a prefix of them if the device fails or the budget is used up; retries
+    /// after `Interrupted`.
     pub fn write_all(&mut self, budget: &mut Budget, bytes: &[u8]) -> Result<(), Stop>
         requires { failed_of self.old ≡ false }
         ensures ok { OnOk result (Appends (written_bytes W.contents self.old)
@@ -266,7 +268,7 @@ impl<W: Write> Pipe<W> {
         Ok(())
     }
 
-    /// Writes a whole text within a budget of its own.
+    /// Writes a text within a new budget; after a fault a prefix of it may have been written.
     pub fn write_text(&mut self, text: &[u8]) -> Result<(), PipeFault>
         requires { IsFresh self.old }
         ensures ok { OnOk result (Appends (written_bytes W.contents self.old)

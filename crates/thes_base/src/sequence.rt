@@ -1,11 +1,11 @@
-//! A list of values.
+//! A growable array of values, which contracts see as a list.
 ghost use Rattle.std.specs.Prelude.{◌≡◌, ◌-◌, List, length, take, [], ◌++◌, ◌∷◌, IfOk, OnOk, OnErr};
 ghost use Rattle.std.specs.Cmp.Lexicographic.{pointwise, lists_per, lists_equiv};
 
 use std::alloc::{AllocError, Global};
 use std::marker::Model;
 
-/// A list of values, which contracts see as a `List`.
+/// A growable array of values, whose model is the `List` of them.
 #[derive(Debug, Drop)]
 pub struct Sequence<T> {
     values: Vec<T>,
@@ -31,6 +31,7 @@ impl<T: Eq> Eq for Sequence<T> {
     ghost laws = { lists_equiv T.Eq.laws };
 }
 
+/// Takes over the vector without copying its values.
 impl<T> From<Vec<T>> for Sequence<T> {
     ghost from_gives = { λ values sequence. sequence ≡ values.items };
 
@@ -49,7 +50,7 @@ impl<T> Sequence<T> {
         }
     }
 
-    /// Returns the values.
+    /// Returns the values in order, without copying them.
     pub fn as_slice(&self) -> &[T]
         ensures { result.now ≡ self.now }
     {
@@ -58,7 +59,7 @@ impl<T> Sequence<T> {
 }
 
 impl<T: Copy> Sequence<T> {
-    /// Appends a value. An `Err` changes nothing.
+    /// Appends a value; after an error the sequence is as before.
     pub fn push(&mut self, value: T) -> Result<(), AllocError>
         ensures ok { OnOk result (self.new ≡ self.old ++ value ∷ []) }
         ensures err { OnErr result (self.new ≡ self.old) }
@@ -74,7 +75,7 @@ impl<T: Copy> Sequence<T> {
         self.values.pop();
     }
 
-    /// Copies the values.
+    /// Allocates a copy; fails only if memory runs out.
     pub fn try_clone(&self, alloc: Global) -> Result<Sequence<T>, AllocError>
         ensures { IfOk result (λ values. values ≡ self.now) }
     {

@@ -1,9 +1,5 @@
-pub mod CommandLineLemmas
 pub mod ScriptLemmas
 pub mod ReadyLemmas
 pub mod NewStoreLemmas
-pub mod ReadingLemmas
-pub mod ArgumentWalkLemmas
-pub mod CompletingLemmas
-pub mod PrintLemmas
+pub mod ServedLemmas
 pub mod PassingLemmas

@@ -1,10 +1,11 @@
--- Proves that a new store shows the empty state.
+-- Proves that the tables of a new store encode the empty state.
 use Rattle.std.proofs.Common.{◌≡◌, ◌⊎◌, inl, inr, refl, subst, ℕ, List, Option, None, arith}
 use Rattle.std.specs.Prelude.{◌<◌}
 use Rattle.std.specs.FinSet as set
 use Rattle.thes_base.specs.Forms.{IsBase}
 use Rattle.thes_base.specs.Labels.{label_cmp}
-use Rattle.thes_base.specs.Links.{HeldIn, link_cmp}
+use Rattle.thes_base.specs.Links.{Holds, link_cmp}
+use Rattle.thes_base.specs.declared.data.Limits.{Limits}
 use Rattle.thes_base.specs.declared.data.Link.{Link}
 use Rattle.thes_base.specs.State.{empty_state}
 use Rattle.thes_base.proofs.MachineLemmas.{legal_empty}
@@ -18,16 +19,16 @@ use Rattle.thes_store.specs.Causes.{max_failures}
 use Rattle.thes_office.proofs.StateTableLemmas.{faulty_has_no_state}
 use Rattle.thes_office.specs.TablesOfState.{TablesOfState}
 use Rattle.thes_cli.specs.Checking.{no_sizes, sizes_of}
-use Rattle.thes_cli.specs.Ending.{fault_line, Prints}
+use Rattle.thes_command_line.specs.Printing.{Prints, fault_line}
 use Rattle.thes_cli.specs.Opening.{IsUnopened}
 use Rattle.thes_cli.specs.Streams.{Streams}
 use Rattle.thes_cli.specs.Work.{WorksOverKeeper, WorksInMemory}
 use Rattle.thes_cli.specs.declared.work.Work.{Work}
 
-no_link : (l : Link) → HeldIn set.empty l → ⊥
+no_link : (l : Link) → Holds set.empty l → ⊥
 no_link l h = let e = set.contains-empty link_cmp l in cc
 
--- The tables of a new store show the empty state.
+-- The tables of a new store encode the empty state.
 pub new_store_shows : (base : List ℕ) → IsBase base → TablesOfState (cells_of_tables (empty_tables base)) base
     empty_state
 new_store_shows base form = record {
@@ -51,7 +52,7 @@ new_store_shows base form = record {
   legal = legal_empty base form;
 }
 
--- A new store has no sizes.
+-- The sizes of a new store are all 0.
 pub empty_sizes : sizes_of empty_state ≡ no_sizes
 empty_sizes i = record {
   resources = 0;
@@ -62,7 +63,7 @@ empty_sizes i = record {
   moves = 0;
 }
 
--- A keeper in memory doesn't fail, and a new store loads, so only running out of memory prevents it from being opened.
+-- The opening of a new store in memory fails only if memory runs out: the storage can't fail, and the rows load.
 no_failure : (0 < 0) ⊎ (0 ≡ max_failures) → ⊥
 no_failure (inl less) = omega (arith, less)
 no_failure (inr full) = omega (arith, full)
@@ -80,13 +81,13 @@ only_memory base fault tables_after shows un = elim (un.verdict tt) [
 
 module _ {F R W E : Type 0} (given : F → Option (List ℕ)) (remaining : R → Option (List ℕ))
     (out : W → Option (List ℕ)) (err : E → Option (List ℕ)) where
-  -- Work over a new keeper in memory is work over the empty state, or memory ran out.
-  pub works_in_memory : {L : Type 0} (task : Work F L) (base : List ℕ) (old : Streams R W E) (status : ℕ)
-      (tables_after : Tables) (new : Streams R W E) → IsBase base
-      → WorksOverKeeper cells_of_tables (λ k. Unit {0}) (λ k. 0) given remaining out err task None (empty_tables base)
-      old status tables_after new
-      → WorksInMemory given remaining out err task base old status new
-  works_in_memory task base old status tables_after new form (inl opens) =
+  -- Work over a new storage in memory is work over the empty state, or memory ran out.
+  pub works_in_memory : {L : Type 0} (task : Work F L) (base : List ℕ) (limits : Limits) (old : Streams R W E)
+      (status : ℕ) (tables_after : Tables) (new : Streams R W E) → IsBase base
+      → WorksOverKeeper cells_of_tables (λ k. Unit {0}) (λ k. 0) given remaining out err task None limits
+      (empty_tables base) old status tables_after new
+      → WorksInMemory given remaining out err task base limits old status new
+  works_in_memory task base limits old status tables_after new form (inl opens) =
       record {
         shows = new_store_shows base form;
         nothing = empty_sizes;
@@ -94,7 +95,7 @@ module _ {F R W E : Type 0} (given : F → Option (List ℕ)) (remaining : R →
         works =
             inl opens;
       }
-  works_in_memory task base old status tables_after new form (inr un) = record {
+  works_in_memory task base limits old status tables_after new form (inr un) = record {
     shows = new_store_shows base form;
     nothing = empty_sizes;
     tables_after = tables_after;

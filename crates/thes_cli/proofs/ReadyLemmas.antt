@@ -1,4 +1,4 @@
--- Proves that the results computed from an office's core are those of the state that its tables show.
+-- Proves that the results computed from an office's core are those of the state that its tables encode.
 use Rattle.std.proofs.Common.{◌≡◌, ◌∙◌, ap, subst, ℕ, List, Option, Result, Ok, Err}
 use Rattle.std.specs.Prelude.{length, IfOk, IfErr, OnOk}
 use Rattle.std.specs.Borrow.{Bor}
@@ -16,7 +16,7 @@ use Rattle.thes_core.specs.CoreView.{IsViewOf}
 use Rattle.thes_core.specs.declared.reading.Sizes.{Sizes}
 use Rattle.thes_office.specs.Office.{FaultBehaviour, IsCopy, OfficeView, ReadyResult}
 use Rattle.thes_office.proofs.StateTableLemmas.{state_is_unique}
-use Rattle.thes_service.proofs.StateViewLemmas.{goes_on_to, held_shown}
+use Rattle.thes_service.proofs.StateViewLemmas.{goes_on_to, holds_in_encoded_states}
 use Rattle.thes_export.specs.ExportWrites as export
 use Rattle.thes_display.specs.DisplayWrites as display
 use Rattle.thes_display.specs.declared.writing.DisplayOutcome.{DisplayOutcome}
@@ -30,17 +30,18 @@ use Rattle.thes_cli.specs.Opening.{InStore}
 -- The sizes of a core are those of each state that it holds.
 pub sizes_are : (z : Sizes) (copy : core.CoreView) (s : State) → IsViewOf copy s → z.resources ≡ length copy.resources
     → z.labels ≡ set.len copy.labels → z.links ≡ set.len copy.links
-    → z.accepted ≡ copy.sums.accepted → z.withdrawn ≡ copy.sums.withdrawn → z.moves ≡ copy.sums.moves → z ≡ sizes_of s
+    → z.accepted ≡ copy.posting_counts.accepted → z.withdrawn ≡ copy.posting_counts.withdrawn
+    → z.moves ≡ copy.posting_counts.moves → z ≡ sizes_of s
 sizes_are z copy s holds r l k a w m i = record {
   resources = (r ∙ ap (λ (t : State). length t.resources) holds.state) i;
   labels = (l ∙ ap (λ (t : State). set.len t.labels) holds.state) i;
   links = (k ∙ ap (λ (t : State). set.len t.links) holds.state) i;
-  accepted = (a ∙ holds.sums.accepted) i;
-  withdrawn = (w ∙ holds.sums.withdrawn) i;
-  moves = (m ∙ holds.sums.moves) i;
+  accepted = (a ∙ holds.posting_counts.accepted) i;
+  withdrawn = (w ∙ holds.posting_counts.withdrawn) i;
+  moves = (m ∙ holds.posting_counts.moves) i;
 }
 
--- A property of each state that a copy holds is one of every state that the rows show, and of its base.
+-- If each state that a copy holds has a property, with the copy's base, the state that the rows encode has it.
 pub held_in_store : (raw : Raw) (limits : Limits) (copy : core.CoreView) (P : List ℕ → State → Type 0)
     → IsCopy raw limits copy → ((s : State) → IsViewOf copy s → P copy.setting.base s) → InStore raw P
 held_in_store raw limits copy P is so base s x =
@@ -48,7 +49,7 @@ held_in_store raw limits copy P is so base s x =
     subst (P base) one.1 (subst (λ (b : List ℕ). P b is.state) one.0 (so is.state is.holds))
 
 module _ {K : Type 0} (rows : K → Raw) (is_up : K → Type 0) (failed : K → ℕ) where
-  -- An office that is ready has this core.
+  -- The result of an office that is ready is this core.
   handed : (old new : OfficeView K) (result : Result (Bor core.CoreView) Fault) (copy : Bor core.CoreView)
       → ReadyResult rows is_up failed old result new → result ≡ Ok copy → ReadyResult rows is_up failed old (Ok copy)
       new
@@ -60,24 +61,25 @@ module _ {K : Type 0} (rows : K → Raw) (is_up : K → Type 0) (failed : K → 
       → ((s : State) → IsViewOf copy.now s → z ≡ sizes_of s) → FindsSizes rows is_up failed old (Ok z) new
   sizes_found old new result copy z ready is so =
       let here = handed old new result copy ready is in record {
-        goes = goes_on_to rows is_up failed old new copy z here.goes;
+        fault_behaviour = goes_on_to rows is_up failed old new copy z here.fault_behaviour;
         same = here.same;
-        sizes = λ up. held_shown (rows new.keeper) new.limits copy.now (λ s. z ≡ sizes_of s) (here.shown.copies up) so;
+        sizes = λ up. holds_in_encoded_states (rows new.keeper) new.limits copy.now (λ s. z ≡ sizes_of s)
+            (here.shown.copies up) so;
       }
 
-  -- A call that failed, with the fault as another answer.
+  -- A call that failed behaves alike whatever it would have returned.
   unready : {A B : Type 0} (old new : OfficeView K) (fault : Fault) → FaultBehaviour rows is_up failed old new
       (let x : Result A Fault = Err fault in x) → FaultBehaviour rows is_up failed old new (let x : Result B Fault =
       Err fault in x)
-  unready old new fault goes = record {
-    limits = goes.limits;
-    was = goes.was;
-    later = goes.later;
+  unready old new fault fault_behaviour = record {
+    limits = fault_behaviour.limits;
+    was = fault_behaviour.was;
+    later = fault_behaviour.later;
     count = tt;
     store =
-        goes.store;
-    stale = goes.stale;
-    fault = goes.fault;
+        fault_behaviour.store;
+    stale = fault_behaviour.stale;
+    fault = fault_behaviour.fault;
   }
 
   failed_as : (old new : OfficeView K) (result : Result (Bor core.CoreView) Fault) (fault : Fault)
@@ -87,7 +89,7 @@ module _ {K : Type 0} (rows : K → Raw) (is_up : K → Type 0) (failed : K → 
       subst (λ (r : Result (Bor core.CoreView) Fault). ReadyResult rows is_up failed old r new) is ready
 
   module _ {W : Type 0} (out : W → Option (List ℕ)) (output output' : Pipe W) where
-    -- An export from the office's core is that of the state that the tables show.
+    -- An export from the office's core is that of the state that the tables encode.
     pub export_written : (old new : OfficeView K) (result : Result (Bor core.CoreView) Fault)
         (copy : Bor core.CoreView) (ended : Result (Unit {0}) PipeFault) → ReadyResult rows is_up failed old result
         new → result ≡ Ok copy
@@ -99,7 +101,7 @@ module _ {K : Type 0} (rows : K → Raw) (is_up : K → Type 0) (failed : K → 
     export_written old new result copy (Ok done) ready is ok err calls =
         let here = handed old new result copy ready is in record {
           ready = Ok tt;
-          goes = goes_on_to rows is_up failed old new copy tt here.goes;
+          fault_behaviour = goes_on_to rows is_up failed old new copy tt here.fault_behaviour;
           same = here.same;
           writes = (
             λ up. held_in_store (rows new.keeper) new.limits copy.now
@@ -110,7 +112,7 @@ module _ {K : Type 0} (rows : K → Raw) (is_up : K → Type 0) (failed : K → 
     export_written old new result copy (Err fault) ready is ok err calls =
         let here = handed old new result copy ready is in record {
           ready = Ok tt;
-          goes = goes_on_to rows is_up failed old new copy tt here.goes;
+          fault_behaviour = goes_on_to rows is_up failed old new copy tt here.fault_behaviour;
           same = here.same;
           writes = (
             λ up. held_in_store (rows new.keeper) new.limits copy.now
@@ -119,7 +121,7 @@ module _ {K : Type 0} (rows : K → Raw) (is_up : K → Type 0) (failed : K → 
           );
         }
 
-    -- A display from the office's core is that of the state that the tables show.
+    -- A display from the office's core is that of the state that the tables encode.
     pub display_written : (kind : Display) (scheme : ℕ) (tag : List ℕ) (old new : OfficeView K)
         (result : Result (Bor core.CoreView) Fault) (copy : Bor core.CoreView)
         (ended : Result DisplayOutcome PipeFault)
@@ -134,7 +136,7 @@ module _ {K : Type 0} (rows : K → Raw) (is_up : K → Type 0) (failed : K → 
     display_written kind scheme tag old new result copy (Ok shown) ready is ok err calls =
         let here = handed old new result copy ready is in record {
           ready = Ok tt;
-          goes = goes_on_to rows is_up failed old new copy tt here.goes;
+          fault_behaviour = goes_on_to rows is_up failed old new copy tt here.fault_behaviour;
           same = here.same;
           shows = (
             λ up. held_in_store (rows new.keeper) new.limits copy.now
@@ -146,7 +148,7 @@ module _ {K : Type 0} (rows : K → Raw) (is_up : K → Type 0) (failed : K → 
     display_written kind scheme tag old new result copy (Err fault) ready is ok err calls =
         let here = handed old new result copy ready is in record {
           ready = Ok tt;
-          goes = goes_on_to rows is_up failed old new copy tt here.goes;
+          fault_behaviour = goes_on_to rows is_up failed old new copy tt here.fault_behaviour;
           same = here.same;
           shows = (
             λ up. held_in_store (rows new.keeper) new.limits copy.now
@@ -162,7 +164,12 @@ module _ {K : Type 0} (rows : K → Raw) (is_up : K → Type 0) (failed : K → 
         output'
     export_unready old new result fault ended ready is reports same =
         let here = failed_as old new result fault ready is in
-        record { ready = Err fault; goes = unready old new fault here.goes; same = here.same; writes = (reports, same) }
+        record {
+          ready = Err fault;
+          fault_behaviour = unready old new fault here.fault_behaviour;
+          same = here.same;
+          writes = (reports, same);
+        }
 
     pub display_unready : (kind : Display) (scheme : ℕ) (tag : List ℕ) (old new : OfficeView K)
         (result : Result (Bor core.CoreView) Fault) (fault : Fault) (ended : Result DisplayOutcome PipeFault)
@@ -170,4 +177,9 @@ module _ {K : Type 0} (rows : K → Raw) (is_up : K → Type 0) (failed : K → 
         ≡ output → WritesDisplay rows is_up failed out kind scheme tag old output ended new output'
     display_unready kind scheme tag old new result fault ended ready is reports same =
         let here = failed_as old new result fault ready is in
-        record { ready = Err fault; goes = unready old new fault here.goes; same = here.same; shows = (reports, same) }
+        record {
+          ready = Err fault;
+          fault_behaviour = unready old new fault here.fault_behaviour;
+          same = here.same;
+          shows = (reports, same);
+        }

@@ -1,12 +1,12 @@
--- Proves how a script over an office ends.
+-- Proves the end of a script over an office.
 use Rattle.std.proofs.Common.{ℕ, List, Option, Result, Ok, Err}
 use Rattle.std.specs.Prelude.{IfOk, IfErr}
 use Rattle.thes_base.specs.Pipe.{KeepsSharedCallLimit}
 use Rattle.thes_base.specs.declared.fault.PipeFault.{PipeFault}
 use Rattle.thes_tables.specs.Cells.{Raw}
 use Rattle.thes_office.specs.Office.{OfficeView}
-use Rattle.thes_exchange.specs.Script.{session, Completes, Stops}
-use Rattle.thes_exchange.specs.declared.script.Ended.{Ended}
+use Rattle.thes_requests.specs.Script.{session, Completes, Stops}
+use Rattle.thes_requests.specs.declared.script.ScriptEnd.{ScriptEnd}
 use Rattle.thes_service.specs.OfficeRequests.{OfficeServes, is_always_open, IsReachedByRun}
 use Rattle.thes_cli.specs.Scripting.{AnswersScript, ReportsScriptEnd}
 use Rattle.thes_cli.specs.Streams.{Streams}
@@ -14,7 +14,7 @@ use Rattle.thes_cli.specs.Streams.{Streams}
 module _ {K R W E : Type 0} (rows : K → Raw) (is_up : K → Type 0) (failed : K → ℕ) (remaining : R → Option (List ℕ))
     (out : W → Option (List ℕ)) (err : E → Option (List ℕ)) where
   pub script_answered : (old_office : OfficeView K) (old : Streams R W E) (status : ℕ) (new_office : OfficeView K)
-      (new : Streams R W E) (result : Result Ended PipeFault)
+      (new : Streams R W E) (result : Result ScriptEnd PipeFault)
       → IfOk result (Completes remaining out (OfficeServes rows is_up failed) is_always_open
       (session old.input old.output old_office) (session new.input new.output new_office))
       → IfErr result (Stops remaining out (OfficeServes rows is_up failed) is_always_open

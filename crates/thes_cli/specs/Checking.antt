@@ -1,4 +1,4 @@
--- The sizes of a store.
+-- The command `check`: the sizes of a store.
 use Rattle.std.specs.Prelude.{◌≡◌, ◌⊎◌, ℕ, List, length, Option, Result, Ok, Err, IfOk}
 use Rattle.std.specs.FinSet as set
 use Rattle.thes_base.specs.Postings.{accepted_count, withdrawn_count, move_count}
@@ -11,10 +11,10 @@ use Rattle.thes_tables.specs.Cells.{Raw}
 use Rattle.thes_core.specs.declared.reading.Sizes.{Sizes}
 use Rattle.thes_office.specs.QueryFrames.{InStateOfTables}
 use Rattle.thes_office.specs.Office.{FaultBehaviour, OfficeView, SameTables}
-use Rattle.thes_cli.specs.Ending.{fault_line, sizes_line}
-use Rattle.thes_cli.specs.EarlyExit.{PrintsError, PrintsText}
+use Rattle.thes_command_line.specs.Printing.{PrintsError, PrintsText, fault_line}
+use Rattle.thes_cli.specs.Ending.{sizes_line}
 
--- The sizes of a state.
+-- The numbers of resources, labels, links, postings and moves in a state.
 abbrev pub sizes_of : State → Sizes
 sizes_of s = record {
   resources = length s.resources;
@@ -25,13 +25,13 @@ sizes_of s = record {
   moves = move_count s.histories;
 }
 
--- The sizes of the empty state.
+-- The sizes of the empty state, all 0.
 abbrev pub no_sizes : Sizes
 no_sizes = record { resources = 0; labels = 0; links = 0; accepted = 0; withdrawn = 0; moves = 0 }
 
 module _ {W E : Type 0} (out : W → Option (List ℕ)) (err : E → Option (List ℕ))
     (output output' : Pipe W) (errors errors' : Pipe E) where
-  -- The sizes are printed; or the fault that prevented it is.
+  -- The sizes are printed, or the fault that prevented it.
   abbrev pub ReportsSizes : Result Sizes Fault → ℕ → Type 0
   ReportsSizes (Ok sizes) status =
       PrintsText out err output output' errors errors' (sizes_line sizes) status
@@ -39,15 +39,15 @@ module _ {W E : Type 0} (out : W → Option (List ℕ)) (err : E → Option (Lis
   ReportsSizes (Err f) status = PrintsError out err output output' errors errors' (fault_line (pipe.Fault f)) 3 status
 
 module _ {K : Type 0} (rows : K → Raw) (is_up : K → Type 0) (failed : K → ℕ) where
-  -- The sizes are those of the state that the tables show, which stay as they were.
+  -- The sizes are those of the state that the tables encode, and the tables are unchanged.
   pub record FindsSizes (old_office : OfficeView K) (result : Result Sizes Fault) (new_office : OfficeView K) : Type
       0 where
-    pub goes : FaultBehaviour rows is_up failed old_office new_office result
+    pub fault_behaviour : FaultBehaviour rows is_up failed old_office new_office result
     pub same : SameTables rows is_up old_office new_office
     pub sizes : IfOk result (λ z. is_up new_office.keeper → InStateOfTables (rows new_office.keeper)
         (λ s. z ≡ sizes_of s))
 
-  -- The command `check`: the sizes of the store are printed.
+  -- The command `check`: the sizes of the store are printed, or the fault that prevented it.
   pub record ChecksStore {W E : Type 0} (out : W → Option (List ℕ)) (err : E → Option (List ℕ))
       (old_office : OfficeView K) (output output' : Pipe W) (errors errors' : Pipe E) (status : ℕ)
       (new_office : OfficeView K) : Type 0 where

@@ -1,10 +1,8 @@
--- A display of a scheme of the store in a language.
-use Rattle.std.specs.Prelude.{◌≡◌, ◌++◌, ℕ, List, Option, Result, Ok, Err, codes}
-use Rattle.thes_base.specs.FaultNames.{refusal_code}
+-- The commands `alphabetical` and `hierarchical`: a display of a scheme in a language.
+use Rattle.std.specs.Prelude.{◌≡◌, ℕ, List, Option, Result, Ok, Err}
 use Rattle.thes_base.specs.declared.fault.Fault.{Fault}
 use Rattle.thes_base.specs.declared.fault.PipeFault.{PipeFault}
 use Rattle.thes_base.specs.declared.fault.PipeFault.TheVariants as pipe
-use Rattle.thes_base.specs.declared.fault.Refusal.{Refusal}
 use Rattle.thes_base.specs.declared.pipe.Pipe.{Pipe}
 use Rattle.thes_base.specs.Pipe.{KeepsCallLimit}
 use Rattle.thes_tables.specs.Cells.{Raw}
@@ -14,14 +12,10 @@ use Rattle.thes_display.specs.declared.writing.DisplayOutcome.{DisplayOutcome}
 use Rattle.thes_display.specs.declared.writing.DisplayOutcome.TheVariants.{Written, No}
 use Rattle.thes_http.specs.declared.service.Display.{Display}
 use Rattle.thes_service.specs.Service.{IsDisplay}
-use Rattle.thes_cli.specs.Ending.{fault_line, Prints}
+use Rattle.thes_command_line.specs.Printing.{Prints, fault_line, refusal_line}
 use Rattle.thes_cli.specs.Opening.{InStore}
 
--- The line of a refusal.
-abbrev pub refusal_line : Refusal → List ℕ
-refusal_line refusal = codes "thesaurus: " ++ (refusal_code refusal).name ++ codes "\n"
-
--- The end of a display: it was written, or the scheme was refused, or a fault is printed.
+-- The end of a display: status 0 if it was written; else the refusal or the fault is printed, and the status is 1 or 3.
 abbrev pub EndsDisplay : {E : Type 0} → (E → Option (List ℕ)) → Pipe E → Pipe E → Result DisplayOutcome PipeFault → ℕ
     → Type 0
 EndsDisplay err old new (Ok Written) status = (new ≡ old) × (status ≡ 0)
@@ -30,8 +24,8 @@ EndsDisplay err old new (Err fault) status = Prints err old new (fault_line faul
 
 module _ {K W : Type 0} (rows : K → Raw) (is_up : K → Type 0) (failed : K → ℕ) (out : W → Option (List ℕ))
     (display : Display) (scheme : ℕ) (tag : List ℕ) where
-  -- The display of the state that the tables show was written, or a prefix of it; nothing where the tables can't be
-  -- read.
+  -- The display of the state that the tables encode was written or refused, or a prefix of it was
+  -- written; or nothing was written, since the tables couldn't be loaded.
   abbrev pub DisplaysState : OfficeView K → Pipe W → Pipe W → Result (Unit {0}) Fault
       → Result DisplayOutcome PipeFault → Type 0
   DisplaysState new_office output output' (Ok ready) (Ok shown) =
@@ -44,15 +38,15 @@ module _ {K W : Type 0} (rows : K → Raw) (is_up : K → Type 0) (failed : K �
       × KeepsCallLimit output output'
   DisplaysState new_office output output' (Err fault) result = (result ≡ Err (pipe.Fault fault)) × (output' ≡ output)
 
-  -- The display was written, and the tables stay as they were.
+  -- The display was written, refused or stopped, and the tables are unchanged.
   pub record WritesDisplay (old_office : OfficeView K) (output : Pipe W) (result : Result DisplayOutcome PipeFault)
       (new_office : OfficeView K) (output' : Pipe W) : Type 0 where
     pub ready : Result (Unit {0}) Fault
-    pub goes : FaultBehaviour rows is_up failed old_office new_office ready
+    pub fault_behaviour : FaultBehaviour rows is_up failed old_office new_office ready
     pub same : SameTables rows is_up old_office new_office
     pub shows : DisplaysState new_office output output' ready result
 
-  -- The commands `alphabetical` and `hierarchical`: a display is written, and its outcome determines the status.
+  -- The commands `alphabetical` and `hierarchical`: a display is written, and the outcome determines the status.
   pub record DisplaysStore {E : Type 0} (err : E → Option (List ℕ))
       (old_office : OfficeView K) (output output' : Pipe W) (errors errors' : Pipe E) (status : ℕ)
       (new_office : OfficeView K) : Type 0 where

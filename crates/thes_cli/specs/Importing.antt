@@ -1,4 +1,4 @@
--- The import of a posting file into the store.
+-- The command `import`: the import of a posting file into the store.
 use Rattle.std.specs.Prelude.{◌≡◌, ◌==◌, if◌then◌else◌, ℕ, Bool, true, false, List, Option, Result, Ok, Err}
 use Rattle.thes_base.specs.Pipe.{device_of, IsFresh, KeepsSharedCallLimit}
 use Rattle.thes_base.specs.declared.fault.FormFault.TheVariants.{BadShape}
@@ -10,16 +10,16 @@ use Rattle.thes_import.specs.declared.import.ImportEnd.{ImportEnd}
 use Rattle.thes_import.specs.declared.import.ImportEnd.TheVariants.{Rows, Malformed}
 use Rattle.thes_import.specs.declared.import.ImportStop.{ImportStop}
 use Rattle.thes_import.specs.declared.report.Counts.{Counts}
-use Rattle.thes_cli.specs.Ending.{counts_line, fault_line, Prints}
-use Rattle.thes_cli.specs.EarlyExit.{form_line}
+use Rattle.thes_command_line.specs.Printing.{Prints, fault_line, form_line}
+use Rattle.thes_cli.specs.Ending.{counts_line}
 
--- The counts are printed, where that is wanted.
+-- The counts are printed if the Boolean is true; else nothing is.
 abbrev pub PrintsCounts : {E : Type 0} → (E → Option (List ℕ)) → Bool → Pipe E → Pipe E → Counts → Type 0
 PrintsCounts err true old new counts = Prints err old new (counts_line counts)
 PrintsCounts err false old new counts = new ≡ old
 
--- The end of an import: the status says whether a row was refused or the file is malformed, or a fault is
--- printed.
+-- The end of an import: the status is 1 if a row was refused or the file is malformed, 3 after a fault, which is
+-- printed, and else 0.
 abbrev pub EndsImport : {E : Type 0} → (E → Option (List ℕ)) → Bool → Pipe E → Pipe E → Result ImportEnd ImportStop
     → ℕ → Type 0
 EndsImport err prints_it old new (Ok (Rows counts)) status =
@@ -29,7 +29,7 @@ EndsImport err prints_it old new (Err stopped) status = Prints err old new (faul
 
 module _ {K F W : Type 0} (rows : K → Raw) (is_up : K → Type 0) (failed : K → ℕ)
     (given : F → Option (List ℕ)) (out : W → Option (List ℕ)) where
-  -- The file was performed and its outcomes were written, or the import stopped.
+  -- The file was imported and its outcomes were written, or a fault stopped the import.
   abbrev pub ImportsPipe : Pipe F → OfficeView K → Pipe W → Result ImportEnd ImportStop → Pipe F → OfficeView K
       → Pipe W → Type 0
   ImportsPipe file old_office output (Ok ended) file' new_office output' =
@@ -39,7 +39,7 @@ module _ {K F W : Type 0} (rows : K → Raw) (is_up : K → Type 0) (failed : K 
       StopsImport given out rows is_up failed (import_streams file output old_office)
       (import_streams file' output' new_office) stopped
 
-  -- The command `import`: the file is performed, and its result determines the status.
+  -- The command `import`: the file is imported, and the result determines the status.
   pub record ImportsStore {E : Type 0} (err : E → Option (List ℕ)) (prints_it : Bool) (file : F)
       (old_office : OfficeView K) (output output' : Pipe W) (errors errors' : Pipe E) (status : ℕ)
       (new_office : OfficeView K) : Type 0 where

@@ -1,7 +1,4 @@
 pub mod Ending
-pub mod EarlyExit
-pub mod Commands
-pub mod CommandLine
 pub mod Streams
 pub mod Opening
 pub mod Scripting
@@ -10,6 +7,7 @@ pub mod Exporting
 pub mod Displaying
 pub mod Importing
 pub mod Serving
+pub mod Trouble
 pub mod Migrating
 pub mod Work
 pub mod Stores

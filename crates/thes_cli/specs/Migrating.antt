@@ -1,20 +1,20 @@
--- The migration of a store from version 1 to version 2.
+-- The command `migrate`: the migration of a store from version 1 to version 2.
 use Rattle.std.specs.Prelude.{◌≡◌, ◌⊎◌, ℕ, List, codes, Option, Result, Ok, Err}
 use Rattle.sqlite.specs.Held.{Held, state}
 use Rattle.sqlite.specs.State.{HasCleanDisk}
+use Rattle.sqlite.specs.declared.error.Error.{Error}
 use Rattle.sqlite_trees.specs.declared.store.Store.{Ghosts}
 use Rattle.thes_base.specs.declared.fault.Fault.{Fault}
-use Rattle.thes_base.specs.declared.fault.PipeFault.TheVariants as pipe
 use Rattle.thes_base.specs.declared.pipe.Pipe.{Pipe}
 use Rattle.thes_tables.specs.Tables.{empty_tables}
 use Rattle.thes_sql.specs.TransactionEffects.{IsEmpty}
-use Rattle.thes_sql.specs.Schema.{schema_0}
+use Rattle.thes_sql.specs.Schema.{empty_schema}
 use Rattle.thes_sql.specs.StoredRows.{Keeps}
-use Rattle.thes_sqlite.specs.Faults.{IsKeeperFault}
 use Rattle.thes_sqlite.specs.KeeperView.{IsUp}
 use Rattle.thes_sqlite.specs.MigrationEffects.{IsUnwritten, Migrates}
-use Rattle.thes_cli.specs.Ending.{ReportsStoreFault}
-use Rattle.thes_cli.specs.EarlyExit.{PrintsText}
+use Rattle.thes_command_line.specs.Printing.{Prints, PrintsText, file_fault_lines}
+use Rattle.thes_command_line.specs.declared.trouble.StoreTrouble.TheVariants.{Unwritable}
+use Rattle.thes_cli.specs.Trouble.{ReportsUnmade}
 
 -- The line of a store's version after a migration.
 abbrev pub version_line : List ℕ
@@ -22,19 +22,19 @@ version_line = codes "version 2\n"
 
 module _ {W E : Type 0} (out : W → Option (List ℕ)) (err : E → Option (List ℕ))
     (output output' : Pipe W) (errors errors' : Pipe E) where
-  -- The store wasn't migrated: the fault is printed after the line of its file.
+  -- The store couldn't be migrated: the fault is printed after the line of the store's file, and the status is 3.
   pub record ReportsUnmigrated (file : List ℕ) (fault : Fault) (status : ℕ) : Type 0 where
     pub silent : output' ≡ output
-    pub prints_it : ReportsStoreFault err errors errors' file (pipe.Fault fault)
+    pub prints_it : Prints err errors errors' (file_fault_lines file Unwritable fault)
     pub status_is : status ≡ 3
 
-  -- The version or the fault is printed.
+  -- The result of a migration is printed: the version, or the fault.
   abbrev pub ReportsMigration : List ℕ → Result ℕ Fault → ℕ → Type 0
   ReportsMigration file (Ok version) status = PrintsText out err output output' errors errors' version_line status
   ReportsMigration file (Err fault) status = ReportsUnmigrated file fault status
 
   module _ {S : Type 0} (store : Ghosts S) where
-    -- The command `migrate`: the database is migrated, and the version or the fault is printed.
+    -- The command `migrate` over an existing store: the database is migrated, and the version or the fault is printed.
     pub record MigratesDatabase (file : List ℕ) (conn : Held S) (status : ℕ) (back : Held S) : Type 0 where
       pub result : Result ℕ Fault
       pub migrates : Migrates store conn back result
@@ -42,17 +42,19 @@ module _ {W E : Type 0} (out : W → Option (List ℕ)) (err : E → Option (Lis
 
     -- The tables of a new store were made in an empty database, and the version is printed.
     pub record MakesVersion (base : List ℕ) (conn : Held S) (status : ℕ) (back : Held S) : Type 0 where
-      pub tables : HasCleanDisk (state store back) → IsEmpty schema_0 (state store conn).now
+      pub tables : HasCleanDisk (state store back) → IsEmpty empty_schema (state store conn).now
           → Keeps (state store back).committed (empty_tables base) × Keeps (state store back).now (empty_tables base)
       pub reports : PrintsText out err output output' errors errors' version_line status
 
-    -- The tables couldn't be made, and the fault is printed; the database is as it was.
+    -- The tables couldn't be made, and the fault is printed; if the database is up, it is
+    -- unchanged.
     pub record ReportsUnmadeTables (file : List ℕ) (conn : Held S) (status : ℕ) (back : Held S) : Type 0 where
-      pub fault : Fault
-      pub kind : IsKeeperFault fault
+      pub error : Error
       pub leaves : IsUp (state store back) → IsUnwritten (state store conn) (state store back)
-      pub reports : ReportsUnmigrated file fault status
+      pub silent : output' ≡ output
+      pub reports : ReportsUnmade err file error errors errors' status
 
+    -- The command `migrate` over an empty database: a store of version 2 is made, or the fault is printed.
     abbrev pub MakesDatabase : List ℕ → List ℕ → Held S → ℕ → Held S → Type 0
     MakesDatabase file base conn status back =
         MakesVersion base conn status back ⊎ ReportsUnmadeTables file conn status back

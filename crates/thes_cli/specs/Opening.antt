@@ -1,4 +1,4 @@
--- The opening of a store by an office over its keeper.
+-- The opening of an office over the tables of a store.
 use Rattle.std.specs.Prelude.{◌≡◌, ◌⊎◌, ◌<◌, ℕ, List, Err}
 use Rattle.thes_base.specs.declared.data.Limits.{Limits}
 use Rattle.thes_base.specs.declared.fault.Fault.{Fault}
@@ -10,29 +10,19 @@ use Rattle.thes_load_rules.specs.Verdicts.{HasVerdict}
 use Rattle.thes_office.specs.Office.{OfficeView}
 use Rattle.thes_office.specs.TablesOfState.{TablesOfState}
 
--- The default limits of a store.
-abbrev pub default_limits : Limits
-default_limits = record {
-  resources = 20000;
-  labels = 200000;
-  links = 200000;
-  postings = 100000;
-  moves = 1000000;
-}
-
--- The property `P` holds of each base and state that the rows show.
+-- The property `P` holds of each base and state that the rows encode.
 abbrev pub InStore : Raw → (List ℕ → State → Type 0) → Type 0
 InStore raw P = (base : List ℕ) (s : State) → TablesOfState raw base s → P base s
 
 module _ {K : Type 0} (rows : K → Raw) (is_up : K → Type 0) (failed : K → ℕ) where
-  -- The office is opened over the keeper's tables, and they show a state.
-  pub record IsOpened (keeper : K) (office : OfficeView K) : Type 0 where
-    pub limits : office.limits ≡ default_limits
+  -- The office is opened with these limits over the tables of the storage, which encode a state.
+  pub record IsOpened (limits : Limits) (keeper : K) (office : OfficeView K) : Type 0 where
+    pub limits_are : office.limits ≡ limits
     pub same : is_up office.keeper → rows office.keeper ≡ rows keeper
     pub shows : is_up office.keeper → (base : List ℕ) × (s : State) × TablesOfState (rows office.keeper) base s
 
-  -- The store isn't opened: memory ran out, the keeper failed, or the fault is the verdict on its rows; they stay as
-  -- they were.
+  -- No office is opened: memory ran out, the storage failed, or the fault is the verdict on the
+  -- rows. If the storage is up, the tables are unchanged.
   pub record IsUnopened (keeper : K) (fault : Fault) (back : K) : Type 0 where
     pub same : is_up back → rows back ≡ rows keeper
     pub verdict : is_up back → (fault ≡ OutOfMemory) ⊎ (fault ≡ Store) ⊎ HasVerdict (rows keeper) (Err fault)

@@ -1,18 +1,19 @@
--- A script over the store.
+-- The command `script`: the answers to a script over the store.
 use Rattle.std.specs.Prelude.{◌≡◌, ℕ, List, Option, MatchResult, MatchOption, Result}
 use Rattle.thes_base.specs.Pipe.{KeepsSharedCallLimit}
 use Rattle.thes_base.specs.declared.fault.PipeFault.{PipeFault}
 use Rattle.thes_base.specs.declared.pipe.Pipe.{Pipe}
 use Rattle.thes_tables.specs.Cells.{Raw}
 use Rattle.thes_office.specs.Office.{OfficeView}
-use Rattle.thes_exchange.specs.Script.{session, Completes, Stops}
-use Rattle.thes_exchange.specs.declared.script.Ended.{Ended}
+use Rattle.thes_requests.specs.Script.{session, Completes, Stops}
+use Rattle.thes_requests.specs.declared.script.ScriptEnd.{ScriptEnd}
 use Rattle.thes_service.specs.OfficeRequests.{OfficeServes, is_always_open, IsReachedByRun}
-use Rattle.thes_cli.specs.Ending.{last_fault, status_of, fault_line, Prints}
+use Rattle.thes_command_line.specs.Printing.{Prints, fault_line}
+use Rattle.thes_cli.specs.Ending.{last_fault, status_of}
 use Rattle.thes_cli.specs.Streams.{Streams}
 
--- The end of a script: its fault, if there is one, is printed, and the status follows.
-abbrev pub ReportsScriptEnd : {E : Type 0} → (E → Option (List ℕ)) → Pipe E → Pipe E → Result Ended PipeFault → ℕ
+-- The end of a script: its fault, if there was one, is printed, and the status is that of the end.
+abbrev pub ReportsScriptEnd : {E : Type 0} → (E → Option (List ℕ)) → Pipe E → Pipe E → Result ScriptEnd PipeFault → ℕ
     → Type 0
 ReportsScriptEnd contents old new result status =
     MatchOption (last_fault result) (new ≡ old) (λ fault. Prints contents old new (fault_line fault))
@@ -20,11 +21,11 @@ ReportsScriptEnd contents old new result status =
 
 module _ {K R W E : Type 0} (rows : K → Raw) (is_up : K → Type 0) (failed : K → ℕ)
     (remaining : R → Option (List ℕ)) (out : W → Option (List ℕ)) (err : E → Option (List ℕ)) where
-  -- The command `script`: the office answered each line of the input, the requests among them are a run of the machine,
-  -- and the script's end determines the status.
+  -- The command `script`: the office answered the lines of the input until its end or a fault, the
+  -- requests in them are a run of the machine, and the end of the script determines the status.
   pub record AnswersScript (old_office : OfficeView K) (old : Streams R W E) (status : ℕ) (new_office : OfficeView K)
       (new : Streams R W E) : Type 0 where
-    pub result : Result Ended PipeFault
+    pub result : Result ScriptEnd PipeFault
     pub script : MatchResult result
         (Completes remaining out (OfficeServes rows is_up failed) is_always_open
         (session old.input old.output old_office) (session new.input new.output new_office))

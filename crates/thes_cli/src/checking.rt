@@ -1,4 +1,4 @@
-//! Prints the sizes of a store.
+//! The command `check`: prints the sizes of a store.
 ghost use Rattle.std.specs.Prelude.{◌≡◌, false};
 ghost use Rattle.thes_base.specs.Pipe.{IsFresh};
 ghost use Rattle.thes_base.specs.State.{State};
@@ -6,17 +6,18 @@ ghost use Rattle.thes_core.specs.CoreView.{IsViewOf};
 ghost use Rattle.thes_cli.specs.Checking.{sizes_of, ChecksStore, FindsSizes, ReportsSizes};
 ghost use Rattle.thes_cli.specs.Streams.{streams};
 
-use crate::ending::{print_out, report_fault, sizes_line};
+use crate::ending::sizes_line;
 use std::alloc::Global;
 use std::io::Write;
 use thes_base::fault::{Fault, PipeFault};
 use thes_base::pipe::Pipe;
+use thes_command_line::printing::{print_out, report_fault};
 use thes_core::Core;
 use thes_core::reading::Sizes;
 use thes_office::Office;
 use thes_store::keeper::Keeper;
 
-// Returns the sizes of the state that the core holds.
+// Returns the numbers of resources, labels, links, postings and moves of the state that the core holds.
 fn core_sizes(core: &Core) -> Sizes
     requires { core.now.spent ≡ false }
     ensures { (s : State) → IsViewOf core.now s → result ≡ sizes_of s }
@@ -24,7 +25,7 @@ fn core_sizes(core: &Core) -> Sizes
     core.sizes()
 }
 
-// Returns the sizes of the state that the office's tables show.
+// Returns the sizes of the state that the office's tables encode.
 fn office_sizes<K: Keeper>(office: &mut Office<K>) -> Result<Sizes, Fault>
     ensures { FindsSizes K.rows K.is_up K.failed office.old result office.new }
 {
@@ -32,7 +33,7 @@ fn office_sizes<K: Keeper>(office: &mut Office<K>) -> Result<Sizes, Fault>
     Ok(core_sizes(core))
 }
 
-// Prints the sizes or the fault, and returns the exit status.
+// Prints the line of sizes, or of the fault, and returns the exit status.
 fn report_sizes<W: Write, E: Write>(
     alloc: Global,
     sizes: Result<Sizes, Fault>,
@@ -54,7 +55,8 @@ fn report_sizes<W: Write, E: Write>(
     }
 }
 
-/// Prints the sizes of the store, and returns the exit status.
+/// Prints the numbers of resources, labels, links, postings and moves in the store, and returns the
+/// exit status 0; after a fault, prints that and returns 3.
 pub fn check_store<K: Keeper, W: Write, E: Write>(
     alloc: Global,
     office: &mut Office<K>,

@@ -1,4 +1,4 @@
-//! Writes a display of a scheme in a language.
+//! The commands `alphabetical` and `hierarchical`: write a display of a scheme in a language.
 ghost use Rattle.std.specs.Prelude.{◌≡◌, false, Ok, IfOk, IfErr};
 ghost use Rattle.thes_base.specs.Pipe.{IsFresh, KeepsCallLimit};
 ghost use Rattle.thes_base.specs.State.{State};
@@ -7,20 +7,20 @@ ghost use Rattle.thes_display.specs.DisplayWrites.{IsDisplayWritten, IsDisplaySt
 ghost use Rattle.thes_service.specs.Service.{IsDisplay};
 ghost use Rattle.thes_cli.specs.Displaying.{DisplaysStore, EndsDisplay, WritesDisplay};
 
-use crate::ending::{print_error, refusal_line, report_fault};
 use std::alloc::Global;
 use std::io::Write;
 use thes_base::fault::PipeFault;
 use thes_base::number::ResNo;
 use thes_base::pipe::Pipe;
 use thes_base::text::Tag;
+use thes_command_line::printing::{report_fault, report_refusal};
 use thes_core::Core;
 use thes_display::writing::{DisplayOutcome, alphabetical, hierarchical};
 use thes_http::service::Display;
 use thes_office::Office;
 use thes_store::keeper::Keeper;
 
-// Writes a display of the state that the core holds.
+// Writes a display of the state that the core holds, or returns the refusal of the scheme's number.
 fn write_core_display<W: Write>(
     alloc: Global,
     core: &Core,
@@ -45,7 +45,7 @@ fn write_core_display<W: Write>(
     }
 }
 
-// Writes a display of the state that the office's tables show.
+// Writes a display of the state that the office's tables encode, or returns the refusal of the scheme's number.
 fn write_display<K: Keeper, W: Write>(
     alloc: Global,
     office: &mut Office<K>,
@@ -62,7 +62,7 @@ fn write_display<K: Keeper, W: Write>(
     write_core_display(alloc, core, display, scheme, tag, output)
 }
 
-// Prints the refusal, if there is one, and returns the exit status.
+// Prints the refusal, if there is one, and returns the exit status: 1 for a refusal, and else 0.
 fn report_outcome<E: Write>(errors: &mut Pipe<E>, shown: DisplayOutcome) -> u8
     requires { IsFresh errors.old }
     ensures { EndsDisplay E.contents errors.old errors.new (Ok shown) result }
@@ -70,7 +70,7 @@ fn report_outcome<E: Write>(errors: &mut Pipe<E>, shown: DisplayOutcome) -> u8
     match shown {
         DisplayOutcome::Written => 0,
         DisplayOutcome::No(refusal) => {
-            print_error(errors, refusal_line(refusal).as_bytes());
+            report_refusal(errors, refusal);
             1
         }
     }
@@ -87,7 +87,8 @@ fn report_display<E: Write>(errors: &mut Pipe<E>, shown: Result<DisplayOutcome, 
     }
 }
 
-/// Writes a display of a scheme in a language, and returns the exit status.
+/// Writes a display of a scheme in the language of the tag, and returns the exit status: 0, 1 after
+/// a refusal, or 3 after a fault; these are printed.
 pub fn display_store<K: Keeper, W: Write, E: Write>(
     alloc: Global,
     office: &mut Office<K>,

@@ -1,17 +1,17 @@
-//! Writes the store as N-Triples.
+//! The command `export`: writes the triples of a store as N-Triples.
 ghost use Rattle.thes_base.specs.Pipe.{IsFresh};
 ghost use Rattle.thes_cli.specs.Exporting.{ExportsStore, WritesExport};
 
-use crate::ending::report_fault;
 use std::alloc::Global;
 use std::io::Write;
 use thes_base::fault::PipeFault;
 use thes_base::pipe::Pipe;
+use thes_command_line::printing::report_fault;
 use thes_export::writing::export;
 use thes_office::Office;
 use thes_store::keeper::Keeper;
 
-// Writes the export of the state that the office's tables show.
+// Writes the triples of the state that the office's tables encode.
 fn write_export<K: Keeper, W: Write>(
     alloc: Global,
     office: &mut Office<K>,
@@ -25,7 +25,8 @@ fn write_export<K: Keeper, W: Write>(
     export(alloc, core, output)
 }
 
-/// Writes the store as N-Triples, and returns the exit status.
+/// Writes the triples of the store as N-Triples, and returns the exit status: 0, or 3 after a
+/// fault, which is printed.
 pub fn export_store<K: Keeper, W: Write, E: Write>(
     alloc: Global,
     office: &mut Office<K>,

@@ -1,19 +1,20 @@
-//! Imports a posting file into a store.
+//! The command `import`: imports a posting file into a store.
 ghost use Rattle.std.specs.Prelude.{Ok};
 ghost use Rattle.thes_base.specs.Pipe.{IsFresh, KeepsSharedCallLimit};
 ghost use Rattle.thes_cli.specs.Importing.{EndsImport, ImportsPipe, ImportsStore, PrintsCounts};
 
-use crate::ending::{counts_line, form_line, print_error, report_fault};
+use crate::ending::counts_line;
 use std::alloc::Global;
 use std::io::{Read, Write};
 use thes_base::fault::FormFault;
 use thes_base::pipe::Pipe;
+use thes_command_line::printing::{print_error, report_fault, report_form_fault};
 use thes_import::import::{ImportEnd, ImportStop, import};
 use thes_import::report::Counts;
 use thes_office::Office;
 use thes_store::keeper::Keeper;
 
-// Performs a posting file, and writes the outcomes of its rows.
+// Imports a posting file, and writes the outcomes of its rows.
 fn import_rows<K: Keeper, F: Read, W: Write>(
     alloc: Global,
     file: &mut Pipe<F>,
@@ -29,7 +30,7 @@ fn import_rows<K: Keeper, F: Read, W: Write>(
     import(alloc, file, output, office)
 }
 
-// Prints the counts, where that is wanted.
+// Prints the line of counts to standard error, if `prints_it`.
 fn print_counts<E: Write>(errors: &mut Pipe<E>, prints_it: bool, counts: Counts)
     requires { IsFresh errors.old }
     ensures { PrintsCounts E.contents prints_it errors.old errors.new counts }
@@ -40,7 +41,8 @@ fn print_counts<E: Write>(errors: &mut Pipe<E>, prints_it: bool, counts: Counts)
     }
 }
 
-// Prints the counts or that the file is malformed, and returns the exit status.
+// Prints the counts, if `prints_it`, or the form fault of a malformed file, and returns the exit
+// status: 1 if a row was refused or the file is malformed, and else 0.
 fn report_end<E: Write>(errors: &mut Pipe<E>, prints_it: bool, ended: ImportEnd) -> u8
     requires { IsFresh errors.old }
     ensures { EndsImport E.contents prints_it errors.old errors.new (Ok ended) result }
@@ -51,13 +53,14 @@ fn report_end<E: Write>(errors: &mut Pipe<E>, prints_it: bool, ended: ImportEnd)
             u8::from(counts.refused > 0)
         }
         ImportEnd::Malformed => {
-            print_error(errors, form_line(FormFault::BadShape).as_bytes());
+            report_form_fault(errors, FormFault::BadShape);
             1
         }
     }
 }
 
-// Prints the counts or the fault, and returns the exit status.
+// Prints the counts, if `prints_it`, or the form fault or the fault of an import, and returns the
+// exit status.
 fn report_import<E: Write>(
     errors: &mut Pipe<E>,
     prints_it: bool,
@@ -72,8 +75,8 @@ fn report_import<E: Write>(
     }
 }
 
-/// Performs the postings of a file, writes the outcomes of its rows, and returns the exit status. Prints the counts of
-/// rows where that is wanted.
+/// Imports a posting file, writes the outcomes of its rows, prints their counts if `prints_it`, and returns the exit
+/// status.
 pub fn import_file<K: Keeper, F: Read + Drop, W: Write, E: Write>(
     alloc: Global,
     file: F,

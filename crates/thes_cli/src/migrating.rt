@@ -1,20 +1,22 @@
-//! The command `migrate`: migrates a store, or makes a new one, and prints the version.
+//! The command `migrate`: migrates a store, or makes a new one, and prints its version.
 ghost use Rattle.std.specs.Prelude.{◌≡◌, false};
 ghost use Rattle.thes_base.specs.Pipe.{IsFresh};
 ghost use Rattle.thes_cli.specs.Migrating.{MakesDatabase, MigratesDatabase, version_line};
-ghost use Rattle.thes_cli.specs.EarlyExit.{PrintsText};
+ghost use Rattle.thes_command_line.specs.Printing.{PrintsText};
 
-use crate::ending::{print_out, report_in_file};
+use crate::progress::Progress;
+use crate::trouble::report_unmade;
 use sqlite::{Alter, Connection};
 use std::alloc::Global;
 use std::io::Write;
 use thes_base::pipe::Pipe;
-use thes_base::text::Base;
+use thes_command_line::arguments::StoreSetting;
+use thes_command_line::printing::{print_out, report_in_file};
+use thes_command_line::trouble::StoreTrouble;
 use thes_sql::create::create_tables;
-use thes_sqlite::faults::fault_of;
-use thes_sqlite::migrating::migrate;
+use thes_sqlite::keeper::SqlKeeper;
 
-/// Prints the version of a store after a migration, and returns the exit status.
+/// Prints the line of version 2, and returns the exit status: 0, or 3 if it can't be written.
 pub fn print_version<W: Write, E: Write>(output: &mut Pipe<W>, errors: &mut Pipe<E>) -> u8
     requires output { IsFresh output.old }
     requires errors { IsFresh errors.old }
@@ -29,7 +31,7 @@ pub fn print_version<W: Write, E: Write>(output: &mut Pipe<W>, errors: &mut Pipe
 pub fn migrate_in_database<S: Alter, W: Write, E: Write>(
     alloc: Global,
     file: &str,
-    mut conn: Connection<S>,
+    conn: Connection<S>,
     output: &mut Pipe<W>,
     errors: &mut Pipe<E>,
 ) -> (u8, Connection<S>)
@@ -39,19 +41,25 @@ pub fn migrate_in_database<S: Alter, W: Write, E: Write>(
     ensures { MigratesDatabase W.contents E.contents output.old output.new errors.old errors.new
         S.Store file.now conn result.0 result.1 }
 {
-    match migrate(alloc, &mut conn) {
+    let mut keeper = SqlKeeper::adopt(alloc, conn);
+    let ended = keeper.migrate();
+    let conn = keeper.into_connection();
+    match ended {
         Ok(_) => (print_version(output, errors), conn),
-        Err(fault) => (report_in_file(alloc, errors, file, fault), conn),
+        Err(fault) => (
+            report_in_file(errors, file, StoreTrouble::Unwritable, fault),
+            conn,
+        ),
     }
 }
 
 /// Makes a new store in a database without tables, prints the version or the fault, and returns the exit status with
 /// the connection.
-pub fn make_in_new_database<S: Alter, W: Write, E: Write>(
-    alloc: Global,
+pub fn make_in_new_database<S: Alter, P: Progress + Copy, W: Write, E: Write>(
+    mut progress: P,
     file: &str,
     mut conn: Connection<S>,
-    base: &Base,
+    setting: &StoreSetting,
     output: &mut Pipe<W>,
     errors: &mut Pipe<E>,
 ) -> (u8, Connection<S>)
@@ -59,10 +67,13 @@ pub fn make_in_new_database<S: Alter, W: Write, E: Write>(
     requires output { IsFresh output.old }
     requires errors { IsFresh errors.old }
     ensures { MakesDatabase W.contents E.contents output.old output.new errors.old errors.new
-        S.Store file.now base.now conn result.0 result.1 }
+        S.Store file.now setting.now.base conn result.0 result.1 }
 {
-    match create_tables(&mut conn, base) {
-        Ok(_) => (print_version(output, errors), conn),
-        Err(error) => (report_in_file(alloc, errors, file, fault_of(error)), conn),
+    match create_tables(&mut conn, &setting.base) {
+        Ok(_) => {
+            progress.report_new_store(file);
+            (print_version(output, errors), conn)
+        }
+        Err(error) => (report_unmade(errors, file, error), conn),
     }
 }

@@ -1,18 +1,27 @@
-//! Reports the progress of work over a keeper.
+//! Listeners for the progress of work over the storage.
 mod counting_sink;
 pub mod reporting_keeper;
 
-/// A listener for progress. Its calls have no effect on the work.
+/// A listener for progress. Its calls don't affect the work.
 pub trait Progress {
-    /// Reports the number of rows of the tables read so far.
+    /// Reports that a new store was made in this file.
+    fn report_new_store(&mut self, file: &str);
+
+    /// Reports the number of rows of the tables read so far, during a load.
     fn report_rows(&mut self, rows: u64);
 
-    /// Reports the number of postings looked up before this one; the work for them is done.
+    /// Reports, at each look-up of a posting by its key, the number of look-ups before it.
     fn report_lookups(&mut self, postings: u64);
 }
 
-/// No listener ignores the reports.
+/// The reports are ignored if there is no listener.
 impl<P: Progress> Progress for Option<P> {
+    fn report_new_store(&mut self, file: &str) {
+        if let Some(progress) = self {
+            progress.report_new_store(file);
+        }
+    }
+
     fn report_rows(&mut self, rows: u64) {
         if let Some(progress) = self {
             progress.report_rows(rows);

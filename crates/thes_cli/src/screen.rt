@@ -1,15 +1,19 @@
-//! Prints progress on a terminal.
+//! Progress of loads and imports, printed on a terminal.
+ghost use Rattle.std.specs.Prelude.{◌↔◌, ◌≤◌, ◌-◌, IsTrue};
+ghost use Rattle.std.specs.Time.{instant_nanos};
+
 use crate::progress::Progress;
 use std::rt::Clock;
 use std::time::Instant;
 
-// The seconds between two lines.
+// The time between two lines, in seconds.
 const PAUSE: u64 = 1;
 
 // The number of rows between two readings of the clock.
 const STRIDE: u64 = 1_024;
 
-/// Prints the number of rows read, or of rows imported, to standard error, at most once a second.
+/// A listener that prints new stores to standard error, and at most once a second the number of
+/// rows read or imported.
 #[derive_where(Clone, Copy)]
 pub struct Screen<'a, R> {
     rt: &'a R,
@@ -18,8 +22,15 @@ pub struct Screen<'a, R> {
     is_import: bool,
 }
 
+// Returns whether a line is due: a second has passed since the last one.
+fn is_due(last: Instant, now: Instant) -> bool
+    ensures { IsTrue result ↔ (1_000_000_000 ≤ instant_nanos now - instant_nanos last) }
+{
+    now.duration_since(last).as_secs() >= PAUSE
+}
+
 impl<'a, R: Clock + Eprint> Screen<'a, R> {
-    /// Makes a listener for work that begins now, unless the clock fails.
+    /// Returns a listener for work that begins now, or `None` if the clock fails.
     pub fn new(rt: &'a R, is_import: bool) -> Option<Screen<'a, R>> {
         match Instant::now(rt) {
             Ok(last) => Some(Screen {
@@ -31,10 +42,11 @@ impl<'a, R: Clock + Eprint> Screen<'a, R> {
         }
     }
 
-    // Returns whether a second has passed, and restarts the clock if so.
-    fn is_due(&mut self) -> bool {
+    // Returns whether a second has passed since the last line, and restarts the second if so; false
+    // if the clock fails.
+    fn takes_turn(&mut self) -> bool {
         match Instant::now(self.rt) {
-            Ok(now) if now.duration_since(self.last).as_secs() >= PAUSE => {
+            Ok(now) if is_due(self.last, now) => {
                 self.last = now;
                 true
             }
@@ -44,15 +56,19 @@ impl<'a, R: Clock + Eprint> Screen<'a, R> {
 }
 
 impl<R: Clock + Eprint> Progress for Screen<'_, R> {
+    fn report_new_store(&mut self, file: &str) {
+        // A line that can't be printed is dropped.
+        let _ = eprintln!(self.rt; "thesaurus: new store {file}");
+    }
+
     fn report_rows(&mut self, rows: u64) {
-        if rows % STRIDE == 0 && self.is_due() {
-            // A line that can't be printed is dropped.
+        if rows % STRIDE == 0 && self.takes_turn() {
             let _ = eprintln!(self.rt; "thesaurus: {rows} rows read");
         }
     }
 
     fn report_lookups(&mut self, postings: u64) {
-        if self.is_import && self.is_due() {
+        if self.is_import && self.takes_turn() {
             let _ = eprintln!(self.rt; "thesaurus: {postings} rows done");
         }
     }

@@ -1,13 +1,12 @@
-//! Works over a store.
-ghost use Rattle.std.specs.Prelude.{option_copied};
+//! The tasks of the program, performed over a store.
+ghost use Rattle.std.specs.Prelude.{◌≡◌, is_some, option_copied};
 ghost use Rattle.thes_base.specs.Pipe.{IsFresh};
 ghost use Rattle.thes_cli.specs.Streams.{streams};
+ghost use Rattle.thes_cli.specs.Work as work;
 ghost use Rattle.thes_cli.specs.Work.{DoesWork, WorksOverKeeper, WorksInMemory};
 
-use crate::arguments::DisplayOptions;
 use crate::checking::check_store;
 use crate::displaying::display_store;
-use crate::ending::report_fault_at;
 use crate::exporting::export_store;
 use crate::importing::import_file;
 use crate::progress::Progress;
@@ -17,33 +16,90 @@ use crate::serving::{Listening, serve_store};
 use std::alloc::Global;
 use std::io::{Read, Write};
 use std::net::Net;
+use std::rt::Clock;
 use thes_base::data::Limits;
 use thes_base::pipe::Pipe;
-use thes_base::text::Base;
+use thes_command_line::arguments::{DisplayOptions, ServeOptions, StoreSetting, Task};
+use thes_command_line::printing::report_fault_at;
+use thes_command_line::trouble::StoreTrouble;
+use thes_http::service::Display;
 use thes_office::Office;
 use thes_store::keeper::Keeper;
 use thes_store::mem::MemKeeper;
 
-/// A task whose file or socket is open.
+/// The work of a task, with its file or socket open if it has one.
 #[derive(Drop)]
 pub enum Work<F, L> {
-    /// Answers a script.
+    /// Answers the script on standard input.
     Script,
-    /// Prints the sizes of the store.
+    /// Checks the store, and prints the sizes of its tables.
     Check,
-    /// Writes the store as N-Triples.
+    /// Writes the triples of the store as N-Triples.
     Export,
-    /// Writes a display.
-    Display(DisplayOptions),
-    /// Imports this posting file, and prints the counts of its rows where the second value is true.
+    /// Writes a display of a scheme.
+    Display(Display, DisplayOptions),
+    /// Imports this posting file; the Boolean says whether to print the counts of its rows.
     Import(F, bool),
-    /// Serves connections to this socket.
+    /// Serves the connections to this socket.
     Serve(Listening<L>),
 }
 
-// Performs a task over an office, and returns the exit status with the office.
-fn do_work<N: Net, K: Keeper, F: Read + Drop, R: Read, W: Write, E: Write>(
+/// The work of a task, before its file or socket is opened if it has one.
+#[derive(Drop)]
+pub enum PlannedWork<F, L> {
+    /// Work that needs no other file and no socket.
+    Ready(Work<F, L>),
+    /// Imports the posting file with this name.
+    Import(String),
+    /// Serves connections on a port.
+    Serve(ServeOptions),
+    /// Migrates the store, without loading it.
+    Migrate,
+}
+
+/// Returns the work of a task, before any file or socket is opened.
+pub fn planned_work<F, L>(task: Task) -> PlannedWork<F, L>
+    ensures { result ≡ work.planned_work task }
+{
+    match task {
+        Task::Script => PlannedWork::Ready(Work::Script),
+        Task::Check => PlannedWork::Ready(Work::Check),
+        Task::Export => PlannedWork::Ready(Work::Export),
+        Task::Alphabetical(options) => {
+            PlannedWork::Ready(Work::Display(Display::Alphabetical, options))
+        }
+        Task::Hierarchical(options) => {
+            PlannedWork::Ready(Work::Display(Display::Hierarchical, options))
+        }
+        Task::Import(file) => PlannedWork::Import(file),
+        Task::Serve(options) => PlannedWork::Serve(options),
+        Task::Migrate => PlannedWork::Migrate,
+    }
+}
+
+/// Returns the work of importing a posting file. The counts of its rows are printed if there is a listener for
+/// progress.
+pub fn import_work<F, L, P>(file: F, progress: &Option<P>) -> Work<F, L>
+    ensures { result ≡ Work.Import file (is_some progress.now) }
+{
+    Work::Import(file, progress.is_some())
+}
+
+/// Returns the work of serving a socket with these options.
+pub fn serve_work<F, L>(listener: L, options: ServeOptions) -> Work<F, L>
+    ensures { result ≡ work.serve_work listener options }
+{
+    Work::Serve(Listening {
+        listener,
+        port: options.port,
+        count: options.count,
+    })
+}
+
+// Performs work over an office, and returns the exit status of its command, and the office.
+fn do_work<N: Net + Clock, K: Keeper, F: Read + Drop, R: Read, W: Write, E: Write>(
     alloc: Global,
+    clock: &N,
     task: Work<F, N::Listener>,
     mut office: Office<K>,
     input: &mut Pipe<R>,
@@ -60,17 +116,19 @@ fn do_work<N: Net, K: Keeper, F: Read + Drop, R: Read, W: Write, E: Write>(
     let status = match task {
         Work::Script => return answer_script(alloc, office, input, output, errors),
         Work::Serve(listening) => {
-            return serve_store::<N, K, W, E>(alloc, &listening, office, output, errors);
+            return serve_store::<N, K, W, E>(alloc, clock, &listening, office, output, errors);
         }
         Work::Check => check_store(alloc, &mut office, output, errors),
         Work::Export => export_store(alloc, &mut office, output, errors),
-        Work::Display(
-            DisplayOptions {
-                display,
-                scheme,
-                lang,
-            },
-        ) => display_store(alloc, &mut office, display, scheme, &lang, output, errors),
+        Work::Display(display, DisplayOptions { scheme, lang }) => display_store(
+            alloc,
+            &mut office,
+            display,
+            scheme,
+            &lang,
+            output,
+            errors,
+        ),
         Work::Import(file, prints_it) => {
             import_file(alloc, file, prints_it, &mut office, output, errors)
         }
@@ -78,12 +136,14 @@ fn do_work<N: Net, K: Keeper, F: Read + Drop, R: Read, W: Write, E: Write>(
     (status, office)
 }
 
-/// Opens the store of a keeper with the default limits, works over it, and returns the exit status with the keeper. The
-/// fault of a store that can't be opened is printed with the name of its file, if it has one.
-pub fn work_over<N: Net, K: Keeper, F: Read + Drop, R: Read, W: Write, E: Write>(
+/// Opens an office over the storage with these limits, works over it, and returns the exit status with the storage. The
+/// fault of a store that can't be opened is printed, after the name of its file if it has one.
+pub fn work_over<N: Net + Clock, K: Keeper, F: Read + Drop, R: Read, W: Write, E: Write>(
     alloc: Global,
+    clock: &N,
     task: Work<F, N::Listener>,
     file: Option<&str>,
+    limits: Limits,
     keeper: K,
     input: &mut Pipe<R>,
     output: &mut Pipe<W>,
@@ -93,26 +153,37 @@ pub fn work_over<N: Net, K: Keeper, F: Read + Drop, R: Read, W: Write, E: Write>
     requires output { IsFresh output.old }
     requires errors { IsFresh errors.old }
     ensures { WorksOverKeeper K.rows K.is_up K.failed F.remaining R.remaining W.contents E.contents
-        task (option_copied file.entry) keeper (streams input.old output.old errors.old)
+        task (option_copied file.entry) limits keeper (streams input.old output.old errors.old)
         result.0 result.1 (streams input.new output.new errors.new) }
 {
-    match Office::start(alloc, keeper, Limits::default()) {
+    match Office::start(alloc, keeper, limits) {
         Ok(office) => {
             let (status, office) = do_work::<N, K, F, R, W, E>(
-                alloc, task, office, input, output, errors,
+                alloc, clock, task, office, input, output, errors,
             );
             (status, office.into_keeper())
         }
-        Err((fault, keeper)) => (report_fault_at(alloc, errors, file, fault), keeper),
+        Err((fault, keeper)) => (
+            report_fault_at(errors, file, StoreTrouble::Unreadable, fault),
+            keeper,
+        ),
     }
 }
 
-/// Works over a new store in memory with the default limits, and returns the exit status.
-pub fn work_in_memory<N: Net, P: Progress + Copy, F: Read + Drop, R: Read, W: Write, E: Write>(
+/// Works over a new store in memory with this base and these limits, and returns the exit status.
+pub fn work_in_memory<
+    N: Net + Clock,
+    P: Progress + Copy,
+    F: Read + Drop,
+    R: Read,
+    W: Write,
+    E: Write,
+>(
     alloc: Global,
+    clock: &N,
     task: Work<F, N::Listener>,
     progress: P,
-    base: Base,
+    setting: StoreSetting,
     input: &mut Pipe<R>,
     output: &mut Pipe<W>,
     errors: &mut Pipe<E>,
@@ -120,14 +191,16 @@ pub fn work_in_memory<N: Net, P: Progress + Copy, F: Read + Drop, R: Read, W: Wr
     requires input { IsFresh input.old }
     requires output { IsFresh output.old }
     requires errors { IsFresh errors.old }
-    ensures { WorksInMemory F.remaining R.remaining W.contents E.contents task base
+    ensures { WorksInMemory F.remaining R.remaining W.contents E.contents task setting.base
+        setting.limits
         (streams input.old output.old errors.old) result (streams input.new output.new errors.new) }
 {
-    // No effect; states that the base has its form for the proof.
+    let StoreSetting { base, limits } = setting;
+    // No effect; states for the proof that the base has its form.
     let _ = base.as_str();
     let keeper = ReportingKeeper::new(MemKeeper::new(alloc, base), progress);
     let (status, _) = work_over::<N, ReportingKeeper<MemKeeper, P>, F, R, W, E>(
-        alloc, task, None, keeper, input, output, errors,
+        alloc, clock, task, None, limits, keeper, input, output, errors,
     );
     status
 }

@@ -20,10 +20,11 @@ use Rattle.thes_base.specs.State.{State, empty_state}
 use Rattle.thes_base.specs.Changes.{histories_after_split, histories_after_post, new_history, scheme_resource}
 use Rattle.thes_base.specs.Changes.{collection_resource, concept_resource, state_after_split, is_listed, next_number}
 use Rattle.thes_base.specs.Headline.{IsConsistentState}
-use Rattle.thes_base.specs.Legal.{Legal}
-use Rattle.thes_base.specs.Texts.{HasForms}
+use Rattle.thes_base.specs.Legal.{IsLegalState}
+use Rattle.thes_base.specs.Texts.{CommandHasForms}
 use Rattle.thes_base.specs.Machine.{Step, next_state, answer_of}
-use Rattle.thes_base.specs.Refusals.{Setting, IsSetting, unless_unique, unless_split_postings}
+use Rattle.thes_base.specs.Refusals.{Setting, IsSetting}
+use Rattle.thes_base.specs.RuleParts.{unless_unique, unless_split_postings}
 use Rattle.thes_base.proofs.ForwardingLemmas.{count_posted}
 use Rattle.thes_base.proofs.ListedLemmas.{listed_count}
 use Rattle.thes_base.proofs.MachineLemmas.{legal_empty, legal_is_consistent}
@@ -33,7 +34,7 @@ use Rattle.thes_base.proofs.RefusalRuleLemmas.{passed_unless, passed_if}
 use Rattle.thes_base.proofs.SoundStateLemmas.{IsSound}
 use Rattle.thes_vocab.specs.Vocabulary.{Vocabulary, empty_vocabulary}
 use Rattle.thes_vocab.specs.NewResources.{unless_new, vocabulary_after_add}
-use Rattle.thes_graph.specs.Net.{Net}
+use Rattle.thes_graph.specs.GraphView.{GraphView}
 use Rattle.thes_post.specs.PostingCounts.{PostingCounts, ArePostingCounts, CountsAfterMoves}
 use Rattle.thes_post.proofs.PostingCountLemmas.{AllAssigned, all_assigned, both_fit, fewer_than, sums_moved, sums_none}
 use Rattle.thes_core.specs.declared.thesaurus.Thesaurus.{Thesaurus}
@@ -49,9 +50,10 @@ use Rattle.thes_core.proofs.RequestCheckLemmas.{name_allowed}
 use Rattle.thes_core.proofs.NextStateLemmas.{next_sound, next_legal, step_of_accepted}
 use Rattle.thes_core.proofs.OutsideLemmas.{knows_pushed, knows_marked}
 
--- If the new vocabulary and graph have the parts of a state, and the limits and the base are the old ones, the new
--- parts have that state.
-pub parts_become_state : {old new : Thesaurus} {s : State} {v : Vocabulary} {g : Net} → new.vocab ≡ v → new.graph ≡ g
+-- If the new vocabulary and graph are those of a state, and limits and base are unchanged, the new parts are those of
+-- the state.
+pub parts_become_state : {old new : Thesaurus} {s : State} {v : Vocabulary} {g : GraphView} → new.vocab ≡ v → new.graph
+    ≡ g
     → new.limits ≡ old.limits
     → record { resources = v.resources; iris = v.iris; labels = v.labels; links = g.links; histories = s.histories }
     ≡ s → v.base ≡ old.vocab.base → ((n : ℕ) → set.contains g.outside n ≡ is_outside v.resources n)
@@ -67,7 +69,7 @@ parts_become_state {old} {new} {s} {v} {g} is_v is_g is_l is_s base knows = reco
   }) ∙ is_s;
   setting = (λ i. record { base = (is_v i).base; limits = is_l i })
       ∙ (λ i. record { base = base i; limits = old.limits });
-  outside = λ n. ap (λ (x : Net). set.contains x.outside n) is_g ∙ knows n
+  outside = λ n. ap (λ (x : GraphView). set.contains x.outside n) is_g ∙ knows n
       ∙ ap (λ (x : Vocabulary). is_outside x.resources n) (sym is_v);
 }
 
@@ -76,19 +78,19 @@ sound_after : (t : Thesaurus) (hs : List History) (command : Command) → PartsA
     → IsSound t.vocab.base (next_state command (parts_state t hs))
 sound_after t hs command ok = next_sound (setting_of t) ok.kept.fit (parts_state t hs) command ok.kept.legal ok.accepts
 
--- Parts that have a legal state satisfy their invariant.
-pub kept_after : (old new : Thesaurus) (s : State) → IsSetting (setting_of old) → Legal old.vocab.base s
+-- Parts of a legal state satisfy their invariant.
+pub kept_after : (old new : Thesaurus) (s : State) → IsSetting (setting_of old) → IsLegalState old.vocab.base s
     → PartsOfState old s new → AreLegal new s.histories
 kept_after old new s fit legal made = record {
   fit = subst IsSetting (sym made.setting) fit;
-  legal = subst (λ (x : List ℕ). Legal x (parts_state new s.histories))
-      (sym (ap (λ (x : Setting). x.base) made.setting)) (subst (Legal old.vocab.base) (sym made.state) legal);
+  legal = subst (λ (x : List ℕ). IsLegalState x (parts_state new s.histories))
+      (sym (ap (λ (x : Setting). x.base) made.setting)) (subst (IsLegalState old.vocab.base) (sym made.state) legal);
   outside = made.outside;
 }
 
--- The next state of a request that may be applied, without its postings, is legal.
-bare_legal : (t : Thesaurus) (command : Command) → HasForms command → MayChange t command
-    → Legal t.vocab.base (without_postings (next_state command (parts_state t [])))
+-- The next state of a request that may be applied is legal without its postings.
+bare_legal : (t : Thesaurus) (command : Command) → CommandHasForms command → MayChange t command
+    → IsLegalState t.vocab.base (without_postings (next_state command (parts_state t [])))
 bare_legal t (request.Scheme tag text) forms (kept, ok) = next_legal (setting_of t) kept.fit (parts_state t [])
     (request.Scheme tag text) forms kept.legal ok
 bare_legal t (request.Concept scheme tag text) forms (kept, ok) =
@@ -116,7 +118,7 @@ bare_legal t (request.Split source tag text postings) forms (kept, ok) =
 bare_legal t (request.Post key rec concept) forms (kept, ok) = kept.legal
 bare_legal t (request.Withdraw posting) forms (kept, ok) = kept.legal
 
--- The next state, apart from its postings, doesn't depend on the postings of the state.
+-- The next state, except for its postings, doesn't depend on the postings of the state.
 next_parts : (t : Thesaurus) (hs : List History) (command : Command)
     → record (without_postings (next_state command (parts_state t []))) {
       histories =
@@ -137,7 +139,7 @@ next_parts t hs (request.Split source tag text postings) = refl
 next_parts t hs (request.Post key rec concept) = refl
 next_parts t hs (request.Withdraw posting) = refl
 
--- If the parts have the next state for no histories, they have it for any.
+-- If the new parts are those of the next state for no histories, they are for any.
 pub remade_for : (old new : Thesaurus) (hs : List History) (command : Command) → PartsAfter command old new
     → PartsOfState old (next_state command (parts_state old hs)) new
 remade_for old new hs command made = record {
@@ -168,7 +170,7 @@ merge_there t hs source target ok =
     let few = ok.kept.legal.postings.few in
     omega (arith, fit, few)
 
--- The moves of a new posting can be numbered within 32 bits, and so can the posting.
+-- The moves of a new posting can be numbered within 32 bits, and so can the posting itself.
 pub post_fits : (t : Thesaurus) (hs : List History) (key rec : List ℕ) (concept : ℕ)
     → PartsAccept t hs (request.Post key rec concept) → move_count hs
     + length (replacements t.vocab.resources concept) < 2 ^ 32
@@ -196,7 +198,7 @@ remade_post (Ok answer) t new command key rec concept is made = subst (λ (k : C
     (made key rec)
 remade_post (Err fault) t new command key rec concept is made = tt
 
--- A new resource gives the parts the machine's next state.
+-- The parts after a resource is created are those of the machine's next state.
 module _ (t : Thesaurus) (kept : AreLegal t []) where
   pub made_other : (new : NewResource) (v : Vocabulary) → is_foreign new ≡ false → v ≡ vocabulary_after_add new
       t.vocab → PartsAfter (creation_request new) t (record t { vocab = v })
@@ -208,7 +210,7 @@ module _ (t : Thesaurus) (kept : AreLegal t []) where
       (knows_pushed t kept.outside (collection_resource scheme) refl)
   made_other (Outside iri) v e is = absurd (cc)
 
-  pub made_outside : (new : NewResource) (v : Vocabulary) (g : Net) (n : ℕ) → is_foreign new ≡ true → v
+  pub made_outside : (new : NewResource) (v : Vocabulary) (g : GraphView) (n : ℕ) → is_foreign new ≡ true → v
       ≡ vocabulary_after_add new t.vocab → n ≡ length t.vocab.resources + 1 → g
       ≡ record t.graph { outside = set.insert t.graph.outside n } → PartsAfter (creation_request new) t
       (record t { vocab = v; graph = g })
@@ -219,16 +221,22 @@ module _ (t : Thesaurus) (kept : AreLegal t []) where
   made_outside (Concept scheme tag text) v g n e is number marked = absurd (cc)
   made_outside (Collection scheme tag text) v g n e is number marked = absurd (cc)
 
--- The answer to a request for a new resource is its number, and the counts of postings stay the same.
+-- The answer to a request for a new resource is its number, and the counts of postings are unchanged.
 pub made_counts : (t changed : Thesaurus) (hs : List History) (new : NewResource) {n : ℕ} → n
     ≡ length t.vocab.resources + 1 → ArePostingCounts hs changed.book → CountsAfter (creation_request new) hs t
     changed (reply.Number n)
-made_counts t changed hs (Scheme tag text) is are = record { answer_is = ap reply.Number is; sums = are }
-made_counts t changed hs (Concept scheme tag text) is are = record { answer_is = ap reply.Number is; sums = are }
-made_counts t changed hs (Collection scheme tag text) is are = record { answer_is = ap reply.Number is; sums = are }
-made_counts t changed hs (Outside iri) is are = record { answer_is = ap reply.Number is; sums = are }
+made_counts t changed hs (Scheme tag text) is are = record { answer_is = ap reply.Number is; posting_counts = are }
+made_counts t changed hs (Concept scheme tag text) is are = record {
+  answer_is = ap reply.Number is;
+  posting_counts = are;
+}
+made_counts t changed hs (Collection scheme tag text) is are = record {
+  answer_is = ap reply.Number is;
+  posting_counts = are;
+}
+made_counts t changed hs (Outside iri) is are = record { answer_is = ap reply.Number is; posting_counts = are }
 
--- A split: the facts on its source and its postings, the new counts, and the new state of the parts.
+-- Assumes an accepted split, and gathers its facts, the new counts and the new state.
 module _ (t : Thesaurus) (hs : List History) (source : ℕ) (tag text : List ℕ) (postings : List ℕ)
     (ok : PartsAccept t hs (request.Split source tag text postings)) where
   abbrev split_state : State
@@ -286,25 +294,25 @@ module _ (t : Thesaurus) (hs : List History) (source : ℕ) (tag text : List ℕ
         let unique : unless_unique split_state.resources split_state.labels accepted None = search rules depth 20 in
         name_allowed t hs ok.kept source scheme tag text split_source is unique
 
-    pub split_made : (v : Vocabulary) (b : PostingCounts) → v ≡ vocabulary_after_add (Concept scheme tag text) t.vocab
-        → PartsOfState t (without_postings split_state) (record t { vocab = v; book = b })
-    split_made v b is_v = parts_become_state is_v refl refl
+    pub split_adds_concept : (v : Vocabulary) (b : PostingCounts) → v ≡ vocabulary_after_add (Concept scheme tag text)
+        t.vocab → PartsOfState t (without_postings split_state) (record t { vocab = v; book = b })
+    split_adds_concept v b is_v = parts_become_state is_v refl refl
         (λ i. record (without_postings split_state) {
           resources = t.vocab.resources ++ concept_resource (sym is i)
               ∷ [];
         })
         refl (knows_pushed t ok.kept.outside (concept_resource (Some scheme)) refl)
 
--- A state that a core holds is consistent.
+-- A state of which a core is a view is consistent.
 pub held_in_order : (k : CoreView) (s : State) → IsViewOf k s → IsConsistentState k.setting.base s
 held_in_order k s holds = legal_is_consistent k.setting.base s holds.legal
 
--- The view of a usable core is that of its parts.
+-- The view of a usable core is the view of its parts.
 pub held_unspent : (t : Thesaurus) (spent : Bool) (k : CoreView) → parts_view t spent ≡ k → k.spent ≡ false
     → parts_view t false ≡ k
 held_unspent t spent k is unspent = ap (parts_view t) (sym (ap (λ (x : CoreView). x.spent) is ∙ unspent)) ∙ is
 
--- A core holds a state exactly when its parts have it and count its histories.
+-- A core is a view of a state exactly when its parts are those of the state and count its histories.
 module _ (t : Thesaurus) (spent : Bool) (k : CoreView) (is : parts_view t spent ≡ k) (s : State) where
   pub held_state : IsViewOf k s → parts_state t s.histories ≡ s
   held_state holds = ap (with_histories s.histories) is ∙ holds.state
@@ -313,21 +321,27 @@ module _ (t : Thesaurus) (spent : Bool) (k : CoreView) (is : parts_view t spent 
   held_setting = ap (λ (x : CoreView). x.setting) is
 
   pub held_sums : IsViewOf k s → ArePostingCounts s.histories t.book
-  held_sums holds = subst (ArePostingCounts s.histories) (ap (λ (x : CoreView). x.sums) (sym is)) holds.sums
+  held_sums holds = subst (ArePostingCounts s.histories) (ap (λ (x : CoreView). x.posting_counts) (sym is))
+      holds.posting_counts
 
   pub held_kept : AreLegal t [] → IsViewOf k s → AreLegal t s.histories
   held_kept fit holds = record {
     fit = fit.fit;
-    legal = subst (λ (p : List ℕ × State). Legal p.0 p.1)
+    legal = subst (λ (p : List ℕ × State). IsLegalState p.0 p.1)
         (λ i. (ap (λ (x : CoreView). x.setting.base) (sym is) i, sym (held_state holds) i)) holds.legal;
     outside = fit.outside;
   }
 
 pub held_of : (t : Thesaurus) (spent : Bool) (s : State) → parts_state t s.histories ≡ s → AreLegal t s.histories
     → ArePostingCounts s.histories t.book → IsViewOf (parts_view t spent) s
-held_of t spent s is kept sums = record { state = is; sums = sums; legal = subst (Legal t.vocab.base) is kept.legal }
+held_of t spent s is kept posting_counts = record {
+  state = is;
+  posting_counts = posting_counts;
+  legal = subst (IsLegalState t.vocab.base) is
+      kept.legal;
+}
 
--- After an accepted request the core holds the machine's next state.
+-- After an accepted request the core is a view of the machine's next state.
 module _ (t : Thesaurus) (spent : Bool) (k : CoreView) (is : parts_view t spent ≡ k) (s : State) (fit : AreLegal t [])
     (holds : IsViewOf k s) (command : Command) (accepts : IsAccepted k.setting s command) where
   pub held_allows : PartsAccept t s.histories command
@@ -338,9 +352,13 @@ module _ (t : Thesaurus) (spent : Bool) (k : CoreView) (is : parts_view t spent 
   }
 
   pub held_meant : (facts : Facts) → AreFacts command s.histories facts → AreMatching t command facts s.histories
-  held_meant facts are = record { allows = held_allows; sums = held_sums t spent k is s holds; are_facts = are }
+  held_meant facts are = record {
+    allows = held_allows;
+    posting_counts = held_sums t spent k is s holds;
+    are_facts = are;
+  }
 
-  module _ (new : Thesaurus) (answer : Answer) (forms : HasForms command) (made : PartsAfter command t new)
+  module _ (new : Thesaurus) (answer : Answer) (forms : CommandHasForms command) (made : PartsAfter command t new)
       (counts : CountsAfter command s.histories t new answer) where
     abbrev next : State
     next = next_state command (parts_state t s.histories)
@@ -358,22 +376,22 @@ module _ (t : Thesaurus) (spent : Bool) (k : CoreView) (is : parts_view t spent 
         let same = held_state t spent k is s holds in (
           counts.answer_is ∙ ap (answer_of command) same,
           subst (IsViewOf (parts_view new false)) (ap (next_state command) same)
-              (held_of new false next made_next.state kept_new counts.sums),
+              (held_of new false next made_next.state kept_new counts.posting_counts),
           refl,
           made_next.setting ∙ held_setting t spent k is s,
         )
 
 -- After a request that may be applied, the parts satisfy their invariant.
-pub fit_new : (t new : Thesaurus) (command : Command) → HasForms command → MayChange t command
+pub fit_new : (t new : Thesaurus) (command : Command) → CommandHasForms command → MayChange t command
     → PartsAfter command t new → AreLegal new []
 fit_new t new command forms may made = kept_after t new (without_postings (next_state command (parts_state t [])))
     may.0.fit (bare_legal t command forms may) made
 
 -- Applying an accepted request is a step of the machine.
-pub performs_made : (old new : CoreView) (s : State) (command : Command) (result : Result Answer Fault)
+pub step_performs : (old new : CoreView) (s : State) (command : Command) (result : Result Answer Fault)
     → IsAccepted old.setting s command → ApplyResult old (next_state command s) (answer_of command s) result new
     → CoreStepResult old s command result new
-performs_made old new s command (Ok answer) accepts makes = (
+step_performs old new s command (Ok answer) accepts makes = (
   next_state command s,
   subst (λ (a : Answer). Step old.setting s command a (next_state command s)) (sym makes.0)
       (step_of_accepted old.setting s command accepts),
@@ -381,27 +399,27 @@ performs_made old new s command (Ok answer) accepts makes = (
   makes.2,
   makes.3,
 )
-performs_made old new s command (Err fault) accepts makes = (makes.0, inr makes.1)
+step_performs old new s command (Err fault) accepts makes = (makes.0, inr makes.1)
 
-pub order_made : (k : CoreView) (result : Result Answer Fault)
+pub consistent_after_step : (k : CoreView) (result : Result Answer Fault)
     → OnOk result ((s : State) → IsViewOf k s → IsConsistentState k.setting.base s)
-order_made k (Ok answer) = held_in_order k
-order_made k (Err fault) = tt
+consistent_after_step k (Ok answer) = held_in_order k
+consistent_after_step k (Err fault) = tt
 
 none_outside : (n : ℕ) → is_outside [] n ≡ false
 none_outside zero = refl
 none_outside (suc n) = refl
 
--- The parts of a new core satisfy their invariant and have the empty state.
+-- The parts of a new core satisfy their invariant and are those of the empty state.
 module _ (t : Thesaurus) (base : List ℕ) (fit : IsSetting (record { base = base; limits = t.limits }))
     (vocab : t.vocab ≡ empty_vocabulary base) (graph : t.graph ≡ record { links = set.empty; outside = set.empty })
     (book : t.book ≡ record { counts = []; accepted = 0; withdrawn = 0; moves = 0 }) where
   pub fit_empty : AreLegal t []
   fit_empty = record {
     fit = subst IsSetting (λ i. record { base = (sym vocab i).base; limits = t.limits }) fit;
-    outside = λ n. ap (λ (g : Net). set.contains g.outside n) graph ∙ set.contains-empty nat_cmp n
+    outside = λ n. ap (λ (g : GraphView). set.contains g.outside n) graph ∙ set.contains-empty nat_cmp n
         ∙ sym (none_outside n) ∙ ap (λ (v : Vocabulary). is_outside v.resources n) (sym vocab);
-    legal = subst (λ (x : Vocabulary × Net). Legal x.0.base
+    legal = subst (λ (x : Vocabulary × GraphView). IsLegalState x.0.base
         (record {
           resources = x.0.resources;
           iris = x.0.iris;
@@ -422,7 +440,7 @@ module _ (t : Thesaurus) (base : List ℕ) (fit : IsSetting (record { base = bas
           (graph i).links;
       histories = [];
     };
-    sums = subst (ArePostingCounts []) (sym book) sums_none;
-    legal = subst (λ (x : List ℕ). Legal x empty_state) (ap (λ (v : Vocabulary). v.base) (sym vocab))
+    posting_counts = subst (ArePostingCounts []) (sym book) sums_none;
+    legal = subst (λ (x : List ℕ). IsLegalState x empty_state) (ap (λ (v : Vocabulary). v.base) (sym vocab))
         (legal_empty base fit.base_form);
   }

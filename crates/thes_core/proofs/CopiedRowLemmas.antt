@@ -1,4 +1,4 @@
--- The label rows that a merge adds are exactly the labels that it copies to the target, each once.
+-- The rows of labels that a merge adds are exactly those of the labels that it copies, each once.
 use Rattle.std.proofs.Common.{◌≡◌, inl, inr, ℕ, List, [], ◌∷◌, refl, sym, ap, ◌∙◌, subst, true, false, not}
 use Rattle.std.specs.Prelude.{filter}
 use Rattle.std.specs.declared.cmp.Ordering.TheVariants.{Less, Equal}
@@ -18,12 +18,10 @@ use Rattle.thes_base.proofs.CopiedLabelLemmas.{name_of, merge_copies_labels, nam
 use Rattle.thes_vocab.specs.OwnLabels.{AreLabelsOf, data_cmp, own_label}
 use Rattle.thes_vocab.specs.CopiedLabels.{lacks_name, merged_label}
 use Rattle.thes_vocab.proofs.OwnLabelLemmas.{data_exact, data_total}
-use Rattle.thes_tables.specs.Tables.{IsIn, AreDistinct, IsListingOf}
+use Rattle.thes_tables.specs.Tables.{IsIn, AreDistinct, IsUnsortedListing}
 use Rattle.thes_tables.proofs.RowSetLemmas.{Absent, set_with_list, absent_by, turn_into_by, clash, any_in, in_any}
 use Rattle.thes_tables.proofs.RowSetLemmas.{in_filter, filter_in, in_map, map_in, once_map}
 use Rattle.thes_core.specs.Deltas.{copied_label_rows}
-
--- A strictly sorted list has each label once.
 
 not_later : (l : LabelData) (ls : List LabelData) → AllByRecursion (λ y. data_cmp l y ≡ Less) ls → IsIn l ls → ⊥
 not_later l [] below h = h
@@ -36,7 +34,7 @@ unfolding IsStrictlySortedBy
 once_ordered [] up = tt
 once_ordered (l ∷ ls) up = (not_later l ls up.0, once_ordered ls up.1)
 
--- The copies are distinct, because the source has no text of a language under two kinds (SKOS S13).
+-- The copies are different, because the source has no text of a language under two kinds (SKOS S13).
 module _ (labels : Labels) (source target : ℕ) (disjoint : S13 labels) (own : List LabelData)
     (are : AreLabelsOf labels source own) where
   abbrev labels_after_copy : Labels
@@ -54,7 +52,7 @@ module _ (labels : Labels) (source target : ℕ) (disjoint : S13 labels) (own : 
   own_held : (l : LabelData) → HasLabel labels source l.kind l.tag l.text → IsIn l own
   own_held l h = in_any data_total data_exact l own (are.each l ∙ h)
 
-  -- A label in the filtered list is a name of the source that the target lacks.
+  -- A label in the filtered list is a lexical label of the source that the target lacks.
   missing_name_parts : (l : LabelData) → IsIn l missing_names → IsIn l own × (is_lexical_kind l.kind ≡ true)
       × (has_lexical_label labels target l.tag l.text ≡ false)
   missing_name_parts l h =
@@ -111,8 +109,8 @@ module _ (labels : Labels) (source target : ℕ) (disjoint : S13 labels) (own : 
       let kinds = disjoint source x.kind y.kind x.tag x.text px.1 py.1 (held_own x px.0) held in
       λ i. record { kind = kinds i; tag = tags i; text = texts i }
 
-  copied_is_added : IsListingOf (λ q. (set.contains labels_after_copy q ≡ true) × (set.contains labels q ≡ true → ⊥))
-      (copied_label_rows labels target own)
+  copied_is_added : IsUnsortedListing (λ q. (set.contains labels_after_copy q ≡ true)
+      × (set.contains labels q ≡ true → ⊥)) (copied_label_rows labels target own)
   copied_is_added = record {
     sound = λ q h. let g = given_new q h in ((merge_copies_labels source target labels q).1 (inr g.0), g.1);
     complete = λ q h. elim ((merge_copies_labels source target labels q).0 h.0) [
@@ -123,7 +121,8 @@ module _ (labels : Labels) (source target : ℕ) (disjoint : S13 labels) (own : 
         (once_ordered missing_names (IsStrictlySortedBy-filter data_cmp (lacks_name labels target) own are.ordered));
   }
 
-  none_is_removed : IsListingOf (λ q. (set.contains labels q ≡ true) × (set.contains labels_after_copy q ≡ true → ⊥)) []
+  none_is_removed : IsUnsortedListing (λ q. (set.contains labels q ≡ true) × (set.contains labels_after_copy q ≡ true
+      → ⊥)) []
   none_is_removed =
       record {
         sound = λ q h. absurd h;

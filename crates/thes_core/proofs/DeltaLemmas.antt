@@ -1,4 +1,4 @@
--- The changes of rows listed for a request lead to the machine's next state.
+-- The changes of rows that each request makes lead to the machine's next state.
 use Rattle.std.proofs.Common.{◌≡◌, ◌≢◌, ◌<◌, ℕ, zero, suc, ◌+◌, length, List, [], ◌∷◌, ◌++◌, refl, sym, ap, ◌∙◌}
 use Rattle.std.proofs.Common.{subst, arith, map, take, false, inl, inr, Contains}
 use Rattle.std.specs.Prelude.{Some, None, Result, IfOk, AllPairs, slice_get}
@@ -12,7 +12,7 @@ use Rattle.thes_base.specs.declared.request.Command.TheVariants as request
 use Rattle.thes_base.specs.Resources.{scheme_of, replacements}
 use Rattle.thes_base.specs.Postings.{move_count, path_end, moves_along}
 use Rattle.thes_base.specs.Changes.{concept_resource, next_number, is_listed, state_after_deprecation}
-use Rattle.thes_base.specs.Links.{HeldIn, links_after_deprecation, HasEnd}
+use Rattle.thes_base.specs.Links.{Holds, links_after_deprecation, HasEnd}
 use Rattle.thes_base.specs.Machine.{next_state}
 use Rattle.thes_base.proofs.ForwardingLemmas.{along_led}
 use Rattle.thes_base.proofs.LinkSetLemmas.{links_total, links_exact, without_node_from, without_node_to}
@@ -24,7 +24,7 @@ use Rattle.thes_tables.specs.declared.change.Change.{Change}
 use Rattle.thes_tables.specs.declared.change.Change.TheVariants as change
 use Rattle.thes_tables.specs.Changes.{changes_of, changes_of_new_resource, move_row, drop_link, new_moves}
 use Rattle.thes_tables.specs.ChangeLaw.{AreChangesBetween}
-use Rattle.thes_tables.specs.Tables.{IsIn, AreDistinct, IsListingOf}
+use Rattle.thes_tables.specs.Tables.{IsIn, AreDistinct, IsUnsortedListing}
 use Rattle.thes_tables.proofs.ChangeLawLemmas.{changes_of_request_lead, leads_deprecate}
 use Rattle.thes_tables.proofs.RowSetLemmas.{absent_by, turn_into_by}
 use Rattle.thes_core.specs.declared.thesaurus.Thesaurus.{Thesaurus}
@@ -36,7 +36,7 @@ use Rattle.thes_core.specs.PartsView.{parts_state, setting_of}
 use Rattle.thes_core.proofs.ApplyLemmas.{all_listed, listed_row, split_apart}
 use Rattle.thes_core.proofs.RequestMoveLemmas.{moves_passing, listed_sorted, places_of_moves}
 
--- The changes of a request, carried over to an equal request.
+-- Assumes that two requests are equal, so that the changes of one are those of the other.
 module _ {E : Type 0} (t : Thesaurus) (facts : Facts) (command shown : Command) (is : command ≡ shown)
     (r : Result (List Change) E) where
   abbrev LeadsBy : Command → Type 0
@@ -51,11 +51,11 @@ module _ {E : Type 0} (t : Thesaurus) (facts : Facts) (command shown : Command) 
   by_law_at are = leads_at (IfOk-weaker r _ _ (λ delta same hs meant.
       let ok = meant.allows in
       subst (λ d. AreChangesBetween t.vocab.base d (parts_state t hs) (next_state shown (parts_state t hs)))
-      (sym (same hs ok meant.sums))
+      (sym (same hs ok meant.posting_counts))
       (changes_of_request_lead (setting_of t) (parts_state t hs) shown ok.kept.legal ok.accepts.fresh ok.accepts.row))
       are)
 
--- The changes of a posting.
+-- The changes of a posting lead to the machine's next state.
 pub posted_changes : (t : Thesaurus) (hs : List History) (key rec : List ℕ) (concept number place_is first : ℕ)
     (way : List ℕ) → way ≡ replacements t.vocab.resources concept → number ≡ length hs + 1 → place_is
     ≡ path_end concept (replacements t.vocab.resources concept) → first ≡ move_count hs + 1
@@ -81,7 +81,7 @@ posted_changes t hs key rec concept number place_is first way is_way is_number i
     })
     ∷ map change.AddMove (map (move_row (is_number i)) (moves_along (is_first i) concept (is_way i))))
 
--- The changes of a split.
+-- The changes of a split lead to the machine's next state.
 module _ (t : Thesaurus) (hs : List History) (source : ℕ) (tag text postings : List ℕ)
     (ok : PartsAccept t hs (request.Split source tag text postings)) (moving : List ℕ)
     (same : IsPermutation postings moving) (up : IsNonDecreasing moving) where
@@ -112,8 +112,6 @@ module _ (t : Thesaurus) (hs : List History) (source : ℕ) (tag text postings :
       rows_are' : move_rows first source n moving ≡ new_moves (is_listed postings) n first hs
       rows_are' = sym rows_are
 
--- Lists and their prefixes.
-
 pub contains_in : {A : Type 0} (xs : List A) (x : A) → Contains xs x → IsIn x xs
 contains_in [] x has = absurd (Contains-none x has)
 contains_in (y ∷ xs) x has = elim (Contains-cons_cases y xs x has) [
@@ -127,7 +125,7 @@ in_contains {A} (y ∷ xs) x (inl same) = let Q : A → Type 0 = Contains (y ∷
     subst Q (sym same) (Contains-head y xs)
 in_contains (y ∷ xs) x (inr later) = Contains-later y xs x (in_contains xs x later)
 
--- The prefix that ends with the item at index `i`.
+-- The prefix up to and with the item at index `i` ends with that item.
 pub take_got : {A : Type 0} (xs : List A) (i : ℕ) (x : A) → slice_get xs i ≡ Some x → (i < length xs)
     × (take (i + 1) xs ≡ take i xs ++ x ∷ [])
 take_got [] i x e = absurd (cc)
@@ -151,11 +149,11 @@ once_apart (x ∷ xs) apart = (
   once_apart xs (λ i j d l m. apart (suc i) (suc j) d (omega arith) (omega arith)),
 )
 
--- The changes of a deprecation: the links at the concept are removed.
+-- The changes of a deprecation, which delete the links at the concept, lead to the machine's next state.
 module _ (t : Thesaurus) (hs : List History) (concept : ℕ) (ok : PartsAccept t hs (request.Deprecate concept))
     (gone : List Link) (row : IsRow t.graph.links concept gone) where
-  links_removed : IsListingOf (λ q. HeldIn t.graph.links q × (HeldIn (links_after_deprecation concept t.graph.links) q
-      → ⊥)) gone
+  links_removed : IsUnsortedListing (λ q. Holds t.graph.links q
+      × (Holds (links_after_deprecation concept t.graph.links) q → ⊥)) gone
   links_removed = record {
     sound = λ q h. let at = row.sound q (in_contains gone q h) in
         (at.0, λ kept. (without_node_from concept t.graph.links q kept).1 at.1);
@@ -163,14 +161,14 @@ module _ (t : Thesaurus) (hs : List History) (concept : ℕ) (ok : PartsAccept t
     once = once_apart gone row.once;
   }
     where
-      ends : (q : Link) → HeldIn t.graph.links q × (HeldIn (links_after_deprecation concept t.graph.links) q → ⊥)
+      ends : (q : Link) → Holds t.graph.links q × (Holds (links_after_deprecation concept t.graph.links) q → ⊥)
           → HasEnd concept q
       ends q h =
           elim (ends_or_not concept q)
           [ inl at ↦ at | inr off ↦ absurd (h.1 (without_node_to concept t.graph.links q (h.0, off))) ]
 
-  links_inserted : IsListingOf (λ q. HeldIn (links_after_deprecation concept t.graph.links) q
-      × (HeldIn t.graph.links q → ⊥)) []
+  links_inserted : IsUnsortedListing (λ q. Holds (links_after_deprecation concept t.graph.links) q
+      × (Holds t.graph.links q → ⊥)) []
   links_inserted =
       record {
         sound = λ q h. absurd h;

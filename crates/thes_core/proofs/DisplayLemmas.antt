@@ -5,7 +5,7 @@ use Rattle.std.proofs.lemmas.Option.{same_Some}
 use Rattle.thes_base.specs.declared.data.Resource.{Resource}
 use Rattle.thes_base.specs.declared.data.LinkKind.{LinkKind}
 use Rattle.thes_base.specs.declared.data.LinkForm.TheVariants.{Within}
-use Rattle.thes_base.specs.Legal.{Legal}
+use Rattle.thes_base.specs.Legal.{IsLegalState}
 use Rattle.thes_base.specs.Links.{form_of}
 use Rattle.thes_base.specs.Refusals.{AreEnds, HaveSchemes}
 use Rattle.thes_base.specs.Resources.{IsConcept, IsLive, IsLiveConcept, is_concept_kind}
@@ -14,7 +14,7 @@ use Rattle.thes_base.specs.Views.{HasLink}
 use Rattle.thes_vocab.specs.Vocabulary.{IsConceptOf}
 use Rattle.thes_core.specs.CoreView.{CoreView, IsViewOf, with_histories}
 
-module _ (s : State) (base : List ℕ) (legal : Legal base s) where
+module _ (s : State) (base : List ℕ) (legal : IsLegalState base s) where
   live_concept : (n : ℕ) → IsConcept s.resources n → IsLive s.resources n → IsLiveConcept s.resources n
   live_concept n (r, at, kind) (q, at_q, live) =
       let same = same_Some q r (sym at_q ∙ at) in
@@ -32,4 +32,4 @@ pub concepts_closed_under_links : (k : CoreView) (s : State) → IsViewOf k s �
     → form_of kind ≡ Within → HasLink k.links kind a b → IsConceptOf k.resources scheme a ↔ IsConceptOf k.resources
     scheme b
 concepts_closed_under_links k s holds = same_scheme_within (with_histories s.histories k) k.setting.base
-    (subst (Legal k.setting.base) (sym holds.state) holds.legal)
+    (subst (IsLegalState k.setting.base) (sym holds.state) holds.legal)

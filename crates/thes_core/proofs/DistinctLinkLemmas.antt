@@ -1,4 +1,4 @@
--- Results gathered from a list of links, each once.
+-- The results of a partial function on a list of links are collected once each.
 use Rattle.std.proofs.Common.{◌≡◌, ◌⊎◌, ◌↔◌, inl, inr, List, [], ◌∷◌, ◌++◌, refl, sym, ap, ◌∙◌, subst, Bool, true}
 use Rattle.std.proofs.Common.{false, cond}
 use Rattle.std.specs.Prelude.{Some, Option}
@@ -12,7 +12,7 @@ use Rattle.std.proofs.lemmas.Option.{same_Some}
 use Rattle.thes_base.specs.declared.data.Link.{Link}
 use Rattle.thes_base.specs.Links.{link_cmp}
 use Rattle.thes_base.proofs.LinkSetLemmas.{links_total, links_exact}
-use Rattle.thes_tables.specs.Tables.{IsIn, IsListingOf}
+use Rattle.thes_tables.specs.Tables.{IsIn, IsUnsortedListing}
 use Rattle.thes_tables.proofs.RowSetLemmas.{clash, in_append, append_left, append_right, lists_push, equal_of_tie}
 use Rattle.thes_graph.proofs.LinkOrderLemmas.{derived_link_cmp, derived_link_cmp_is}
 
@@ -37,10 +37,10 @@ was_updated seen now new e = let P : (Link → Link → Ordering) → Type 0 = �
 abbrev IsSeen : BTreeSet Link → Link → Type 0
 IsSeen seen q = contains link_cmp seen q ≡ true
 
--- Appending a new link to the list and to the set.
-pub seen_push : (seen now : BTreeSet Link) (links : List Link) (new : Link) → IsListingOf (IsSeen seen) links
+-- A new link is appended to the list and inserted into the set.
+pub seen_push : (seen now : BTreeSet Link) (links : List Link) (new : Link) → IsUnsortedListing (IsSeen seen) links
     → contains link_cmp seen new ≡ false → ((q : Link) → contains link_cmp now q ≡ cond (is_at (link_cmp new) q) true
-    (contains link_cmp seen q)) → IsListingOf (IsSeen now) (links ++ new ∷ [])
+    (contains link_cmp seen q)) → IsUnsortedListing (IsSeen now) (links ++ new ∷ [])
 seen_push seen now links new are out updates = lists_push links new (λ h. clash (contains link_cmp seen new) h out)
     cases last kept are
   where
@@ -76,7 +76,7 @@ gains_there links new q there = (
   ],
 )
 
--- The results of a partial function on a list of links.
+-- Assumes a partial function on links, and states which links are its results on a list.
 module _ (make : Link → Option Link) where
   abbrev pub IsResultOf : List Link → Link → Type 0
   IsResultOf links q = (l : Link) × IsIn l links × (make l ≡ Some q)
@@ -84,7 +84,7 @@ module _ (make : Link → Option Link) where
   made_later : (links more : List Link) (q : Link) → IsResultOf links q → IsResultOf (links ++ more) q
   made_later links more q (l, at, is) = (l, append_left l links more at, is)
 
-  -- The last link has no result.
+  -- If the last link has no result, the results are those of the links before it.
   pub made_none : (links joined : List Link) (l : Link) → ((q : Link) → make l ≡ Some q → ⊥)
       → ((q : Link) → IsIn q joined ↔ IsResultOf links q) → (q : Link) → IsIn q joined ↔ IsResultOf (links ++ l ∷ [])
       q
@@ -96,7 +96,7 @@ module _ (make : Link → Option Link) where
     ],
   )
 
-  -- The last link has the result `new`.
+  -- If the last link has the result `new`, the results are those of the links before it and `new`.
   pub made_some : (links joined more : List Link) (l new : Link) → make l ≡ Some new
       → ((q : Link) → IsIn q joined ↔ IsResultOf links q) → ((q : Link) → IsIn q more ↔ (IsIn q joined ⊎ (q ≡ new)))
       → (q : Link) → IsIn q more ↔ IsResultOf (links ++ l ∷ []) q
@@ -114,9 +114,9 @@ module _ (make : Link → Option Link) where
     ],
   )
 
-  pub listed_made : (seen : BTreeSet Link) (links joined : List Link) → IsListingOf (IsSeen seen) joined
-      → ((q : Link) → IsIn q joined ↔ IsResultOf links q) → IsListingOf (IsResultOf links) joined
-  listed_made seen links joined are made = record {
+  pub listing_of_joined : (seen : BTreeSet Link) (links joined : List Link) → IsUnsortedListing (IsSeen seen) joined
+      → ((q : Link) → IsIn q joined ↔ IsResultOf links q) → IsUnsortedListing (IsResultOf links) joined
+  listing_of_joined seen links joined are made = record {
     sound = λ q h. (made q).0 h;
     complete = λ q h. (made q).1 h;
     once = are.once;

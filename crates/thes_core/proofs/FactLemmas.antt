@@ -1,4 +1,4 @@
--- The rows in the facts of a request are those of the histories.
+-- The rows in the facts of a request are rows of the histories.
 use Rattle.std.proofs.Common.{◌≡◌, ◌≢◌, ◌<◌, ℕ, zero, suc, length, List, [], ◌∷◌, refl, sym, ap, ◌∙◌, subst, arith}
 use Rattle.std.proofs.Common.{true, not, ◌&&◌, eqb, get_or, map}
 use Rattle.std.specs.Prelude.{Some, None, Option, slice_get, option_map}
@@ -8,14 +8,15 @@ use Rattle.thes_base.specs.Resources.{entry_at}
 use Rattle.thes_base.specs.Postings.{place, is_assigned_to}
 use Rattle.thes_base.specs.Changes.{is_listed}
 use Rattle.thes_base.specs.RefusalRules.{accepted}
-use Rattle.thes_base.specs.Refusals.{EachListed, IsPostingThat, unless_split_postings}
+use Rattle.thes_base.specs.Refusals.{EachListed, IsPostingThat}
+use Rattle.thes_base.specs.RuleParts.{unless_split_postings}
 use Rattle.thes_base.proofs.RefusalRuleLemmas.{passed_unless}
 use Rattle.thes_post.proofs.EachLemmas.{has_of_each}
 use Rattle.thes_post.proofs.PostingCountLemmas.{AllAssigned}
 use Rattle.thes_tables.specs.declared.rows.PostingRow.{PostingRow}
 use Rattle.thes_tables.specs.Tables.{posting_row}
 use Rattle.thes_core.specs.Facts.{posting_row_at}
-use Rattle.thes_core.specs.NamedPostings.{first_named}
+use Rattle.thes_core.specs.NamedPostings.{first_named_posting}
 
 -- The postings listed for a split are assigned to its source.
 pub listed_stand : (target : ℕ) {source : ℕ} (apart : source ≢ target) (hs : List History) (postings : List ℕ)
@@ -44,8 +45,6 @@ listed_stand target {source} apart hs postings numbers row = go hs (λ i h at. (
     go [] f = tt
     go (h ∷ gs) f = (λ hit. (let a = f 0 h refl in one a.0 h a.1 hit), go gs (λ i g at. f (suc i) g at))
 
--- A row is that of a history, or there is no history.
-
 pub row_found : (o : Option History) (row : PostingRow) → option_map posting_row o ≡ Some row → (h : History)
     × (o ≡ Some h) × (row ≡ posting_row h)
 row_found None row e = absurd (cc)
@@ -55,7 +54,7 @@ pub row_missing : (o : Option History) → option_map posting_row o ≡ None →
 row_missing None e = refl
 row_missing (Some h) e = absurd (cc)
 
--- The row at an index is that of the posting listed at this index.
+-- The row at an index is that of the posting that the request lists at this index.
 pub named_at : (hs : List History) (ns : List ℕ) (named_postings : List (Option PostingRow)) (i : ℕ)
     (row : Option PostingRow) → named_postings ≡ map (posting_row_at hs) ns → i < length named_postings → row
     ≡ get_or named_postings i row → (n : ℕ) × (i < length ns) × (n ≡ get_or ns i n) × (posting_row_at hs n ≡ row)
@@ -70,7 +69,7 @@ named_at hs ns named_postings i row is within at =
     go (m ∷ ms) (suc j) l e = let r = go ms j (omega arith) e in (r.0, (let b = r.1 in omega arith), r.2, r.3)
 
 pub row_of_one : (hs : List History) (posting : ℕ) (named_postings : List (Option PostingRow)) (row : PostingRow)
-    → named_postings ≡ posting_row_at hs posting ∷ [] → first_named named_postings ≡ Some row → (h : History)
+    → named_postings ≡ posting_row_at hs posting ∷ [] → first_named_posting named_postings ≡ Some row → (h : History)
     × (entry_at hs posting ≡ Some h) × (row ≡ posting_row h)
-row_of_one hs posting named_postings row is first = row_found (entry_at hs posting) row (ap first_named (sym is)
+row_of_one hs posting named_postings row is first = row_found (entry_at hs posting) row (ap first_named_posting (sym is)
     ∙ first)

@@ -9,7 +9,7 @@ use Rattle.thes_base.specs.declared.data.Link.{Link}
 use Rattle.thes_base.specs.declared.data.History.{History}
 use Rattle.thes_base.specs.declared.data.Limits.{Limits}
 use Rattle.thes_base.specs.Resources.{CanOwn, entry_at, is_outside, set_entry_at, replacements}
-use Rattle.thes_base.specs.Links.{HeldIn, normal_form, links_after_merge}
+use Rattle.thes_base.specs.Links.{Holds, normal_form, links_after_merge}
 use Rattle.thes_base.proofs.LinkSetLemmas.{links_total, links_exact}
 use Rattle.thes_base.proofs.SetMemberLemmas as sets
 use Rattle.thes_base.specs.Labels.{Label, Labels, HasLabel, label_cmp, S13, S14}
@@ -18,8 +18,8 @@ use Rattle.thes_base.specs.State.{State, IsWithinLimits, IsWithinLimit}
 use Rattle.thes_base.specs.Changes.{label, state_after_creation, state_after_add_label, labels_after_relabel}
 use Rattle.thes_base.specs.Changes.{state_after_relabel, replace_preferred, next_number, state_after_link}
 use Rattle.thes_base.specs.Changes.{state_after_merge, copied_labels, state_after_split, is_listed, state_after_post}
-use Rattle.thes_base.specs.Changes.{resources_after_death, dead}
-use Rattle.thes_base.specs.Legal.{Legal, LegalLabels}
+use Rattle.thes_base.specs.Changes.{resources_after_death, resource_after_death}
+use Rattle.thes_base.specs.Legal.{IsLegalState, AreLegalLabels}
 use Rattle.thes_base.proofs.LabelSetLemmas.{len_inserted, labels_total, inserted_cases, removed_cases}
 use Rattle.thes_base.proofs.PreferredLemmas.{preferred_found, preferred_of_label}
 use Rattle.thes_base.proofs.ResourceLemmas.{marked_dead_at}
@@ -31,7 +31,7 @@ use Rattle.thes_base.proofs.NumberedLemmas.{numbered_bound}
 use Rattle.thes_core.specs.declared.room.Growth.{Growth}
 use Rattle.thes_core.specs.Room.{HasRoomForGrowth, amounts_of_state}
 
--- The count grows by `more`, or doesn't grow and `more` is 0.
+-- The count grows by `more`, or `more` is 0 and the count doesn't grow.
 abbrev pub Rises : ℕ → ℕ → ℕ → Type 0
 Rises before after more = (after ≡ before + more) ⊎ ((more ≡ 0) × (after ≤ before))
 
@@ -71,7 +71,7 @@ module _ (limits : Limits) (s t : State) (growth : Growth) (grows : Grows s t gr
     for_moves = fits_from _ _ _ _ grows.moves within.moves;
   }
 
--- A count that doesn't change, and a list with another item.
+-- A count that doesn't change grows by 0.
 no_rise : (n : ℕ) → Rises n n 0
 no_rise n = inl (omega arith)
 
@@ -79,7 +79,7 @@ one_more : (A : Type 0) (xs : List A) (x : A) → Rises (length xs) (length (xs 
 one_more A xs x = inl (let e = length-append xs (x ∷ []) in omega (arith, e))
 
 -- The owner of a label is the number of a resource.
-owner_bound : (s : State) → LegalLabels s.resources s.labels → (l : Label) → set.contains s.labels l ≡ true → l.owner
+owner_bound : (s : State) → AreLegalLabels s.resources s.labels → (l : Label) → set.contains s.labels l ≡ true → l.owner
     ≤ length s.resources
 owner_bound s legal l held = go (legal.owners l held)
   where
@@ -89,7 +89,7 @@ owner_bound s legal l held = go (legal.owners l held)
     go (inr (inr (r, at, _))) = (numbered_bound s.resources l.owner r at).1
 
 -- A new resource has no label yet.
-new_label : (s : State) → LegalLabels s.resources s.labels → (tag text : List ℕ)
+new_label : (s : State) → AreLegalLabels s.resources s.labels → (tag text : List ℕ)
     → set.contains s.labels (label (next_number s) Pref tag text) ≡ false
 new_label s legal tag text =
     false_from_ne_true _ (λ held. let b = owner_bound s legal (label (next_number s) Pref tag text) held in
@@ -105,7 +105,7 @@ growth_of resources labels links postings moves = record {
   moves = moves;
 }
 
-module _ (s : State) (base : List ℕ) (legal : Legal base s) where
+module _ (s : State) (base : List ℕ) (legal : IsLegalState base s) where
   pub made_grows : (r : Resource) (tag text : List ℕ) → Grows s (state_after_creation r tag text s)
       (growth_of 1 1 0 0 0)
   made_grows r tag text = record {
@@ -128,8 +128,6 @@ module _ (s : State) (base : List ℕ) (legal : Legal base s) where
         moves = no_rise _;
       }
 
--- A relabel request replaces one label by another, and adds one if it keeps the old text.
-
 len_positive : (labels : Labels) (l : Label) → set.contains labels l ≡ true → 1 ≤ set.len labels
 len_positive labels l held = go (set.len labels) refl
   where
@@ -145,7 +143,7 @@ len_removed labels l held =
     let p = len_positive labels l held in
     omega (arith, e, p)
 
--- The number of labels that a relabel request adds.
+-- The number of labels that a relabelling adds: 1 if it keeps the old text, or else 0.
 abbrev pub keep_growth : Bool → ℕ
 keep_growth keep = if keep then 1 else 0
 
@@ -182,7 +180,7 @@ module _ (labels : Labels) (owner : ℕ) (tag text old : List ℕ) (s13 : S13 la
   len_renamed true = len_inserted labels_with_new (label owner Alt tag old) (false_from_ne_true _ not_alternative)
       ∙ ap (λ n. n + 1) len_with_new
 
-module _ (s : State) (legal : LegalLabels s.resources s.labels) where
+module _ (s : State) (legal : AreLegalLabels s.resources s.labels) where
   pub relabelled_grows : (owner : ℕ) (tag text : List ℕ) (keep : Bool) (more : ℕ) → more ≡ keep_growth keep
       → (old : List ℕ) × HasLabel s.labels owner Pref tag old → Grows s (state_after_relabel owner tag text keep s)
       (growth_of 0 more 0 0 0)
@@ -207,9 +205,7 @@ module _ (s : State) (legal : LegalLabels s.resources s.labels) where
         moves = no_rise _;
       }
 
--- The growth of a link, a merge, a split and a posting.
-
-pub link_grows : (s : State) (l : Link) → ¬ HeldIn s.links (normal_form (is_outside s.resources) l)
+pub link_grows : (s : State) (l : Link) → ¬ Holds s.links (normal_form (is_outside s.resources) l)
     → Grows s (state_after_link l s) (growth_of 0 0 1 0 0)
 link_grows s l new = record {
   resources = no_rise _;
@@ -226,8 +222,8 @@ length_marked_dead rs n rep = go (entry_at rs n) refl
     go : (o : Option Resource) → entry_at rs n ≡ o → length (resources_after_death n rep rs) ≡ length rs
     go None e =
         ap (λ (o : Option Resource). length {A = Resource}
-        (elim o [ None ↦ rs | Some x ↦ set_entry_at rs n (dead rep x) ])) e
-    go (Some r) e = ap length (marked_dead_at rs n rep r e) ∙ length-set rs (n - 1) (dead rep r)
+        (elim o [ None ↦ rs | Some x ↦ set_entry_at rs n (resource_after_death rep x) ])) e
+    go (Some r) e = ap length (marked_dead_at rs n rep r e) ∙ length-set rs (n - 1) (resource_after_death rep r)
 
 pub merged_grows : (s : State) (source target taken : ℕ)
     → set.len (set.union s.labels (copied_labels source target s.labels)) ≡ set.len s.labels + taken
@@ -244,7 +240,7 @@ merged_grows s source target taken labels links = record {
   moves = inl (count_moved (is_assigned_to source) target (move_count s.histories + 1) s.histories);
 }
 
-pub split_grows : (s : State) (source : ℕ) (tag text : List ℕ) (postings : List ℕ) → LegalLabels s.resources s.labels
+pub split_grows : (s : State) (source : ℕ) (tag text : List ℕ) (postings : List ℕ) → AreLegalLabels s.resources s.labels
     → count_by (is_listed postings) s.histories ≡ length postings
     → Grows s (state_after_split source tag text postings s) (growth_of 1 1 0 0 (length postings))
 split_grows s source tag text postings legal listed = record {

@@ -1,5 +1,4 @@
--- The labels of one kind of an owner, filtered from its sorted list, are all of that kind and sorted by language and
--- text.
+-- The labels of one kind, filtered from an owner's sorted list, are all of that kind, sorted by language and text.
 use Rattle.std.proofs.Common.{◌≡◌, ◌∙◌, refl, sym, ap, subst, ℕ, suc, List, [], ◌∷◌, map, filter, true, false, cond}
 use Rattle.std.proofs.Common.{◌==◌, ◌⊎◌, inl, inr, ⊎_elim, eqb-true, true≢false, arith}
 use Rattle.std.specs.declared.cmp.Ordering.TheVariants.{Less, Equal}
@@ -24,7 +23,7 @@ use Rattle.thes_vocab.specs.OwnLabels.{AreLabelsOf, data_cmp, has_own, own_label
 use Rattle.thes_vocab.proofs.OwnLabelLemmas.{data_exact}
 use Rattle.thes_core.specs.LabelLists.{tagged_text, is_of_kind}
 
--- The order of labels is that by kind, and then by language and text.
+-- The order of labels is by kind, and then by language and text.
 as_owned : (x y : LabelData) → data_cmp x y ≡ ordering_then (nat_cmp (label_kind_no x.kind) (label_kind_no y.kind))
     (tagged_text_cmp (tagged_text x) (tagged_text y))
 as_owned x y = then_assoc (nat_cmp (label_kind_no x.kind) (label_kind_no y.kind)) (slice_cmp nat_cmp x.tag y.tag)
@@ -75,7 +74,7 @@ module _ (kind : LabelKind) where
         | false ↦ λ e. shown_rising xs s.1
       ] refl
 
-  -- Each label in the filtered list is the owner's.
+  -- Each label of the filtered list is the owner's, of the kind.
   shown_is_owned : (P : TaggedText → Type 0) (xs : List LabelData) → ((l : LabelData) → has_own xs l ≡ true → l.kind
       ≡ kind → P (tagged_text l)) → AllByRecursion P (labels_shown xs)
   shown_is_owned P [] f = tt

@@ -1,4 +1,4 @@
--- The changes of rows listed for a merge lead to the machine's next state.
+-- The changes of rows that a merge makes lead to the machine's next state.
 use Rattle.std.proofs.Common.{◌≡◌, ◌≢◌, ℕ, ◌+◌, List, [], ◌∷◌, ◌++◌, sym, ap, ◌∙◌, subst, Bool, map, append_assoc}
 use Rattle.std.proofs.Common.{length}
 use Rattle.std.specs.Prelude.{Some, filter}
@@ -9,7 +9,7 @@ use Rattle.thes_base.specs.declared.data.History.{History}
 use Rattle.thes_base.specs.declared.data.Link.{Link}
 use Rattle.thes_base.specs.declared.request.Command.TheVariants as request
 use Rattle.thes_base.specs.Data.{LabelData}
-use Rattle.thes_base.specs.Links.{Links, HeldIn, normal_form, links_after_merge}
+use Rattle.thes_base.specs.Links.{Links, Holds, normal_form, links_after_merge}
 use Rattle.thes_base.specs.Postings.{is_assigned_to, assigned_count, move_count}
 use Rattle.thes_base.specs.Resources.{is_outside}
 use Rattle.thes_base.specs.Changes.{state_after_merge}
@@ -21,12 +21,12 @@ use Rattle.thes_tables.specs.declared.change.Change.{Change}
 use Rattle.thes_tables.specs.declared.change.Change.TheVariants as change
 use Rattle.thes_tables.specs.Changes.{add_link, drop_link, new_moves}
 use Rattle.thes_tables.specs.ChangeLaw.{AreChangesBetween}
-use Rattle.thes_tables.specs.Tables.{IsIn, IsListingOf}
+use Rattle.thes_tables.specs.Tables.{IsIn, IsUnsortedListing}
 use Rattle.thes_tables.proofs.ChangeLawLemmas.{leads_merge}
 use Rattle.thes_tables.proofs.RowSetLemmas.{absent_by, turn_into_by}
 use Rattle.thes_core.specs.declared.thesaurus.Thesaurus.{Thesaurus}
 use Rattle.thes_core.specs.Deltas.{link_added_by_merge, move_rows, copied_label_rows}
-use Rattle.thes_core.specs.Facts.{standing_numbers}
+use Rattle.thes_core.specs.Facts.{assigned_posting_numbers}
 use Rattle.thes_core.specs.Requests.{PartsAccept}
 use Rattle.thes_core.specs.PartsView.{parts_state}
 use Rattle.thes_core.proofs.ApplyLemmas.{merge_apart}
@@ -35,7 +35,7 @@ use Rattle.thes_core.proofs.MergeLinkLemmas.{merge_goes, merge_comes}
 use Rattle.thes_core.proofs.RequestMoveLemmas.{moves_passing}
 use Rattle.thes_core.proofs.CopiedRowLemmas.{taken_absent, taken_same}
 
--- Two groupings of one list.
+-- A list of changes is the same however its parts are grouped.
 regroup : {A : Type 0} (x y : A) (a b c d : List A) → ((((x ∷ a) ++ b) ++ c) ++ y ∷ []) ++ d ≡ x ∷ a ++ (b ++ c) ++ y
     ∷ d
 regroup {A} x y a b c d =
@@ -45,33 +45,33 @@ regroup {A} x y a b c d =
 module _ (t : Thesaurus) (hs : List History) (source target : ℕ) (ok : PartsAccept t hs (request.Merge source target))
     (gone : List Link) (row : IsRow t.graph.links source gone)
     (come : List Link)
-    (joined : IsListingOf (λ (q : Link). (l : Link) × IsIn l gone
+    (joined : IsUnsortedListing (λ (q : Link). (l : Link) × IsIn l gone
     × (link_added_by_merge t.graph source target l ≡ Some q)) come)
     (own : List LabelData) (are : AreLabelsOf t.vocab.labels source own) where
   ends_differ : source ≢ target
   ends_differ = merge_apart t hs source target ok
 
-  two : (l : Link) → HeldIn t.graph.links l → l.a ≢ l.b
+  two : (l : Link) → Holds t.graph.links l → l.a ≢ l.b
   two l held = (ok.kept.legal.links.each l held).two
 
-  normal : (l : Link) → HeldIn t.graph.links l → normal_form (set.contains t.graph.outside) l ≡ l
+  normal : (l : Link) → Holds t.graph.links l → normal_form (set.contains t.graph.outside) l ≡ l
   normal l held = subst (λ (f : ℕ → Bool). normal_form f l ≡ l) (sym (outside_same t hs ok.kept))
       (ok.kept.legal.links.each l held).ordered
 
   abbrev links_after_contract : (ℕ → Bool) → Links
   links_after_contract f = links_after_merge f source target t.graph.links
 
-  links_removed : IsListingOf (λ q. HeldIn t.graph.links q
-      × (HeldIn (links_after_contract (is_outside t.vocab.resources)) q → ⊥)) gone
+  links_removed : IsUnsortedListing (λ q. Holds t.graph.links q
+      × (Holds (links_after_contract (is_outside t.vocab.resources)) q → ⊥)) gone
   links_removed =
-      subst (λ (f : ℕ → Bool). IsListingOf (λ q. HeldIn t.graph.links q × (HeldIn (links_after_contract f) q → ⊥))
+      subst (λ (f : ℕ → Bool). IsUnsortedListing (λ q. Holds t.graph.links q × (Holds (links_after_contract f) q → ⊥))
       gone) (outside_same t hs ok.kept)
       (merge_goes t.graph source target ends_differ two normal gone row)
 
-  links_inserted : IsListingOf (λ q. HeldIn (links_after_contract (is_outside t.vocab.resources)) q
-      × (HeldIn t.graph.links q → ⊥)) come
+  links_inserted : IsUnsortedListing (λ q. Holds (links_after_contract (is_outside t.vocab.resources)) q
+      × (Holds t.graph.links q → ⊥)) come
   links_inserted =
-      subst (λ (f : ℕ → Bool). IsListingOf (λ q. HeldIn (links_after_contract f) q × (HeldIn t.graph.links q → ⊥))
+      subst (λ (f : ℕ → Bool). IsUnsortedListing (λ q. Holds (links_after_contract f) q × (Holds t.graph.links q → ⊥))
       come) (outside_same t hs ok.kept)
       (merge_comes t.graph source target ends_differ two normal gone row come joined)
 
@@ -79,7 +79,7 @@ module _ (t : Thesaurus) (hs : List History) (source target : ℕ) (ok : PartsAc
   first = move_count hs + 1
 
   move_rows_of_merge : new_moves (is_assigned_to source) target first hs ≡ move_rows first source target
-      (standing_numbers source hs)
+      (assigned_posting_numbers source hs)
   move_rows_of_merge = moves_passing (is_assigned_to source) source target ends_differ first hs
       (all_assigned source target ends_differ hs)
 
@@ -93,7 +93,7 @@ module _ (t : Thesaurus) (hs : List History) (source target : ℕ) (ok : PartsAc
   -- The changes of a merge lead to the machine's next state.
   pub merged_leads : AreChangesBetween t.vocab.base
       (((((change.Replace source target ∷ rows) ++ map drop_link gone) ++ map add_link come) ++ change.MoveAll source
-      target ∷ []) ++ map change.AddMove (move_rows first source target (standing_numbers source hs)))
+      target ∷ []) ++ map change.AddMove (move_rows first source target (assigned_posting_numbers source hs)))
       (parts_state t hs) (state_after_merge source target (parts_state t hs))
   merged_leads =
       let law = leads_merge t.vocab.base (parts_state t hs) ok.kept.legal source target
@@ -106,13 +106,14 @@ module _ (t : Thesaurus) (hs : List History) (source target : ℕ) (ok : PartsAc
       (turn_into_by links_total links_exact t.graph.links (links_after_contract (is_outside t.vocab.resources)) gone
       come links_removed links_inserted) in
       let grouped = regroup (change.Replace source target) (change.MoveAll source target) rows (map drop_link gone)
-      (map add_link come) (map change.AddMove (move_rows first source target (standing_numbers source hs))) in
+      (map add_link come) (map change.AddMove (move_rows first source target (assigned_posting_numbers source hs))) in
       let told =
       subst (λ ms. Merges (change.Replace source target ∷ rows ++ (map drop_link gone ++ map add_link come)
       ++ change.MoveAll source target ∷ map change.AddMove ms)) move_rows_of_merge law in
       subst Merges (sym grouped) told
 
 -- The number of moves is the number of postings assigned to the source.
-pub standing_length : (source : ℕ) (hs : List History) → length (standing_numbers source hs) ≡ assigned_count source hs
+pub standing_length : (source : ℕ) (hs : List History) → length (assigned_posting_numbers source hs) ≡ assigned_count
+    source hs
 standing_length source hs = length-map (filter (is_assigned_to source) hs) (λ (h : History). h.number)
     ∙ length-filter (is_assigned_to source) hs

@@ -3,8 +3,8 @@ use Rattle.std.proofs.Common.{refl, inr}
 use Rattle.thes_base.specs.declared.request.Command.{Command}
 use Rattle.thes_base.specs.State.{State}
 use Rattle.thes_base.specs.Refusals.{Setting, IsSetting}
-use Rattle.thes_base.specs.Legal.{Legal}
-use Rattle.thes_base.specs.Texts.{HasForms}
+use Rattle.thes_base.specs.Legal.{IsLegalState}
+use Rattle.thes_base.specs.Texts.{CommandHasForms}
 use Rattle.thes_base.specs.Machine.{Step, next_state, answer_of}
 use Rattle.thes_base.proofs.SoundStateLemmas.{IsSound, sound_of_legal}
 use Rattle.thes_base.proofs.MachineLemmas.{step_sound, step_legal}
@@ -15,14 +15,14 @@ pub step_of_accepted : (setting : Setting) (s : State) (command : Command) → I
     → Step setting s command (answer_of command s) (next_state command s)
 step_of_accepted setting s command ok = inr (ok.fresh, inr (ok.row, refl, refl))
 
-pub next_sound : (setting : Setting) → IsSetting setting → (s : State) (command : Command) → Legal setting.base s
+pub next_sound : (setting : Setting) → IsSetting setting → (s : State) (command : Command) → IsLegalState setting.base s
     → IsAccepted setting s command → IsSound setting.base (next_state command s)
 next_sound setting fit s command legal ok =
     step_sound setting fit s (next_state command s) command (answer_of command s)
     (sound_of_legal setting.base s legal) (step_of_accepted setting s command ok)
 
-pub next_legal : (setting : Setting) → IsSetting setting → (s : State) (command : Command) → HasForms command
-    → Legal setting.base s → IsAccepted setting s command → Legal setting.base (next_state command s)
+pub next_legal : (setting : Setting) → IsSetting setting → (s : State) (command : Command) → CommandHasForms command
+    → IsLegalState setting.base s → IsAccepted setting s command → IsLegalState setting.base (next_state command s)
 next_legal setting fit s command forms legal ok =
     step_legal setting fit s (next_state command s) command (answer_of command s) forms legal
     (step_of_accepted setting s command ok)

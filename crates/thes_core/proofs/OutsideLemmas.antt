@@ -8,13 +8,13 @@ use Rattle.std.specs.FinSet as set
 use Rattle.std.proofs.lemmas.Map.Lookups.{exact_unsigned}
 use Rattle.thes_base.specs.declared.data.Resource.{Resource}
 use Rattle.thes_base.specs.Resources.{entry_at, set_entry_at, IsOutside, is_outside, is_outside_kind}
-use Rattle.thes_base.specs.Changes.{resources_after_death, dead, outside_resource}
+use Rattle.thes_base.specs.Changes.{resources_after_death, resource_after_death, outside_resource}
 use Rattle.thes_base.proofs.NumberedLemmas.{push_new}
 use Rattle.thes_base.proofs.ResourceLemmas.{marked_dead_at, passes_push, passes_pop, passes_dead, passes_before}
 use Rattle.thes_base.proofs.SetMemberLemmas.{inserted_cases, inserted_kept, inserted_new}
 use Rattle.thes_base.proofs.LegalLinkLemmas.{outside_test}
 use Rattle.thes_core.specs.declared.thesaurus.Thesaurus.{Thesaurus}
-use Rattle.thes_core.specs.PartsView.{KnowsOutside}
+use Rattle.thes_graph.specs.GraphView.{MarksOutside}
 
 abbrev is_out : Resource → Bool
 is_out r = is_outside_kind r.kind
@@ -34,24 +34,25 @@ same_outside : (rs ss : List Resource) (n : ℕ) → (IsOutside rs n → IsOutsi
 same_outside rs ss n there back = both_ways _ _ (λ e. outside_test ss n (there (test_passed rs n e)))
     (λ e. outside_test rs n (back (test_passed ss n e)))
 
--- Marking a resource as dead changes no kind.
+-- Marking a resource as dead changes no resource's kind.
 pub outside_marked_dead : (rs : List Resource) (n : ℕ) (rep : Option ℕ) (m : ℕ)
     → is_outside (resources_after_death n rep rs) m ≡ is_outside rs m
 outside_marked_dead rs n rep m = go (entry_at rs n) refl
   where
     go : (o : Option Resource) → entry_at rs n ≡ o → is_outside (resources_after_death n rep rs) m ≡ is_outside rs m
     go None none =
-        ap (λ (o : Option Resource). is_outside (elim o [ None ↦ rs | Some r ↦ set_entry_at rs n (dead rep r) ]) m)
+        ap (λ (o : Option Resource). is_outside (elim o
+        [ None ↦ rs | Some r ↦ set_entry_at rs n (resource_after_death rep r) ]) m)
         none
     go (Some r) at = ap (λ (xs : List Resource). is_outside xs m) (marked_dead_at rs n rep r at)
         ∙ same_outside _ rs m (passes_before rs n rep r at is_out (λ q. refl) m)
         (passes_dead rs n rep r at is_out (λ q. refl) m)
 
-module _ (t : Thesaurus) (knows : KnowsOutside t) where
+module _ (t : Thesaurus) (knows : MarksOutside t.vocab.resources t.graph) where
   abbrev rs : List Resource
   rs = t.vocab.resources
 
-  -- Adding a resource of another kind changes no mark.
+  -- The marks are right after a resource of another kind is added.
   pub knows_pushed : (r : Resource) → is_outside_kind r.kind ≡ false → (n : ℕ) → set.contains t.graph.outside n
       ≡ is_outside (rs ++ r ∷ []) n
   knows_pushed r kind n = knows n ∙ same_outside rs (rs ++ r ∷ []) n (passes_push rs r is_out n)
@@ -60,7 +61,7 @@ module _ (t : Thesaurus) (knows : KnowsOutside t) where
   abbrev resources_with_new : List Resource
   resources_with_new = rs ++ outside_resource ∷ []
 
-  -- Adding an outside concept adds its mark.
+  -- The marks are right after an outside concept is added and marked.
   pub knows_marked : (n : ℕ) → set.contains (set.insert t.graph.outside (length rs + 1)) n
       ≡ is_outside resources_with_new n
   knows_marked n =

@@ -3,7 +3,7 @@ use Rattle.std.proofs.Common.{◌≡◌, ℕ, zero, suc, List, []}
 use Rattle.std.specs.Prelude.{Some}
 use Rattle.thes_base.specs.declared.data.History.{History}
 use Rattle.thes_base.specs.Resources.{entry_at}
-use Rattle.thes_base.specs.Legal.{Legal}
+use Rattle.thes_base.specs.Legal.{IsLegalState}
 use Rattle.thes_base.specs.State.{State}
 use Rattle.thes_base.proofs.MachineLemmas.{legal_empty}
 use Rattle.thes_base.proofs.SoundStateLemmas.{legal_of_sound, forms_of_legal}
@@ -13,8 +13,8 @@ none_numbered : (n : ℕ) (h : History) → entry_at [] n ≡ Some h → ⊥
 none_numbered zero h at = cc
 none_numbered (suc n) h at = cc
 
--- Without its postings a legal state meets all conditions on a state.
-pub legal_without : (base : List ℕ) (s : State) → Legal base s → Legal base (without_postings s)
+-- A legal state is legal without its postings.
+pub legal_without : (base : List ℕ) (s : State) → IsLegalState base s → IsLegalState base (without_postings s)
 legal_without base s legal =
     let forms = forms_of_legal base s legal in
     let none = (legal_empty base forms.base_form).postings in

@@ -11,10 +11,11 @@ use Rattle.thes_base.specs.declared.fault.Refusal.{Refusal}
 use Rattle.thes_base.specs.declared.fault.Refusal.TheVariants as no
 use Rattle.thes_base.specs.RefusalRules.{RefusalRule, refused_unless, accepted}
 use Rattle.thes_base.specs.Resources.{IsConcept, IsScheme, scheme_of, is_outside}
-use Rattle.thes_base.specs.Links.{HeldIn, links_after_merge, normal_form, IsFirstBroken, unless_links_consistent}
+use Rattle.thes_base.specs.Links.{Holds, links_after_merge, normal_form, IsFirstBroken}
+use Rattle.thes_base.specs.RuleParts.{unless_links_consistent}
 use Rattle.thes_base.specs.State.{State, IsWithinLimit}
 use Rattle.thes_base.specs.Changes.{state_after_creation, concept_resource}
-use Rattle.thes_base.specs.Refusals.{unless_within_limits, unless_unique}
+use Rattle.thes_base.specs.RuleParts.{unless_within_limits, unless_unique}
 use Rattle.thes_base.proofs.LinkLemmas.{row_of_first}
 use Rattle.thes_base.proofs.UniquePreferredLemmas.{scheme_at}
 use Rattle.thes_graph.specs.EditChecks.{checks_of_add}
@@ -35,8 +36,7 @@ use Rattle.thes_core.proofs.GrowthLemmas.{Grows, growth_of, within_of_room, room
 fits_without_rise : (limit n more : ℕ) → more ≡ 0 → IsWithinLimit limit n (n + more)
 fits_without_rise limit n more none = omega (arith, none)
 
--- The parts have room for a request's growth exactly when the state has it, if the counts of postings agree or don't
--- grow.
+-- The parts have room for a request's growth exactly when the state has, if the counts of postings agree or don't grow.
 module _ (t : Thesaurus) (hs : List History) {growth : Growth} where
   pub room_summed : ArePostingCounts hs t.book → HasRoomForGrowth t.limits (amounts_of_parts t) growth
       ↔ HasRoomForGrowth t.limits (amounts_of_state (parts_state t hs)) growth
@@ -66,7 +66,7 @@ module _ (t : Thesaurus) (hs : List History) {growth : Growth} where
     },
   )
 
--- If there is room for a request with its postings and moves, there is room for it in the state that has no postings.
+-- If there is room for a request with its postings and moves, there is room for it in the state without postings.
 module _ (t : Thesaurus) {after : State} {resources labels links postings moves : ℕ} where
   pub room_without : (answer : Option Refusal)
       → refused_unless
@@ -109,7 +109,7 @@ module _ (t : Thesaurus) (hs : List History) {after : State} {growth : Growth} {
       → unless_within_limits (setting_of t) (parts_state t hs) after answer
   room_bare postings moves = row_of_room (room_unposted t hs postings moves)
 
--- The first broken rule on links is the refusal of the three checks.
+-- The first rule that the links break gives the refusal of the three checks.
 first_row : (Held : Link → Type 0) (first : Option Refusal) → IsFirstBroken Held first → unless_links_consistent Held
     accepted first
 first_row Held None broken = row_of_first Held accepted None None broken refl
@@ -126,7 +126,7 @@ module _ (t : Thesaurus) (hs : List History) (kept : AreLegal t hs) where
       (normal_form (is_outside t.vocab.resources) l)
   held_as l held is = subst (λ (f : ℕ → Bool). held ≡ set.contains t.graph.links (normal_form f l)) outside_same is
 
-  -- The graph's check of a new link is the state's.
+  -- The graph's check of a new link is the machine's.
   pub held_row : (l : Link) (answer : Option Refusal) → checks_of_add t.graph.links
       (normal_form (set.contains t.graph.outside) l) answer → unless_linkable (is_outside t.vocab.resources)
       t.graph.links l answer
@@ -138,23 +138,23 @@ module _ (t : Thesaurus) (hs : List History) (kept : AreLegal t hs) where
       go (inl held) = inl held
       go (inr (new, broken)) = inr (new, first_row _ answer broken)
 
-  -- The graph's check of a merge is the state's.
+  -- The graph's check of a merge is the machine's.
   pub joined_row : (source target : ℕ) (answer : Option Refusal)
-      → IsFirstBroken (HeldIn (links_after_merge (set.contains t.graph.outside) source target t.graph.links)) answer
+      → IsFirstBroken (Holds (links_after_merge (set.contains t.graph.outside) source target t.graph.links)) answer
       → unless_links_consistent
-      (HeldIn (links_after_merge (is_outside t.vocab.resources) source target t.graph.links)) accepted answer
+      (Holds (links_after_merge (is_outside t.vocab.resources) source target t.graph.links)) accepted answer
   joined_row source target answer broken =
       first_row _ answer
-      (subst (λ (f : ℕ → Bool). IsFirstBroken (HeldIn (links_after_merge f source target t.graph.links)) answer)
+      (subst (λ (f : ℕ → Bool). IsFirstBroken (Holds (links_after_merge f source target t.graph.links)) answer)
       outside_same broken)
 
-  -- A concept has a scheme.
+  -- Each concept has a scheme.
   pub has_scheme : (n : ℕ) → IsConcept t.vocab.resources n → (scheme : ℕ)
       × (scheme_of t.vocab.resources n ≡ Some scheme) × IsScheme t.vocab.resources scheme
   has_scheme n (r, at, concept) = let has = (kept.legal.resources.each n r at).scheme (inl concept) in
       (has.0, scheme_at t.vocab.resources n r at ∙ has.1, has.2)
 
-  -- The vocabulary's check of a new concept in the scheme of another one agrees with the check of a split.
+  -- The vocabulary's check of a new concept in the scheme of the source agrees with the check of a split.
   module _ (source scheme : ℕ) (tag text : List ℕ) (concept : IsConcept t.vocab.resources source)
       (is : scheme_of t.vocab.resources source ≡ Some scheme) where
     abbrev after_in : Option ℕ → State
@@ -178,7 +178,7 @@ module _ (t : Thesaurus) (hs : List History) (kept : AreLegal t hs) where
     name_allowed unique =
         inr ((is_scheme.0, is_scheme.1), inr (is_scheme, subst (λ (o : Option ℕ). unique_in o None) is unique))
 
--- The refusal of a request, carried over to an equal request.
+-- Assumes that two requests are equal, so that the refusal of one is that of the other.
 module _ (t : Thesaurus) (facts : Facts) (command shown : Command) (is : command ≡ shown) where
   pub judged_by : (answer : Option Refusal) → ((hs : List History) → AreLegal t hs → ArePostingCounts hs t.book
       → AreFacts shown hs facts → RefusalByParts t hs shown answer)

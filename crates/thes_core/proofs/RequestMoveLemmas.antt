@@ -1,4 +1,4 @@
--- The move rows of a request are the moves of its machine step.
+-- The rows of table move that a request inserts are the moves of the machine's step.
 use Rattle.std.proofs.Common.{◌≡◌, ◌≢◌, ◌<◌, ◌≤◌, inl, inr, ℕ, zero, suc, ◌+◌, List, [], ◌∷◌, refl, sym, ap, ◌∙◌}
 use Rattle.std.proofs.Common.{subst, arith, Bool, true, false, cond, ◌||◌, eqb, eqb-true, ne_eqb, map}
 use borrow.Author.Tests.{eq-eqb}
@@ -10,7 +10,8 @@ use Rattle.std.proofs.lemmas.List.Sorted.{list_any-IsPermutation}
 use Rattle.thes_base.specs.declared.data.History.{History}
 use Rattle.thes_base.specs.Resources.{entry_at}
 use Rattle.thes_base.specs.RefusalRules.{accepted}
-use Rattle.thes_base.specs.Refusals.{EachOnce, IsKnownPosting, EachListed, unless_split_postings}
+use Rattle.thes_base.specs.Refusals.{EachOnce, IsKnownPosting, EachListed}
+use Rattle.thes_base.specs.RuleParts.{unless_split_postings}
 use Rattle.thes_base.specs.Postings.{place}
 use Rattle.thes_base.specs.Changes.{is_listed}
 use Rattle.thes_base.proofs.RefusalRuleLemmas.{passed_unless}
@@ -23,8 +24,6 @@ use Rattle.thes_tables.specs.declared.change.Change.{Change}
 use Rattle.thes_tables.specs.declared.change.Change.TheVariants as change
 use Rattle.thes_tables.specs.Changes.{new_moves}
 use Rattle.thes_core.specs.Deltas.{move_rows, place_change}
-
--- Ascending lists and their members.
 
 rises_more : (low high : ℕ) (ns : List ℕ) → low ≤ high → RisesFrom high ns → RisesFrom low ns
 rises_more low high [] l r = tt
@@ -63,7 +62,7 @@ same_rising low high (x ∷ xs) (y ∷ ys) up vp same = λ i. at i ∷ same_risi
           (ap (λ k. eqb k n) (sym at) ∙ other)
     ]
 
--- The numbers of the histories that pass a test.
+-- The numbers of the histories that pass a test, in their order.
 module _ (passes : History → Bool) where
   abbrev pub passing_numbers : List History → List ℕ
   passing_numbers hs = map (λ h. h.number) (filter passes hs)
@@ -91,7 +90,7 @@ module _ (passes : History → Bool) where
             (rises_more first (first + 1) (passing_numbers hs) (omega arith) rest)
       ]
 
-  -- The number of a history that passes is in the list.
+  -- The list has the number of each history that passes.
   passing_has : (hs : List History) (i : ℕ) (h : History) → slice_get hs i ≡ Some h → passes h ≡ true
       → has_number (passing_numbers hs) h.number ≡ true
   passing_has [] i h e hit = absurd (cc)
@@ -123,7 +122,7 @@ module _ (passes : History → Bool) where
     | inr miss ↦ passing_from hs n (sym (ap (λ ns. has_number ns n) (passing_no h hs miss)) ∙ e)
   ]
 
-  -- The moves of the histories that pass, all of which are assigned to the source.
+  -- The moves of the histories that pass are those from the source to the target, if all are assigned to the source.
   pub moves_passing : (source target : ℕ) (apart : source ≢ target) (number : ℕ) (hs : List History)
       → AllAssigned passes source target apart hs → new_moves passes target number hs ≡ move_rows number source target
       (passing_numbers hs)
@@ -145,7 +144,7 @@ module _ (passes : History → Bool) where
       row : ℕ → ℕ → MoveRow
       row k from = record { number = k; posting = h.number; source = from; target = target }
 
--- The postings listed, once sorted, are the numbers of the histories that are listed.
+-- The listed postings, sorted, are the numbers of the histories that are listed.
 pub listed_sorted : (hs : List History) (source : ℕ) (postings ordered : List ℕ)
     → ((i : ℕ) (h : History) → slice_get hs i ≡ Some h → h.number ≡ suc i) → unless_split_postings hs source postings
     accepted None → IsPermutation postings ordered → IsNonDecreasing ordered → passing_numbers (is_listed postings) hs
@@ -177,7 +176,7 @@ listed_sorted hs source postings ordered numbers row same up =
             subst (λ k. has_number (passing_numbers (is_listed postings) hs) k ≡ true) n
             (passing_has (is_listed postings) hs i h at (subst (λ k. has_number postings k ≡ true) (sym n) e))
 
--- The changes of place for the moves are those of their postings.
+-- The changes of place that the moves state are those of their postings.
 pub places_of_moves : (number source target : ℕ) (ps : List ℕ)
     → map (λ (m : MoveRow). change.SetPlace m.posting m.target) (move_rows number source target ps)
     ≡ map (place_change target) ps

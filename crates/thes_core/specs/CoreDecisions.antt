@@ -1,4 +1,4 @@
--- Decisions of a core on requests, and results of applying them.
+-- The decisions of a core on requests, and the results of applying requests.
 use Rattle.std.specs.Prelude.{◌≡◌, ◌⊎◌, List, [], Option, None, Some, Result, Ok, Err, true, false}
 use Rattle.thes_base.specs.declared.fault.Fault.{Fault}
 use Rattle.thes_base.specs.declared.fault.Fault.TheVariants.{OutOfMemory}
@@ -19,25 +19,26 @@ pub record IsAccepted (setting : Setting) (s : State) (command : Command) : Type
   pub fresh : HasNewKey command s
   pub row : refusal_rule_of setting s (next_state command s) command None
 
--- With an answer, the machine's step that leaves the state as it is; without one, the request is accepted.
+-- The answer is that of a machine's step that leaves the state unchanged; without an answer, the request is accepted.
 abbrev pub SettledOrAccepted : Setting → State → Command → Option Answer → Type 0
 SettledOrAccepted setting s command (Some answer) = Step setting s command answer s
 SettledOrAccepted setting s command None = IsAccepted setting s command
 
--- The request is accepted, with the machine's answer and changes of rows that lead to the machine's next state.
+-- The request is accepted, the answer is the machine's, and the changes of rows lead to the machine's next state.
 pub record AcceptedVerdict (setting : Setting) (s : State) (command : Command) (answer : Answer)
     (changes : List Change) : Type 0 where
   pub accepts : IsAccepted setting s command
   pub answer_is : answer ≡ answer_of command s
   pub leads : AreChangesBetween setting.base changes s (next_state command s)
 
--- The verdict is right: a settled answer is a machine's step that leaves the state as it is, an accepted one has the
--- machine's answer and changes of rows that lead to its next state.
+-- The verdict is right: a settled answer is that of a machine's step that leaves the state unchanged, and an accepted
+-- one has the machine's answer and changes of rows that lead to the machine's next state.
 abbrev pub IsVerdict : Setting → State → Command → Verdict → Type 0
 IsVerdict setting s command (Settled answer) = Step setting s command answer s
 IsVerdict setting s command (Accepted answer changes) = AcceptedVerdict setting s command answer changes
 
--- The request passes all checks but those on postings, in a state without postings.
+-- The request passes the checks that need no postings: a Split those without its list, a Post or a Withdraw none, and
+-- any other request all.
 abbrev pub IsAcceptedWithoutPostings : Setting → State → Command → Type 0
 IsAcceptedWithoutPostings setting s (request.Split source tag text postings) =
     IsAccepted setting s (request.Split source tag text [])
@@ -45,24 +46,24 @@ IsAcceptedWithoutPostings setting s (request.Post key rec concept) = Unit {0}
 IsAcceptedWithoutPostings setting s (request.Withdraw posting) = Unit {0}
 IsAcceptedWithoutPostings setting s command = IsAccepted setting s command
 
--- The request passes all checks but those on postings, in the state of the core.
+-- The request passes the checks that need no postings, in the core's state without its postings.
 abbrev pub MayApply : CoreView → Command → Type 0
 MayApply core command = IsAcceptedWithoutPostings core.setting (with_histories [] core) command
 
--- If the verdict accepts the request, this may be applied.
+-- The request may be applied, if the verdict accepts it.
 abbrev pub VerdictMayApply : CoreView → Command → Verdict → Type 0
 VerdictMayApply core command (Settled answer) = Unit {0}
 VerdictMayApply core command (Accepted answer changes) = MayApply core command
 
--- Applying a request returns the answer and leaves the core with the state `s`, or runs out of memory and leaves it
--- unusable.
+-- The result of applying a request: the answer, with the state `s` in the core, or running out of memory, with an
+-- unusable core.
 abbrev pub ApplyResult : CoreView → State → Answer → Result Answer Fault → CoreView → Type 0
 ApplyResult old s answer (Ok given) new =
     (given ≡ answer) × IsViewOf new s × (new.spent ≡ false) × (new.setting ≡ old.setting)
 ApplyResult old s answer (Err fault) new = (fault ≡ OutOfMemory) × (new.spent ≡ true)
 
--- A step returns the machine's answer and leaves the core with the machine's next state, or runs out of memory and
--- leaves the core unchanged or unusable.
+-- The result of a step: the machine's answer, with the machine's next state in the core, or running out of memory, with
+-- an unchanged or unusable core.
 abbrev pub CoreStepResult : CoreView → State → Command → Result Answer Fault → CoreView → Type 0
 CoreStepResult old s command (Ok answer) new =
     (t : State) × Step old.setting s command answer t × IsViewOf new t

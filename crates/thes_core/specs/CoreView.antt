@@ -1,27 +1,27 @@
--- A core as contracts see it.
+-- A core as contracts see it: a state with counts in place of histories.
 use Rattle.std.specs.Prelude.{◌≡◌, Bool, List, []}
 use Rattle.thes_base.specs.declared.data.History.{History}
 use Rattle.thes_base.specs.declared.data.Resource.{Resource}
 use Rattle.thes_base.specs.Resources.{Iris}
 use Rattle.thes_base.specs.Labels.{Labels}
 use Rattle.thes_base.specs.Links.{Links}
-use Rattle.thes_base.specs.Legal.{Legal}
+use Rattle.thes_base.specs.Legal.{IsLegalState}
 use Rattle.thes_base.specs.State.{State}
 use Rattle.thes_base.specs.Refusals.{Setting}
 use Rattle.thes_post.specs.PostingCounts.{PostingCounts, ArePostingCounts}
 
--- A state with counts of its postings in place of their histories.
+-- A state with the counts of its postings in place of their histories, and the base and limits.
 pub record CoreView : Type 0 where
   pub resources : List Resource
   pub iris : Iris
   pub labels : Labels
   pub links : Links
-  pub sums : PostingCounts
+  pub posting_counts : PostingCounts
   pub setting : Setting
   -- Whether running out of memory has left the state half changed.
   pub spent : Bool
 
--- The state with these histories.
+-- The state that has the core's parts and these histories.
 abbrev pub with_histories : List History → CoreView → State
 with_histories histories core =
     record {
@@ -36,9 +36,9 @@ with_histories histories core =
 abbrev pub without_postings : State → State
 without_postings s = record s { histories = [] }
 
--- The state is legal and agrees with the core: it has the core's resources, IRIs, labels and links, and histories
--- with the core's counts.
+-- The core is a view of the state: the state is legal, has the core's resources, IRIs, labels and links, and has
+-- histories with the core's counts.
 pub record IsViewOf (core : CoreView) (s : State) : Type 0 where
   pub state : with_histories s.histories core ≡ s
-  pub sums : ArePostingCounts s.histories core.sums
-  pub legal : Legal core.setting.base s
+  pub posting_counts : ArePostingCounts s.histories core.posting_counts
+  pub legal : IsLegalState core.setting.base s

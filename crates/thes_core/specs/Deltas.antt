@@ -1,4 +1,4 @@
--- Rows in the changes of a request.
+-- Rows that the changes of a request insert.
 use Rattle.std.specs.Prelude.{ℕ, List, [], ◌∷◌, ◌+◌, ◌==◌, ◌||◌, map, filter, if◌then◌else◌, Option, None, Some}
 use Rattle.std.specs.FinSet as set
 use Rattle.thes_base.specs.declared.data.Link.{Link}
@@ -6,30 +6,31 @@ use Rattle.thes_base.specs.Data.{LabelData}
 use Rattle.thes_base.specs.Labels.{Label, Labels}
 use Rattle.thes_base.specs.Links.{normal_form, redirect, redirect_link}
 use Rattle.thes_base.specs.Machine.{owned_label}
-use Rattle.thes_graph.specs.Net.{Net, is_marked}
+use Rattle.thes_graph.specs.GraphView.{GraphView, is_marked}
 use Rattle.thes_vocab.specs.CopiedLabels.{lacks_name, merged_label}
 use Rattle.thes_tables.specs.declared.rows.MoveRow.{MoveRow}
 use Rattle.thes_tables.specs.declared.change.Change.{Change}
 use Rattle.thes_tables.specs.declared.change.Change.TheVariants as change
 
--- The moves of the postings from the source to the target, with numbers from `number` on.
+-- The rows of table move by which the postings move from the source to the target, numbered from `number` on.
 abbrev pub move_rows : ℕ → ℕ → ℕ → List ℕ → List MoveRow
 move_rows number source target [] = []
 move_rows number source target (p ∷ ps) =
     record { number = number; posting = p; source = source; target = target } ∷ move_rows (number + 1) source target ps
 
--- The change that assigns the posting to the target.
+-- The change that sets the posting's place to the target.
 abbrev pub place_change : ℕ → ℕ → Change
 place_change target posting = change.SetPlace posting target
 
--- The link that a merge adds for an old one: its normal form after redirection, unless its ends become equal or it is
--- held.
-abbrev pub link_added_by_merge : Net → ℕ → ℕ → Link → Option Link
+-- The link that a merge adds in place of an old one: its normal form after redirection; None if its ends become equal
+-- or that form is held already.
+abbrev pub link_added_by_merge : GraphView → ℕ → ℕ → Link → Option Link
 link_added_by_merge net source target l =
     let m = normal_form (is_marked net) (redirect_link source target l) in
     if redirect source target l.a == redirect source target l.b || set.contains net.links m then None else Some m
 
--- The copies of these labels that a merge adds to the target.
+-- The copies that a merge adds to the target: of the preferred, alternative and hidden labels of a list whose text in
+-- their language the target lacks.
 abbrev pub copied_label_rows : Labels → ℕ → List LabelData → List Label
 copied_label_rows labels target own = map (λ l. owned_label target (merged_label l))
     (filter (lacks_name labels target) own)

@@ -1,8 +1,8 @@
--- Rows of the postings that a request lists.
+-- The rows of the postings that a request lists.
 use Rattle.std.specs.Prelude.{List, [], ◌∷◌, Option, None}
 use Rattle.thes_tables.specs.declared.rows.PostingRow.{PostingRow}
 
 -- The row of the first posting listed, if it is known.
-abbrev pub first_named : List (Option PostingRow) → Option PostingRow
-first_named [] = None
-first_named (row ∷ rows) = row
+abbrev pub first_named_posting : List (Option PostingRow) → Option PostingRow
+first_named_posting [] = None
+first_named_posting (row ∷ rows) = row

@@ -1,19 +1,18 @@
--- The state of the parts of a thesaurus.
-use Rattle.std.specs.Prelude.{◌≡◌, ℕ, Bool, List}
-use Rattle.std.specs.FinSet as set
+-- The parts of a thesaurus as a state and as contracts see them, with their invariant.
+use Rattle.std.specs.Prelude.{◌≡◌, Bool, List}
 use Rattle.thes_base.specs.declared.data.History.{History}
-use Rattle.thes_base.specs.Resources.{is_outside}
 use Rattle.thes_base.specs.State.{State}
 use Rattle.thes_base.specs.Refusals.{Setting, IsSetting}
-use Rattle.thes_base.specs.Legal.{Legal}
+use Rattle.thes_base.specs.Legal.{IsLegalState}
+use Rattle.thes_graph.specs.GraphView.{MarksOutside}
 use Rattle.thes_core.specs.CoreView.{CoreView}
 use Rattle.thes_core.specs.declared.thesaurus.Thesaurus.{Thesaurus}
 
--- The base and the limits of the parts.
+-- The base and the limits that the parts have.
 abbrev pub setting_of : Thesaurus → Setting
 setting_of t = record { base = t.vocab.base; limits = t.limits }
 
--- The state of the parts with these histories.
+-- The state that has the parts' resources, IRIs, labels and links, and these histories.
 abbrev pub parts_state : Thesaurus → List History → State
 parts_state t histories =
     record {
@@ -24,7 +23,7 @@ parts_state t histories =
       histories = histories;
     }
 
--- The parts as contracts of a core see them.
+-- The parts as the contracts of a core see them; the core is unusable if `spent` is true.
 abbrev pub parts_view : Thesaurus → Bool → CoreView
 parts_view t spent =
     record {
@@ -32,18 +31,14 @@ parts_view t spent =
       iris = t.vocab.iris;
       labels = t.vocab.labels;
       links = t.graph.links;
-      sums = t.book;
+      posting_counts = t.book;
       setting = setting_of t;
       spent = spent;
     }
 
--- The graph marks exactly the outside concepts.
-abbrev pub KnowsOutside : Thesaurus → Type 0
-KnowsOutside t = (n : ℕ) → set.contains t.graph.outside n ≡ is_outside t.vocab.resources n
-
--- The invariant of the parts: base and limits are valid, the parts with these histories are a legal state, and the
+-- The invariant of the parts: base and limits are valid, the parts are a legal state with these histories, and the
 -- graph marks exactly the outside concepts.
 pub record AreLegal (t : Thesaurus) (histories : List History) : Type 0 where
   pub fit : IsSetting (setting_of t)
-  pub legal : Legal t.vocab.base (parts_state t histories)
-  pub outside : KnowsOutside t
+  pub legal : IsLegalState t.vocab.base (parts_state t histories)
+  pub outside : MarksOutside t.vocab.resources t.graph

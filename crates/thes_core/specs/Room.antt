@@ -1,4 +1,4 @@
--- The growth that a request causes, and the room that the limits leave.
+-- The growth that a request causes, and whether the limits leave room for it.
 use Rattle.std.specs.Prelude.{ℕ, ◌+◌, length}
 use Rattle.std.specs.FinSet as set
 use Rattle.thes_base.specs.declared.data.Limits.{Limits}
@@ -7,7 +7,7 @@ use Rattle.thes_base.specs.State.{State, IsWithinLimit}
 use Rattle.thes_core.specs.declared.room.Growth.{Growth}
 use Rattle.thes_core.specs.declared.thesaurus.Thesaurus.{Thesaurus}
 
--- The numbers of resources, labels, links, postings and moves.
+-- The numbers of resources, labels, links, postings and moves of a state.
 pub record Amounts : Type 0 where
   pub resources : ℕ
   pub labels : ℕ
@@ -15,7 +15,7 @@ pub record Amounts : Type 0 where
   pub postings : ℕ
   pub moves : ℕ
 
--- The numbers of a state.
+-- The numbers of resources, labels, links, postings and moves in a state.
 abbrev pub amounts_of_state : State → Amounts
 amounts_of_state s =
     record {
@@ -26,7 +26,7 @@ amounts_of_state s =
       moves = move_count s.histories;
     }
 
--- The same in terms of the parts.
+-- The numbers of resources, labels, links, postings and moves, as the parts count them.
 abbrev pub amounts_of_parts : Thesaurus → Amounts
 amounts_of_parts t =
     record {
@@ -37,7 +37,7 @@ amounts_of_parts t =
       moves = t.book.moves;
     }
 
--- No number grows past its limit.
+-- There is room for the growth: no number exceeds its limit, unless it doesn't grow.
 pub record HasRoomForGrowth (limits : Limits) (held : Amounts) (growth : Growth) : Type 0 where
   pub for_resources : IsWithinLimit limits.resources held.resources (held.resources + growth.resources)
   pub for_labels : IsWithinLimit limits.labels held.labels (held.labels + growth.labels)

@@ -1,17 +1,18 @@
-//! Checks of a request's arguments: resources that exist, are of the right kind, live, different,
-//! and of the right schemes.
+//! Checks of a request's arguments: whether resources exist, are of the right kind, live, different, and in the right
+//! schemes. Each check returns the refusal by the first condition that fails, or None.
 ghost use Rattle.std.specs.Prelude.{◌≡◌};
 ghost use Rattle.thes_base.specs.RefusalRules.{accepted};
 ghost use Rattle.thes_base.specs.Resources.{replacements};
 ghost use Rattle.thes_base.specs.Postings.{path_end};
-ghost use Rattle.thes_base.specs.Refusals.{unless_owner, unless_live_concept, unless_forwardable, unless_ends, unless_pair};
+ghost use Rattle.thes_base.specs.RuleParts.{unless_owner, unless_live_concept, unless_forwardable, unless_ends, unless_pair};
 
 use thes_base::data::{Link, ResourceKind};
 use thes_base::fault::Refusal;
 use thes_base::number::ResNo;
 use thes_vocab::Vocab;
 
-/// Checks whether the labels of this resource may be changed.
+/// Checks whether the number is that of a live scheme, concept or collection, whose labels may
+/// change.
 pub fn check_owner(vocab: &Vocab, owner: ResNo) -> Option<Refusal>
     ensures { unless_owner vocab.now.resources owner accepted result }
 {
@@ -27,7 +28,7 @@ pub fn check_owner(vocab: &Vocab, owner: ResNo) -> Option<Refusal>
     None
 }
 
-/// Checks whether this is a live concept.
+/// Checks whether the number is that of a live concept.
 pub fn check_live_concept(vocab: &Vocab, concept: ResNo) -> Option<Refusal>
     ensures { unless_live_concept vocab.now.resources concept accepted result }
 {
@@ -43,8 +44,8 @@ pub fn check_live_concept(vocab: &Vocab, concept: ResNo) -> Option<Refusal>
     None
 }
 
-/// Checks whether this is a concept whose chain of replacements ends at a live one; `place` is that
-/// end.
+/// Checks whether the number is that of a concept whose chain of replacements ends at a live one.
+/// `place` is that end.
 pub fn check_forwarding(vocab: &Vocab, concept: ResNo, place: ResNo) -> Option<Refusal>
     requires { place ≡ path_end concept (replacements vocab.now.resources concept) }
     ensures { unless_forwardable vocab.now.resources concept accepted result }
@@ -61,7 +62,8 @@ pub fn check_forwarding(vocab: &Vocab, concept: ResNo, place: ResNo) -> Option<R
     None
 }
 
-/// Checks whether these are two live concepts of one scheme.
+/// Checks whether the numbers are those of two different live concepts of one scheme, as a merge
+/// requires.
 pub fn check_pair(vocab: &Vocab, source: ResNo, target: ResNo) -> Option<Refusal>
     ensures { unless_pair vocab.now.resources source target accepted result }
 {
@@ -86,7 +88,8 @@ pub fn check_pair(vocab: &Vocab, source: ResNo, target: ResNo) -> Option<Refusal
     None
 }
 
-/// Checks whether a link of this kind may have these two ends.
+/// Checks whether the link's ends are two different live resources, of the kinds and schemes that
+/// its kind requires.
 pub fn check_ends(vocab: &Vocab, link: &Link) -> Option<Refusal>
     ensures { unless_ends vocab.now.resources link.now accepted result }
 {

@@ -1,4 +1,4 @@
-//! The changes of rows for an accepted request.
+//! The changes of rows that an accepted request makes.
 ghost use Rattle.std.specs.Prelude.{◌≡◌, ◌<◌, ◌+◌, ◌^◌, ◌∷◌, [], IfOk, List, length};
 ghost use Rattle.thes_base.specs.declared.data.History.{History};
 ghost use Rattle.thes_base.specs.declared.data.LabelKind.TheVariants.{Pref, Alt};
@@ -29,7 +29,7 @@ use thes_tables::change::Change;
 use thes_tables::delta::Delta;
 use thes_tables::rows::{HierRow, HierType, LabelRow};
 
-// Returns a delta of one change.
+// Returns a delta that has this change alone.
 fn one(alloc: Global, change: Change) -> Result<Delta, AllocError>
     ensures { IfOk result (λ delta. delta ≡ change ∷ []) }
 {
@@ -38,7 +38,7 @@ fn one(alloc: Global, change: Change) -> Result<Delta, AllocError>
     Ok(delta)
 }
 
-// Returns the row of a preferred label.
+// Returns the row of a preferred label, with copies of its tag and text.
 fn preferred_row(
     alloc: Global,
     owner: ResNo,
@@ -54,7 +54,7 @@ fn preferred_row(
     Ok(LabelRow { owner, label })
 }
 
-// Returns the row of an alternative label.
+// Returns the row of an alternative label, with copies of its tag and text.
 fn alternative_row(
     alloc: Global,
     owner: ResNo,
@@ -70,7 +70,7 @@ fn alternative_row(
     Ok(LabelRow { owner, label })
 }
 
-// Returns the type of a hierarchical kind of link.
+// Returns the type of a hierarchical kind of link; None for other kinds.
 fn hier_type(kind: LinkKind) -> Option<HierType>
     ensures { result ≡ hier_type kind }
 {
@@ -89,7 +89,7 @@ fn hier_type(kind: LinkKind) -> Option<HierType>
     }
 }
 
-// Returns the insertion of a link into the table of its kind.
+// Returns the insertion of a link into the table for its kind.
 fn link_insertion(link: &Link) -> Change
     ensures { result ≡ add_link link.now }
 {
@@ -103,7 +103,7 @@ fn link_insertion(link: &Link) -> Change
     }
 }
 
-// Returns the deletion of a link from the table of its kind.
+// Returns the deletion of a link from the table for its kind.
 fn link_removal(link: &Link) -> Change
     ensures { result ≡ drop_link link.now }
 {
@@ -118,7 +118,7 @@ fn link_removal(link: &Link) -> Change
 }
 
 impl Thesaurus {
-    // Returns the changes of rows for an accepted request.
+    // Returns the changes of rows that an accepted request makes.
     fn changes(&self, command: &Command, facts: &Facts) -> Result<Delta, AllocError>
         requires { MayChange self.now command.now }
         ensures { IfOk result (λ delta. (histories : List History)
@@ -180,7 +180,7 @@ impl Thesaurus {
         }
     }
 
-    // Returns the number that a new resource gets.
+    // Returns the number that the next new resource gets.
     fn next_resource_number(&self) -> ResNo
         requires { length self.now.vocab.resources + 1 < 2 ^ 32 }
         ensures { result ≡ length self.now.vocab.resources + 1 }
@@ -188,7 +188,7 @@ impl Thesaurus {
         ResNo::new(self.vocab.resource_count() as u32 + 1)
     }
 
-    // Returns the rows of a new resource and its preferred label.
+    // Returns the insertions of a new resource and its preferred label.
     fn changes_of_new_resource(
         &self,
         resource: Resource,
@@ -207,7 +207,7 @@ impl Thesaurus {
         Ok(delta)
     }
 
-    // Returns the rows of a new outside concept and its IRI.
+    // Returns the insertions of a new outside concept and its IRI.
     fn changes_of_outside(&self, iri: &Iri) -> Result<Delta, AllocError>
         requires { length self.now.vocab.resources + 1 < 2 ^ 32 }
         ensures { IfOk result (λ delta. (histories : List History)
@@ -220,8 +220,8 @@ impl Thesaurus {
         Ok(delta)
     }
 
-    // Returns the changes of rows that replace a preferred label, and keep the old one as an
-    // alternative label if `keep` is true.
+    // Returns the changes that replace a preferred label, and keep the old one as an alternative label if `keep` is
+    // true; no changes if the owner has no preferred label in the language.
     fn changes_of_relabel(
         &self,
         owner: ResNo,
@@ -247,7 +247,7 @@ impl Thesaurus {
         Ok(delta)
     }
 
-    // Returns the normal form of a link, in which it is stored.
+    // Returns the normal form of a link, in which the tables have it.
     fn normal(&self, kind: LinkKind, a: ResNo, b: ResNo) -> Link
         requires { AreLegal self.now [] }
         ensures { result ≡ normal_form (is_outside self.now.vocab.resources) (link kind a b) }

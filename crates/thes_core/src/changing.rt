@@ -1,4 +1,4 @@
-//! Applies accepted requests to the parts of a thesaurus. Running out of memory may leave these
+//! Applies accepted requests to the parts of a thesaurus. If memory runs out, the parts may be
 //! inconsistent.
 ghost use Rattle.std.specs.Prelude.{◌≡◌, ℕ, IfOk, OnOk, List, []};
 ghost use Rattle.thes_base.specs.declared.data.History.{History};
@@ -23,7 +23,7 @@ fn is_outside(new: &NewResource) -> bool
 }
 
 impl Thesaurus {
-    // Applies an accepted request, and returns its answer.
+    // Applies an accepted request to all parts, and returns its answer.
     pub(crate) fn change(&mut self, command: &Command, facts: &Facts) -> Result<Answer, AllocError>
         requires { MayChange self.old command.now }
         ensures becomes { OnOk result (PartsAfter command.now self.old self.new) }
@@ -33,21 +33,23 @@ impl Thesaurus {
     {
         let alloc = self.alloc;
         match command {
-            Command::Scheme(tag, text) => self.make(NewResource::Scheme(
+            Command::Scheme(tag, text) => self.create_resource(NewResource::Scheme(
                 tag.try_clone(alloc)?,
                 text.try_clone(alloc)?,
             )),
-            Command::Concept(scheme, tag, text) => self.make(NewResource::Concept(
+            Command::Concept(scheme, tag, text) => self.create_resource(NewResource::Concept(
                 *scheme,
                 tag.try_clone(alloc)?,
                 text.try_clone(alloc)?,
             )),
-            Command::Collection(scheme, tag, text) => self.make(NewResource::Collection(
+            Command::Collection(scheme, tag, text) => self.create_resource(NewResource::Collection(
                 *scheme,
                 tag.try_clone(alloc)?,
                 text.try_clone(alloc)?,
             )),
-            Command::Outside(iri) => self.make(NewResource::Outside(iri.try_clone(alloc)?)),
+            Command::Outside(iri) => self.create_resource(NewResource::Outside(iri.try_clone(
+                alloc,
+            )?)),
             Command::AddLabel(owner, label) => self.add_label(*owner, label),
             Command::DropLabel(owner, label) => Ok(self.drop_label(*owner, label)),
             Command::Relabel(owner, tag, text, keep) => self.relabel(*owner, tag, text, *keep),
@@ -63,8 +65,8 @@ impl Thesaurus {
         }
     }
 
-    // Adds a resource.
-    fn make(&mut self, new: NewResource) -> Result<Answer, AllocError>
+    // Adds a resource to the vocabulary, and marks an outside concept in the graph.
+    fn create_resource(&mut self, new: NewResource) -> Result<Answer, AllocError>
         requires { PartsAccept self.old [] (creation_request new) }
         ensures becomes { OnOk result (PartsAfter (creation_request new) self.old self.new) }
         ensures counts { IfOk result (CountsAfterAny (creation_request new) self.old self.new) }
@@ -77,7 +79,7 @@ impl Thesaurus {
         Ok(Answer::Number(number.get()))
     }
 
-    // Adds a label.
+    // Adds a label to its owner, and answers `Done`.
     fn add_label(&mut self, owner: ResNo, label: &Label) -> Result<Answer, AllocError>
         requires { PartsAccept self.old [] (request.AddLabel owner label.now) }
         ensures becomes { OnOk result
@@ -89,7 +91,7 @@ impl Thesaurus {
         Ok(Answer::Done)
     }
 
-    // Removes a label.
+    // Removes a label from its owner, and answers `Done`.
     fn drop_label(&mut self, owner: ResNo, label: &Label) -> Answer
         requires { PartsAccept self.old [] (request.DropLabel owner label.now) }
         ensures becomes { PartsAfter (request.DropLabel owner label.now) self.old self.new }
@@ -100,7 +102,8 @@ impl Thesaurus {
         Answer::Done
     }
 
-    // Replaces a preferred label.
+    // Replaces the owner's preferred label in the language, keeps the old one as an alternative label if `keep` is
+    // true, and answers `Done`.
     fn relabel(
         &mut self,
         owner: ResNo,
@@ -118,7 +121,7 @@ impl Thesaurus {
         Ok(Answer::Done)
     }
 
-    // Adds a link.
+    // Adds a link in normal form, and answers `Done`.
     fn link(&mut self, kind: LinkKind, a: ResNo, b: ResNo) -> Result<Answer, AllocError>
         requires { PartsAccept self.old [] (request.Link kind a b) }
         ensures becomes { OnOk result (PartsAfter (request.Link kind a b) self.old self.new) }
@@ -128,7 +131,7 @@ impl Thesaurus {
         Ok(Answer::Done)
     }
 
-    // Removes a link.
+    // Removes a link in normal form, and answers `Done`.
     fn unlink(&mut self, kind: LinkKind, a: ResNo, b: ResNo) -> Answer
         requires { PartsAccept self.old [] (request.Unlink kind a b) }
         ensures becomes { PartsAfter (request.Unlink kind a b) self.old self.new }
@@ -138,7 +141,7 @@ impl Thesaurus {
         Answer::Done
     }
 
-    // Marks a concept as dead, and removes its links.
+    // Marks a concept as dead without a replacement, removes its links, and answers `Done`.
     fn deprecate(&mut self, concept: ResNo) -> Answer
         requires { PartsAccept self.old [] (request.Deprecate concept) }
         ensures becomes { PartsAfter (request.Deprecate concept) self.old self.new }
@@ -149,7 +152,7 @@ impl Thesaurus {
         Answer::Done
     }
 
-    // Merges the source into the target. The answer has the number of moves.
+    // Merges the source into the target, and returns the number of postings moved.
     fn merge(&mut self, source: ResNo, target: ResNo) -> Result<Answer, AllocError>
         requires { PartsAccept self.old [] (request.Merge source target) }
         ensures becomes { OnOk result (PartsAfter (request.Merge source target) self.old self.new) }
@@ -163,8 +166,8 @@ impl Thesaurus {
         Ok(Answer::Moved(moved))
     }
 
-    // Adds a concept, and moves the postings listed to it. The answer has its number and the number
-    // of moves.
+    // Adds a concept in the scheme of the source, and counts the listed postings as moved to it. Returns the concept's
+    // number and the number of postings moved.
     fn split(
         &mut self,
         source: ResNo,
@@ -190,7 +193,7 @@ impl Thesaurus {
         Ok(Answer::Parted(concept.get(), count))
     }
 
-    // Accepts a posting with a new key, and forwards it along the replacements of its concept.
+    // Counts a posting with a new key at the end of its concept's chain of replacements, and returns its number.
     fn post(&mut self, concept: ResNo) -> Result<Answer, AllocError>
         requires { AreLegal self.old [] }
         ensures becomes { OnOk result ((key rec : List ℕ)
@@ -203,7 +206,8 @@ impl Thesaurus {
         Ok(Answer::Number(number.get()))
     }
 
-    // Withdraws a posting.
+    // Counts a posting as withdrawn from the concept to which it is assigned, and answers `Done`; counts nothing if the
+    // facts don't have the posting.
     fn withdraw(&mut self, posting: PostNo, facts: &Facts) -> Answer
         requires { AreLegal self.old [] }
         ensures becomes { PartsAfter (request.Withdraw posting) self.old self.new }

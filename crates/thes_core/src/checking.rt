@@ -25,8 +25,8 @@ use std::alloc::AllocError;
 use thes_base::fault::Refusal;
 use thes_base::request::{Answer, Command};
 
-// Returns the answer to a Post whose key was used before.
-pub(crate) fn known(command: &Command, facts: &Facts) -> Option<Answer>
+// Returns the answer to a Post with a known key; None for other requests.
+pub(crate) fn known_answer(command: &Command, facts: &Facts) -> Option<Answer>
     ensures some { IfSome result (λ answer. (state : State)
         → AreFacts command.now state.histories facts.now
         → IsKnownKeyAnswer command.now state answer) }
@@ -45,7 +45,7 @@ pub(crate) fn known(command: &Command, facts: &Facts) -> Option<Answer>
 }
 
 impl Thesaurus {
-    // Checks a request whose key, if it has one, is new.
+    // Checks a request other than a Post with a known key, in the order of docs/REQUESTS.md.
     pub(crate) fn check_request(
         &self,
         command: &Command,
@@ -81,7 +81,7 @@ impl Thesaurus {
         }
     }
 
-    // Checks whether the limits leave room for the growth.
+    // Checks whether the limits leave room for the growth that a request causes.
     fn check_room(&self, growth: Growth) -> Option<Refusal>
         ensures { let has_room =
             HasRoomForGrowth self.now.limits (amounts_of_parts self.now) growth in

@@ -1,4 +1,4 @@
-//! Look-ups for displays. The core must be usable (not `is_spent`).
+//! Look-ups that displays need. The core must be usable (not `is_spent`).
 ghost use Rattle.std.specs.Prelude.{◌≡◌, ◌↔◌, ℕ, false, string_bytes, IfOk};
 ghost use Rattle.std.specs.Ordering.{nat_cmp};
 ghost use Rattle.thes_base.specs.declared.data.LinkKind.{LinkKind as Kind};
@@ -17,8 +17,8 @@ use thes_base::number::ResNo;
 use thes_base::text::Tag;
 
 impl Core {
-    /// Returns the live concepts of the scheme in ascending order. A link within a scheme has
-    /// either both ends among them or neither.
+    /// Returns the live concepts of the scheme in ascending order. A link within a scheme has both
+    /// ends among them or neither.
     pub fn live_of(&self, scheme: ResNo) -> &[ResNo]
         requires { self.now.spent ≡ false }
         ensures listed { IsListing nat_cmp (IsConceptOf self.now.resources scheme) result.now }
@@ -29,8 +29,8 @@ impl Core {
         self.thesaurus.vocab.live_of(scheme)
     }
 
-    /// Returns the preferred label of a concept in the language, or its number in brackets if it
-    /// has none.
+    /// Returns the term that displays show for a concept: its preferred label in the language, or its number in square
+    /// brackets if it has none.
     pub fn term(&self, alloc: Global, n: ResNo, tag: &Tag) -> Result<String, AllocError>
         requires { self.now.spent ≡ false }
         ensures { IfOk result (λ text. string_bytes text ≡ term_text self.now.labels tag.now n) }

@@ -1,4 +1,4 @@
-//! Look-ups for exports. The core must be usable (not `is_spent`).
+//! Look-ups that exports need. The core must be usable (not `is_spent`).
 ghost use Rattle.std.specs.Prelude.{◌≡◌, ◌<◌, ◌^◌, false, length};
 
 use crate::machine::Core;
@@ -6,7 +6,7 @@ use thes_base::data::Resource;
 use thes_base::text::Base;
 
 impl Core {
-    /// Returns the base: the prefix of the IRIs of schemes, concepts and collections.
+    /// Returns the base, the prefix of the IRIs of schemes, concepts and collections.
     pub fn base(&self) -> &Base
         requires { self.now.spent ≡ false }
         ensures { result.now ≡ self.now.setting.base }
@@ -14,7 +14,7 @@ impl Core {
         self.thesaurus.vocab.base()
     }
 
-    /// Returns all resources; number `n` is at index `n - 1`.
+    /// Returns all resources, live and dead; number `n` is at index `n - 1`.
     pub fn resources(&self) -> &[Resource]
         requires { self.now.spent ≡ false }
         ensures all { result.now ≡ self.now.resources }

@@ -1,26 +1,26 @@
-//! Facts on the postings that a request concerns, from the storage that has the postings.
+//! Facts on the postings that a request concerns. They come from the storage, since the core has
+//! only counts.
 ghost use Rattle.std.specs.Prelude.{◌≡◌, None, [], IfOk};
 ghost use Rattle.std.specs.Option.{option_copied};
-ghost use Rattle.thes_core.specs.NamedPostings.{first_named};
+ghost use Rattle.thes_core.specs.NamedPostings.{first_named_posting};
 
 use std::alloc::Global;
 use thes_base::number::PostNo;
 use thes_tables::rows::PostingRow;
 
-/// The facts on postings that the decision on a request needs.
+/// The facts on postings that the decision on a request needs, as the storage reports them.
 #[derive(Debug, Drop)]
 pub struct Facts {
     /// For a Post, the posting with its key, if there is one.
     pub known: Option<PostingRow>,
-    /// For a Withdraw or a Split, the postings that it lists, in its order; `None` for an unknown
-    /// one.
+    /// For a Withdraw or a Split, the postings that it lists, in the order of its list; `None` for an unknown one.
     pub named_postings: Vec<Option<PostingRow>>,
     /// For a Merge, the numbers of the postings assigned to its source, in ascending order.
     pub standing: Vec<PostNo>,
 }
 
 impl Facts {
-    /// Creates the facts for a request that concerns no postings.
+    /// Creates facts without postings, for a request that concerns none.
     pub fn new(alloc: Global) -> Facts
         ensures known { result.known ≡ None }
         ensures named_postings { result.named_postings.items ≡ [] }
@@ -33,9 +33,10 @@ impl Facts {
         }
     }
 
-    // Returns the first posting listed, if it is known.
+    // Returns the row of the first posting that the request lists; None if it lists none, or if that posting is
+    // unknown.
     pub(crate) fn first(&self) -> Option<&PostingRow>
-        ensures { option_copied result ≡ first_named self.now.named_postings.items }
+        ensures { option_copied result ≡ first_named_posting self.now.named_postings.items }
     {
         self.named_postings.first()?.as_ref()
     }

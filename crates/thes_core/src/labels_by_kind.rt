@@ -1,4 +1,4 @@
-//! Look-ups for views. The core must be usable (not `is_spent`).
+//! Look-ups of labels that views need. The core must be usable (not `is_spent`).
 ghost use Rattle.std.specs.Prelude.{◌≡◌, false, [], filter, map, IfOk};
 ghost use Rattle.thes_base.specs.Views.{AreLabels};
 ghost use Rattle.thes_core.specs.CoreView.{with_histories};
@@ -9,7 +9,7 @@ use std::alloc::{AllocError, Global};
 use thes_base::data::{Label, LabelKind};
 use thes_base::number::ResNo;
 
-// Returns the labels of the kind.
+// Returns the labels of the kind, in the order of the list.
 fn of_kind<'a>(
     alloc: Global,
     labels: &'a [Label],

@@ -1,5 +1,5 @@
-//! The machine: the answer to each request, and the state after it, without the histories of
-//! postings.
+//! The machine: the answer to each request and the state after it, with counts in place of the
+//! histories of postings.
 ghost use Rattle.std.specs.Prelude.{◌≡◌, false, true, IfOk, IfErr, IfNone, OnOk};
 ghost use Rattle.thes_base.specs.State.{State, empty_state};
 ghost use Rattle.thes_base.specs.Headline.{IsConsistentState};
@@ -8,7 +8,7 @@ ghost use Rattle.thes_core.specs.Facts.{AreFacts};
 ghost use Rattle.thes_core.specs.CoreView.{IsViewOf};
 ghost use Rattle.thes_core.specs.CoreDecisions.{IsAccepted, IsVerdict, ApplyResult, MayApply, CoreStepResult, VerdictMayApply, SettledOrAccepted};
 
-use crate::checking::known;
+use crate::checking::known_answer;
 use crate::facts::Facts;
 use crate::thesaurus::Thesaurus;
 use crate::verdict::Verdict;
@@ -22,7 +22,7 @@ use thes_graph::graph::Graph;
 use thes_post::book::Book;
 use thes_vocab::Vocab;
 
-/// The state of a thesaurus: its vocabulary, its links and the counts of its postings.
+/// The state of a thesaurus, with the counts of its postings in place of their histories.
 #[derive(Drop)]
 pub struct Core {
     pub(crate) thesaurus: Thesaurus,
@@ -48,7 +48,7 @@ impl Model for Core {
 }
 
 impl Core {
-    /// Creates a core that holds the empty state.
+    /// Creates a core with the empty state, the base and the limits.
     pub fn new(alloc: Global, base: Base, limits: Limits) -> Core
         ensures holds { IsViewOf result empty_state }
         ensures base { result.setting.base ≡ base }
@@ -70,7 +70,7 @@ impl Core {
     }
 
     /// Returns the answer to a request that changes nothing: a refusal, or the answer to a repeated
-    /// key. If there is none, the request may be applied.
+    /// key. None means that the request may be applied.
     pub fn settled_answer(&self, command: &Command, facts: &Facts) -> Result<Option<Answer>, Fault>
         requires { self.now.spent ≡ false }
         ensures ok { IfOk result (λ answer. (s : State) → IsViewOf self.now s
@@ -79,7 +79,7 @@ impl Core {
         ensures may { IfOk result (λ answer. IfNone answer (MayApply self.now command.now)) }
         ensures err { IfErr result (λ fault. fault ≡ Fault.OutOfMemory) }
     {
-        if let Some(answer) = known(command, facts) {
+        if let Some(answer) = known_answer(command, facts) {
             return Ok(Some(answer));
         }
         match self.thesaurus.check_request(command, facts)? {
@@ -106,7 +106,7 @@ impl Core {
         }
     }
 
-    /// Applies an accepted request, and returns its answer. Running out of memory leaves the core
+    /// Applies an accepted request, and returns its answer. If memory runs out, the core is
     /// unusable (`is_spent`).
     pub fn apply(&mut self, command: &Command, facts: &Facts) -> Result<Answer, Fault>
         requires unspent { self.old.spent ≡ false }
@@ -133,9 +133,9 @@ impl Core {
         }
     }
 
-    /// Performs a request, and returns its answer. In the state after it each posting that isn't
-    /// withdrawn is assigned to exactly one live concept, the counts add up, and the triples meet
-    /// the conditions of SKOS. Running out of memory changes nothing, or leaves the core unusable
+    /// Performs a request, and returns its answer. The state after it is consistent: each posting
+    /// that isn't withdrawn is assigned to exactly one live concept, the counts add up, and the
+    /// triples meet the conditions of SKOS. If memory runs out, the core is unchanged or unusable
     /// (`is_spent`).
     pub fn step(&mut self, command: &Command, facts: &Facts) -> Result<Answer, Fault>
         requires { self.old.spent ≡ false }

@@ -1,8 +1,9 @@
-//! Checks of the postings that a request lists.
+//! Checks of the postings that a Split or a Withdraw lists.
 ghost use Rattle.std.specs.Prelude.{◌≡◌, ◌<◌, ◌^◌, IfOk, List, [], ◌∷◌, length, map};
 ghost use Rattle.thes_base.specs.declared.data.History.{History};
 ghost use Rattle.thes_base.specs.RefusalRules.{accepted};
-ghost use Rattle.thes_base.specs.Refusals.{EachOnce, unless_split_postings, unless_standing};
+ghost use Rattle.thes_base.specs.Refusals.{EachOnce};
+ghost use Rattle.thes_base.specs.RuleParts.{unless_split_postings, unless_assigned};
 ghost use Rattle.thes_core.specs.Facts.{posting_row_at};
 
 use crate::facts::Facts;
@@ -12,7 +13,7 @@ use thes_base::number::{PostNo, ResNo};
 use thes_post::rising::is_each_once;
 use thes_tables::rows::PostingRow;
 
-/// Returns the number of postings, at most `u32::MAX`.
+/// Returns the number of postings in the list, at most `u32::MAX`.
 pub fn count_named(postings: &[PostNo]) -> u32
     ensures { length postings.now < 2 ^ 32 → result ≡ length postings.now }
 {
@@ -23,11 +24,11 @@ pub fn count_named(postings: &[PostNo]) -> u32
     }
 }
 
-/// Checks whether the posting can be withdrawn.
+/// Checks by the facts whether the posting that a Withdraw names is known and not yet withdrawn.
 pub fn check_withdraw(posting: PostNo, facts: &Facts) -> Option<Refusal>
     ensures { (histories : List History)
         → facts.now.named_postings.items ≡ posting_row_at histories posting ∷ []
-        → unless_standing histories posting accepted result }
+        → unless_assigned histories posting accepted result }
 {
     match facts.first() {
         None => Some(Refusal::UnknownPosting),
@@ -36,8 +37,9 @@ pub fn check_withdraw(posting: PostNo, facts: &Facts) -> Option<Refusal>
     }
 }
 
-/// Checks whether the postings listed can be moved from the source. Each condition is checked for
-/// the whole list before the one that follows it.
+/// Checks whether the listed postings may move from the source: none is listed twice, and all are
+/// known, not withdrawn and assigned to it. Each condition is checked for the whole list before the
+/// next one.
 pub fn check_listed(
     alloc: Global,
     source: ResNo,
@@ -54,7 +56,8 @@ pub fn check_listed(
     Ok(check_named(source, postings, named_postings))
 }
 
-// Checks whether the postings, each listed once, can be moved from the source.
+// Checks whether the postings, each listed once, are known, not withdrawn and assigned to the
+// source.
 fn check_named(
     source: ResNo,
     postings: &[PostNo],

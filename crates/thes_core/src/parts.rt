@@ -1,9 +1,10 @@
-//! Creates a core from its parts.
+//! Creates a core from parts that were loaded.
 ghost use Rattle.std.specs.Prelude.{◌≡◌, false};
 ghost use Rattle.thes_base.specs.State.{State};
-ghost use Rattle.thes_base.specs.Legal.{Legal};
+ghost use Rattle.thes_base.specs.Legal.{IsLegalState};
+ghost use Rattle.thes_graph.specs.GraphView.{MarksOutside};
 ghost use Rattle.thes_core.specs.CoreView.{IsViewOf};
-ghost use Rattle.thes_core.specs.Parts.{ArePartsOf, MarksOutside};
+ghost use Rattle.thes_core.specs.Parts.{ArePartsOf};
 
 use crate::machine::Core;
 use crate::thesaurus::Thesaurus;
@@ -14,12 +15,14 @@ use thes_post::book::Book;
 use thes_vocab::Vocab;
 
 impl Core {
-    /// Creates a core from a vocabulary, its links and the counts of its postings.
+    /// Creates a core from a vocabulary, its links and the counts of its postings, which must be
+    /// those of a legal state.
     pub fn of_parts(alloc: Global, vocab: Vocab, graph: Graph, book: Book, limits: Limits) -> Core
-        requires marks { MarksOutside vocab graph }
-        requires legal { (s : State) × ArePartsOf s vocab graph.links book × Legal vocab.base s }
-        ensures holds { (s : State) → ArePartsOf s vocab graph.links book → Legal vocab.base s
-            → IsViewOf result s }
+        requires marks { MarksOutside vocab.resources graph }
+        requires legal { (s : State) × ArePartsOf s vocab graph.links book
+            × IsLegalState vocab.base s }
+        ensures holds { (s : State) → ArePartsOf s vocab graph.links book
+            → IsLegalState vocab.base s → IsViewOf result s }
         ensures base { result.setting.base ≡ vocab.base }
         ensures limits { result.setting.limits ≡ limits }
         ensures spent { result.spent ≡ false }

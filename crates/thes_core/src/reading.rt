@@ -1,4 +1,4 @@
-//! Look-ups in a core. On an unusable one only `is_spent` may be called.
+//! Look-ups in a core. Only `is_spent` may be called on an unusable one.
 ghost use Rattle.std.specs.Prelude.{◌≡◌, ◌↔◌, ◌⊎◌, ◌-◌, ℕ, Some, false, true, length, IfOk, IsTrue, MatchOption};
 ghost use Rattle.std.specs.FinMap as dict;
 ghost use Rattle.std.specs.FinSet as set;
@@ -7,7 +7,7 @@ ghost use Rattle.std.specs.Ordering.{nat_cmp};
 ghost use Rattle.thes_base.specs.declared.data.LinkKind.TheVariants as kinds;
 ghost use Rattle.thes_base.specs.Headline.{IsConsistentState};
 ghost use Rattle.thes_base.specs.Labels.{IsPreferredTaken, preferred_label_in};
-ghost use Rattle.thes_base.specs.Links.{HeldIn, normal_form};
+ghost use Rattle.thes_base.specs.Links.{Holds, normal_form};
 ghost use Rattle.thes_base.specs.Listing.{IsListing};
 ghost use Rattle.thes_base.specs.Resources.{is_outside, entry_at, replacements, IsLive};
 ghost use Rattle.thes_base.specs.State.{State};
@@ -23,7 +23,8 @@ use thes_base::data::{Label, Link, LinkKind, Resource, Totals, TypedKind};
 use thes_base::number::ResNo;
 use thes_base::text::{Iri, Tag, Text};
 
-/// The sizes of a store.
+/// The numbers of a state's resources, labels, links, postings (all accepted, and those withdrawn)
+/// and moves.
 #[derive(Clone, Copy, Debug, PartialEq, Eq)]
 pub struct Sizes {
     pub resources: u64,
@@ -35,10 +36,10 @@ pub struct Sizes {
 }
 
 impl Core {
-    /// Checks whether running out of memory has left the state half changed, so that the core is
-    /// unusable until it is loaded again. In a usable core each posting that isn't withdrawn is
-    /// assigned to exactly one live concept, the counts add up, and the triples meet the conditions
-    /// of SKOS.
+    /// Returns whether running out of memory has left the state half changed, so that the core is
+    /// unusable until it is loaded again. The state of a usable core is consistent: each posting
+    /// that isn't withdrawn is assigned to exactly one live concept, the counts add up, and the
+    /// triples meet the conditions of SKOS.
     pub fn is_spent(&self) -> bool
         ensures value { result ≡ self.now.spent }
         ensures in_order { result ≡ false → (s : State) → IsViewOf self.now s
@@ -47,15 +48,15 @@ impl Core {
         self.spent
     }
 
-    /// Returns the sizes of the state. Withdrawn postings count among those accepted.
+    /// Returns the sizes of the state; `accepted` includes withdrawn postings.
     pub fn sizes(&self) -> Sizes
         requires { self.now.spent ≡ false }
         ensures resources { result.resources ≡ length self.now.resources }
         ensures labels { result.labels ≡ set.len self.now.labels }
         ensures links { result.links ≡ set.len self.now.links }
-        ensures accepted { result.accepted ≡ self.now.sums.accepted }
-        ensures withdrawn { result.withdrawn ≡ self.now.sums.withdrawn }
-        ensures moves { result.moves ≡ self.now.sums.moves }
+        ensures accepted { result.accepted ≡ self.now.posting_counts.accepted }
+        ensures withdrawn { result.withdrawn ≡ self.now.posting_counts.withdrawn }
+        ensures moves { result.moves ≡ self.now.posting_counts.moves }
     {
         let totals = self.thesaurus.book.totals();
         Sizes {
@@ -68,25 +69,26 @@ impl Core {
         }
     }
 
-    /// Returns the numbers of postings accepted, of those withdrawn, and of the rest.
+    /// Returns the numbers of postings accepted, withdrawn, and not withdrawn.
     pub fn totals(&self) -> Totals
         requires { self.now.spent ≡ false }
-        ensures accepted { result.accepted ≡ self.now.sums.accepted }
-        ensures withdrawn { result.withdrawn ≡ self.now.sums.withdrawn }
-        ensures standing { result.standing ≡ self.now.sums.accepted - self.now.sums.withdrawn }
+        ensures accepted { result.accepted ≡ self.now.posting_counts.accepted }
+        ensures withdrawn { result.withdrawn ≡ self.now.posting_counts.withdrawn }
+        ensures standing { result.standing ≡ self.now.posting_counts.accepted -
+            self.now.posting_counts.withdrawn }
     {
         self.thesaurus.book.totals()
     }
 
-    /// Returns the number of postings assigned to a concept.
+    /// Returns the number of postings assigned to a concept, 0 for other numbers.
     pub fn count(&self, concept: ResNo) -> u64
         requires { self.now.spent ≡ false }
-        ensures { result ≡ count_of self.now.sums concept }
+        ensures { result ≡ count_of self.now.posting_counts concept }
     {
         self.thesaurus.book.count(concept)
     }
 
-    /// Returns the resource with this number.
+    /// Returns the resource with this number, live or dead.
     pub fn resource(&self, n: ResNo) -> Option<&Resource>
         requires { self.now.spent ≡ false }
         ensures { option_copied result ≡ entry_at self.now.resources n }
@@ -94,8 +96,7 @@ impl Core {
         self.thesaurus.vocab.resource(n)
     }
 
-    /// Returns the chain of replacements of a concept: its replacement, the replacement of that,
-    /// and so on.
+    /// Returns the chain of replacements of a concept in order, without the concept itself.
     pub fn replacements(&self, alloc: Global, concept: ResNo) -> Result<Vec<ResNo>, AllocError>
         requires { self.now.spent ≡ false }
         ensures { IfOk result (λ way. way.items ≡ replacements self.now.resources concept) }
@@ -103,7 +104,7 @@ impl Core {
         self.thesaurus.vocab.replacements(alloc, concept)
     }
 
-    /// Checks whether the number is a live resource's.
+    /// Checks whether the number is that of a live resource.
     pub fn is_live(&self, n: ResNo) -> bool
         requires { self.now.spent ≡ false }
         ensures { IsTrue result ↔ IsLive self.now.resources n }
@@ -111,7 +112,7 @@ impl Core {
         self.thesaurus.vocab.is_live(n)
     }
 
-    /// Returns the owner's preferred label in the language.
+    /// Returns the owner's preferred label in the language. There is at most one (SKOS S14).
     pub fn preferred(&self, owner: ResNo, tag: &Tag) -> Option<&Text>
         requires { self.now.spent ≡ false }
         ensures { option_copied result ≡ preferred_label_in self.now.labels owner tag.now }
@@ -127,7 +128,7 @@ impl Core {
         self.thesaurus.vocab.labels_of(owner)
     }
 
-    /// Returns the live concept of the scheme that has this preferred label.
+    /// Returns the live concept of the scheme that has this preferred label. There is at most one.
     pub fn holder(&self, scheme: ResNo, tag: &Tag, text: &Text) -> Option<ResNo>
         requires { self.now.spent ≡ false }
         ensures { let s = self.now in
@@ -137,7 +138,7 @@ impl Core {
         self.thesaurus.vocab.holder(scheme, tag, text)
     }
 
-    /// Returns the number of the outside concept with this IRI.
+    /// Returns the number of the outside concept that has the IRI.
     pub fn outside(&self, iri: &Iri) -> Option<ResNo>
         requires { self.now.spent ≡ false }
         ensures { let has_iri = λ (n : ℕ). dict.get self.now.iris n ≡ Some iri.now in
@@ -146,7 +147,7 @@ impl Core {
         self.thesaurus.vocab.outside(iri)
     }
 
-    /// Returns the IRI of an outside concept.
+    /// Returns the IRI of an outside concept by its number.
     pub fn outside_iri(&self, n: ResNo) -> Option<&Iri>
         requires { self.now.spent ≡ false }
         ensures { option_copied result ≡ dict.get self.now.iris n }
@@ -154,17 +155,17 @@ impl Core {
         self.thesaurus.vocab.outside_iri(n)
     }
 
-    /// Checks whether the normal form of the link is held.
+    /// Checks whether the link is held in its normal form, so that a symmetric link may be stated from either end.
     pub fn has(&self, link: &Link) -> bool
         requires { self.now.spent ≡ false }
         ensures { let s = self.now in
-            IsTrue result ↔ HeldIn s.links (normal_form (is_outside s.resources) link.now) }
+            IsTrue result ↔ Holds s.links (normal_form (is_outside s.resources) link.now) }
     {
         self.thesaurus.graph.has(link)
     }
 
-    /// Returns the concepts broader than this one in its own scheme, by links of any type, in
-    /// ascending order.
+    /// Returns the concepts broader than this one in its scheme, by links of any type, in ascending
+    /// order.
     pub fn broader_of(&self, alloc: Global, n: ResNo) -> Result<Vec<ResNo>, AllocError>
         requires { self.now.spent ≡ false }
         ensures { let is_broader = HasBroader self.now.links n in
@@ -173,7 +174,7 @@ impl Core {
         self.thesaurus.graph.broader_of(alloc, n)
     }
 
-    /// Returns the concepts narrower than this one in its own scheme, by links of any type, in
+    /// Returns the concepts narrower than this one in its scheme, by links of any type, in
     /// ascending order.
     pub fn narrower_of(&self, alloc: Global, n: ResNo) -> Result<Vec<ResNo>, AllocError>
         requires { self.now.spent ≡ false }
@@ -183,7 +184,7 @@ impl Core {
         self.thesaurus.graph.narrower_of(alloc, n)
     }
 
-    /// Returns the concepts related to this one in its own scheme, in ascending order.
+    /// Returns the concepts related to this one in its scheme, in ascending order.
     pub fn related_of(&self, alloc: Global, n: ResNo) -> Result<Vec<ResNo>, AllocError>
         requires { self.now.spent ≡ false }
         ensures { let has = HasLink self.now.links kinds.Related in
@@ -192,7 +193,7 @@ impl Core {
         self.thesaurus.graph.related_of(alloc, n)
     }
 
-    /// Returns the collections that have the concept as a member, in ascending order.
+    /// Returns the collections of which the concept is a member, in ascending order.
     pub fn collections_of(&self, alloc: Global, n: ResNo) -> Result<Vec<ResNo>, AllocError>
         requires { self.now.spent ≡ false }
         ensures { let has_member = λ (c : ℕ). HasLink self.now.links kinds.Member c n in
@@ -211,8 +212,8 @@ impl Core {
         self.thesaurus.graph.mappings(alloc, n)
     }
 
-    /// Returns the typed hierarchical links of the concept as seen from it, sorted by the names of
-    /// their kinds and then by number.
+    /// Returns the typed hierarchical links of the concept as seen from it, sorted by the names of their types and then
+    /// by number.
     pub fn typed_of(&self, alloc: Global, n: ResNo) -> Result<Vec<(TypedKind, ResNo)>, AllocError>
         requires { self.now.spent ≡ false }
         ensures { let is_typed = IsTypedLink self.now.links n in

@@ -1,8 +1,8 @@
-//! The growth that a request causes, and the limits on it.
+//! The growth that a request causes, and whether the limits leave room for it.
 ghost use Rattle.std.specs.Prelude.{◌+◌, ◌≤◌, ◌↔◌, IsTrue, max};
 ghost use Rattle.thes_base.specs.State.{IsWithinLimit};
 
-/// The numbers of resources, labels, links, postings and moves that a request adds.
+/// The numbers of resources, labels, links, postings and moves by which a request enlarges a state.
 #[derive(Clone, Copy)]
 pub struct Growth {
     pub resources: u64,
@@ -13,7 +13,7 @@ pub struct Growth {
 }
 
 impl Growth {
-    /// No growth.
+    /// The growth of a request that adds nothing.
     pub const NONE: Growth = Growth {
         resources: 0,
         labels: 0,
@@ -22,7 +22,7 @@ impl Growth {
         moves: 0,
     };
 
-    /// A resource with its preferred label.
+    /// The growth of a new resource with its preferred label.
     pub const NAMED: Growth = Growth {
         resources: 1,
         labels: 1,
@@ -30,8 +30,8 @@ impl Growth {
     };
 }
 
-/// Checks whether a count may grow by `more`: to its limit at most. A count past its limit may only
-/// stay as it is.
+/// Checks whether a count may grow by `more` without exceeding its limit; a count above its limit
+/// may stay as it is.
 pub fn may_rise(limit: u32, count: u64, more: u64) -> bool
     ensures { IsTrue result ↔ IsWithinLimit limit count (count + more) }
 {

@@ -1,11 +1,11 @@
-//! The parts of a thesaurus.
+//! The parts of a thesaurus, which a core holds.
 use std::alloc::Global;
 use thes_base::data::Limits;
 use thes_graph::graph::Graph;
 use thes_post::book::Book;
 use thes_vocab::Vocab;
 
-/// A vocabulary, its links, the counts of its postings, and the limits on requests.
+/// The parts of a thesaurus: its vocabulary, its links, the counts of its postings, and the limits on its size.
 #[derive(Drop)]
 pub struct Thesaurus {
     pub alloc: Global,

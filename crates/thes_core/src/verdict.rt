@@ -1,4 +1,4 @@
-//! Decisions on requests.
+//! A core's decisions on requests.
 use thes_base::request::Answer;
 use thes_tables::delta::Delta;
 

@@ -15,8 +15,8 @@ use Rattle.thes_display.specs.Order.{Term, term_cmp}
 texts_as : {A : Type 0} (P Q : A → List ℕ → Type 0) → ((x : A) (text : List ℕ) → P x text → Q x text)
     → (xs : List A) (text : List ℕ) → AreTexts P xs text → AreTexts Q xs text
 texts_as P Q f [] text is = is
-texts_as P Q f (x ∷ xs) text (first, key_is, (rest, are, is)) =
-    (first, f x first key_is, (rest, texts_as P Q f xs rest are, is))
+texts_as P Q f (x ∷ xs) text (first, rank_is, (rest, are, is)) =
+    (first, f x first rank_is, (rest, texts_as P Q f xs rest are, is))
 
 module _ (k : CoreView) (hs : List History) (tag : List ℕ) where
   abbrev Bare : State

@@ -1,4 +1,4 @@
--- Proves that the children computed for a concept are the listing of its children, sorted by key.
+-- Proves that the children computed for a concept are exactly its children, sorted by rank.
 use Rattle.std.proofs.Common.{◌≡◌, ◌∙◌, ◌<◌, sym, ap, refl, subst, ℕ, Bool, true, false, List, [], ◌∷◌, ◌++◌, map}
 use Rattle.std.proofs.Common.{length, Option, Some, None, arith, rules, ⊎_elim, inl, inr, true≢false, IsPermutation}
 use Rattle.std.proofs.Common.{IsSorted}
@@ -23,35 +23,35 @@ use Rattle.thes_display.specs.declared.walk.Child.{Child}
 use Rattle.thes_display.specs.declared.walk.Types.{Types}
 use Rattle.thes_display.specs.Order.{Term}
 use Rattle.thes_display.specs.ChildLists.{child, child_cmp}
-use Rattle.thes_display.specs.Hierarchical.{HasKey, IsBroader, IsHome, AreTypes}
-use Rattle.thes_display.specs.HierarchyParts.{AreKeys, AreHomes, IsChildAt, IsChild}
-use Rattle.thes_display.proofs.WalkLemmas.{Among, among_from, contains_of, among_append}
-use Rattle.thes_display.proofs.GatherLemmas.{one_concept, key_within}
-use Rattle.thes_display.proofs.SortLemmas.{rises_by, relisted}
-use Rattle.thes_display.proofs.HomeLemmas.{key_from, key_to}
+use Rattle.thes_display.specs.Hierarchical.{HasRank, IsNarrowerTerm, IsHome, AreTypes}
+use Rattle.thes_display.specs.HierarchyParts.{AreRanks, AreHomes, IsChildAt, IsChild}
+use Rattle.thes_display.proofs.WalkLemmas.{IsOneOf, among_from, contains_of, among_append}
+use Rattle.thes_display.proofs.GatherLemmas.{one_concept, rank_within}
+use Rattle.thes_display.proofs.SortLemmas.{rises_by, listing_in_order}
+use Rattle.thes_display.proofs.HomeLemmas.{rank_from, rank_to}
 
 module _ (links : Links) (terms : List Term) (b : ℕ) where
-  -- There is a child for each of these keys.
+  -- The children have exactly these ranks.
   pub record AreChildren (ks : List ℕ) (children : List Child) : Type 0 where
-    pub keys_are : map (λ (c : Child). c.key) children ≡ ks
-    pub kinds : (c : Child) → Among c children → IsChild links terms b c
+    pub ranks_are : map (λ (c : Child). c.rank) children ≡ ks
+    pub kinds : (c : Child) → IsOneOf c children → IsChild links terms b c
 
   pub children_none : (children : List Child) → children ≡ [] → AreChildren [] children
   children_none children e = record {
-    keys_are = ap (map (λ (c : Child). c.key)) e;
+    ranks_are = ap (map (λ (c : Child). c.rank)) e;
     kinds =
-        λ c a. absurd (subst (Among c) e a);
+        λ c a. absurd (subst (IsOneOf c) e a);
   }
 
-  -- A broader concept is the home or not, as the table of homes says.
+  -- A broader concept is the home or not, depending on the table of homes.
   kind_of : (homes : List (Option ℕ)) → AreHomes links terms (length terms) homes → (k : ℕ) (h : Bool)
-      → IsBroader links terms k b → (h ≡ true → slice_get homes k ≡ Some (Some b))
+      → IsNarrowerTerm links terms k b → (h ≡ true → slice_get homes k ≡ Some (Some b))
       → (h ≡ false → slice_get homes k ≡ Some (Some b) → ⊥) → IsChildAt links terms h k b
   kind_of homes are k true r is_at is_not = are.each k (Some b) (is_at refl)
   kind_of homes are k false r is_at is_not = record { broader = r; other = λ home. by_home home (homes_at k r) }
     where
-      homes_at : (k : ℕ) → IsBroader links terms k b → (home : Option ℕ) × (slice_get homes k ≡ Some home)
-      homes_at k r = let s = are.size in let w = key_within terms r.lower k r.lower_key in
+      homes_at : (k : ℕ) → IsNarrowerTerm links terms k b → (home : Option ℕ) × (slice_get homes k ≡ Some home)
+      homes_at k r = let s = are.size in let w = rank_within terms r.lower k r.lower_rank in
           (_, slice_get-get_or homes k None (omega (arith, s, w)))
 
       by_home : IsHome links terms k b → ((home : Option ℕ) × (slice_get homes k ≡ Some home)) → ⊥
@@ -65,55 +65,55 @@ module _ (links : Links) (terms : List Term) (b : ℕ) where
 
   pub children_more : (homes : List (Option ℕ)) → AreHomes links terms (length terms) homes
       → (ks more : List ℕ) (children new : List Child) (k : ℕ) (types : Types) (h : Bool) → AreChildren ks children
-      → IsBroader links terms k b → AreTypes links terms types k b
+      → IsNarrowerTerm links terms k b → AreTypes links terms types k b
       → (h ≡ true → slice_get homes k ≡ Some (Some b)) → (h ≡ false → slice_get homes k ≡ Some (Some b) → ⊥) → new
       ≡ children ++ child k types h ∷ [] → more ≡ ks ++ k ∷ [] → AreChildren more new
   children_more homes are ks more children new k types h a r ty is_at is_not e f = record {
-    keys_are = ap (map (λ (c : Child). c.key)) e ∙ map-append (λ (c : Child). c.key) children (child k types h ∷ [])
-        ∙ ap (λ t. t ++ k ∷ []) a.keys_are ∙ sym f;
+    ranks_are = ap (map (λ (c : Child). c.rank)) e ∙ map-append (λ (c : Child). c.rank) children (child k types h ∷ [])
+        ∙ ap (λ t. t ++ k ∷ []) a.ranks_are ∙ sym f;
     kinds = λ c i. ⊎_elim (λ old. a.kinds c old)
         (λ last. ⊎_elim (λ same. subst (IsChild links terms b) (sym same) (kind_of homes are k h r is_at is_not, ty))
-        (λ n. absurd n) last) (among_append c children (child k types h ∷ []) (subst (Among c) e i));
+        (λ n. absurd n) last) (among_append c children (child k types h ∷ []) (subst (IsOneOf c) e i));
   }
 
-  -- The concept with this key.
+  -- The concept with this rank.
   abbrev concept_at : ℕ → ℕ
   concept_at k = option_map_or (λ (t : Term). t.concept) (slice_get terms k) 0
 
-  concept_is : (n k : ℕ) → HasKey terms n k → concept_at k ≡ n
+  concept_is : (n k : ℕ) → HasRank terms n k → concept_at k ≡ n
   concept_is n k h = ap (λ o. option_map_or (λ (t : Term). t.concept) o 0) h.term_at ∙ h.concept
 
-  -- Whether the concept has a key.
-  abbrev has_key : (ℕ → Option ℕ) → ℕ → Bool
-  has_key keys n = is_some (keys n)
+  -- Whether the concept has a rank.
+  abbrev has_rank : (ℕ → Option ℕ) → ℕ → Bool
+  has_rank ranks n = is_some (ranks n)
 
-  concepts_one : (keys : ℕ → Option ℕ) → AreKeys terms keys → (x : ℕ) (xs : List ℕ) (o : Option ℕ) → keys x ≡ o
-      → map concept_at (filter_map keys xs) ≡ filter (has_key keys) xs
-      → map concept_at (filter_map keys (x ∷ xs)) ≡ filter (has_key keys) (x ∷ xs)
-  concepts_one keys are x xs None e rest = search (rules, e, rest)
-  concepts_one keys are x xs (Some k) e rest = let first = concept_is x k (are.key_is x k e) in
+  concepts_one : (ranks : ℕ → Option ℕ) → AreRanks terms ranks → (x : ℕ) (xs : List ℕ) (o : Option ℕ) → ranks x ≡ o
+      → map concept_at (filter_map ranks xs) ≡ filter (has_rank ranks) xs
+      → map concept_at (filter_map ranks (x ∷ xs)) ≡ filter (has_rank ranks) (x ∷ xs)
+  concepts_one ranks are x xs None e rest = search (rules, e, rest)
+  concepts_one ranks are x xs (Some k) e rest = let first = concept_is x k (are.rank_is x k e) in
       search (rules, e, rest, first)
 
-  -- The keys that were found are those of the concepts that have one.
-  concepts_are : (keys : ℕ → Option ℕ) → AreKeys terms keys → (xs : List ℕ) → map concept_at (filter_map keys xs)
-      ≡ filter (has_key keys) xs
-  concepts_are keys are [] = refl
-  concepts_are keys are (x ∷ xs) = concepts_one keys are x xs (keys x) refl (concepts_are keys are xs)
+  -- The ranks found are those of the concepts that have one.
+  concepts_are : (ranks : ℕ → Option ℕ) → AreRanks terms ranks → (xs : List ℕ) → map concept_at (filter_map ranks xs)
+      ≡ filter (has_rank ranks) xs
+  concepts_are ranks are [] = refl
+  concepts_are ranks are (x ∷ xs) = concepts_one ranks are x xs (ranks x) refl (concepts_are ranks are xs)
 
-  concepts_made : (keys : ℕ → Option ℕ) → AreKeys terms keys → (ks xs : List ℕ) (made : List Child) → ks
-      ≡ filter_map keys xs → map (λ (c : Child). c.key) made ≡ ks
-      → map (λ (c : Child). concept_at c.key) made ≡ filter (has_key keys) xs
-  concepts_made keys are ks xs made found e = sym (map-map concept_at (λ (c : Child). c.key) made)
-      ∙ ap (map concept_at) (e ∙ found) ∙ concepts_are keys are xs
+  concepts_made : (ranks : ℕ → Option ℕ) → AreRanks terms ranks → (ks xs : List ℕ) (made : List Child) → ks
+      ≡ filter_map ranks xs → map (λ (c : Child). c.rank) made ≡ ks
+      → map (λ (c : Child). concept_at c.rank) made ≡ filter (has_rank ranks) xs
+  concepts_made ranks are ks xs made found e = sym (map-map concept_at (λ (c : Child). c.rank) made)
+      ∙ ap (map concept_at) (e ∙ found) ∙ concepts_are ranks are xs
 
   child_total : IsTotalOrder child_cmp
-  child_total = on_total (λ (c : Child). c.key) nat_cmp_total
+  child_total = on_total (λ (c : Child). c.rank) nat_cmp_total
 
-  by_key : (c : Child) (k : ℕ) (children : List Child) → Among k (map (λ (c : Child). c.key) children) → (d : Child)
-      × Among d children × (d.key ≡ k)
-  by_key c k [] a = absurd a
-  by_key c k (d ∷ children) (inl e) = (d, inl refl, sym e)
-  by_key c k (d ∷ children) (inr a) = let r = by_key c k children a in (r.0, inr r.1, r.2)
+  by_rank : (c : Child) (k : ℕ) (children : List Child) → IsOneOf k (map (λ (c : Child). c.rank) children) → (d : Child)
+      × IsOneOf d children × (d.rank ≡ k)
+  by_rank c k [] a = absurd a
+  by_rank c k (d ∷ children) (inl e) = (d, inl refl, sym e)
+  by_rank c k (d ∷ children) (inr a) = let r = by_rank c k children a in (r.0, inr r.1, r.2)
 
   one_kind : (k : ℕ) (g h : Bool) → IsChildAt links terms g k b → IsChildAt links terms h k b → g ≡ h
   one_kind k true true p q = refl
@@ -121,8 +121,8 @@ module _ (links : Links) (terms : List Term) (b : ℕ) where
   one_kind k true false p q = absurd (q.other p)
   one_kind k false true p q = absurd (p.other q)
 
-  same_child : (c d : Child) → c.key ≡ d.key → c.types ≡ d.types → c.at_home ≡ d.at_home → c ≡ d
-  same_child c d e t f = λ i. record { key = e i; types = t i; at_home = f i }
+  same_child : (c d : Child) → c.rank ≡ d.rank → c.types ≡ d.types → c.at_home ≡ d.at_home → c ≡ d
+  same_child c d e t f = λ i. record { rank = e i; types = t i; at_home = f i }
 
   -- Two tests of the same property are equal.
   same_test : {P : Type 0} (x y : Bool) → IsTrue x ↔ P → IsTrue y ↔ P → x ≡ y
@@ -131,11 +131,11 @@ module _ (links : Links) (terms : List Term) (b : ℕ) where
   same_test true false p q = absurd (true≢false (sym (q.1 (p.0 refl))))
   same_test false true p q = absurd (true≢false (sym (p.1 (q.0 refl))))
 
-  -- A pair of keys has only one value of `Types`.
+  -- A pair of ranks has only one value of types.
   pub one_types : (k : ℕ) (x y : Types) → AreTypes links terms x k b → AreTypes links terms y k b → x ≡ y
   one_types k x y p q =
-      let lower = one_concept terms q.lower p.lower k q.lower_key p.lower_key in
-      let upper = one_concept terms q.upper p.upper b q.upper_key p.upper_key in
+      let lower = one_concept terms q.lower p.lower k q.lower_rank p.lower_rank in
+      let upper = one_concept terms q.upper p.upper b q.upper_rank p.upper_rank in
       let moved = λ (kind : LinkKind) (t : Bool) (r : IsTrue t ↔ HasLink links kind q.lower q.upper).
       subst (λ n. IsTrue t ↔ HasLink links kind p.lower n) upper (subst (λ n. IsTrue t ↔ HasLink links kind n q.upper)
       lower r) in
@@ -144,61 +144,61 @@ module _ (links : Links) (terms : List Term) (b : ℕ) where
       let j = same_test x.instantial y.instantial p.instantial (moved BroaderInstantial y.instantial q.instantial) in
       λ i. record { generic = g i; partitive = h i; instantial = j i }
 
-  broader_of_child : (h : Bool) (k : ℕ) → IsChildAt links terms h k b → IsBroader links terms k b
+  broader_of_child : (h : Bool) (k : ℕ) → IsChildAt links terms h k b → IsNarrowerTerm links terms k b
   broader_of_child true k p = p.broader
   broader_of_child false k p = p.broader
 
-  -- The children made of the keys found are exactly the children of `b`.
-  made_children : (keys : ℕ → Option ℕ) → AreKeys terms keys → (n : ℕ) → HasKey terms n b → (xs ks : List ℕ)
-      → IsListing nat_cmp (λ a. HasBroader links a n) xs → ks ≡ filter_map keys xs
-      → (made : List Child) → AreChildren ks made → IsListing (λ x y. nat_cmp (concept_at x.key) (concept_at y.key))
+  -- The children of the ranks found are exactly the children of `b`.
+  made_children : (ranks : ℕ → Option ℕ) → AreRanks terms ranks → (n : ℕ) → HasRank terms n b → (xs ks : List ℕ)
+      → IsListing nat_cmp (λ a. HasBroader links a n) xs → ks ≡ filter_map ranks xs
+      → (made : List Child) → AreChildren ks made → IsListing (λ x y. nat_cmp (concept_at x.rank) (concept_at y.rank))
       (IsChild links terms b) made
-  made_children keys are n here xs ks listed found made a = record {
-    rises = rises_by (λ (c : Child). concept_at c.key) made
-        (subst (IsStrictlySortedBy nat_cmp) (sym (concepts_made keys are ks xs made found a.keys_are))
-        (IsStrictlySortedBy-filter nat_cmp (has_key keys) xs listed.rises));
+  made_children ranks are n here xs ks listed found made a = record {
+    rises = rises_by (λ (c : Child). concept_at c.rank) made
+        (subst (IsStrictlySortedBy nat_cmp) (sym (concepts_made ranks are ks xs made found a.ranks_are))
+        (IsStrictlySortedBy-filter nat_cmp (has_rank ranks) xs listed.rises));
     sound = λ c i. a.kinds c (among_from c made i);
     complete = λ c i.
-        let r = broader_of_child c.at_home c.key i.0 in
-        let link = subst (λ m. HasBroader links r.lower m) (one_concept terms r.upper n b r.upper_key here) r.link in
-        let k = key_to keys ks xs r.lower c.key found (among_from r.lower xs (listed.complete r.lower link))
-        (are.all r.lower c.key r.lower_key) in
-        let d = by_key c c.key made (subst (Among c.key) (sym a.keys_are) k) in
+        let r = broader_of_child c.at_home c.rank i.0 in
+        let link = subst (λ m. HasBroader links r.lower m) (one_concept terms r.upper n b r.upper_rank here) r.link in
+        let k = rank_to ranks ks xs r.lower c.rank found (among_from r.lower xs (listed.complete r.lower link))
+        (are.all r.lower c.rank r.lower_rank) in
+        let d = by_rank c c.rank made (subst (IsOneOf c.rank) (sym a.ranks_are) k) in
         let made_as = a.kinds d.0 d.1 in
-        let home = one_kind c.key c.at_home d.0.at_home i.0 (subst (λ k. IsChildAt links terms d.0.at_home k b) d.2
+        let home = one_kind c.rank c.at_home d.0.at_home i.0 (subst (λ k. IsChildAt links terms d.0.at_home k b) d.2
         made_as.0) in
-        let types = one_types c.key c.types d.0.types i.1 (subst (λ k. AreTypes links terms d.0.types k b) d.2
+        let types = one_types c.rank c.types d.0.types i.1 (subst (λ k. AreTypes links terms d.0.types k b) d.2
         made_as.1) in
         let same = same_child c d.0 (sym d.2) types home in
-        contains_of c made (subst (λ z. Among z made) (sym same) d.1);
+        contains_of c made (subst (λ z. IsOneOf z made) (sym same) d.1);
   }
 
-  pub children_listed : (keys : ℕ → Option ℕ) → AreKeys terms keys → (n : ℕ) → HasKey terms n b → (xs ks : List ℕ)
-      → IsListing nat_cmp (λ a. HasBroader links a n) xs → ks ≡ filter_map keys xs
+  pub children_listed : (ranks : ℕ → Option ℕ) → AreRanks terms ranks → (n : ℕ) → HasRank terms n b → (xs ks : List ℕ)
+      → IsListing nat_cmp (λ a. HasBroader links a n) xs → ks ≡ filter_map ranks xs
       → (made children : List Child) → AreChildren ks made → IsPermutation made children → IsSorted child_cmp children
       → IsListing child_cmp (IsChild links terms b) children
-  children_listed keys are n here xs ks listed found made children a p sorted =
-      relisted (λ x y. nat_cmp (concept_at x.key) (concept_at y.key)) child_cmp
-      (on_total (λ (c : Child). concept_at c.key) nat_cmp_total) child_total
-      (λ x y e. ap (λ i. nat_cmp (concept_at i) (concept_at y.key)) (exact_unsigned x.key y.key e)
-      ∙ tied_itself nat_cmp_total (concept_at y.key))
-      (IsChild links terms b) made children (made_children keys are n here xs ks listed found made a) p sorted
+  children_listed ranks are n here xs ks listed found made children a p sorted =
+      listing_in_order (λ x y. nat_cmp (concept_at x.rank) (concept_at y.rank)) child_cmp
+      (on_total (λ (c : Child). concept_at c.rank) nat_cmp_total) child_total
+      (λ x y e. ap (λ i. nat_cmp (concept_at i) (concept_at y.rank)) (exact_unsigned x.rank y.rank e)
+      ∙ tied_itself nat_cmp_total (concept_at y.rank))
+      (IsChild links terms b) made children (made_children ranks are n here xs ks listed found made a) p sorted
 
-  -- Each key that was found is that of a narrower concept.
-  pub broader_at : (keys : ℕ → Option ℕ) → AreKeys terms keys → (n : ℕ) → HasKey terms n b → (xs ks : List ℕ)
-      → IsListing nat_cmp (λ a. HasBroader links a n) xs → ks ≡ filter_map keys xs → (k : ℕ) → Contains ks k
-      → IsBroader links terms k b
-  broader_at keys are n here xs ks listed found k c =
-      let x = key_from keys ks xs k found (among_from k ks c) in
+  -- Each rank found is that of a narrower concept.
+  pub broader_at : (ranks : ℕ → Option ℕ) → AreRanks terms ranks → (n : ℕ) → HasRank terms n b → (xs ks : List ℕ)
+      → IsListing nat_cmp (λ a. HasBroader links a n) xs → ks ≡ filter_map ranks xs → (k : ℕ) → Contains ks k
+      → IsNarrowerTerm links terms k b
+  broader_at ranks are n here xs ks listed found k c =
+      let x = rank_from ranks ks xs k found (among_from k ks c) in
       record {
         lower = x.0;
         upper = n;
-        lower_key = are.key_is x.0 k x.2;
-        upper_key = here;
+        lower_rank = are.rank_is x.0 k x.2;
+        upper_rank = here;
         link =
             listed.sound x.0 (contains_of x.0 xs x.1);
       }
 
   pub known_home : (homes : List (Option ℕ)) → AreHomes links terms (length terms) homes → (k : ℕ)
-      → IsBroader links terms k b → k < length homes
-  known_home homes are k r = let s = are.size in let w = key_within terms r.lower k r.lower_key in omega (arith, s, w)
+      → IsNarrowerTerm links terms k b → k < length homes
+  known_home homes are k r = let s = are.size in let w = rank_within terms r.lower k r.lower_rank in omega (arith, s, w)

@@ -1,4 +1,4 @@
--- Proves that the lists of children, computed key by key, have the children of each concept.
+-- Proves that the lists of children, computed rank by rank, are those of each concept.
 use Rattle.std.proofs.Common.{◌≡◌, ◌∙◌, ◌<◌, ◌+◌, sym, ap, refl, subst, ℕ, zero, suc, List, [], ◌∷◌, ◌++◌, length}
 use Rattle.std.proofs.Common.{length-append, arith, Vec, ⊎_elim}
 use Rattle.std.specs.declared.alloc.Global.{Global}
@@ -22,7 +22,7 @@ at_last [] cs = refl
 at_last (x ∷ below) cs = at_last below cs
 
 module _ (links : Links) (terms : List Term) where
-  -- One more list of children extends the table of lists.
+  -- One more list of children extends the lists.
   pub below_more : (m : ℕ) (below new : List (Vec Child Global)) (v : Vec Child Global) → AreBelow links terms m
       (lists below) → IsListing child_cmp (IsChild links terms m) v.items → new ≡ below ++ v ∷ []
       → AreBelow links terms (m + 1) (lists new)

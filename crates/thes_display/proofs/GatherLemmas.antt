@@ -1,4 +1,4 @@
--- Proves that the computed lists are a hierarchy, and that its lines are those of the display.
+-- Proves that the lists computed are a hierarchy, and that its lines are those of the display.
 use Rattle.std.proofs.Common.{◌≡◌, ◌∙◌, ◌⊎◌, ◌<◌, ◌≤◌, sym, ap, refl, subst, ℕ, Bool, true, false, List, [], ◌∷◌}
 use Rattle.std.proofs.Common.{length, Option, arith, inl, inr}
 use Rattle.std.specs.Prelude.{Contains}
@@ -16,14 +16,14 @@ use Rattle.thes_display.specs.declared.walk.Child.{Child}
 use Rattle.thes_display.specs.declared.walk.Types.{Types}
 use Rattle.thes_display.specs.Order.{Term}
 use Rattle.thes_display.specs.Lines.{TreeLine, IsTreeLine, IsHomeward, IsPlaced, HasTypes, untyped, line_cmp}
-use Rattle.thes_display.specs.ChildLists.{children_at, child, child_cmp, IsChildOf, IsTypedUnder, IsHierarchy}
+use Rattle.thes_display.specs.ChildLists.{children_at, child, child_cmp, IsChildOf, IsTypedUnder, AreHierarchyLists}
 use Rattle.thes_display.specs.ChildLists.{IsHierarchyText}
-use Rattle.thes_display.specs.Hierarchical.{HasKey, IsBroader, IsTop, IsHome, IsAway, AreTypes, AreTerms}
-use Rattle.thes_display.specs.Hierarchical.{IsHierarchical}
+use Rattle.thes_display.specs.Hierarchical.{HasRank, IsNarrowerTerm, IsTop, IsHome, IsAway, AreTypes, AreTerms}
+use Rattle.thes_display.specs.Hierarchical.{IsHierarchicalDisplay}
 use Rattle.thes_display.specs.HierarchyParts.{IsGathered, IsChildAt, IsChild, IsClosed, IsRoot}
-use Rattle.thes_display.proofs.WalkLemmas.{Among, among_from, rises_none}
+use Rattle.thes_display.proofs.WalkLemmas.{IsOneOf, among_from, rises_none}
 
--- Lines by relations that imply the others.
+-- Lines by some relations are lines by relations that these imply.
 module _ (T : ℕ → Type 0) (H A : ℕ → ℕ → Type 0) (Y : Types → ℕ → ℕ → Type 0) (T' : ℕ → Type 0)
     (H' A' : ℕ → ℕ → Type 0) (Y' : Types → ℕ → ℕ → Type 0)
     (t : (k : ℕ) → T k → T' k) (h : (k b : ℕ) → H k b → H' k b) (a : (k b : ℕ) → A k b → A' k b)
@@ -48,17 +48,17 @@ module _ (T : ℕ → Type 0) (H A : ℕ → ℕ → Type 0) (Y : Types → ℕ 
 
   pub line_as : (l : TreeLine) → IsTreeLine T H A Y l → IsTreeLine T' H' A' Y' l
   line_as l p = (
-    is_placed_too l.at_home (l.key ∷ l.above) p.0,
-    has_types_too l.types l.at_home (l.key ∷ l.above) p.0
+    is_placed_too l.at_home (l.rank ∷ l.above) p.0,
+    has_types_too l.types l.at_home (l.rank ∷ l.above) p.0
         p.1,
   )
 
-pub one_concept : (terms : List Term) (m n k : ℕ) → HasKey terms m k → HasKey terms n k → m ≡ n
+pub one_concept : (terms : List Term) (m n k : ℕ) → HasRank terms m k → HasRank terms n k → m ≡ n
 one_concept terms m n k g h = sym g.concept ∙ ap (λ (t : Term). t.concept)
     (same_Some g.term h.term (sym g.term_at ∙ h.term_at)) ∙ h.concept
 
-pub key_within : (terms : List Term) (n k : ℕ) → HasKey terms n k → k < length terms
-key_within terms n k h = slice_get_within terms k h.term h.term_at
+pub rank_within : (terms : List Term) (n k : ℕ) → HasRank terms n k → k < length terms
+rank_within terms n k h = slice_get_within terms k h.term h.term_at
 
 at_past : (below : List (List Child)) (b : ℕ) → length below ≤ b → children_at below b ≡ []
 at_past below b l = ap (λ (o : Option (List Child)). option_map_or (λ (cs : List Child). cs) o [])
@@ -72,13 +72,13 @@ types_between links a b = record {
   instantial = contains links (record { kind = BroaderInstantial; a = a; b = b });
 }
 
-pub types_are : (links : Links) (terms : List Term) (k b : ℕ) → (r : IsBroader links terms k b)
+pub types_are : (links : Links) (terms : List Term) (k b : ℕ) → (r : IsNarrowerTerm links terms k b)
     → AreTypes links terms (types_between links r.lower r.upper) k b
 types_are links terms k b r = record {
   lower = r.lower;
   upper = r.upper;
-  lower_key = r.lower_key;
-  upper_key = r.upper_key;
+  lower_rank = r.lower_rank;
+  upper_rank = r.upper_rank;
   generic = (λ e. e, λ e. e);
   partitive = (λ e. e, λ e. e);
   instantial = (λ e. e, λ e. e);
@@ -86,14 +86,14 @@ types_are links terms k b r = record {
 
 module _ (links : Links) (terms : List Term) (tops : List Child) (below : List (List Child))
     (g : IsGathered links terms tops below) where
-  -- What the list of `b` contains is a child of `b`.
+  -- Each element in the list of `b` is a child of `b`.
   listed_under : (c : Child) (b : ℕ) → Contains (children_at below b) c → IsChild links terms b c
   listed_under c b i = by_bound (cases_lt b (length terms))
     where
       by_bound : (b < length terms) ⊎ (length terms ≤ b) → IsChild links terms b c
       by_bound (inl l) = (g.below_listed b l).sound c i
       by_bound (inr l) = let s = g.size in let e = at_past below b (omega (arith, s, l)) in
-          absurd (subst (Among c) e (among_from c (children_at below b) i))
+          absurd (subst (IsOneOf c) e (among_from c (children_at below b) i))
 
   child_under : (home : Bool) (k b : ℕ) → IsChildOf tops below home k b → IsChildAt links terms home k b
   child_under home k b c = (listed_under (child k c.0 home) b c.1).0
@@ -101,13 +101,13 @@ module _ (links : Links) (terms : List Term) (tops : List Child) (below : List (
   typed_under : (types : Types) (k b : ℕ) → IsTypedUnder tops below types k b → AreTypes links terms types k b
   typed_under types k b c = (listed_under (child k types c.0) b c.1).1
 
-  upper_within : (k b : ℕ) → IsBroader links terms k b → b < length terms
-  upper_within k b r = key_within terms r.upper b r.upper_key
+  upper_within : (k b : ℕ) → IsNarrowerTerm links terms k b → b < length terms
+  upper_within k b r = rank_within terms r.upper b r.upper_rank
 
-  lower_within : (k b : ℕ) → IsBroader links terms k b → k < length terms
-  lower_within k b r = key_within terms r.lower k r.lower_key
+  lower_within : (k b : ℕ) → IsNarrowerTerm links terms k b → k < length terms
+  lower_within k b r = rank_within terms r.lower k r.lower_rank
 
-  broader_of : (home : Bool) (k b : ℕ) → IsChildAt links terms home k b → IsBroader links terms k b
+  broader_of : (home : Bool) (k b : ℕ) → IsChildAt links terms home k b → IsNarrowerTerm links terms k b
   broader_of true k b h = h.broader
   broader_of false k b h = h.broader
 
@@ -123,13 +123,13 @@ module _ (links : Links) (terms : List Term) (tops : List Child) (below : List (
           (sym (at_past below b (omega (arith, s, l)))) (rises_none child_cmp)
 
   -- The lists computed from the links are a hierarchy.
-  pub is_hierarchy : IsHierarchy tops below (length terms)
+  pub is_hierarchy : AreHierarchyLists tops below (length terms)
   is_hierarchy = record {
     size = g.size;
     tops_rise = g.tops_listed.rises;
     rises = rises_at;
-    tops_home = λ c a. let t = g.tops_listed.sound c a in (t.0.0, t.0.1, key_within terms t.1.concept c.key t.1.key);
-    keys_bounded = λ b c a. child_within c.at_home c.key b (listed_under c b a).0;
+    tops_home = λ c a. let t = g.tops_listed.sound c a in (t.0.0, t.0.1, rank_within terms t.1.concept c.rank t.1.rank);
+    ranks_bounded = λ b c a. child_within c.at_home c.rank b (listed_under c b a).0;
     one_home = λ k b c p q. let h = child_under true k b p in let i = child_under true k c q in let l =
         h.least c i.broader in let m = i.least b h.broader in omega (arith, l, m);
     top_home = λ k b t p.
@@ -137,7 +137,7 @@ module _ (links : Links) (terms : List Term) (tops : List Child) (below : List (
         top.none b (child_under true k b p).broader;
   }
 
-  -- The child of a concept is in its list, with its types.
+  -- Each child of a concept is in its list, with its types.
   child_listed : (home : Bool) (k b : ℕ) → IsChildAt links terms home k b → IsChildOf tops below home k b
   child_listed home k b p =
       let r = broader_of home k b p in
@@ -152,28 +152,34 @@ module _ (links : Links) (terms : List Term) (tops : List Child) (below : List (
   listed_typed types k b (inr p) are =
       (false, (g.below_listed b (upper_within k b p.broader)).complete (child k types false) (p, are))
 
-  -- All that links within the scheme join has keys, so a root is a top.
+  -- A root is a top concept, since links within the scheme join concepts with ranks.
   top_of : IsClosed links terms → (k : ℕ) → IsRoot links terms k → IsTop links terms k
   top_of closed k root = record {
     concept = root.concept;
-    key = root.key;
+    rank = root.rank;
     none = λ m l.
-        let up = closed.upward l.0 root.concept m k l.1.0 l.2 root.key in
-        root.none up.0 (record { lower = root.concept; upper = m; lower_key = root.key; upper_key = up.1; link = l });
+        let up = closed.upward l.0 root.concept m k l.1.0 l.2 root.rank in
+        root.none up.0 (record {
+          lower = root.concept;
+          upper = m;
+          lower_rank = root.rank;
+          upper_rank = up.1;
+          link = l;
+        });
   }
 
   root_of : (k : ℕ) → IsTop links terms k → IsRoot links terms k
   root_of k top = record {
     concept = top.concept;
-    key = top.key;
+    rank = top.rank;
     none = λ b r. top.none r.upper
-        (subst (λ n. HasBroader links n r.upper) (one_concept terms r.lower top.concept k r.lower_key top.key)
+        (subst (λ n. HasBroader links n r.upper) (one_concept terms r.lower top.concept k r.lower_rank top.rank)
         r.link);
   }
 
   -- The text of the hierarchy is the hierarchical display of the state.
   pub is_hierarchical : IsClosed links terms → (s : State) (scheme : ℕ) (tag text : List ℕ) → s.links ≡ links
-      → AreTerms s scheme tag terms → IsHierarchyText terms tops below text → IsHierarchical s scheme tag text
+      → AreTerms s scheme tag terms → IsHierarchyText terms tops below text → IsHierarchicalDisplay s scheme tag text
   is_hierarchical closed s scheme tag text e are t = record {
     terms = terms;
     are_terms = are;

@@ -20,8 +20,8 @@ use Rattle.thes_display.specs.Order.{Term, term_cmp}
 use Rattle.thes_display.specs.declared.entry.Heading.{Heading}
 use Rattle.thes_display.proofs.OrderLemmas.{term_total}
 use Rattle.thes_display.proofs.TermLemmas.{tie, second_ties}
-use Rattle.thes_display.proofs.SortLemmas.{relisted}
-use Rattle.thes_display.proofs.WalkLemmas.{Among, among_from, contains_of, among_append, among_left, among_right}
+use Rattle.thes_display.proofs.SortLemmas.{listing_in_order}
+use Rattle.thes_display.proofs.WalkLemmas.{IsOneOf, among_from, contains_of, among_append, among_left, among_right}
 use Rattle.thes_display.proofs.ListingLemmas.{listing_as, listing_none, listing_more, listing_joined, before_rest}
 use Rattle.thes_display.proofs.ListingLemmas.{before_taken}
 
@@ -31,8 +31,8 @@ rank h = cond h.lead_in 1 0
 pub heading_total : IsTotalOrder heading_cmp
 heading_total = then_total (on_total (λ (h : Heading). h.term) term_total) (on_total rank nat_cmp_total)
 
-key_total : IsTotalOrder heading_key
-key_total = then_total (on_total (λ (h : Heading). h.term.concept) nat_cmp_total)
+rank_total : IsTotalOrder heading_key
+rank_total = then_total (on_total (λ (h : Heading). h.term.concept) nat_cmp_total)
     (then_total (on_total rank nat_cmp_total) (on_total (λ (h : Heading). h.term) term_total))
 
 pub first_ties : (a b : Ordering) → ordering_then a b ≡ Equal → a ≡ Equal
@@ -56,10 +56,10 @@ same_concept : (m n : ℕ) → m ≡ n → nat_cmp m n ≡ Equal
 same_concept m n e = ap (λ k. nat_cmp k n) e ∙ tied_itself nat_cmp_total n
 
 module _ (s : State) (tag : List ℕ) (n : ℕ) where
-  -- The own heading of the concept, or that of one of these labels.
+  -- The heading is the concept's own, or that of one of these labels.
   abbrev pub IsMade : List Term → Heading → Type 0
   IsMade terms h = (h.term.concept ≡ n) × (((h.lead_in ≡ false) × (h.term.text ≡ term_text s.labels tag n))
-      ⊎ ((h.lead_in ≡ true) × Among h.term terms))
+      ⊎ ((h.lead_in ≡ true) × IsOneOf h.term terms))
 
   same_heading : (x y : Heading) → x.term.text ≡ y.term.text → x.term.concept ≡ y.term.concept → x.lead_in ≡ y.lead_in
       → x ≡ y
@@ -73,14 +73,15 @@ module _ (s : State) (tag : List ℕ) (n : ℕ) where
       (λ x p. inr (⊎_elim (λ own. same_heading x _ (own.1 ∙ sym e) (p.0 ∙ sym f) own.0) (λ l. absurd l.1) p.1))
       (λ x p. absurd p) (f, inl (refl, e))
 
-  -- One more lead-in term extends the listing of the headings.
+  -- One more lead-in term extends the list of headings.
   pub lead_in_more : (terms seen rest : List Term) (t : Term) (headings new : List Heading)
       → IsListing term_cmp (IsLabelTerm s.labels n Alt tag) terms → seen ++ t ∷ rest ≡ terms
       → IsListing heading_key (IsMade seen) headings → new ≡ headings ++ record { term = t; lead_in = true } ∷ []
       → IsListing heading_key (IsMade (seen ++ t ∷ [])) new
   lead_in_more terms seen rest t headings new listed e l g =
       let rises = subst (IsStrictlySortedBy term_cmp) (sym e) listed.rises in
-      let f = (listed.sound t (contains_of t terms (subst (Among t) e (among_right t seen (t ∷ rest) (inl refl))))).0 in
+      let f = (listed.sound t (contains_of t terms (subst (IsOneOf t) e (among_right t seen (t ∷ rest) (inl refl))))).0
+      in
       listing_more heading_key (IsMade seen) _ headings new _ l g
       (λ w p. after_ties _ _ (same_concept w.term.concept t.concept (p.0 ∙ sym f))
       (⊎_elim (λ own. ap (λ (b : Bool). ordering_then (nat_cmp (cond b 1 0) 1) (term_cmp w.term t)) own.0)
@@ -107,7 +108,7 @@ module _ (s : State) (tag : List ℕ) (n : ℕ) where
 
   made_by : (b : Bool) (t : Term) (terms : List Term) → IsListing term_cmp (IsLabelTerm s.labels n Alt tag) terms
       → t.concept ≡ n → IsHeadedBy s tag b t → ((b ≡ false) × (t.text ≡ term_text s.labels tag n))
-      ⊎ ((b ≡ true) × Among t terms)
+      ⊎ ((b ≡ true) × IsOneOf t terms)
   made_by false t terms listed c p = inl (refl, p ∙ ap (term_text s.labels tag) c)
   made_by true t terms listed c p =
       inr (refl, among_from t terms (listed.complete t (c, subst (λ m. HasLabel s.labels m Alt tag t.text) c p)))
@@ -122,9 +123,9 @@ module _ (s : State) (tag : List ℕ) (n : ℕ) where
   headings_whole terms seen (t ∷ rest) headings listed e z l = absurd (omega (arith, z))
 
 module _ (s : State) (tag : List ℕ) (concepts : List ℕ) where
-  -- The headings of these concepts.
+  -- The heading is that of one of these concepts.
   abbrev pub IsOfThese : List ℕ → Heading → Type 0
-  IsOfThese ns h = Among h.term.concept ns × IsHeadedBy s tag h.lead_in h.term
+  IsOfThese ns h = IsOneOf h.term.concept ns × IsHeadedBy s tag h.lead_in h.term
 
   pub these_none : (headings : List Heading) → headings ≡ [] → IsListing heading_key (IsOfThese []) headings
   these_none headings e = listing_none heading_key _ headings e (λ x p. p.0)
@@ -141,10 +142,10 @@ module _ (s : State) (tag : List ℕ) (concepts : List ℕ) where
       (ordering_then (nat_cmp (rank x) (rank y)) (term_cmp x.term y.term))) r.0
       ∙ ap (λ o. ordering_then o (ordering_then (nat_cmp (rank x) (rank y)) (term_cmp x.term y.term))) less)
       (λ x p. ⊎_elim (λ old. inl (old, p.1)) (λ last. ⊎_elim (λ same. inr (same, p.1)) (λ no. absurd no) last)
-      (among_append x.term.concept (take i concepts) (n ∷ []) (subst (Among x.term.concept) e p.0)))
-      (λ x p. (subst (Among x.term.concept) (sym e) (among_left x.term.concept (take i concepts) (n ∷ []) p.0), p.1))
+      (among_append x.term.concept (take i concepts) (n ∷ []) (subst (IsOneOf x.term.concept) e p.0)))
+      (λ x p. (subst (IsOneOf x.term.concept) (sym e) (among_left x.term.concept (take i concepts) (n ∷ []) p.0), p.1))
       (λ x p. (
-        subst (Among x.term.concept) (sym e) (among_right x.term.concept (take i concepts) (n ∷ []) (inl p.0)),
+        subst (IsOneOf x.term.concept) (sym e) (among_right x.term.concept (take i concepts) (n ∷ []) (inl p.0)),
         p.1,
       ))
 
@@ -157,5 +158,5 @@ module _ (s : State) (tag : List ℕ) (concepts : List ℕ) where
       listing_as heading_cmp (IsOfThese concepts) _ sorted
       (λ x r. (listed.sound x.term.concept (contains_of x.term.concept concepts r.0), r.1))
       (λ x r. (among_from x.term.concept concepts (listed.complete x.term.concept r.0), r.1))
-      (relisted heading_key heading_cmp key_total heading_total heading_ties (IsOfThese concepts) headings sorted
-      (subst (λ ns. IsListing heading_key (IsOfThese ns) headings) (take_all i concepts long) l) p q)
+      (listing_in_order heading_key heading_cmp rank_total heading_total heading_ties (IsOfThese concepts) headings
+      sorted (subst (λ ns. IsListing heading_key (IsOfThese ns) headings) (take_all i concepts long) l) p q)

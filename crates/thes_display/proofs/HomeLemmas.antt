@@ -1,4 +1,4 @@
--- Proves that the least key among those of the broader concepts is the home.
+-- Proves that the least rank of the broader concepts is the home.
 use Rattle.std.proofs.Common.{◌≡◌, ◌∙◌, ◌≤◌, sym, ap, refl, subst, ℕ, List, [], ◌∷◌, length, Option, Some, None}
 use Rattle.std.proofs.Common.{arith, inl, inr}
 use Rattle.std.specs.Prelude.{Contains, MatchOption}
@@ -8,74 +8,78 @@ use Rattle.thes_base.specs.Links.{Links}
 use Rattle.thes_base.specs.Listing.{IsListing}
 use Rattle.thes_base.specs.Views.{HasBroader}
 use Rattle.thes_display.specs.Order.{Term}
-use Rattle.thes_display.specs.Hierarchical.{HasKey}
-use Rattle.thes_display.specs.HierarchyParts.{AreKeys, IsHomeKey}
-use Rattle.thes_display.proofs.WalkLemmas.{Among, among_from, contains_of}
+use Rattle.thes_display.specs.Hierarchical.{HasRank}
+use Rattle.thes_display.specs.HierarchyParts.{AreRanks, IsHomeRank}
+use Rattle.thes_display.proofs.WalkLemmas.{IsOneOf, among_from, contains_of}
 use Rattle.thes_display.proofs.GatherLemmas.{one_concept}
 
--- A key that was found for one more concept is its key, or was found before.
+-- A rank found for a list with one more concept is that concept's rank, or was found before.
 from_one : (f : ℕ → Option ℕ) (x k : ℕ) (xs : List ℕ) (o : Option ℕ) → f x ≡ o
-    → (Among k (filter_map f xs) → (y : ℕ) × Among y xs × (f y ≡ Some k)) → Among k (cons_option o (filter_map f xs))
-    → (y : ℕ) × Among y (x ∷ xs) × (f y ≡ Some k)
+    → (IsOneOf k (filter_map f xs) → (y : ℕ) × IsOneOf y xs × (f y ≡ Some k))
+    → IsOneOf k (cons_option o (filter_map f xs))
+    → (y : ℕ) × IsOneOf y (x ∷ xs) × (f y ≡ Some k)
 from_one f x k xs None g rest a = let r = rest a in (r.0, inr r.1, r.2)
 from_one f x k xs (Some j) g rest (inl same) = (x, inl refl, g ∙ ap Some (sym same))
 from_one f x k xs (Some j) g rest (inr a) = let r = rest a in (r.0, inr r.1, r.2)
 
-of_found : (f : ℕ → Option ℕ) (xs : List ℕ) (k : ℕ) → Among k (filter_map f xs) → (x : ℕ) × Among x xs × (f x ≡ Some k)
+of_found : (f : ℕ → Option ℕ) (xs : List ℕ) (k : ℕ) → IsOneOf k (filter_map f xs) → (x : ℕ) × IsOneOf x xs
+    × (f x ≡ Some k)
 of_found f [] k a = absurd a
 of_found f (x ∷ xs) k a = from_one f x k xs (f x) refl (λ b. of_found f xs k b) a
 
--- Each key that was found is that of a concept in the list.
-pub key_from : (f : ℕ → Option ℕ) (ks xs : List ℕ) (k : ℕ) → ks ≡ filter_map f xs → Among k ks → (x : ℕ) × Among x xs
-    × (f x ≡ Some k)
-key_from f ks xs k e a = of_found f xs k (subst (Among k) e a)
+-- Each rank found is that of a concept in the list.
+pub rank_from : (f : ℕ → Option ℕ) (ks xs : List ℕ) (k : ℕ) → ks ≡ filter_map f xs → IsOneOf k ks → (x : ℕ)
+    × IsOneOf x xs × (f x ≡ Some k)
+rank_from f ks xs k e a = of_found f xs k (subst (IsOneOf k) e a)
 
-with_one : (k : ℕ) (o : Option ℕ) (ks : List ℕ) → Among k ks → Among k (cons_option o ks)
+with_one : (k : ℕ) (o : Option ℕ) (ks : List ℕ) → IsOneOf k ks → IsOneOf k (cons_option o ks)
 with_one k None ks a = a
 with_one k (Some j) ks a = inr a
 
-found_of : (f : ℕ → Option ℕ) (xs : List ℕ) (x k : ℕ) → Among x xs → f x ≡ Some k → Among k (filter_map f xs)
+found_of : (f : ℕ → Option ℕ) (xs : List ℕ) (x k : ℕ) → IsOneOf x xs → f x ≡ Some k → IsOneOf k (filter_map f xs)
 found_of f [] x k a g = absurd a
-found_of f (y ∷ xs) x k (inl same) g = subst (λ o. Among k (cons_option o (filter_map f xs))) (sym g ∙ ap f same)
+found_of f (y ∷ xs) x k (inl same) g = subst (λ o. IsOneOf k (cons_option o (filter_map f xs))) (sym g ∙ ap f same)
     (inl refl)
 found_of f (y ∷ xs) x k (inr a) g = with_one k (f y) (filter_map f xs) (found_of f xs x k a g)
 
--- The key of each concept in the list that has one was found.
-pub key_to : (f : ℕ → Option ℕ) (ks xs : List ℕ) (x k : ℕ) → ks ≡ filter_map f xs → Among x xs → f x ≡ Some k
-    → Among k ks
-key_to f ks xs x k e a g = subst (Among k) (sym e) (found_of f xs x k a g)
+-- The rank of each concept in the list that has one is found.
+pub rank_to : (f : ℕ → Option ℕ) (ks xs : List ℕ) (x k : ℕ) → ks ≡ filter_map f xs → IsOneOf x xs → f x ≡ Some k
+    → IsOneOf k ks
+rank_to f ks xs x k e a g = subst (IsOneOf k) (sym e) (found_of f xs x k a g)
 
-module _ (links : Links) (terms : List Term) (keys : ℕ → Option ℕ) (are : AreKeys terms keys) (n key : ℕ)
-    (here : HasKey terms n key)
-    (xs ks : List ℕ) (listed : IsListing nat_cmp (λ b. HasBroader links n b) xs) (found : ks ≡ filter_map keys xs) where
-  none_among : (ks : List ℕ) → length ks ≡ 0 → (b : ℕ) → Among b ks → ⊥
+module _ (links : Links) (terms : List Term) (ranks : ℕ → Option ℕ) (are : AreRanks terms ranks) (n rank : ℕ)
+    (here : HasRank terms n rank)
+    (xs ks : List ℕ) (listed : IsListing nat_cmp (λ b. HasBroader links n b) xs)
+    (found : ks ≡ filter_map ranks xs) where
+  none_among : (ks : List ℕ) → length ks ≡ 0 → (b : ℕ) → IsOneOf b ks → ⊥
   none_among [] e b a = a
   none_among (k ∷ ks) e b a = absurd (omega (arith, e))
 
   pub home_from : (home : Option ℕ) → MatchOption home (length ks ≡ 0)
-      (λ m. Contains ks m × ((c : ℕ) → Contains ks c → m ≤ c)) → IsHomeKey links terms key home
+      (λ m. Contains ks m × ((c : ℕ) → Contains ks c → m ≤ c)) → IsHomeRank links terms rank home
   home_from None e = record {
     concept = n;
-    key = here;
+    rank = here;
     none = λ b r.
-        let same = one_concept terms r.lower n key r.lower_key here in
+        let same = one_concept terms r.lower n rank r.lower_rank here in
         let l = listed.complete r.upper (subst (λ z. HasBroader links z r.upper) same r.link) in
-        none_among ks e b (key_to keys ks xs r.upper b found (among_from r.upper xs l) (are.all r.upper b r.upper_key));
+        none_among ks e b (rank_to ranks ks xs r.upper b found (among_from r.upper xs l)
+        (are.all r.upper b r.upper_rank));
   }
   home_from (Some b) m =
-      let x = key_from keys ks xs b found (among_from b ks m.0) in
+      let x = rank_from ranks ks xs b found (among_from b ks m.0) in
       record {
         broader = record {
           lower = n;
           upper = x.0;
-          lower_key = here;
-          upper_key = are.key_is x.0 b x.2;
+          lower_rank = here;
+          upper_rank = are.rank_is x.0 b x.2;
           link =
               listed.sound x.0 (contains_of x.0 xs x.1);
         };
         least = λ c r.
-            let same = one_concept terms r.lower n key r.lower_key here in
+            let same = one_concept terms r.lower n rank r.lower_rank here in
             let l = listed.complete r.upper (subst (λ z. HasBroader links z r.upper) same r.link) in
-            m.1 c (contains_of c ks (key_to keys ks xs r.upper c found (among_from r.upper xs l)
-            (are.all r.upper c r.upper_key)));
+            m.1 c (contains_of c ks (rank_to ranks ks xs r.upper c found (among_from r.upper xs l)
+            (are.all r.upper c r.upper_rank)));
       }

@@ -15,8 +15,8 @@ use Rattle.thes_display.specs.Order.{Term, term_cmp}
 use Rattle.thes_display.proofs.OrderLemmas.{term_total}
 use Rattle.thes_display.proofs.TermLemmas.{second_ties, same_term}
 use Rattle.thes_display.proofs.HeadingLemmas.{first_ties}
-use Rattle.thes_display.proofs.SortLemmas.{relisted}
-use Rattle.thes_display.proofs.WalkLemmas.{Among, among_from, contains_of, among_append, among_left, among_right}
+use Rattle.thes_display.proofs.SortLemmas.{listing_in_order}
+use Rattle.thes_display.proofs.WalkLemmas.{IsOneOf, among_from, contains_of, among_append, among_left, among_right}
 use Rattle.thes_display.proofs.ListingLemmas.{listing_as, listing_none, listing_more, before_taken}
 
 abbrev pub by_text : Term → Term → Ordering
@@ -31,16 +31,16 @@ text_less x y e l =
     ∙ tied_itself nat_list_cmp_total y.tag)) ∙ l
 
 module _ (n : ℕ) (tag : List ℕ) (all : List TaggedText) where
-  -- The term of one of these labels in the language.
+  -- The term is one of these labels, in the language.
   abbrev pub IsOne : List TaggedText → Term → Type 0
-  IsOne seen t = (t.concept ≡ n) × ((x : TaggedText) × Among x seen × (x.tag ≡ tag) × (x.text ≡ t.text))
+  IsOne seen t = (t.concept ≡ n) × ((x : TaggedText) × IsOneOf x seen × (x.tag ≡ tag) × (x.text ≡ t.text))
 
   pub labels_none : (terms : List Term) → terms ≡ [] → IsListing by_text (IsOne []) terms
   labels_none terms e = listing_none by_text _ terms e (λ t p. p.1.1)
 
   later : (i : ℕ) (x : TaggedText) (t : Term) → take (i + 1) all ≡ take i all ++ x ∷ [] → IsOne (take i all) t
       → IsOne (take (i + 1) all) t
-  later i x t e (c, (y, a, f, g)) = (c, (y, subst (Among y) (sym e) (among_left y (take i all) (x ∷ []) a), f, g))
+  later i x t e (c, (y, a, f, g)) = (c, (y, subst (IsOneOf y) (sym e) (among_left y (take i all) (x ∷ []) a), f, g))
 
   pub labels_more : (i : ℕ) (x : TaggedText) (t : Term) (terms new : List Term) → IsStrictlySortedBy tagged_text_cmp
       all → take (i + 1) all ≡ take i all ++ x ∷ [] → x.tag ≡ tag → t.text ≡ x.text → t.concept ≡ n
@@ -54,9 +54,9 @@ module _ (n : ℕ) (tag : List ℕ) (all : List TaggedText) where
       (λ last.
       ⊎_elim (λ same. inr (same_term z t (sym p.1.3 ∙ ap (λ (y : TaggedText). y.text) same ∙ sym g)
       (p.0 ∙ sym h))) (λ no. absurd no) last)
-      (among_append p.1.0 (take i all) (x ∷ []) (subst (Among p.1.0) e p.1.1)))
+      (among_append p.1.0 (take i all) (x ∷ []) (subst (IsOneOf p.1.0) e p.1.1)))
       (λ z p. later i x z e p)
-      (h, (x, subst (Among x) (sym e) (among_right x (take i all) (x ∷ []) (inl refl)), f, sym g))
+      (h, (x, subst (IsOneOf x) (sym e) (among_right x (take i all) (x ∷ []) (inl refl)), f, sym g))
 
   pub labels_skip : (i : ℕ) (x : TaggedText) (terms new : List Term) → take (i + 1) all ≡ take i all ++ x ∷ []
       → (x.tag ≡ tag → ⊥) → IsListing by_text (IsOne (take i all)) terms → new ≡ terms
@@ -66,7 +66,7 @@ module _ (n : ℕ) (tag : List ℕ) (all : List TaggedText) where
       (listing_as by_text _ _ terms (λ z p. later i x z e p)
       (λ z p. ⊎_elim (λ old. (p.0, (p.1.0, old, p.1.2, p.1.3)))
       (λ last. ⊎_elim (λ same. absurd (other (ap (λ (y : TaggedText). y.tag) (sym same) ∙ p.1.2)))
-      (λ no. absurd no) last) (among_append p.1.0 (take i all) (x ∷ []) (subst (Among p.1.0) e p.1.1))) l)
+      (λ no. absurd no) last) (among_append p.1.0 (take i all) (x ∷ []) (subst (IsOneOf p.1.0) e p.1.1))) l)
 
   text_ties : (x y : Term) → term_cmp x y ≡ Equal → by_text x y ≡ Equal
   text_ties x y e = first_ties (by_text x y) (nat_cmp x.concept y.concept) (second_ties _ _ e)
@@ -84,5 +84,5 @@ module _ (n : ℕ) (tag : List ℕ) (all : List TaggedText) where
             (subst (HasLabel labels n kind r.1.0.tag) r.1.3 (listed.sound r.1.0 (contains_of r.1.0 all r.1.1))),
       ))
       (λ t r. (r.0, (record { tag = tag; text = t.text }, among_from _ all (listed.complete _ r.1), refl, refl)))
-      (relisted by_text term_cmp by_text_total term_total text_ties (IsOne all) terms sorted
+      (listing_in_order by_text term_cmp by_text_total term_total text_ties (IsOne all) terms sorted
       (subst (λ ts. IsListing by_text (IsOne ts) terms) (take_all i all long) l) p q)

@@ -4,7 +4,7 @@ use Rattle.std.proofs.Common.{take_all, length, Ordering, Less, ⊎_elim, inl, i
 use Rattle.std.specs.List.{AllByRecursion}
 use Rattle.std.specs.List.Sorted.{IsStrictlySortedBy}
 use Rattle.thes_base.specs.Listing.{IsListing}
-use Rattle.thes_display.proofs.WalkLemmas.{Among, among_from, contains_of, among_append, among_left, among_right}
+use Rattle.thes_display.proofs.WalkLemmas.{IsOneOf, among_from, contains_of, among_append, among_left, among_right}
 use Rattle.thes_display.proofs.WalkLemmas.{all_of, each_of, rises_none, rises_more}
 
 -- A listing of one property is a listing of an equivalent one.
@@ -42,7 +42,7 @@ listing_more cmp P Q xs new z l e less split keep last = subst (IsListing cmp Q)
 })
 
 rises_append : {X : Type 0} (cmp : X → X → Ordering) (xs ys : List X) → IsStrictlySortedBy cmp xs
-    → IsStrictlySortedBy cmp ys → ((x y : X) → Among x xs → Among y ys → cmp x y ≡ Less) → IsStrictlySortedBy cmp
+    → IsStrictlySortedBy cmp ys → ((x y : X) → IsOneOf x xs → IsOneOf y ys → cmp x y ≡ Less) → IsStrictlySortedBy cmp
     (xs ++ ys)
 unfolding IsStrictlySortedBy
 rises_append cmp [] ys s t f = t
@@ -66,7 +66,7 @@ listing_joined cmp P R Q xs ys new l m e less split keep come = subst (IsListing
 
 -- Each element before another in a sorted list is less.
 pub before_rest : {X : Type 0} (cmp : X → X → Ordering) (xs rest : List X) (z w : X) → IsStrictlySortedBy cmp
-    (xs ++ z ∷ rest) → Among w xs → cmp w z ≡ Less
+    (xs ++ z ∷ rest) → IsOneOf w xs → cmp w z ≡ Less
 unfolding IsStrictlySortedBy
 before_rest cmp [] rest z w s a = absurd a
 before_rest cmp (x ∷ xs) rest z w s (inl e) = ap (λ v. cmp v z) e ∙ each_of _ (xs ++ z ∷ rest) z s.0
@@ -86,13 +86,13 @@ rises_taken cmp (suc i) [] s = tt
 rises_taken cmp (suc i) (x ∷ xs) s = (all_taken _ i xs s.0, rises_taken cmp i xs s.1)
 
 pub before_taken : {X : Type 0} (cmp : X → X → Ordering) (all : List X) (i : ℕ) (z w : X) → IsStrictlySortedBy cmp all
-    → take (i + 1) all ≡ take i all ++ z ∷ [] → Among w (take i all) → cmp w z ≡ Less
+    → take (i + 1) all ≡ take i all ++ z ∷ [] → IsOneOf w (take i all) → cmp w z ≡ Less
 before_taken cmp all i z w s e a =
     before_rest cmp (take i all) [] z w (subst (IsStrictlySortedBy cmp) e (rises_taken cmp (i + 1) all s)) a
 
--- The listing of those among the first `i` elements of a sorted list that have a property.
+-- The list of those of the first `i` elements of a sorted list that have a property.
 abbrev pub IsChosen : {X : Type 0} → (X → X → Ordering) → List X → (X → Type 0) → ℕ → List X → Type 0
-IsChosen cmp all Q i found = IsListing cmp (λ x. Among x (take i all) × Q x) found
+IsChosen cmp all Q i found = IsListing cmp (λ x. IsOneOf x (take i all) × Q x) found
 
 module _ {X : Type 0} (cmp : X → X → Ordering) (all : List X) (rises : IsStrictlySortedBy cmp all)
     (Q : X → Type 0) where
@@ -107,20 +107,20 @@ module _ {X : Type 0} (cmp : X → X → Ordering) (all : List X) (rises : IsStr
   chosen_more i z found new t q l e =
       listing_more cmp _ _ found new z l e (λ w p. before_taken cmp all i z w rises t p.0)
       (λ x p. ⊎_elim (λ old. inl (old, p.1)) (λ last. ⊎_elim (λ same. inr same) (λ n. absurd n) last)
-      (among_append x (take i all) (z ∷ []) (subst (Among x) t p.0)))
-      (λ x p. (subst (Among x) (sym t) (among_left x (take i all) (z ∷ []) p.0), p.1))
-      (subst (Among z) (sym t) (among_right z (take i all) (z ∷ []) (inl refl)), q)
+      (among_append x (take i all) (z ∷ []) (subst (IsOneOf x) t p.0)))
+      (λ x p. (subst (IsOneOf x) (sym t) (among_left x (take i all) (z ∷ []) p.0), p.1))
+      (subst (IsOneOf z) (sym t) (among_right z (take i all) (z ∷ []) (inl refl)), q)
 
   pub chosen_skip : (i : ℕ) (z : X) (found new : List X) → take (i + 1) all ≡ take i all ++ z ∷ [] → (Q z → ⊥)
       → IsChosenUpTo i found → new ≡ found → IsChosenUpTo (i + 1) new
   chosen_skip i z found new t none l e =
       subst (IsChosenUpTo (i + 1)) (sym e) (listing_as cmp _ _ found
-      (λ x p. (subst (Among x) (sym t) (among_left x (take i all) (z ∷ []) p.0), p.1))
+      (λ x p. (subst (IsOneOf x) (sym t) (among_left x (take i all) (z ∷ []) p.0), p.1))
       (λ x p. ⊎_elim (λ old. (old, p.1)) (λ last. ⊎_elim (λ same. absurd (none (subst Q same p.1))) (λ n. absurd n)
-      last) (among_append x (take i all) (z ∷ []) (subst (Among x) t p.0))) l)
+      last) (among_append x (take i all) (z ∷ []) (subst (IsOneOf x) t p.0))) l)
 
   pub chosen_whole : (P : X → Type 0) (i : ℕ) (found : List X) → IsListing cmp P all → length all ≤ i
       → ((x : X) → Q x → P x) → IsChosenUpTo i found → IsListing cmp Q found
   chosen_whole P i found listed long has l =
       listing_as cmp _ Q found (λ x p. p.1)
-      (λ x q. (subst (Among x) (sym (take_all i all long)) (among_from x all (listed.complete x (has x q))), q)) l
+      (λ x q. (subst (IsOneOf x) (sym (take_all i all long)) (among_from x all (listed.complete x (has x q))), q)) l

@@ -1,4 +1,4 @@
--- Proves that a display has only one text: each list in it is sorted, so only one list fits.
+-- Proves that a display has only one text, since each list in it is sorted.
 use Rattle.std.proofs.Common.{◌≡◌, ◌∙◌, sym, ap, subst, ℕ, List, [], ◌∷◌, ◌++◌, Bool, true, false}
 use Rattle.std.specs.Prelude.{flat_map}
 use Rattle.std.specs.Cmp.{IsTotalOrder}
@@ -7,7 +7,7 @@ use Rattle.thes_base.specs.Listing.{IsListing}
 use Rattle.thes_base.specs.State.{State}
 use Rattle.thes_display.specs.declared.entry.Heading.{Heading}
 use Rattle.thes_display.specs.declared.symbol.Symbol.{Symbol}
-use Rattle.thes_display.specs.Alphabetical.{AreLinesOf, AreTexts, IsEntry, IsEntryOf, HasOneAlphabetical, line_below}
+use Rattle.thes_display.specs.Alphabetical.{AreLinesOf, AreTexts, IsEntry, IsEntryOf, HasOneAlphabetical, entry_line}
 use Rattle.thes_display.specs.Alphabetical.{symbol_text, symbols}
 use Rattle.thes_display.specs.Hierarchical.{IsAway, IsHome, IsTop, AreTypes, HasOneHierarchical}
 use Rattle.thes_display.specs.Lines.{IsTreeLine, line_cmp, lines_text, path}
@@ -16,7 +16,7 @@ use Rattle.thes_display.proofs.HeadingLemmas.{heading_total}
 use Rattle.thes_base.proofs.UniqueListingLemmas.{one_listing}
 use Rattle.thes_display.proofs.OrderLemmas.{term_total}
 
--- Two such texts are equal where those of each element are.
+-- Two such texts are equal if those of each element are.
 texts_same : {A : Type 0} (IsOf : A → List ℕ → Type 0) → ((a : A) (x y : List ℕ) → IsOf a x → IsOf a y → x ≡ y)
     → (xs : List A) (x y : List ℕ) → AreTexts IsOf xs x → AreTexts IsOf xs y → x ≡ y
 texts_same IsOf one [] x y a b = a ∙ sym b
@@ -27,7 +27,7 @@ module _ (s : State) (tag : List ℕ) where
   lines_same : (n : ℕ) (symbol : Symbol) (x y : List ℕ) → AreLinesOf s tag n symbol x → AreLinesOf s tag n symbol y
       → x ≡ y
   lines_same n symbol x y a b =
-      a.is ∙ ap (flat_map (λ (t : Term). line_below (symbol_text symbol) t.text))
+      a.is ∙ ap (flat_map (λ (t : Term). entry_line (symbol_text symbol) t.text))
       (one_listing term_total a.terms b.terms a.listing b.listing) ∙ sym b.is
 
   entry_same : (lead_in : Bool) (t : Term) (x y : List ℕ) → IsEntryOf s tag lead_in t x → IsEntryOf s tag lead_in t y

@@ -1,4 +1,4 @@
--- Proves how texts grow at their end, element by element.
+-- Proves that the texts of a list's elements are appended one by one.
 use Rattle.std.proofs.Common.{◌≡◌, ◌∙◌, refl, sym, ap, subst, ℕ, List, [], ◌∷◌, ◌++◌, append-nil, append_assoc}
 use Rattle.thes_display.specs.TextAppends.{AppendsText}
 use Rattle.thes_display.specs.Alphabetical.{AreTexts}
@@ -7,9 +7,9 @@ module _ {A : Type 0} (IsOf : A → List ℕ → Type 0) where
   pub texts_more : (xs : List A) (x : A) (text more : List ℕ) → AreTexts IsOf xs text → IsOf x more
       → AreTexts IsOf (xs ++ x ∷ []) (text ++ more)
   texts_more [] x text more e one = (more, one, ([], refl, ap (λ t. t ++ more) e ∙ sym (append-nil more)))
-  texts_more (y ∷ xs) x text more (first, key_is, (rest, are, is)) one = (
+  texts_more (y ∷ xs) x text more (first, rank_is, (rest, are, is)) one = (
     first,
-    key_is,
+    rank_is,
     (
       rest ++ more,
       texts_more xs x rest more are one,
@@ -18,11 +18,11 @@ module _ {A : Type 0} (IsOf : A → List ℕ → Type 0) where
     ),
   )
 
-  -- Nothing is added for an empty list.
+  -- Nothing is appended for an empty list.
   pub added_none : (text : List ℕ) → AppendsText (AreTexts IsOf []) text text
   added_none text = record { addition = []; one = refl; is = sym (append-nil text) }
 
-  -- One element more adds its text.
+  -- One more element appends its text.
   pub added_more : (xs : List A) (x : A) (old text new : List ℕ) → AppendsText (AreTexts IsOf xs) old text
       → AppendsText (IsOf x) text new → AppendsText (AreTexts IsOf (xs ++ x ∷ [])) old new
   added_more xs x old text new a b = record {
@@ -31,7 +31,7 @@ module _ {A : Type 0} (IsOf : A → List ℕ → Type 0) where
     is = b.is ∙ ap (λ t. t ++ b.addition) a.is ∙ append_assoc old a.addition b.addition;
   }
 
-  -- The same for a text that was empty at first.
+  -- One more element extends the texts of a list, if the text was empty at first.
   pub texts_more_at : (xs more : List A) (x : A) (text new : List ℕ) → AreTexts IsOf xs text
       → AppendsText (IsOf x) text new → more ≡ xs ++ x ∷ [] → AreTexts IsOf more new
   texts_more_at xs more x text new a b e = subst (λ ys. AreTexts IsOf ys new) (sym e)

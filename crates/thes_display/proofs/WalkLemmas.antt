@@ -1,4 +1,4 @@
--- Proves that a depth-first walk from the tops writes the lines in the order of their paths.
+-- Proves that a depth-first walk from the top concepts writes the lines in the order of their paths.
 use Rattle.std.proofs.Common.{◌≡◌, ◌⊎◌, ◌∙◌, ◌<◌, sym, ap, refl, subst, ℕ, zero, suc, List, [], ◌∷◌, ◌++◌, reverse}
 use Rattle.std.proofs.Common.{map, length, arith, ⊎_elim, inl, inr, append_assoc, append-nil, Ordering, Less, Equal}
 use mathlib.Core.List.{reverse-cons}
@@ -13,55 +13,54 @@ use Rattle.thes_display.specs.declared.walk.Child.{Child}
 use Rattle.thes_display.specs.Lines.{TreeLine, path, line_cmp}
 use Rattle.thes_display.specs.ChildLists.{child_cmp}
 
--- Membership by recursion.
-
-abbrev pub Among : {X : Type 0} → X → List X → Type 0
-Among x [] = ⊥
-Among x (y ∷ ys) = (x ≡ y) ⊎ Among x ys
+abbrev pub IsOneOf : {X : Type 0} → X → List X → Type 0
+IsOneOf x [] = ⊥
+IsOneOf x (y ∷ ys) = (x ≡ y) ⊎ IsOneOf x ys
 
 in_cases : {X : Type 0} (x z : X) (xs : List X) (k : ℕ) → k < length (x ∷ xs) → slice_index_or (x ∷ xs) k z ≡ z
     → (z ≡ x) ⊎ Contains xs z
 in_cases x z xs zero l e = inl (sym e)
 in_cases x z xs (suc k) l e = inr (k, omega arith, e)
 
-pub among_from : {X : Type 0} (z : X) (xs : List X) → Contains xs z → Among z xs
+pub among_from : {X : Type 0} (z : X) (xs : List X) → Contains xs z → IsOneOf z xs
 among_from z [] c = let l = c.1 in absurd (omega arith)
 among_from z (x ∷ xs) c = ⊎_elim (λ e. inl e) (λ more. inr (among_from z xs more)) (in_cases x z xs c.0 c.1 c.2)
 
-pub contains_of : {X : Type 0} (z : X) (xs : List X) → Among z xs → Contains xs z
+pub contains_of : {X : Type 0} (z : X) (xs : List X) → IsOneOf z xs → Contains xs z
 contains_of z [] c = absurd c
 contains_of z (x ∷ xs) (inl e) = (0, omega arith, sym e)
 contains_of z (x ∷ xs) (inr c) = let r = contains_of z xs c in (suc r.0, omega (arith, r.1), r.2)
 
-pub among_append : {X : Type 0} (z : X) (xs ys : List X) → Among z (xs ++ ys) → Among z xs ⊎ Among z ys
+pub among_append : {X : Type 0} (z : X) (xs ys : List X) → IsOneOf z (xs ++ ys) → IsOneOf z xs ⊎ IsOneOf z ys
 among_append z [] ys a = inr a
 among_append z (x ∷ xs) ys (inl e) = inl (inl e)
 among_append z (x ∷ xs) ys (inr a) = ⊎_elim (λ l. inl (inr l)) (λ r. inr r) (among_append z xs ys a)
 
-pub among_left : {X : Type 0} (z : X) (xs ys : List X) → Among z xs → Among z (xs ++ ys)
+pub among_left : {X : Type 0} (z : X) (xs ys : List X) → IsOneOf z xs → IsOneOf z (xs ++ ys)
 among_left z [] ys a = absurd a
 among_left z (x ∷ xs) ys (inl e) = inl e
 among_left z (x ∷ xs) ys (inr a) = inr (among_left z xs ys a)
 
-pub among_right : {X : Type 0} (z : X) (xs ys : List X) → Among z ys → Among z (xs ++ ys)
+pub among_right : {X : Type 0} (z : X) (xs ys : List X) → IsOneOf z ys → IsOneOf z (xs ++ ys)
 among_right z [] ys a = a
 among_right z (x ∷ xs) ys a = inr (among_right z xs ys a)
 
-pub among_map : {X Y : Type 0} (f : X → Y) (z : Y) (xs : List X) → Among z (map f xs) → (x : X) × Among x xs × (z ≡ f x)
+pub among_map : {X Y : Type 0} (f : X → Y) (z : Y) (xs : List X) → IsOneOf z (map f xs) → (x : X) × IsOneOf x xs
+    × (z ≡ f x)
 among_map f z [] a = absurd a
 among_map f z (x ∷ xs) (inl e) = (x, inl refl, e)
 among_map f z (x ∷ xs) (inr a) = let r = among_map f z xs a in (r.0, inr r.1, r.2)
 
-pub map_among : {X Y : Type 0} (f : X → Y) (x : X) (xs : List X) → Among x xs → Among (f x) (map f xs)
+pub map_among : {X Y : Type 0} (f : X → Y) (x : X) (xs : List X) → IsOneOf x xs → IsOneOf (f x) (map f xs)
 map_among f x [] a = absurd a
 map_among f x (y ∷ xs) (inl e) = inl (ap f e)
 map_among f x (y ∷ xs) (inr a) = inr (map_among f x xs a)
 
-pub all_of : {X : Type 0} (P : X → Type 0) (xs : List X) → ((z : X) → Among z xs → P z) → AllByRecursion P xs
+pub all_of : {X : Type 0} (P : X → Type 0) (xs : List X) → ((z : X) → IsOneOf z xs → P z) → AllByRecursion P xs
 all_of P [] f = tt
 all_of P (x ∷ xs) f = (f x (inl refl), all_of P xs (λ z a. f z (inr a)))
 
-pub each_of : {X : Type 0} (P : X → Type 0) (xs : List X) (z : X) → AllByRecursion P xs → Among z xs → P z
+pub each_of : {X : Type 0} (P : X → Type 0) (xs : List X) (z : X) → AllByRecursion P xs → IsOneOf z xs → P z
 each_of P [] z all a = absurd a
 each_of P (x ∷ xs) z all (inl e) = subst P (sym e) all.0
 each_of P (x ∷ xs) z all (inr a) = each_of P xs z all.1 a
@@ -72,7 +71,7 @@ rises_none cmp = tt
 
 -- A sorted list extended by a greater element is sorted.
 pub rises_more : {X : Type 0} (cmp : X → X → Ordering) (xs : List X) (z : X) → IsStrictlySortedBy cmp xs
-    → ((w : X) → Among w xs → cmp w z ≡ Less) → IsStrictlySortedBy cmp (xs ++ z ∷ [])
+    → ((w : X) → IsOneOf w xs → cmp w z ≡ Less) → IsStrictlySortedBy cmp (xs ++ z ∷ [])
 unfolding IsStrictlySortedBy
 rises_more cmp [] z s f = (tt, tt)
 rises_more cmp (x ∷ xs) z s f = (
@@ -83,13 +82,11 @@ rises_more cmp (x ∷ xs) z s f = (
   rises_more cmp xs z s.1 (λ w a. f w (inr a)),
 )
 
--- Paths.
-
--- The keys from a line's concept upwards.
+-- The ranks from a line's concept up to its top concept.
 abbrev pub path_up : TreeLine → List ℕ
-path_up l = l.key ∷ l.above
+path_up l = l.rank ∷ l.above
 
--- The path `u` continued downwards by these keys.
+-- The path `u`, continued downwards by these ranks.
 abbrev pub path_onto : List ℕ → List ℕ → List ℕ
 path_onto [] u = u
 path_onto (x ∷ r) u = path_onto r (x ∷ u)
@@ -99,7 +96,7 @@ reverse_onto [] u = sym (append-nil (reverse u))
 reverse_onto (x ∷ r) u = reverse_onto r (x ∷ u) ∙ ap (λ z. z ++ r) (reverse-cons x u) ∙ append_assoc (reverse u)
     (x ∷ []) r
 
--- The path of the second line goes through the first, or is equal.
+-- The path of the second line extends that of the first, or equals it.
 abbrev pub Extends : TreeLine → TreeLine → Type 0
 Extends p l = (r : List ℕ) × (path_up l ≡ path_onto r (path_up p))
 
@@ -109,7 +106,7 @@ then_same c d e = ap (λ r. ordering_then r d) e
 then_less : (c : Ordering) (d : Ordering) → c ≡ Less → ordering_then c d ≡ Less
 then_less c d e = ap (λ r. ordering_then r d) e
 
--- After a common prefix the next keys decide.
+-- Two lists with a common prefix compare as their next ranks do.
 less_behind : (front : List ℕ) (x y : ℕ) (a b : List ℕ) → nat_cmp x y ≡ Less → slice_cmp nat_cmp (front ++ x ∷ a)
     (front ++ y ∷ b) ≡ Less
 less_behind [] x y a b e = then_less _ _ e
@@ -124,11 +121,11 @@ pub less_itself : (front : List ℕ) → slice_cmp nat_cmp front front ≡ Equal
 less_itself [] = refl
 less_itself (c ∷ front) = then_same _ _ (tied_itself nat_cmp_total c) ∙ less_itself front
 
--- The path of a line below `u`, from its first key below.
+-- The path of a line below `u` continues `u` from its first rank below.
 path_is : (l : TreeLine) (r u : List ℕ) (x : ℕ) → path_up l ≡ path_onto r (x ∷ u) → path l ≡ reverse u ++ x ∷ r
 path_is l r u x e = ap reverse e ∙ reverse_onto (x ∷ r) u
 
--- Lines below different children of `u` compare as the keys of these children do.
+-- Lines below different children of `u` compare as the ranks of these children do.
 apart_below : (u : List ℕ) (x y : ℕ) (l m : TreeLine) (a b : List ℕ) → nat_cmp x y ≡ Less → path_up l
     ≡ path_onto a (x ∷ u) → path_up m ≡ path_onto b (y ∷ u) → line_cmp l m ≡ Less
 apart_below u x y l m a b e f g =
@@ -137,22 +134,22 @@ apart_below u x y l m a b e f g =
     (less_behind (reverse u) x y a b e))
 
 -- Each line at or below `p` comes before each at or below `q`.
-pub record Before (p q : TreeLine) : Type 0 where
+pub record IsLineBefore (p q : TreeLine) : Type 0 where
   pub less : (l m : TreeLine) → Extends p l → Extends q m → line_cmp l m ≡ Less
 
 abbrev pub PairwiseBefore : List TreeLine → Type 0
 PairwiseBefore [] = Unit {0}
-PairwiseBefore (p ∷ ps) = AllByRecursion (Before p) ps × PairwiseBefore ps
+PairwiseBefore (p ∷ ps) = AllByRecursion (IsLineBefore p) ps × PairwiseBefore ps
 
--- The line of a child below these keys.
+-- The line of a child below these ranks.
 abbrev pub child_line : List ℕ → Child → TreeLine
-child_line u c = record { key = c.key; above = u; types = c.types; at_home = c.at_home }
+child_line u c = record { rank = c.rank; above = u; types = c.types; at_home = c.at_home }
 
-placed_before : (u : List ℕ) (c d : Child) → child_cmp c d ≡ Less → Before (child_line u c) (child_line u d)
-placed_before u c d e = record { less = λ l m a b. apart_below u c.key d.key l m a.0 b.0 e a.1 b.1 }
+placed_before : (u : List ℕ) (c d : Child) → child_cmp c d ≡ Less → IsLineBefore (child_line u c) (child_line u d)
+placed_before u c d e = record { less = λ l m a b. apart_below u c.rank d.rank l m a.0 b.0 e a.1 b.1 }
 
 all_before : (u : List ℕ) (c : Child) (ds : List Child) → AllByRecursion (λ d. child_cmp c d ≡ Less) ds
-    → AllByRecursion (Before (child_line u c)) (map (child_line u) ds)
+    → AllByRecursion (IsLineBefore (child_line u c)) (map (child_line u) ds)
 all_before u c [] s = tt
 all_before u c (d ∷ ds) s = (placed_before u c d s.0, all_before u c ds s.1)
 
@@ -163,24 +160,24 @@ placed_apart u [] s = tt
 placed_apart u (c ∷ cs) s = (all_before u c cs s.0, placed_apart u cs s.1)
 
 apart_append : (xs ys : List TreeLine) → PairwiseBefore xs → PairwiseBefore ys
-    → ((x y : TreeLine) → Among x xs → Among y ys → Before x y) → PairwiseBefore (xs ++ ys)
+    → ((x y : TreeLine) → IsOneOf x xs → IsOneOf y ys → IsLineBefore x y) → PairwiseBefore (xs ++ ys)
 apart_append [] ys p q f = q
 apart_append (x ∷ xs) ys p q f = (
   all_of _ (xs ++ ys) (λ z a. ⊎_elim (λ l. each_of _ xs z p.0 l) (λ r. f x z (inl refl) r) (among_append z xs ys a)),
   apart_append xs ys p.1 q (λ z y a b. f z y (inr a) b),
 )
 
--- The invariant of the walk: some lines are written and some pending, the next first; each line that isn't written yet
--- is at or below a pending one.
+-- The invariant of the walk: the lines are written or waiting, the next one first, and each line not yet written is at
+-- or below a waiting one.
 pub record IsWalk (IsIt : TreeLine → Type 0) (written waiting : List TreeLine) : Type 0 where
-  pub written_lines : (l : TreeLine) → Among l written → IsIt l
-  pub waiting_lines : (l : TreeLine) → Among l waiting → IsIt l
+  pub written_lines : (l : TreeLine) → IsOneOf l written → IsIt l
+  pub waiting_lines : (l : TreeLine) → IsOneOf l waiting → IsIt l
   pub rises : IsStrictlySortedBy line_cmp written
-  pub earlier : (w p l : TreeLine) → Among w written → Among p waiting → Extends p l → line_cmp w l ≡ Less
+  pub earlier : (w p l : TreeLine) → IsOneOf w written → IsOneOf p waiting → Extends p l → line_cmp w l ≡ Less
   pub apart : PairwiseBefore waiting
-  pub rest : (l : TreeLine) → IsIt l → Among l written ⊎ ((p : TreeLine) × Among p waiting × Extends p l)
+  pub rest : (l : TreeLine) → IsIt l → IsOneOf l written ⊎ ((p : TreeLine) × IsOneOf p waiting × Extends p l)
 
--- A walk with no pending line has written all lines, in order.
+-- A walk without a waiting line has written all lines, in order.
 pub walk_done : (IsIt : TreeLine → Type 0) (written : List TreeLine) → IsWalk IsIt written []
     → IsListing line_cmp IsIt written
 walk_done IsIt written h = record {
@@ -189,23 +186,24 @@ walk_done IsIt written h = record {
   complete = λ l q. contains_of l written (⊎_elim (λ w. w) (λ p. absurd p.1) (h.rest l q));
 }
 
--- One step: the first pending line is written, and its children become the first pending ones.
+-- A step of the walk writes the first waiting line, and its children become the first waiting ones.
 module _ (IsIt : TreeLine → Type 0) (written : List TreeLine) (p : TreeLine) (ps kids : List TreeLine)
     (h : IsWalk IsIt written (p ∷ ps))
-    (below : (k : TreeLine) → Among k kids → IsIt k × ((x : ℕ) × (path_up k ≡ x ∷ path_up p)))
+    (below : (k : TreeLine) → IsOneOf k kids → IsIt k × ((x : ℕ) × (path_up k ≡ x ∷ path_up p)))
     (apart : PairwiseBefore kids)
-    (all : (l : TreeLine) → IsIt l → Extends p l → (l ≡ p) ⊎ ((k : TreeLine) × Among k kids × Extends k l)) where
-  child_extends : (k l : TreeLine) → Among k kids → Extends k l → Extends p l
+    (all : (l : TreeLine) → IsIt l → Extends p l → (l ≡ p) ⊎ ((k : TreeLine) × IsOneOf k kids × Extends k l)) where
+  child_extends : (k l : TreeLine) → IsOneOf k kids → Extends k l → Extends p l
   child_extends k l a e = let b = (below k a).1 in (b.0 ∷ e.0, e.1 ∙ ap (path_onto e.0) b.1)
 
-  child_after : (k l : TreeLine) → Among k kids → Extends k l → line_cmp p l ≡ Less
+  child_after : (k l : TreeLine) → IsOneOf k kids → Extends k l → line_cmp p l ≡ Less
   child_after k l a e =
       let b = (below k a).1 in
       let f : path l ≡ reverse (path_up p) ++ b.0 ∷ e.0 =
       path_is l e.0 (path_up p) b.0 (e.1 ∙ ap (path_onto e.0) b.1) in
       subst (λ z. slice_cmp nat_cmp (path p) z ≡ Less) (sym f) (less_longer (path p) b.0 e.0)
 
-  earlier : (w q l : TreeLine) → Among w (written ++ p ∷ []) → Among q (kids ++ ps) → Extends q l → line_cmp w l ≡ Less
+  earlier : (w q l : TreeLine) → IsOneOf w (written ++ p ∷ []) → IsOneOf q (kids ++ ps) → Extends q l
+      → line_cmp w l ≡ Less
   earlier w q l a b e =
       ⊎_elim
       (λ old. ⊎_elim (λ kid. h.earlier w p l old (inl refl) (child_extends q l kid e))
@@ -215,10 +213,11 @@ module _ (IsIt : TreeLine → Type 0) (written : List TreeLine) (p : TreeLine) (
       (among_append q kids ps b))) (λ n. absurd n) new)
       (among_append w written (p ∷ []) a)
 
-  rest : (l : TreeLine) → IsIt l → Among l (written ++ p ∷ []) ⊎ ((q : TreeLine) × Among q (kids ++ ps) × Extends q l)
+  rest : (l : TreeLine) → IsIt l → IsOneOf l (written ++ p ∷ []) ⊎ ((q : TreeLine) × IsOneOf q (kids ++ ps)
+      × Extends q l)
   rest l i =
       ⊎_elim (λ old. inl (among_left l written (p ∷ []) old))
-      (λ (w : (q : TreeLine) × Among q (p ∷ ps) × Extends q l).
+      (λ (w : (q : TreeLine) × IsOneOf q (p ∷ ps) × Extends q l).
       ⊎_elim
       (λ (same : w.0 ≡ p). ⊎_elim (λ e. inl (among_right l written (p ∷ []) (inl e)))
       (λ k. inr (k.0, among_left k.0 kids ps k.1, k.2)) (all l i (subst (λ q. Extends q l) same w.2)))

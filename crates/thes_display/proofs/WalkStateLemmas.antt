@@ -1,25 +1,27 @@
--- Proves that each step of the depth-first walk keeps its invariant, and that its end gives the text of the hierarchy.
+-- Proves that each step of the depth-first walk keeps its invariant, and that the text at its end is that of the
+-- hierarchy.
 use Rattle.std.proofs.Common.{◌≢◌, Less, set, append-nil, replicate, add-one, length-append, length-set, ◌≡◌, ◌⊎◌}
 use Rattle.std.proofs.Common.{◌∙◌, ◌<◌, ◌≤◌, ◌+◌, ◌*◌, sym, ap, refl, subst, ℕ, zero, suc, Bool, true, false, List}
 use Rattle.std.proofs.Common.{[], ◌∷◌, ◌++◌, map, length, reverse, arith, ⊎_elim, inl, inr}
 use Rattle.thes_display.specs.declared.walk.Child.{Child}
 use Rattle.thes_display.specs.declared.walk.WaitingLine.{WaitingLine}
 use Rattle.thes_display.specs.Order.{Term}
-use Rattle.thes_display.specs.Lines.{TreeLine, lines_text, path, line_cmp, line_text, line_end, placed_text}
+use Rattle.thes_display.specs.Lines.{TreeLine, lines_text, path, line_cmp, tree_line_text, line_end, placed_text}
 use Rattle.thes_display.specs.Lines.{types_text, text_at, IsHomeward, IsPlaced, untyped}
-use Rattle.thes_display.specs.ChildLists.{children_at, IsLineOf, IsHierarchy, waiting_at, IsHierarchyText, child}
-use Rattle.thes_display.specs.ChildLists.{IsTopOf, IsChildOf, IsTypedUnder}
+use Rattle.thes_display.specs.ChildLists.{children_at, IsLineOfLists, AreHierarchyLists, waiting_at, IsHierarchyText}
+use Rattle.thes_display.specs.ChildLists.{child}
+use Rattle.thes_display.specs.ChildLists.{IsTopRank, IsChildOf, IsTypedUnder}
 use Rattle.std.proofs.lemmas.List.{reverse-append, reverse-reverse, length-reverse, map-append}
 use Rattle.std.proofs.lemmas.List.Concat.{flat_map-append}
 use Rattle.std.proofs.lemmas.Bool.{cases_eq}
-use Rattle.thes_display.proofs.WalkLemmas.{Among, among_from, contains_of, among_map, map_among, among_left}
+use Rattle.thes_display.proofs.WalkLemmas.{IsOneOf, among_from, contains_of, among_map, map_among, among_left}
 use Rattle.thes_display.proofs.WalkLemmas.{among_right, among_append, IsWalk, rises_none, less_itself, path_up}
 use Rattle.thes_display.proofs.WalkLemmas.{path_onto, child_line, placed_apart, walk_step, walk_done}
 use Rattle.thes_display.proofs.PlaceLemmas.{below_away, below_home, children_below, one_home_line, line_known}
 
--- The pending line on the stack.
+-- The frame of a waiting line on the stack.
 abbrev pub frame : TreeLine → WaitingLine
-frame l = record { key = l.key; depth = length l.above; types = l.types; at_home = l.at_home }
+frame l = record { rank = l.rank; depth = length l.above; types = l.types; at_home = l.at_home }
 
 pub record IsUnderWay (terms : List Term) (tops : List Child) (below : List (List Child)) (text : List ℕ)
     (stack : List WaitingLine) (left : List (List Child)) : Type 0 where
@@ -27,14 +29,12 @@ pub record IsUnderWay (terms : List Term) (tops : List Child) (below : List (Lis
   pub waiting : List TreeLine
   pub text_is : text ≡ lines_text terms written
   pub stack_is : stack ≡ reverse (map frame waiting)
-  pub walk : IsWalk (IsLineOf tops below) written waiting
+  pub walk : IsWalk (IsLineOfLists tops below) written waiting
   -- The children of a concept are still in the lists, or its home line is written.
   pub left_is : (k : ℕ) → (children_at left k ≡ children_at below k)
-      ⊎ ((w : TreeLine) × Among w written × (w.at_home ≡ true) × (w.key ≡ k))
-  pub depths : (l : TreeLine) → Among l waiting → length l.above ≤ length text
+      ⊎ ((w : TreeLine) × IsOneOf w written × (w.at_home ≡ true) × (w.rank ≡ k))
+  pub depths : (l : TreeLine) → IsOneOf l waiting → length l.above ≤ length text
   pub left_size : length left ≡ length below
-
--- Lines and pending lines.
 
 not_below_line : (l : TreeLine) → line_cmp l l ≡ Less → ⊥
 not_below_line l e = let t = less_itself (path l) in cc
@@ -50,44 +50,44 @@ frames : (u : List ℕ) (cs : List Child) → map frame (map (child_line u) cs) 
 frames u [] = refl
 frames u (c ∷ cs) = ap (λ t. frame (child_line u c) ∷ t) (frames u cs)
 
--- The start of the walk.
+-- The invariant holds at the start, with the top concepts on the stack.
 module _ (terms : List Term) (tops : List Child) (below : List (List Child)) (n : ℕ)
-    (o : IsHierarchy tops below n) where
+    (o : AreHierarchyLists tops below n) where
   abbrev IsIt : TreeLine → Type 0
-  IsIt = IsLineOf tops below
+  IsIt = IsLineOfLists tops below
 
   abbrev Homeward : List ℕ → Type 0
-  Homeward = IsHomeward (IsTopOf tops below) (IsChildOf tops below true) (IsChildOf tops below false)
+  Homeward = IsHomeward (IsTopRank tops below) (IsChildOf tops below true) (IsChildOf tops below false)
       (IsTypedUnder tops below)
 
   abbrev IsPlacedHere : Bool → List ℕ → Type 0
-  IsPlacedHere = IsPlaced (IsTopOf tops below) (IsChildOf tops below true) (IsChildOf tops below false)
+  IsPlacedHere = IsPlaced (IsTopRank tops below) (IsChildOf tops below true) (IsChildOf tops below false)
       (IsTypedUnder tops below)
 
   onto_more : (r : List ℕ) (k : ℕ) (u : List ℕ) → path_onto (r ++ k ∷ []) u ≡ k ∷ path_onto r u
   onto_more [] k u = refl
   onto_more (x ∷ r) k u = onto_more r k (x ∷ u)
 
-  -- The keys lead up to a top.
-  top_of : (u : List ℕ) → Homeward u → (x : ℕ) × IsTopOf tops below x × ((r : List ℕ) × (u ≡ path_onto r (x ∷ [])))
+  -- The ranks lead up to a top concept.
+  top_of : (u : List ℕ) → Homeward u → (x : ℕ) × IsTopRank tops below x × ((r : List ℕ) × (u ≡ path_onto r (x ∷ [])))
   top_of [] p = absurd p
   top_of (k ∷ []) p = (k, p, ([], refl))
   top_of (k ∷ b ∷ above) p = let t = top_of (b ∷ above) p.1 in
       (t.0, t.1, (t.2.0 ++ k ∷ [], ap (λ z. k ∷ z) t.2.1 ∙ sym (onto_more t.2.0 k (t.0 ∷ []))))
 
-  top_above : (h : Bool) (k : ℕ) (above : List ℕ) → IsPlacedHere h (k ∷ above) → (x : ℕ) × IsTopOf tops below x
+  top_above : (h : Bool) (k : ℕ) (above : List ℕ) → IsPlacedHere h (k ∷ above) → (x : ℕ) × IsTopRank tops below x
       × ((r : List ℕ) × (k ∷ above ≡ path_onto r (x ∷ [])))
   top_above true k above p = top_of (k ∷ above) p
   top_above false k [] p = absurd p
   top_above false k (b ∷ above) p = let t = top_of (b ∷ above) p.1 in
       (t.0, t.1, (t.2.0 ++ k ∷ [], ap (λ z. k ∷ z) t.2.1 ∙ sym (onto_more t.2.0 k (t.0 ∷ []))))
 
-  top_line : (c : Child) → Among c tops → IsIt (child_line [] c)
+  top_line : (c : Child) → IsOneOf c tops → IsIt (child_line [] c)
   top_line c a =
       let h = o.tops_home c (contains_of c tops a) in
-      let at_top = subst (λ t. Among (child c.key t true) tops) h.1 (subst (λ b. Among (child c.key c.types b) tops)
-      h.0 a) in
-      (subst (λ b. IsPlacedHere b (c.key ∷ [])) (sym h.0) (contains_of (child c.key untyped true) tops at_top), h.1)
+      let at_top = subst (λ t. IsOneOf (child c.rank t true) tops) h.1
+      (subst (λ b. IsOneOf (child c.rank c.types b) tops) h.0 a) in
+      (subst (λ b. IsPlacedHere b (c.rank ∷ [])) (sym h.0) (contains_of (child c.rank untyped true) tops at_top), h.1)
 
   walk_at_start : IsWalk IsIt [] (map (child_line []) tops)
   walk_at_start = record {
@@ -96,7 +96,7 @@ module _ (terms : List Term) (tops : List Child) (below : List (List Child)) (n 
     rises = rises_none line_cmp;
     earlier = λ w p l a b e. absurd a;
     apart = placed_apart [] tops o.tops_rise;
-    rest = λ l i. let t = top_above l.at_home l.key l.above i.0 in
+    rest = λ l i. let t = top_above l.at_home l.rank l.above i.0 in
         inr (
           child_line [] (child t.0 untyped true),
           map_among (child_line []) (child t.0 untyped true) tops
@@ -119,7 +119,7 @@ module _ (terms : List Term) (tops : List Child) (below : List (List Child)) (n 
     left_size = refl;
   }
 
-  -- One step of the walk.
+  -- One step of the walk writes the next line.
 
   pub record HasNext (text : List ℕ) (rest : List WaitingLine) (next : WaitingLine) (left : List (List Child)) : Type
       0 where
@@ -131,17 +131,17 @@ module _ (terms : List Term) (tops : List Child) (below : List (List Child)) (n 
     pub rest_is : rest ≡ reverse (map frame others)
     pub walk : IsWalk IsIt written (line ∷ others)
     pub left_is : (k : ℕ) → (children_at left k ≡ children_at below k)
-        ⊎ ((w : TreeLine) × Among w written × (w.at_home ≡ true) × (w.key ≡ k))
-    pub depths : (l : TreeLine) → Among l (line ∷ others) → length l.above ≤ length text
+        ⊎ ((w : TreeLine) × IsOneOf w written × (w.at_home ≡ true) × (w.rank ≡ k))
+    pub depths : (l : TreeLine) → IsOneOf l (line ∷ others) → length l.above ≤ length text
     pub left_size : length left ≡ length below
 
-  -- The line on top of the stack is the next pending line.
+  -- The line on top of the stack is the next waiting line.
   pub next_of : (text : List ℕ) (stack rest : List WaitingLine) (next : WaitingLine) (left : List (List Child))
       → IsUnderWay terms tops below text stack left → stack ≡ rest ++ next ∷ [] → HasNext text rest next left
   next_of text stack rest next left s e = by_waiting s.waiting s.walk s.depths (sym s.stack_is ∙ e)
     where
       by_waiting : (waiting : List TreeLine) → IsWalk IsIt s.written waiting
-          → ((l : TreeLine) → Among l waiting → length l.above ≤ length text) → reverse (map frame waiting) ≡ rest
+          → ((l : TreeLine) → IsOneOf l waiting → length l.above ≤ length text) → reverse (map frame waiting) ≡ rest
           ++ next ∷ [] → HasNext text rest next left
       by_waiting [] w d f = let g : length (rest ++ next ∷ []) ≡ 0 = ap length (sym f) in let h =
           length-append rest (next ∷ []) in absurd (omega (arith, g, h))
@@ -168,59 +168,59 @@ module _ (terms : List Term) (tops : List Child) (below : List (List Child)) (n 
     next_line : IsIt s.line
     next_line = s.walk.waiting_lines s.line (inl refl)
 
-    pub next_known : next.key < n
-    next_known = let e = ap (λ (f : WaitingLine). f.key) s.next_is in let k =
+    pub next_known : next.rank < n
+    next_known = let e = ap (λ (f : WaitingLine). f.rank) s.next_is in let k =
         line_known tops below n o s.line next_line in omega (arith, e, k)
 
-    pub next_left : next.key < length left
+    pub next_left : next.rank < length left
     next_left = let k = next_known in let a = s.left_size in let b = o.size in omega (arith, k, a, b)
 
     next_home : next.at_home ≡ s.line.at_home
     next_home = ap (λ (f : WaitingLine). f.at_home) s.next_is
 
-    text_more : (text' : List ℕ) → text' ≡ text ++ placed_text terms next.key next.depth next.types next.at_home
+    text_more : (text' : List ℕ) → text' ≡ text ++ placed_text terms next.rank next.depth next.types next.at_home
         → text' ≡ lines_text terms (s.written ++ s.line ∷ [])
     text_more text' e =
-        e ∙ ap (λ (f : WaitingLine). text ++ placed_text terms f.key f.depth f.types f.at_home) s.next_is
-        ∙ ap (λ t. t ++ line_text terms s.line) s.text_is
-        ∙ ap (λ t. lines_text terms s.written ++ t) (sym (append-nil (line_text terms s.line)))
-        ∙ sym (flat_map-append (line_text terms) s.written (s.line ∷ []))
+        e ∙ ap (λ (f : WaitingLine). text ++ placed_text terms f.rank f.depth f.types f.at_home) s.next_is
+        ∙ ap (λ t. t ++ tree_line_text terms s.line) s.text_is
+        ∙ ap (λ t. lines_text terms s.written ++ t) (sym (append-nil (tree_line_text terms s.line)))
+        ∙ sym (flat_map-append (tree_line_text terms) s.written (s.line ∷ []))
 
     star_length : (h : Bool) → 1 ≤ length (line_end h)
     star_length true = omega arith
     star_length false = omega arith
 
-    text_longer : (text' : List ℕ) → text' ≡ text ++ placed_text terms next.key next.depth next.types next.at_home
+    text_longer : (text' : List ℕ) → text' ≡ text ++ placed_text terms next.rank next.depth next.types next.at_home
         → length text + 1 ≤ length text'
     text_longer text' e =
         let star = line_end next.at_home in
-        let a = ap length e ∙ length-append text (placed_text terms next.key next.depth next.types next.at_home) in
+        let a = ap length e ∙ length-append text (placed_text terms next.rank next.depth next.types next.at_home) in
         let types = types_text next.types in
-        let b = length-append (replicate (2 * next.depth) 32) (text_at terms next.key ++ (types ++ star)) in
-        let c = length-append (text_at terms next.key) (types ++ star) in
+        let b = length-append (replicate (2 * next.depth) 32) (text_at terms next.rank ++ (types ++ star)) in
+        let c = length-append (text_at terms next.rank) (types ++ star) in
         let d = length-append types star in
         let f = star_length next.at_home in
         omega (arith, a, b, c, d, f)
 
     -- The children of the next line are still in the lists.
-    still_there : next.at_home ≡ true → children_at left next.key ≡ children_at below next.key
+    still_there : next.at_home ≡ true → children_at left next.rank ≡ children_at below next.rank
     still_there home =
-        let k : next.key ≡ s.line.key = ap (λ (f : WaitingLine). f.key) s.next_is in
+        let k : next.rank ≡ s.line.rank = ap (λ (f : WaitingLine). f.rank) s.next_is in
         ⊎_elim (λ e. e)
-        (λ (w : (w : TreeLine) × Among w s.written × (w.at_home ≡ true) × (w.key ≡ next.key)).
+        (λ (w : (w : TreeLine) × IsOneOf w s.written × (w.at_home ≡ true) × (w.rank ≡ next.rank)).
         let same : w.0 ≡ s.line = one_home_line tops below n o w.0 s.line (s.walk.written_lines w.0 w.1) next_line w.2
         (sym next_home ∙ home) (w.3 ∙ k) in
         absurd (not_below_line s.line
         (subst (λ z. line_cmp z s.line ≡ Less) same (s.walk.earlier w.0 s.line s.line w.1 (inl refl)
         ([], refl)))))
-        (s.left_is next.key)
+        (s.left_is next.rank)
 
-    left_more : (left' : List (List Child)) → next.at_home ≡ true → left' ≡ set left next.key [] → (k : ℕ)
-        → (children_at left' k ≡ children_at below k) ⊎ ((w : TreeLine) × Among w (s.written ++ s.line ∷ [])
-        × (w.at_home ≡ true) × (w.key ≡ k))
+    left_more : (left' : List (List Child)) → next.at_home ≡ true → left' ≡ set left next.rank [] → (k : ℕ)
+        → (children_at left' k ≡ children_at below k) ⊎ ((w : TreeLine) × IsOneOf w (s.written ++ s.line ∷ [])
+        × (w.at_home ≡ true) × (w.rank ≡ k))
     left_more left' home e k =
-        let here : next.key ≡ s.line.key = ap (λ (f : WaitingLine). f.key) s.next_is in
-        elim (cases_eq k next.key) [
+        let here : next.rank ≡ s.line.rank = ap (λ (f : WaitingLine). f.rank) s.next_is in
+        elim (cases_eq k next.rank) [
           | inl same ↦ inr (
             s.line,
             among_right s.line s.written (s.line ∷ []) (inl refl),
@@ -228,8 +228,8 @@ module _ (terms : List Term) (tops : List Child) (below : List (List Child)) (n 
             sym here ∙ sym same,
           )
           | inr other ↦
-              ⊎_elim (λ f. inl (ap (λ x. children_at x k) e ∙ at_other left next.key k other ∙ f))
-              (λ (w : (w : TreeLine) × Among w s.written × (w.at_home ≡ true) × (w.key ≡ k)).
+              ⊎_elim (λ f. inl (ap (λ x. children_at x k) e ∙ at_other left next.rank k other ∙ f))
+              (λ (w : (w : TreeLine) × IsOneOf w s.written × (w.at_home ≡ true) × (w.rank ≡ k)).
               inr (w.0, among_left w.0 s.written (s.line ∷ []) w.1, w.2, w.3))
               (s.left_is k)
         ]
@@ -237,20 +237,20 @@ module _ (terms : List Term) (tops : List Child) (below : List (List Child)) (n 
     -- The invariant holds after a line at home is written and its children are pushed.
     pub under_way_home : (text' : List ℕ) (stack' : List WaitingLine) (left' : List (List Child))
         (children : List Child) → next.at_home ≡ true
-        → text' ≡ text ++ placed_text terms next.key next.depth next.types next.at_home → children
-        ≡ children_at left next.key → left' ≡ set left next.key []
+        → text' ≡ text ++ placed_text terms next.rank next.depth next.types next.at_home → children
+        ≡ children_at left next.rank → left' ≡ set left next.rank []
         → stack' ≡ rest ++ reverse (map (waiting_at (next.depth + 1)) children) → IsUnderWay terms tops below text'
         stack' left'
     under_way_home text' stack' left' children home e f g h =
         let is_home : s.line.at_home ≡ true = sym next_home ∙ home in
-        let key : next.key ≡ s.line.key = ap (λ (f : WaitingLine). f.key) s.next_is in
-        let cs : children ≡ children_at below s.line.key = f ∙ still_there home ∙ ap (children_at below) key in
+        let rank : next.rank ≡ s.line.rank = ap (λ (f : WaitingLine). f.rank) s.next_is in
+        let cs : children ≡ children_at below s.line.rank = f ∙ still_there home ∙ ap (children_at below) rank in
         let depth : next.depth + 1 ≡ length (path_up s.line) = ap (λ (f : WaitingLine). f.depth + 1) s.next_is
         ∙ add-one (length s.line.above) in
-        let kids : List TreeLine = map (child_line (path_up s.line)) (children_at below s.line.key) in
+        let kids : List TreeLine = map (child_line (path_up s.line)) (children_at below s.line.rank) in
         let pushed : map (waiting_at (next.depth + 1)) children ≡ map frame kids =
         ap (λ d. map (waiting_at d) children) depth ∙ ap (map (waiting_at (length (path_up s.line)))) cs
-        ∙ sym (frames (path_up s.line) (children_at below s.line.key)) in
+        ∙ sym (frames (path_up s.line) (children_at below s.line.rank)) in
         let longer = text_longer text' e in
         record {
           written = s.written ++ s.line ∷ [];
@@ -262,21 +262,21 @@ module _ (terms : List Term) (tops : List Child) (below : List (List Child)) (n 
               ∙ ap reverse (sym (map-append frame kids s.others));
           walk = walk_step IsIt s.written s.line s.others kids s.walk
               (children_below tops below n o s.line next_line is_home)
-              (placed_apart (path_up s.line) (children_at below s.line.key) (o.rises s.line.key))
+              (placed_apart (path_up s.line) (children_at below s.line.rank) (o.rises s.line.rank))
               (λ l i x. below_home tops below n o s.line l next_line is_home i x);
           left_is = left_more left' home g;
           depths = λ l a. ⊎_elim
-              (λ kid. let c = among_map (child_line (path_up s.line)) l (children_at below s.line.key) kid in
+              (λ kid. let c = among_map (child_line (path_up s.line)) l (children_at below s.line.rank) kid in
               let d : length l.above ≡ length (path_up s.line) = ap (λ (z : TreeLine). length z.above) c.2 in
               let q = s.depths s.line (inl refl) in
               omega (arith, d, q, longer))
               (λ other. let q = s.depths l (inr other) in omega (arith, q, longer))
               (among_append l kids s.others a);
-          left_size = ap length g ∙ length-set left next.key [] ∙ s.left_size;
+          left_size = ap length g ∙ length-set left next.rank [] ∙ s.left_size;
         }
 
     -- The invariant holds after a line away from home is written.
-    pub under_way_away : (text' : List ℕ) → next.at_home ≡ false → text' ≡ text ++ placed_text terms next.key
+    pub under_way_away : (text' : List ℕ) → next.at_home ≡ false → text' ≡ text ++ placed_text terms next.rank
         next.depth next.types next.at_home → IsUnderWay terms tops below text' rest left
     under_way_away text' away e =
         let is_away : s.line.at_home ≡ false = sym next_home ∙ away in
@@ -289,13 +289,13 @@ module _ (terms : List Term) (tops : List Child) (below : List (List Child)) (n 
           walk = walk_step IsIt s.written s.line s.others [] s.walk (λ k a. absurd a) tt
               (λ l i x. inl (below_away tops below n o s.line l next_line is_away i x));
           left_is =
-              λ k. ⊎_elim (λ f. inl f) (λ (w : (w : TreeLine) × Among w s.written × (w.at_home ≡ true) × (w.key ≡ k)).
-              inr (w.0, among_left w.0 s.written (s.line ∷ []) w.1, w.2, w.3)) (s.left_is k);
+              λ k. ⊎_elim (λ f. inl f) (λ (w : (w : TreeLine) × IsOneOf w s.written × (w.at_home ≡ true)
+              × (w.rank ≡ k)). inr (w.0, among_left w.0 s.written (s.line ∷ []) w.1, w.2, w.3)) (s.left_is k);
           depths = λ l a. let q = s.depths l (inr a) in omega (arith, q, longer);
           left_size = s.left_size;
         }
 
-  -- The end of the walk.
+  -- A walk with an empty stack has written all lines.
 
   pub shown_whole : (text : List ℕ) (stack : List WaitingLine) (left : List (List Child))
       → IsUnderWay terms tops below text stack left → stack ≡ [] → IsHierarchyText terms tops below text

@@ -13,42 +13,48 @@ use Rattle.thes_display.specs.Order.{Term}
 use Rattle.thes_display.specs.declared.walk.Types.{Types}
 use Rattle.thes_display.specs.Lines.{TreeLine, IsTreeLine, line_cmp, lines_text, untyped}
 
+-- The order of children: by rank, which is the order of their terms.
 abbrev pub child_cmp : Child → Child → Ordering
-child_cmp x y = nat_cmp x.key y.key
+child_cmp x y = nat_cmp x.rank y.rank
 
--- The children of the concept with this key.
+-- The children of the concept with this rank; none if the rank is past the last list.
 abbrev pub children_at : List (List Child) → ℕ → List Child
 children_at below b = option_map_or (λ (cs : List Child). cs) (slice_get below b) []
 
+-- The child with this rank and these types, at home or not.
 abbrev pub child : ℕ → Types → Bool → Child
-child k types home = record { key = k; types = types; at_home = home }
+child k types home = record { rank = k; types = types; at_home = home }
 
 module _ (tops : List Child) (below : List (List Child)) where
-  abbrev pub IsTopOf : ℕ → Type 0
-  IsTopOf k = Contains tops (child k untyped true)
+  -- The lists have a top concept with the rank `k`.
+  abbrev pub IsTopRank : ℕ → Type 0
+  IsTopRank k = Contains tops (child k untyped true)
 
+  -- The lists have a child with the rank `k` below the rank `b`, and `home` is whether that is its
+  -- home.
   abbrev pub IsChildOf : Bool → ℕ → ℕ → Type 0
   IsChildOf home k b = (types : Types) × Contains (children_at below b) (child k types home)
 
+  -- The lists have a child with the rank `k` and these types below the rank `b`.
   abbrev pub IsTypedUnder : Types → ℕ → ℕ → Type 0
   IsTypedUnder types k b = (home : Bool) × Contains (children_at below b) (child k types home)
 
   -- The line is one of the hierarchy in these lists.
-  abbrev pub IsLineOf : TreeLine → Type 0
-  IsLineOf = IsTreeLine IsTopOf (IsChildOf true) (IsChildOf false) IsTypedUnder
+  abbrev pub IsLineOfLists : TreeLine → Type 0
+  IsLineOfLists = IsTreeLine IsTopRank (IsChildOf true) (IsChildOf false) IsTypedUnder
 
-  -- The lists are sorted and their keys are below `n`; tops are at home and untyped; each key has at most one home, and
-  -- a top has none.
-  pub record IsHierarchy (n : ℕ) : Type 0 where
+  -- The lists are sorted, and their ranks are below `n`; top concepts are at home and untyped; each rank has at most
+  -- one home, and that of a top concept has none.
+  pub record AreHierarchyLists (n : ℕ) : Type 0 where
     pub size : length below ≡ n
     pub tops_rise : IsStrictlySortedBy child_cmp tops
     pub rises : (b : ℕ) → IsStrictlySortedBy child_cmp (children_at below b)
-    pub tops_home : (c : Child) → Contains tops c → (c.at_home ≡ true) × (c.types ≡ untyped) × (c.key < n)
-    pub keys_bounded : (b : ℕ) (c : Child) → Contains (children_at below b) c → c.key < n
+    pub tops_home : (c : Child) → Contains tops c → (c.at_home ≡ true) × (c.types ≡ untyped) × (c.rank < n)
+    pub ranks_bounded : (b : ℕ) (c : Child) → Contains (children_at below b) c → c.rank < n
     pub one_home : (k b c : ℕ) → IsChildOf true k b → IsChildOf true k c → b ≡ c
-    pub top_home : (k b : ℕ) → IsTopOf k → IsChildOf true k b → ⊥
+    pub top_home : (k b : ℕ) → IsTopRank k → IsChildOf true k b → ⊥
 
--- The items of each vector.
+-- The children in each vector, as lists.
 abbrev pub lists : List (Vec Child Global) → List (List Child)
 lists below = map (λ (v : Vec Child Global). v.items) below
 
@@ -56,13 +62,13 @@ lists below = map (λ (v : Vec Child Global). v.items) below
 abbrev pub total : List (Vec Child Global) → ℕ
 total below = sum_by (λ (v : Vec Child Global). vec_len v) below
 
--- The pending line of a child at this depth.
+-- The line of a child at this depth, as it waits on the stack.
 abbrev pub waiting_at : ℕ → Child → WaitingLine
-waiting_at depth c = record { key = c.key; depth = depth; types = c.types; at_home = c.at_home }
+waiting_at depth c = record { rank = c.rank; depth = depth; types = c.types; at_home = c.at_home }
 
--- The text of all lines, in the order of their paths.
+-- The text of all lines of the lists, in the order of their paths.
 pub record IsHierarchyText (terms : List Term) (tops : List Child) (below : List (List Child)) (text : List ℕ) : Type
     0 where
   pub lines : List TreeLine
-  pub listing : IsListing line_cmp (IsLineOf tops below) lines
+  pub listing : IsListing line_cmp (IsLineOfLists tops below) lines
   pub is : text ≡ lines_text terms lines

@@ -1,4 +1,4 @@
--- Displays that are written to a pipe, and why one isn't.
+-- Displays written to a pipe, and the reasons why one isn't.
 use Rattle.std.specs.Prelude.{◌≡◌, ℕ, List, Option}
 use Rattle.std.specs.Io.KnownBytes.{Appends}
 use Rattle.thes_base.specs.declared.data.Resource.{Resource}
@@ -14,19 +14,19 @@ use Rattle.thes_display.specs.declared.writing.DisplayOutcome.{DisplayOutcome}
 use Rattle.thes_display.specs.declared.writing.DisplayOutcome.TheVariants.{Written, No}
 
 -- The refusal of a number that isn't a scheme's.
-abbrev pub IsNoScheme : List Resource → ℕ → Refusal → Type 0
-IsNoScheme resources n no.UnknownResource = Exists resources n → ⊥
-IsNoScheme resources n no.WrongKind = Exists resources n × (IsScheme resources n → ⊥)
-IsNoScheme resources n _ = ⊥
+abbrev pub IsSchemeRefusal : List Resource → ℕ → Refusal → Type 0
+IsSchemeRefusal resources n no.UnknownResource = Exists resources n → ⊥
+IsSchemeRefusal resources n no.WrongKind = Exists resources n × (IsScheme resources n → ⊥)
+IsSchemeRefusal resources n _ = ⊥
 
 module _ {W : Type 0} (contents : W → Option (List ℕ)) where
-  -- The display of the scheme was written; or the scheme was refused, and nothing was written.
+  -- The whole display of the scheme was written; or the number was refused, and nothing was written.
   abbrev pub IsDisplayWritten : List Resource → ℕ → (List ℕ → Type 0) → Pipe W → Pipe W → DisplayOutcome → Type 0
   IsDisplayWritten resources scheme IsText old new Written = IsScheme resources scheme
       × ((text : List ℕ) × IsText text × Appends (written_bytes contents old) (written_bytes contents new) text)
-  IsDisplayWritten resources scheme IsText old new (No refusal) = IsNoScheme resources scheme refusal × (new ≡ old)
+  IsDisplayWritten resources scheme IsText old new (No refusal) = IsSchemeRefusal resources scheme refusal × (new ≡ old)
 
-  -- A prefix of the display was written; nothing where memory ran out.
+  -- Only a prefix of the display was written, or nothing if memory ran out.
   abbrev pub IsDisplayStopped : (List ℕ → Type 0) → Pipe W → Pipe W → PipeFault → Type 0
   IsDisplayStopped IsText old new (pipe.Fault OutOfMemory) = new ≡ old
   IsDisplayStopped IsText old new (pipe.Fault _) = ⊥

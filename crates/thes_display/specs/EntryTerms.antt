@@ -1,4 +1,4 @@
--- The terms that are listed below the term of a concept.
+-- The terms in the entry of a concept, below its own term.
 use Rattle.std.specs.Prelude.{◌≡◌, ℕ, List}
 use Rattle.thes_base.specs.declared.data.LabelKind.{LabelKind}
 use Rattle.thes_base.specs.declared.data.LinkKind.{LinkKind}
@@ -10,7 +10,7 @@ use Rattle.thes_display.specs.declared.entry_terms.Side.{Side}
 use Rattle.thes_display.specs.declared.entry_terms.Side.TheVariants.{Broader, Narrower}
 use Rattle.thes_display.specs.Order.{Term}
 
--- The term of a concept with the property `P`.
+-- The term is that of a concept with the property `P`.
 abbrev pub IsTermOf : Labels → List ℕ → (ℕ → Type 0) → Term → Type 0
 IsTermOf labels tag P t = P t.concept × (t.text ≡ term_text labels tag t.concept)
 
@@ -18,7 +18,7 @@ IsTermOf labels tag P t = P t.concept × (t.text ≡ term_text labels tag t.conc
 abbrev pub IsLabelTerm : Labels → ℕ → LabelKind → List ℕ → Term → Type 0
 IsLabelTerm labels n kind tag t = (t.concept ≡ n) × HasLabel labels n kind tag t.text
 
--- Concept `m` is a broader or a narrower concept of `n`, as the side says.
+-- Concept `m` is broader or narrower than `n`, depending on the side.
 abbrev pub IsOnSide : Links → Side → ℕ → ℕ → Type 0
 IsOnSide links Broader n = HasBroader links n
 IsOnSide links Narrower n = λ m. HasBroader links m n

@@ -1,10 +1,10 @@
-//! Entries of the alphabetical display.
+//! The alphabetical display: its headings, in order, with an entry for each.
 ghost use Rattle.std.specs.Prelude.{[], ◌≡◌, ◌++◌, false, IfOk, OnOk, IsPermutation, IsSorted, cond};
 ghost use Rattle.thes_base.specs.Listing.{IsListing};
 ghost use Rattle.thes_base.specs.State.{State};
 ghost use Rattle.thes_core.specs.CoreView.{IsViewOf, with_histories};
 ghost use Rattle.thes_display.specs.TextAppends.{AppendsText};
-ghost use Rattle.thes_display.specs.Alphabetical.{AreLinesOf, AreTexts, IsAlphabetical, IsEntry, IsHeading, heading_cmp, line_below, symbols};
+ghost use Rattle.thes_display.specs.Alphabetical.{AreLinesOf, AreTexts, IsAlphabetical, IsEntry, IsHeading, heading_cmp, entry_line, symbols};
 ghost use Rattle.thes_display.specs.Headings.{heading_key, IsHeadingAt};
 
 use crate::entry_terms::{labels_in, terms_under};
@@ -17,7 +17,7 @@ use thes_base::number::ResNo;
 use thes_base::text::Tag;
 use thes_core::Core;
 
-/// The heading of an entry: a concept's term, or a lead-in term, one of its alternative labels.
+/// The heading of an entry: a concept's term or, as a lead-in term, one of its alternative labels.
 #[derive(Drop)]
 pub struct Heading {
     pub term: Term,
@@ -25,14 +25,14 @@ pub struct Heading {
 }
 
 impl Heading {
-    // Returns 0 for a concept's term and 1 for a lead-in term, which sorts after an equal text.
+    // Returns 0 for a concept's term and 1 for a lead-in term, so that the term comes first among equal texts.
     fn rank(&self) -> u8
         ensures { result ≡ cond self.now.lead_in 1 0 }
     {
         if self.lead_in { 1 } else { 0 }
     }
 
-    // Compares it with another in the order of the display.
+    // Compares two headings: alphabetically by text, then by concept, then the term before lead-in terms.
     fn order(&self, other: &Heading) -> Ordering
         ensures { result ≡ heading_cmp self.now other.now }
     {
@@ -43,7 +43,7 @@ impl Heading {
     }
 }
 
-// Returns the headings of one concept: its term, then its alternative labels in alphabetical order.
+// Returns the headings of one concept: its term, and then its alternative labels in alphabetical order.
 fn headings_at(alloc: Global, core: &Core, n: ResNo, tag: &Tag) -> Result<Vec<Heading>, AllocError>
     requires { core.now.spent ≡ false }
     ensures { let is_heading = IsHeadingAt (with_histories [] core.now) tag.now n in
@@ -73,7 +73,7 @@ fn sort_headings(headings: &mut Vec<Heading>) -> Result<(), AllocError>
     Ok(())
 }
 
-// Returns all headings of a scheme, in the order of the display.
+// Returns the headings of all live concepts of a scheme, in the order of the display.
 fn headings_of(
     alloc: Global,
     core: &Core,
@@ -93,9 +93,9 @@ fn headings_of(
     Ok(headings)
 }
 
-// Appends a line that belongs to the entry above.
-fn write_below(text: &mut Vec<u8>, symbol: &[u8], shown: &[u8]) -> Result<(), AllocError>
-    ensures { OnOk result (text.new.items ≡ text.old.items ++ line_below symbol.now shown.now) }
+// Appends a line of an entry: two spaces, the symbol, a space, the text and a line feed.
+fn push_entry_line(text: &mut Vec<u8>, symbol: &[u8], shown: &[u8]) -> Result<(), AllocError>
+    ensures { OnOk result (text.new.items ≡ text.old.items ++ entry_line symbol.now shown.now) }
 {
     text.extend_from_slice(b"  ")?;
     text.extend_from_slice(symbol)?;
@@ -105,7 +105,7 @@ fn write_below(text: &mut Vec<u8>, symbol: &[u8], shown: &[u8]) -> Result<(), Al
     Ok(())
 }
 
-// Appends the lines of one symbol.
+// Appends the lines of one symbol, in alphabetical order.
 fn write_symbol(
     alloc: Global,
     text: &mut Vec<u8>,
@@ -120,12 +120,12 @@ fn write_symbol(
 {
     let terms = terms_under(alloc, core, n, tag, symbol)?;
     for term in &terms {
-        write_below(text, symbol.text().as_bytes(), term.text())?;
+        push_entry_line(text, symbol.text().as_bytes(), term.text())?;
     }
     Ok(())
 }
 
-// Appends the lines of all symbols.
+// Appends the lines of all symbols, in the order of `Symbol::all`.
 fn write_symbols(
     alloc: Global,
     text: &mut Vec<u8>,
@@ -145,7 +145,7 @@ fn write_symbols(
     Ok(())
 }
 
-// Appends an entry.
+// Appends an entry: a term with its lines, or a lead-in term with the term to use (USE).
 fn write_entry(
     alloc: Global,
     text: &mut Vec<u8>,
@@ -162,14 +162,14 @@ fn write_entry(
     text.push(b'\n')?;
     if heading.lead_in {
         let preferred = core.term(alloc, n, tag)?;
-        write_below(text, b"USE", preferred.as_bytes())?;
+        push_entry_line(text, b"USE", preferred.as_bytes())?;
     } else {
         write_symbols(alloc, text, core, n, tag)?;
     }
     Ok(())
 }
 
-/// Returns the text of the alphabetical display of a scheme in a language.
+/// Returns the text of the alphabetical display of a scheme in a language, in UTF-8.
 pub fn alphabetical_text(
     alloc: Global,
     core: &Core,

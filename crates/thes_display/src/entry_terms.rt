@@ -1,4 +1,4 @@
-//! The labels and linked concepts of an entry, as sorted terms.
+//! The labels and linked concepts in an entry, as sorted terms.
 ghost use Rattle.std.specs.Prelude.{[], ◌≡◌, ◌↔◌, false, IfOk, Contains, IsTrue};
 ghost use Rattle.std.specs.List.Sorted.{IsStrictlySortedBy};
 ghost use Rattle.std.specs.Ordering.{nat_cmp};
@@ -27,8 +27,8 @@ pub(crate) fn has_link(core: &Core, kind: LinkKind, a: ResNo, b: ResNo) -> bool
     core.has(&Link { kind, a, b })
 }
 
-// Returns the terms of these concepts, in alphabetical order.
-pub(crate) fn terms_of_all(
+// Returns the terms of these concepts in the language, in alphabetical order.
+pub(crate) fn sorted_terms_of(
     alloc: Global,
     core: &Core,
     concepts: &[ResNo],
@@ -48,7 +48,7 @@ pub(crate) fn terms_of_all(
     Ok(terms)
 }
 
-// Returns the concept's labels of a kind in the language, in alphabetical order.
+// Returns the labels of a concept that are of this kind and in the language, in alphabetical order.
 pub(crate) fn labels_in(
     alloc: Global,
     core: &Core,
@@ -72,14 +72,16 @@ pub(crate) fn labels_in(
     Ok(terms)
 }
 
-/// The direction of a hierarchical link, as seen from a concept.
+/// The direction in which hierarchical links are followed from a concept.
 #[derive(Clone, Copy)]
 pub(crate) enum Side {
+    /// Broader concepts (BT).
     Broader,
+    /// Narrower concepts (NT).
     Narrower,
 }
 
-// Returns the broader or the narrower concepts, in ascending order.
+// Returns the concepts on this side of a concept, by any hierarchical link, in ascending order.
 fn concepts_on_side(
     alloc: Global,
     core: &Core,
@@ -108,7 +110,7 @@ fn is_linked(core: &Core, side: Side, kind: LinkKind, n: ResNo, m: ResNo) -> boo
     }
 }
 
-// Returns the concepts on this side by links of this kind, in ascending order.
+// Returns the concepts on this side of `n` by links of this kind, in ascending order.
 fn linked_concepts(
     alloc: Global,
     core: &Core,
@@ -131,7 +133,7 @@ fn linked_concepts(
     Ok(found)
 }
 
-/// Returns the terms of one symbol in the entry of a concept, in alphabetical order.
+/// Returns the terms for one symbol in the entry of a concept, in alphabetical order.
 pub fn terms_under(
     alloc: Global,
     core: &Core,
@@ -148,15 +150,15 @@ pub fn terms_under(
         Symbol::UsedFor => labels_in(alloc, core, n, LabelKind::Alt, tag),
         Symbol::Broader(hierarchy) => {
             let broader = linked_concepts(alloc, core, Side::Broader, hierarchy.kind(), n)?;
-            Ok(terms_of_all(alloc, core, broader.as_slice(), tag)?)
+            Ok(sorted_terms_of(alloc, core, broader.as_slice(), tag)?)
         }
         Symbol::Narrower(hierarchy) => {
             let narrower = linked_concepts(alloc, core, Side::Narrower, hierarchy.kind(), n)?;
-            Ok(terms_of_all(alloc, core, narrower.as_slice(), tag)?)
+            Ok(sorted_terms_of(alloc, core, narrower.as_slice(), tag)?)
         }
         Symbol::Related => {
             let related = core.related_of(alloc, n)?;
-            Ok(terms_of_all(alloc, core, related.as_slice(), tag)?)
+            Ok(sorted_terms_of(alloc, core, related.as_slice(), tag)?)
         }
     }
 }

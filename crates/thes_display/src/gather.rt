@@ -1,4 +1,4 @@
-//! Computes a scheme's hierarchy from the links of a core.
+//! Computing the hierarchy of a scheme from the links of a core.
 ghost use Rattle.std.specs.Prelude.{◌≡◌, ◌<◌, ◌≤◌, Contains, true, OnOk, IsPermutation, IsSorted, ◌↔◌, ℕ, Some, false, length, slice_get, IfOk, MatchOption, IsTrue};
 ghost use Rattle.std.specs.BTreeMap.{get};
 ghost use Rattle.std.specs.List.{filter_map};
@@ -9,10 +9,10 @@ ghost use Rattle.thes_core.specs.CoreView.{IsViewOf};
 ghost use Rattle.thes_vocab.specs.Vocabulary.{IsConceptOf};
 ghost use Rattle.thes_display.specs.ChildLists.{child_cmp, lists};
 ghost use Rattle.thes_display.specs.Lines.{untyped as no_types};
-ghost use Rattle.thes_display.specs.Hierarchical.{AreTerms, AreTypes, IsHierarchical};
-ghost use Rattle.thes_display.specs.HierarchyParts.{AreHomes, AreKeys, HaveOneKey, IsClosed, IsChild, IsHomeKey, AreBelow, IsHomeless};
+ghost use Rattle.thes_display.specs.Hierarchical.{AreTerms, AreTypes, IsHierarchicalDisplay};
+ghost use Rattle.thes_display.specs.HierarchyParts.{AreHomes, AreRanks, HaveOneRank, IsClosed, IsChild, IsHomeRank, AreBelow, IsTopByHomes};
 
-use crate::entry_terms::{has_link, terms_of_all};
+use crate::entry_terms::{has_link, sorted_terms_of};
 use crate::term::Term;
 use crate::walk::{Child, Types, hierarchy_text};
 use std::alloc::{AllocError, Global};
@@ -27,104 +27,105 @@ fn terms_of(alloc: Global, core: &Core, scheme: ResNo, tag: &Tag) -> Result<Vec<
     requires { core.now.spent ≡ false }
     ensures terms { (s : State) → IsViewOf core.now s →
         IfOk result (λ terms. AreTerms s scheme tag.now terms.items) }
-    ensures one_key { IfOk result (λ terms. HaveOneKey terms.items) }
+    ensures one_rank { IfOk result (λ terms. HaveOneRank terms.items) }
     ensures closed { (s : State) → IsViewOf core.now s →
         IfOk result (λ terms. IsClosed core.now.links terms.items) }
 {
-    let terms = terms_of_all(alloc, core, core.live_of(scheme), tag)?;
+    let terms = sorted_terms_of(alloc, core, core.live_of(scheme), tag)?;
     Ok(terms)
 }
 
-// Maps each concept to its key, the index of its term.
-fn keys_of(alloc: Global, terms: &[Term]) -> Result<BTreeMap<ResNo, usize>, AllocError>
-    requires { HaveOneKey terms.now }
-    ensures { IfOk result (λ keys. AreKeys terms.now (get nat_cmp keys)) }
+// Maps each concept to its rank: the index of its term in alphabetical order.
+fn ranks_of(alloc: Global, terms: &[Term]) -> Result<BTreeMap<ResNo, usize>, AllocError>
+    requires { HaveOneRank terms.now }
+    ensures { IfOk result (λ ranks. AreRanks terms.now (get nat_cmp ranks)) }
 {
-    let mut keys = BTreeMap::new(alloc);
-    for (key, term) in terms.iter().enumerate() {
-        keys.insert(term.concept(), key)?;
+    let mut ranks = BTreeMap::new(alloc);
+    for (rank, term) in terms.iter().enumerate() {
+        ranks.insert(term.concept(), rank)?;
     }
-    Ok(keys)
+    Ok(ranks)
 }
 
-// Returns the keys of those concepts that have one.
-fn keys_at(
+// Returns the ranks of the concepts, in their order, without those that have no rank.
+fn ranks_at(
     alloc: Global,
-    keys: &BTreeMap<ResNo, usize>,
+    ranks: &BTreeMap<ResNo, usize>,
     concepts: &[ResNo],
 ) -> Result<Vec<usize>, AllocError>
-    ensures { IfOk result (λ found. found.items ≡ filter_map (get nat_cmp keys.now) concepts.now) }
+    ensures { IfOk result (λ found. found.items ≡ filter_map (get nat_cmp ranks.now) concepts.now) }
 {
     let mut found = Vec::new(alloc);
     for concept in concepts {
-        if let Some(key) = keys.get(concept) {
-            found.push(*key)?;
+        if let Some(rank) = ranks.get(concept) {
+            found.push(*rank)?;
         }
     }
     Ok(found)
 }
 
-// Returns the least key, if there is one.
-fn least(keys: &[usize]) -> Option<usize>
-    ensures { MatchOption result (length keys.now ≡ 0)
-        (λ m. Contains keys.now m × ((k : ℕ) → Contains keys.now k → m ≤ k)) }
+// Returns the least of the ranks, if there is one.
+fn least(ranks: &[usize]) -> Option<usize>
+    ensures { MatchOption result (length ranks.now ≡ 0)
+        (λ m. Contains ranks.now m × ((k : ℕ) → Contains ranks.now k → m ≤ k)) }
 {
     let mut found: Option<usize> = None;
-    for key in keys {
+    for rank in ranks {
         found = match found {
-            Some(least) if least <= *key => Some(least),
-            _ => Some(*key),
+            Some(least) if least <= *rank => Some(least),
+            _ => Some(*rank),
         };
     }
     found
 }
 
-// Returns the key of the concept's home broader concept, or none for a top.
+// Returns the home of a concept: the least rank among its broader concepts, or None if none has a
+// rank.
 fn home_of(
     alloc: Global,
     core: &Core,
     terms: &[Term],
-    keys: &BTreeMap<ResNo, usize>,
-    key: usize,
+    ranks: &BTreeMap<ResNo, usize>,
+    rank: usize,
 ) -> Result<Option<usize>, AllocError>
     requires unspent { core.now.spent ≡ false }
-    requires within { key < length terms.now }
-    requires keys { AreKeys terms.now (get nat_cmp keys.now) }
-    ensures { IfOk result (λ home. IsHomeKey core.now.links terms.now key home) }
+    requires within { rank < length terms.now }
+    requires ranks { AreRanks terms.now (get nat_cmp ranks.now) }
+    ensures { IfOk result (λ home. IsHomeRank core.now.links terms.now rank home) }
 {
-    let broader = core.broader_of(alloc, terms[key].concept())?;
-    let found = keys_at(alloc, keys, broader.as_slice())?;
+    let broader = core.broader_of(alloc, terms[rank].concept())?;
+    let found = ranks_at(alloc, ranks, broader.as_slice())?;
     Ok(least(found.as_slice()))
 }
 
-// Returns whether `key` is the home of `child`.
-fn is_home(homes: &[Option<usize>], child: usize, key: usize) -> bool
+// Returns whether `rank` is the home of `child`.
+fn is_home(homes: &[Option<usize>], child: usize, rank: usize) -> bool
     requires { child < length homes.now }
-    ensures at { result ≡ true → slice_get homes.now child ≡ Some (Some key) }
-    ensures other { result ≡ false → slice_get homes.now child ≡ Some (Some key) → ⊥ }
+    ensures at { result ≡ true → slice_get homes.now child ≡ Some (Some rank) }
+    ensures other { result ≡ false → slice_get homes.now child ≡ Some (Some rank) → ⊥ }
 {
     match homes[child] {
-        Some(home) => home == key,
+        Some(home) => home == rank,
         None => false,
     }
 }
 
-// Sorts children by their keys.
+// Sorts children by their ranks, in ascending order.
 fn sort_children(children: &mut Vec<Child>) -> Result<(), AllocError>
     ensures same { IsPermutation children.old.items children.new.items }
     ensures sorted { OnOk result (IsSorted child_cmp children.new.items) }
 {
-    children.sort_by_key(|child| child.key)?;
+    children.sort_by_key(|child| child.rank)?;
     Ok(())
 }
 
-// Returns the types of the links from a concept to a broader one, both by key.
-fn types_at(core: &Core, terms: &[Term], child: usize, key: usize) -> Types
+// Returns the types of the links from a concept to a broader one, both given by rank.
+fn types_at(core: &Core, terms: &[Term], child: usize, rank: usize) -> Types
     requires unspent { core.now.spent ≡ false }
-    requires within { (child < length terms.now) × (key < length terms.now) }
-    ensures { AreTypes core.now.links terms.now result child key }
+    requires within { (child < length terms.now) × (rank < length terms.now) }
+    ensures { AreTypes core.now.links terms.now result child rank }
 {
-    let (a, b) = (terms[child].concept(), terms[key].concept());
+    let (a, b) = (terms[child].concept(), terms[rank].concept());
     Types {
         generic: has_link(core, LinkKind::BroaderGeneric, a, b),
         partitive: has_link(core, LinkKind::BroaderPartitive, a, b),
@@ -132,30 +133,31 @@ fn types_at(core: &Core, terms: &[Term], child: usize, key: usize) -> Types
     }
 }
 
-// Returns the children of a concept, sorted by key.
+// Returns the children of a concept, sorted by rank: its narrower concepts that have a rank,
+// whether or not it is their home.
 fn children_of(
     alloc: Global,
     core: &Core,
     terms: &[Term],
-    keys: &BTreeMap<ResNo, usize>,
+    ranks: &BTreeMap<ResNo, usize>,
     homes: &[Option<usize>],
-    key: usize,
+    rank: usize,
 ) -> Result<Vec<Child>, AllocError>
     requires unspent { core.now.spent ≡ false }
-    requires within { key < length terms.now }
-    requires keys { AreKeys terms.now (get nat_cmp keys.now) }
+    requires within { rank < length terms.now }
+    requires ranks { AreRanks terms.now (get nat_cmp ranks.now) }
     requires homes { AreHomes core.now.links terms.now (length terms.now) homes.now }
     ensures { IfOk result
-        (λ children. IsListing child_cmp (IsChild core.now.links terms.now key) children.items) }
+        (λ children. IsListing child_cmp (IsChild core.now.links terms.now rank) children.items) }
 {
-    let narrower = core.narrower_of(alloc, terms[key].concept())?;
-    let found = keys_at(alloc, keys, narrower.as_slice())?;
+    let narrower = core.narrower_of(alloc, terms[rank].concept())?;
+    let found = ranks_at(alloc, ranks, narrower.as_slice())?;
     let mut children = Vec::new(alloc);
     for child in &found {
-        let types = types_at(core, terms, *child, key);
-        let at_home = is_home(homes, *child, key);
+        let types = types_at(core, terms, *child, rank);
+        let at_home = is_home(homes, *child, rank);
         children.push(Child {
-            key: *child,
+            rank: *child,
             types,
             at_home,
         })?;
@@ -164,47 +166,47 @@ fn children_of(
     Ok(children)
 }
 
-// Returns the home of each concept, by key.
+// Returns the homes of all concepts, in the order of their ranks.
 fn homes_of(
     alloc: Global,
     core: &Core,
     terms: &[Term],
-    keys: &BTreeMap<ResNo, usize>,
+    ranks: &BTreeMap<ResNo, usize>,
 ) -> Result<Vec<Option<usize>>, AllocError>
     requires unspent { core.now.spent ≡ false }
-    requires keys { AreKeys terms.now (get nat_cmp keys.now) }
+    requires ranks { AreRanks terms.now (get nat_cmp ranks.now) }
     ensures { IfOk result
         (λ homes. AreHomes core.now.links terms.now (length terms.now) homes.items) }
 {
     let mut homes = Vec::new(alloc);
-    for key in 0..terms.len() {
-        homes.push(home_of(alloc, core, terms, keys, key)?)?;
+    for rank in 0..terms.len() {
+        homes.push(home_of(alloc, core, terms, ranks, rank)?)?;
     }
     Ok(homes)
 }
 
-// Returns the children of each concept, by key.
+// Returns the children of all concepts, in the order of their ranks.
 fn below_of(
     alloc: Global,
     core: &Core,
     terms: &[Term],
-    keys: &BTreeMap<ResNo, usize>,
+    ranks: &BTreeMap<ResNo, usize>,
     homes: &[Option<usize>],
 ) -> Result<Vec<Vec<Child>>, AllocError>
     requires unspent { core.now.spent ≡ false }
-    requires keys { AreKeys terms.now (get nat_cmp keys.now) }
+    requires ranks { AreRanks terms.now (get nat_cmp ranks.now) }
     requires homes { AreHomes core.now.links terms.now (length terms.now) homes.now }
     ensures { IfOk result
         (λ below. AreBelow core.now.links terms.now (length terms.now) (lists below.items)) }
 {
     let mut below = Vec::new(alloc);
-    for key in 0..terms.len() {
-        below.push(children_of(alloc, core, terms, keys, homes, key)?)?;
+    for rank in 0..terms.len() {
+        below.push(children_of(alloc, core, terms, ranks, homes, rank)?)?;
     }
     Ok(below)
 }
 
-// Returns the types of no typed link.
+// Returns the types of a line without a typed link.
 fn untyped() -> Types
     ensures { result ≡ no_types }
 {
@@ -215,15 +217,15 @@ fn untyped() -> Types
     }
 }
 
-// Returns the top concepts, sorted by key.
+// Returns the top concepts, sorted by rank: those without a home.
 fn tops_of(alloc: Global, homes: &[Option<usize>]) -> Result<Vec<Child>, AllocError>
-    ensures { IfOk result (λ tops. IsListing child_cmp (IsHomeless homes.now) tops.items) }
+    ensures { IfOk result (λ tops. IsListing child_cmp (IsTopByHomes homes.now) tops.items) }
 {
     let mut tops = Vec::new(alloc);
-    for key in 0..homes.len() {
-        if homes[key].is_none() {
+    for rank in 0..homes.len() {
+        if homes[rank].is_none() {
             tops.push(Child {
-                key,
+                rank,
                 types: untyped(),
                 at_home: true,
             })?;
@@ -232,7 +234,7 @@ fn tops_of(alloc: Global, homes: &[Option<usize>]) -> Result<Vec<Child>, AllocEr
     Ok(tops)
 }
 
-/// Returns the text of the hierarchical display of a scheme in a language.
+/// Returns the text of the hierarchical display of a scheme in a language, in UTF-8.
 pub fn hierarchical_text(
     alloc: Global,
     core: &Core,
@@ -241,14 +243,14 @@ pub fn hierarchical_text(
 ) -> Result<Vec<u8>, AllocError>
     requires { core.now.spent ≡ false }
     ensures { (s : State) → IsViewOf core.now s →
-        IfOk result (λ text. IsHierarchical s scheme tag.now text.items) }
+        IfOk result (λ text. IsHierarchicalDisplay s scheme tag.now text.items) }
 {
     let owned = terms_of(alloc, core, scheme, tag)?;
     let terms = owned.as_slice();
-    let keys = keys_of(alloc, terms)?;
-    let homes = homes_of(alloc, core, terms, &keys)?;
+    let ranks = ranks_of(alloc, terms)?;
+    let homes = homes_of(alloc, core, terms, &ranks)?;
     let tops = tops_of(alloc, homes.as_slice())?;
-    let below = below_of(alloc, core, terms, &keys, homes.as_slice())?;
+    let below = below_of(alloc, core, terms, &ranks, homes.as_slice())?;
     let text = hierarchy_text(alloc, terms, tops, below)?;
     Ok(text)
 }

@@ -5,16 +5,16 @@ ghost use Rattle.thes_base.specs.Links.{IsHierarchical};
 
 use thes_base::data::LinkKind;
 
-/// The type of a hierarchical link.
+/// The type of a hierarchical link (ISO 25964-1, clause 10.2).
 #[derive(Clone, Copy, Debug, PartialEq, Eq)]
 pub enum Hierarchy {
-    /// No type is given.
+    /// A link without a type.
     Untyped,
-    /// Between a genus and a species.
+    /// A link between a genus and a species.
     Generic,
-    /// Between a whole and a part.
+    /// A link between a whole and a part.
     Partitive,
-    /// Between a class and an instance.
+    /// A link between a class and an instance.
     Instantial,
 }
 
@@ -34,7 +34,7 @@ pub enum Symbol {
 }
 
 impl Hierarchy {
-    /// Returns the kind of link of this type.
+    /// Returns the link kind of this type, from the narrower to the broader concept.
     pub fn kind(self) -> LinkKind
         ensures kind { result ≡ hierarchy_kind self }
         ensures hierarchical { IsHierarchical result }
@@ -68,7 +68,7 @@ impl Symbol {
         ]
     }
 
-    /// Returns the letters of the symbol.
+    /// Returns the letters of the symbol, such as `BTG`.
     pub fn text(self) -> &'static str
         ensures { result.now ≡ symbol_text self }
     {

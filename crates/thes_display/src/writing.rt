@@ -1,12 +1,12 @@
-//! Displays of a scheme, written to a pipe.
+//! Displays of a scheme in a language, written to a pipe.
 ghost use Rattle.std.specs.Prelude.{◌≡◌, false, IfOk, IfErr, MatchOption};
 ghost use Rattle.thes_base.specs.Pipe.{IsFresh, KeepsCallLimit};
 ghost use Rattle.thes_base.specs.Resources.{IsScheme};
 ghost use Rattle.thes_base.specs.State.{State};
 ghost use Rattle.thes_core.specs.CoreView.{IsViewOf};
 ghost use Rattle.thes_display.specs.Alphabetical.{IsAlphabetical};
-ghost use Rattle.thes_display.specs.Hierarchical.{IsHierarchical};
-ghost use Rattle.thes_display.specs.DisplayWrites.{IsNoScheme, IsDisplayWritten, IsDisplayStopped};
+ghost use Rattle.thes_display.specs.Hierarchical.{IsHierarchicalDisplay};
+ghost use Rattle.thes_display.specs.DisplayWrites.{IsSchemeRefusal, IsDisplayWritten, IsDisplayStopped};
 
 use crate::entry::alphabetical_text;
 use crate::gather::hierarchical_text;
@@ -19,20 +19,21 @@ use thes_base::pipe::Pipe;
 use thes_base::text::Tag;
 use thes_core::Core;
 
-/// The outcome of writing a display.
+/// The outcome of writing a display that no fault stopped.
 #[derive(Clone, Copy, Debug, PartialEq, Eq)]
 pub enum DisplayOutcome {
-    /// The display was written.
+    /// The whole display was written.
     Written,
-    /// There is no such scheme, and nothing was written.
+    /// The number isn't a scheme's, and nothing was written.
     No(Refusal),
 }
 
-/// Checks that the number is a scheme's, and returns the refusal if it isn't.
+/// Checks that the number is a scheme's: returns None if it is, and else UnknownResource or
+/// WrongKind.
 pub fn check_scheme(core: &Core, scheme: ResNo) -> Option<Refusal>
     requires { core.now.spent ≡ false }
     ensures { let resources = core.now.resources in
-        MatchOption result (IsScheme resources scheme) (IsNoScheme resources scheme) }
+        MatchOption result (IsScheme resources scheme) (IsSchemeRefusal resources scheme) }
 {
     match core.resource(scheme) {
         None => Some(Refusal::UnknownResource),
@@ -43,7 +44,8 @@ pub fn check_scheme(core: &Core, scheme: ResNo) -> Option<Refusal>
     }
 }
 
-/// Writes the hierarchical display of a scheme in a language. All memory is allocated before the first byte is written.
+/// Writes the hierarchical display of a scheme in a language, or returns the refusal of its number. All memory is
+/// allocated before the first byte is written.
 pub fn hierarchical<W: Write>(
     alloc: Global,
     core: &Core,
@@ -54,10 +56,10 @@ pub fn hierarchical<W: Write>(
     requires unspent { core.now.spent ≡ false }
     requires writer { IsFresh writer.old }
     ensures shown { (s : State) → IsViewOf core.now s →
-        let is_text = IsHierarchical s scheme tag.now in
+        let is_text = IsHierarchicalDisplay s scheme tag.now in
         IfOk result (IsDisplayWritten W.contents s.resources scheme is_text writer.old writer.new) }
     ensures stopped { (s : State) → IsViewOf core.now s →
-        let is_text = IsHierarchical s scheme tag.now in
+        let is_text = IsHierarchicalDisplay s scheme tag.now in
         IfErr result (IsDisplayStopped W.contents is_text writer.old writer.new) }
     ensures calls { KeepsCallLimit writer.old writer.new }
 {
@@ -69,7 +71,8 @@ pub fn hierarchical<W: Write>(
     Ok(DisplayOutcome::Written)
 }
 
-/// Writes the alphabetical display of a scheme in a language. All memory is allocated before the first byte is written.
+/// Writes the alphabetical display of a scheme in a language, or returns the refusal of its number. All memory is
+/// allocated before the first byte is written.
 pub fn alphabetical<W: Write>(
     alloc: Global,
     core: &Core,

@@ -1,12 +1,3 @@
-pub mod ServeLemmas
-pub mod GrammarLemmas
-pub mod ObjectLemmas
-pub mod TreeLemmas
-pub mod MemberLemmas
-pub mod ReadingLemmas
-pub mod FeedLemmas
-pub mod LineLemmas
-pub mod ScriptLemmas
 pub mod ViewLemmas
-pub mod ListingLemmas
+pub mod PostingListLemmas
 pub mod ConceptLemmas

@@ -8,6 +8,7 @@ use Rattle.thes_base.specs.declared.data.Move.{Move}
 use Rattle.thes_base.specs.Postings.{place_after_moves}
 use Rattle.thes_base.specs.Views.{ConceptDetails}
 use Rattle.thes_exchange.specs.ConceptMembers.{members_with_labels, members_with_links, members_with_facts}
+use Rattle.thes_exchange.specs.PostingMembers.{members_with_posting}
 use Rattle.thes_exchange.specs.ViewTexts.{number_data, number_or_null, array_data, tagged_data, mapping_data}
 use Rattle.thes_exchange.specs.ViewTexts.{typed_data, move_data, row_data, concept_data, postings_data, posting_data}
 
@@ -45,12 +46,18 @@ postings_have_no_float hs = rw (list_has_none row_data (λ h. refl) hs) refl
 pub posting_has_no_float : (h : History) → has_float (posting_data h) ≡ false
 posting_has_no_float h = rw (list_has_none move_data (λ m. refl) h.moves) refl
 
--- The members of a concept's view, put in group by group, are the view as JSON.
+-- The members of a concept's view, put in group by group, are those of its JSON.
 pub concept_members : (c : ConceptDetails) (empty labels links facts : Members) → empty ≡ no_members → labels
     ≡ members_with_labels c empty → links ≡ members_with_links c labels → facts ≡ members_with_facts c links
     → object facts ≡ concept_data c
 unfolding concept_data members_with_labels members_with_links members_with_facts
 concept_members c empty labels links facts e f g h = rw (h, g, f, e) refl
+
+-- The members of a posting's view, put in one by one, are those of its JSON.
+pub posting_members : (h : History) (empty all : Members) → empty ≡ no_members → all ≡ members_with_posting h empty
+    → object all ≡ posting_data h
+unfolding members_with_posting
+posting_members h empty all e f = rw (f, e) refl
 
 pub led_last : (from : ℕ) (moves : List Move) (m : Move) → slice_get moves (length moves - 1) ≡ Some m
     → place_after_moves from moves ≡ m.target

@@ -1,11 +1,11 @@
--- The JSON members of a concept's view, put in group by group; for private contracts.
+-- The JSON members of a concept's view, put in group by group, for private contracts.
 use Rattle.std.specs.Prelude.{codes}
 use Rattle.serde_json.specs.Data.{Members, boolean, put}
 use Rattle.thes_base.specs.Views.{ConceptDetails}
 use Rattle.thes_exchange.specs.ViewTexts.{number_data, number_or_null, array_data, tagged_data, mapping_data}
 use Rattle.thes_exchange.specs.ViewTexts.{typed_data}
 
--- The members, with the labels of the concept.
+-- The members, with the labels of the concept added.
 unfoldable pub members_with_labels : ConceptDetails → Members → Members
 members_with_labels c ms =
     put (codes "scope") (array_data tagged_data c.scope)
@@ -13,7 +13,7 @@ members_with_labels c ms =
     (put (codes "hidden") (array_data tagged_data c.hidden)
     (put (codes "alt") (array_data tagged_data c.alt) ms)))
 
--- The members, with the links of the concept.
+-- The members, with the links of the concept added.
 unfoldable pub members_with_links : ConceptDetails → Members → Members
 members_with_links c ms =
     put (codes "typed") (array_data typed_data c.typed)
@@ -23,7 +23,8 @@ members_with_links c ms =
     (put (codes "collections") (array_data number_data c.collections)
     (put (codes "broader") (array_data number_data c.broader) ms)))))
 
--- The members, with the other facts about the concept.
+-- The members, with `live`, `number`, `postings`, `replaced`, `scheme` and `top` of the concept
+-- added.
 unfoldable pub members_with_facts : ConceptDetails → Members → Members
 members_with_facts c ms =
     put (codes "top") (boolean c.top)

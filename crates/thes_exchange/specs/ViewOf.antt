@@ -1,25 +1,23 @@
--- The answers to queries in a state.
+-- The views that answer queries in a state.
 use Rattle.std.specs.Prelude.{◌≡◌, ℕ, None, Some}
 use Rattle.thes_base.specs.declared.fault.Refusal.TheVariants as no
-use Rattle.thes_base.specs.Resources.{entry_at, IsConcept}
-use Rattle.thes_base.specs.Refusals.{IsKnownPosting, unless_resource}
+use Rattle.thes_base.specs.Resources.{entry_at}
+use Rattle.thes_base.specs.Refusals.{IsKnownPosting}
+use Rattle.thes_base.specs.RuleParts.{unless_concept}
 use Rattle.thes_base.specs.RefusalRules.{RefusalRule, refused_unless, accepted}
 use Rattle.thes_base.specs.State.{State}
 use Rattle.thes_base.specs.Views.{totals_of, assigned_histories, AreDetailsOf}
-use Rattle.thes_exchange.specs.declared.request.Query.{Query}
-use Rattle.thes_exchange.specs.declared.request.Query.TheVariants as asked
+use Rattle.thes_requests.specs.declared.request.Query.{Query}
+use Rattle.thes_requests.specs.declared.request.Query.TheVariants as asked
 use Rattle.thes_exchange.specs.declared.view.View.{View}
 use Rattle.thes_exchange.specs.declared.view.View.TheVariants as views
 
--- The condition that the number is that of a concept, live or not, with its refusals.
-abbrev pub unless_concept : State → ℕ → RefusalRule
-unless_concept s n = unless_resource (IsConcept s.resources) s.resources n accepted
-
--- The condition that the number is that of a posting, with its refusal.
+-- The rule that the number is that of a posting, with its refusal.
 abbrev pub unless_posting : State → ℕ → RefusalRule
 unless_posting s n = refused_unless (IsKnownPosting s.histories n) no.UnknownPosting accepted
 
--- The view of the state that answers the query, or the refusal.
+-- The view answers the query in this state: its contents are those of the state, or the refusal is
+-- that of the number.
 abbrev pub IsView : State → Query → View → Type 0
 IsView s asked.Totals (views.Totals t) = t ≡ totals_of s.histories
 IsView s (asked.Concept n) (views.Concept c) = unless_concept s n None × AreDetailsOf s n c

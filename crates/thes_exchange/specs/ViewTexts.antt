@@ -11,21 +11,21 @@ use Rattle.thes_base.specs.declared.data.TypedKind.{TypedKind}
 use Rattle.thes_base.specs.Postings.{place}
 use Rattle.thes_base.specs.Views.{TaggedText, ConceptDetails}
 use Rattle.thes_base.specs.KindNames.{link_kind_name, typed_kind_name}
-use Rattle.thes_exchange.specs.AnswerTexts.{refusal_text}
+use Rattle.thes_requests.specs.AnswerTexts.{refusal_text}
 use Rattle.thes_base.specs.declared.data.Totals.{Totals}
 use Rattle.thes_exchange.specs.declared.view.View.{View}
 use Rattle.thes_exchange.specs.declared.view.View.TheVariants as views
 
--- A number as JSON.
+-- A number as a JSON number.
 abbrev pub number_data : ℕ → Data
 number_data n = number (unsigned n)
 
--- A number as JSON, or null.
+-- A number as a JSON number, or null if there is none.
 abbrev pub number_or_null : Option ℕ → Data
 number_or_null None = null
 number_or_null (Some n) = number_data n
 
--- The values as a JSON array.
+-- The elements as a JSON array, in order.
 abbrev pub array_data : {A : Type 0} → (A → Data) → List A → Data
 array_data show xs = array (items_of (map show xs))
 
@@ -33,15 +33,15 @@ array_data show xs = array (items_of (map show xs))
 abbrev pub tagged_data : TaggedText → Data
 tagged_data l = array (item (string l.tag) (item (string l.text) no_items))
 
--- An array of a keyword and a number.
+-- A JSON array of a keyword and a number.
 abbrev pub keyword_data : List ℕ → ℕ → Data
 keyword_data word n = array (item (string word) (item (number_data n) no_items))
 
--- A mapping as an array of its keyword and its other end.
+-- A mapping as an array of the keyword of its kind and its other end.
 abbrev pub mapping_data : LinkKind × ℕ → Data
 mapping_data m = keyword_data (link_kind_name m.0) m.1
 
--- A typed link as an array of its keyword and its other end.
+-- A typed link as an array of the keyword of its kind and its other end.
 abbrev pub typed_data : TypedKind × ℕ → Data
 typed_data m = keyword_data (typed_kind_name m.0) m.1
 
@@ -53,11 +53,11 @@ move_data m = array (item (number_data m.number) (item (number_data m.source) (i
 abbrev pub entry_data : ℕ → List ℕ → List ℕ → Data
 entry_data n key rec = array (item (number_data n) (item (string key) (item (string rec) no_items)))
 
--- The history of a posting as its entry in a list.
+-- A posting as its entry in a list.
 abbrev pub row_data : History → Data
 row_data h = entry_data h.number h.key h.rec
 
--- The totals as JSON.
+-- The totals as a JSON object of three numbers.
 abbrev pub totals_data : Totals → Data
 totals_data t = object
     (member (codes "accepted") (number_data t.accepted)
@@ -65,7 +65,7 @@ totals_data t = object
     (member (codes "withdrawn") (number_data t.withdrawn)
     no_members)))
 
--- The view of a concept as JSON.
+-- The view of a concept as a JSON object; a member that has no value is null or an empty array.
 unfoldable pub concept_data : ConceptDetails → Data
 concept_data c = object
     (member (codes "alt") (array_data tagged_data c.alt)
@@ -86,15 +86,15 @@ concept_data c = object
     (member (codes "typed") (array_data typed_data c.typed)
     no_members))))))))))))))))
 
--- A list of postings as JSON.
+-- Entries of postings as a JSON object with the one member `postings`.
 abbrev pub listing_data : List Data → Data
 listing_data entries = object (member (codes "postings") (array (items_of entries)) no_members)
 
--- The postings of a concept as JSON.
+-- The postings of a concept as a JSON object, in the order of their numbers.
 abbrev pub postings_data : List History → Data
 postings_data hs = listing_data (map row_data hs)
 
--- A posting with its history as JSON.
+-- A posting with its history as a JSON object.
 abbrev pub posting_data : History → Data
 posting_data h = object
     (member (codes "first") (number_data h.first)
@@ -106,11 +106,11 @@ posting_data h = object
     (member (codes "withdrawn") (boolean h.withdrawn)
     no_members)))))))
 
--- Compact JSON and a line feed.
+-- The compact text of a JSON value, and a line feed.
 unfoldable pub line_text : Data → List ℕ
 line_text d = compact_text d ++ 10 ∷ []
 
--- The line for a view or a refusal.
+-- The line of JSON for a view or a refusal.
 abbrev pub view_text : View → List ℕ
 view_text (views.Totals t) = line_text (totals_data t)
 view_text (views.Concept c) = line_text (concept_data c)

@@ -1,11 +1,11 @@
--- The answers to queries, as lines.
+-- The answers to queries, as lines of JSON.
 use Rattle.std.specs.Prelude.{◌≡◌, ℕ, List, Result, Ok, Err}
 use Rattle.thes_base.specs.declared.fault.Fault.{Fault}
 use Rattle.thes_base.specs.declared.fault.Fault.TheVariants.{OutOfMemory}
 use Rattle.thes_base.specs.State.{State}
-use Rattle.thes_exchange.specs.declared.handler.QueryAnswer.{QueryAnswer}
-use Rattle.thes_exchange.specs.declared.handler.QueryAnswer.TheVariants as viewed
-use Rattle.thes_exchange.specs.declared.request.Query.{Query}
+use Rattle.thes_requests.specs.declared.handler.QueryAnswer.{QueryAnswer}
+use Rattle.thes_requests.specs.declared.handler.QueryAnswer.TheVariants as viewed
+use Rattle.thes_requests.specs.declared.request.Query.{Query}
 use Rattle.thes_exchange.specs.declared.view.View.{View}
 use Rattle.thes_exchange.specs.declared.view.View.TheVariants as views
 use Rattle.thes_exchange.specs.ViewOf.{IsView}

@@ -1,11 +1,12 @@
 //! The view of a concept, collected from a core.
 ghost use Rattle.std.specs.Prelude.{◌≡◌, Some, None, false, IfOk, MatchResult};
 ghost use Rattle.thes_base.specs.Resources.{entry_at};
+ghost use Rattle.thes_base.specs.RuleParts.{unless_concept};
 ghost use Rattle.thes_base.specs.State.{State};
 ghost use Rattle.thes_base.specs.Views.{AreDetailsOf};
 ghost use Rattle.thes_core.specs.CoreView.{IsViewOf};
-ghost use Rattle.thes_exchange.specs.declared.request.Query.{Query};
-ghost use Rattle.thes_exchange.specs.ViewOf.{IsView, unless_concept};
+ghost use Rattle.thes_requests.specs.declared.request.Query.{Query};
+ghost use Rattle.thes_exchange.specs.ViewOf.{IsView};
 
 use crate::view::{ConceptView, View};
 use std::alloc::{AllocError, Global};
@@ -14,7 +15,7 @@ use thes_base::fault::Refusal;
 use thes_base::number::ResNo;
 use thes_core::Core;
 
-// Returns the concept with this number, live or not, or the refusal if there is none.
+// Returns the concept with this number, live or not, or the refusal UnknownResource or WrongKind.
 fn concept_at<'a>(core: &'a Core, number: ResNo) -> Result<&'a Resource, Refusal>
     requires { core.now.spent ≡ false }
     ensures judges { (s : State) → IsViewOf core.now s → MatchResult result
@@ -34,7 +35,7 @@ fn concept_at<'a>(core: &'a Core, number: ResNo) -> Result<&'a Resource, Refusal
     }
 }
 
-// Collects the view of a concept from the core.
+// Collects the labels, links and facts of a concept from the core.
 fn collect_concept<'a>(
     core: &'a Core,
     alloc: Global,
@@ -67,7 +68,7 @@ fn collect_concept<'a>(
     })
 }
 
-/// Returns the view of a concept, or the refusal of the query.
+/// Returns the view of a concept, live or not, or the refusal of its number.
 pub fn concept_view<'a>(
     core: &'a Core,
     alloc: Global,

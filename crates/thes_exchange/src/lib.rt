@@ -1,20 +1,7 @@
-//! The texts of requests, answers and views.
+//! Views of a core, as lines of JSON: totals, a concept, the postings of a concept, and a posting.
 #![tactic(auto)]
 
-pub mod answer;
 pub mod concept;
-mod feed;
-pub mod handler;
-mod keywords;
-pub mod laws;
-pub mod line;
-mod lines;
-pub mod listing;
-mod members;
-mod numeral;
-pub mod request;
-pub mod script;
-mod serve;
-mod tree;
+pub mod posting_list;
 pub mod view;
 pub mod viewing;

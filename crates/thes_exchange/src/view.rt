@@ -1,13 +1,14 @@
-//! Views as lines of JSON.
-ghost use Rattle.std.specs.Prelude.{◌≡◌, IfOk, OnOk, map, false};
+//! Views as lines of JSON, with the members of each object in byte order of their names.
+ghost use Rattle.std.specs.Prelude.{◌≡◌, ◌++◌, ◌∷◌, [], IfOk, OnOk, map, false};
+ghost use Rattle.serde_json.specs.Data.{Data, put, string};
 ghost use Rattle.serde_json.specs.View.{view, members_view};
 ghost use Rattle.serde_json.specs.Written.{has_float};
 ghost use Rattle.thes_base.specs.Postings.{place};
 ghost use Rattle.thes_core.specs.LabelLists.{tagged_text};
+ghost use Rattle.thes_exchange.specs.PostingMembers.{members_with_posting};
 ghost use Rattle.thes_exchange.specs.ConceptMembers.{members_with_labels, members_with_links, members_with_facts};
 ghost use Rattle.thes_exchange.specs.ViewTexts.{number_data, array_data, number_or_null, tagged_data, mapping_data, typed_data, keyword_data, move_data, entry_data, row_data, totals_data, concept_data, postings_data, posting_data, line_text, view_text};
 
-use crate::answer::refusal_line;
 use serde_json::{Map, Value, json, put};
 use std::alloc::{AllocError, Global};
 use std::marker::Model;
@@ -15,6 +16,7 @@ use thes_base::data::{History, Label, LinkKind, Move, Totals, TypedKind};
 use thes_base::fault::Refusal;
 use thes_base::number::{PostNo, ResNo};
 use thes_base::text::{Key, RecordName};
+use thes_requests::answer::refusal_line;
 
 /// The view of a concept: its labels, its links, and the number of postings assigned to it.
 #[derive(Drop)]
@@ -64,7 +66,7 @@ impl<'a> Model for ConceptView<'a> {
     } };
 }
 
-/// The view of a concept's postings: their histories, in the order of the output.
+/// The view of a concept's postings: their histories, in the order of their numbers.
 #[derive(Drop)]
 pub struct PostingRows<'a> {
     pub rows: Vec<&'a History>,
@@ -79,7 +81,7 @@ impl<'a> Model for PostingRows<'a> {
     ghost view = { λ p. map (λ h. h.now) p.rows.items };
 }
 
-/// The view that answers a query, or the refusal.
+/// A view that answers a query, or the refusal of its number.
 #[derive(Drop)]
 pub enum View<'a> {
     Totals(Totals),
@@ -89,7 +91,7 @@ pub enum View<'a> {
     No(Refusal),
 }
 
-// Returns the totals as JSON.
+// Returns the totals as a JSON object of three numbers.
 fn totals_value(alloc: Global, totals: &Totals) -> Result<Value, AllocError>
     ensures { IfOk result (λ v. view v ≡ totals_data totals.now) }
 {
@@ -100,7 +102,7 @@ fn totals_value(alloc: Global, totals: &Totals) -> Result<Value, AllocError>
     })
 }
 
-// Returns a number as JSON, or null.
+// Returns a number as JSON, or null if there is none.
 fn number_or_null(number: Option<ResNo>) -> Value
     ensures { view result ≡ number_or_null number }
 {
@@ -110,7 +112,7 @@ fn number_or_null(number: Option<ResNo>) -> Value
     }
 }
 
-// Returns an array of numbers.
+// Returns a JSON array of numbers, in the order given.
 fn numbers_value(alloc: Global, numbers: &[ResNo]) -> Result<Value, AllocError>
     ensures { IfOk result (λ v. view v ≡ array_data number_data numbers.now) }
 {
@@ -121,57 +123,81 @@ fn numbers_value(alloc: Global, numbers: &[ResNo]) -> Result<Value, AllocError>
     Ok(Value::Array(list))
 }
 
-// Returns a label as an array of its language tag and its text.
+// Returns a label as a JSON array of its language tag and its text.
 fn label_value(alloc: Global, label: &Label) -> Result<Value, AllocError>
     ensures { IfOk result (λ v. view v ≡ tagged_data (tagged_text label.now)) }
 {
     json!(in alloc; [label.tag.as_str(), label.text()])
 }
 
-// Returns an array of labels.
+// Returns a JSON array of labels, in the order given.
 fn labels_value(alloc: Global, labels: &[&Label]) -> Result<Value, AllocError>
     ensures { IfOk result
         (λ v. view v ≡ array_data tagged_data (map (λ l. tagged_text l.now) labels.now)) }
 {
     let mut list = Vec::new(alloc);
     for label in labels {
-        list.push(label_value(alloc, label)?)?;
+        push_value(&mut list, label_value(alloc, label))?;
     }
     Ok(Value::Array(list))
 }
 
-// Returns an array of a keyword and a number.
+// Returns a JSON array of a keyword and a number.
 fn keyword_value(alloc: Global, name: &str, number: ResNo) -> Result<Value, AllocError>
     ensures { IfOk result (λ v. view v ≡ keyword_data name.now number) }
 {
     json!(in alloc; [name, number.get()])
 }
 
-// Returns the mappings as an array: the keyword and the other end of each.
+// Returns the mappings as a JSON array, in which each is the keyword of its kind and its other end.
 fn mappings_value(alloc: Global, mappings: &[(LinkKind, ResNo)]) -> Result<Value, AllocError>
     ensures { IfOk result (λ v. view v ≡ array_data mapping_data mappings.now) }
 {
     let mut list = Vec::new(alloc);
     for mapping in mappings {
         let (kind, other) = *mapping;
-        list.push(keyword_value(alloc, kind.name(), other)?)?;
+        push_value(&mut list, keyword_value(alloc, kind.name(), other))?;
     }
     Ok(Value::Array(list))
 }
 
-// Returns the typed links as an array: the keyword and the other end of each.
+// Returns the typed links as a JSON array, in which each is the keyword of its kind and its other
+// end.
 fn typed_value(alloc: Global, typed: &[(TypedKind, ResNo)]) -> Result<Value, AllocError>
     ensures { IfOk result (λ v. view v ≡ array_data typed_data typed.now) }
 {
     let mut list = Vec::new(alloc);
     for link in typed {
         let (kind, other) = *link;
-        list.push(keyword_value(alloc, kind.name(), other)?)?;
+        push_value(&mut list, keyword_value(alloc, kind.name(), other))?;
     }
     Ok(Value::Array(list))
 }
 
-// Puts the labels of a concept into the members of its view.
+// Puts a member into an object; fails if memory runs out, or has run out for its value.
+fn put_value(
+    members: &mut Map<String, Value>,
+    alloc: Global,
+    name: &str,
+    value: Result<Value, AllocError>,
+) -> Result<(), AllocError>
+    ensures { (d : Data) → IfOk value (λ v. view v ≡ d) → OnOk result
+        (members_view members.new.entries ≡ put name.now d (members_view members.old.entries)) }
+{
+    put(members, alloc, name, value?)
+}
+
+// Appends a value to an array; fails if memory runs out, or has run out for the value.
+fn push_value(list: &mut Vec<Value>, value: Result<Value, AllocError>) -> Result<(), AllocError>
+    ensures { (d : Data) → IfOk value (λ v. view v ≡ d) → OnOk result
+        (map view list.new.items ≡ map view list.old.items ++ d ∷ []) }
+{
+    list.push(value?)?;
+    Ok(())
+}
+
+// Puts the labels of a concept into the members of its view, as `alt`, `hidden`, `pref` and
+// `scope`.
 #[tactic(auto, unfolding(crate::specs::ConceptMembers::members_with_labels))]
 fn put_labels(
     members: &mut Map<String, Value>,
@@ -181,24 +207,18 @@ fn put_labels(
     ensures { OnOk result (members_view members.new.entries ≡ members_with_labels concept.now
         (members_view members.old.entries)) }
 {
-    put(members, alloc, "alt", labels_value(alloc, &concept.alt)?)?;
-    put(
+    put_value(members, alloc, "alt", labels_value(alloc, &concept.alt))?;
+    put_value(
         members,
         alloc,
         "hidden",
-        labels_value(alloc, &concept.hidden)?,
+        labels_value(alloc, &concept.hidden),
     )?;
-    put(members, alloc, "pref", labels_value(alloc, &concept.pref)?)?;
-    put(
-        members,
-        alloc,
-        "scope",
-        labels_value(alloc, &concept.scope)?,
-    )
+    put_value(members, alloc, "pref", labels_value(alloc, &concept.pref))?;
+    put_value(members, alloc, "scope", labels_value(alloc, &concept.scope))
 }
 
-// Puts the links of a concept into the members of its view.
-#[tactic(auto, unfolding(crate::specs::ConceptMembers::members_with_links))]
+// Puts the links of a concept into the members of its view, grouped by kind.
 fn put_links(
     members: &mut Map<String, Value>,
     alloc: Global,
@@ -207,40 +227,41 @@ fn put_links(
     ensures { OnOk result (members_view members.new.entries ≡ members_with_links concept.now
         (members_view members.old.entries)) }
 {
-    put(
+    put_value(
         members,
         alloc,
         "broader",
-        numbers_value(alloc, &concept.broader)?,
+        numbers_value(alloc, &concept.broader),
     )?;
-    put(
+    put_value(
         members,
         alloc,
         "collections",
-        numbers_value(alloc, &concept.collections)?,
+        numbers_value(alloc, &concept.collections),
     )?;
-    put(
+    put_value(
         members,
         alloc,
         "mappings",
-        mappings_value(alloc, &concept.mappings)?,
+        mappings_value(alloc, &concept.mappings),
     )?;
-    put(
+    put_value(
         members,
         alloc,
         "narrower",
-        numbers_value(alloc, &concept.narrower)?,
+        numbers_value(alloc, &concept.narrower),
     )?;
-    put(
+    put_value(
         members,
         alloc,
         "related",
-        numbers_value(alloc, &concept.related)?,
+        numbers_value(alloc, &concept.related),
     )?;
-    put(members, alloc, "typed", typed_value(alloc, &concept.typed)?)
+    put_value(members, alloc, "typed", typed_value(alloc, &concept.typed))
 }
 
-// Puts the other facts about a concept into the members of its view.
+// Puts the other facts about a concept into the members of its view: `live`, `number`, `postings`,
+// `replaced`, `scheme` and `top`.
 #[tactic(auto, unfolding(crate::specs::ConceptMembers::members_with_facts))]
 fn put_facts(
     members: &mut Map<String, Value>,
@@ -258,7 +279,7 @@ fn put_facts(
     put(members, alloc, "top", Value::from(concept.top))
 }
 
-// Returns the view of a concept as JSON.
+// Returns the view of a concept as a JSON object.
 fn concept_value(alloc: Global, concept: &ConceptView) -> Result<Value, AllocError>
     ensures { IfOk result (λ v. view v ≡ concept_data concept.now) }
 {
@@ -269,7 +290,7 @@ fn concept_value(alloc: Global, concept: &ConceptView) -> Result<Value, AllocErr
     Ok(Value::Object(members))
 }
 
-// Returns a posting of a list: an array of its number, key and record name.
+// Returns a posting of a list as a JSON array of its number, key and record name.
 pub(crate) fn entry_value(
     alloc: Global,
     number: PostNo,
@@ -281,25 +302,25 @@ pub(crate) fn entry_value(
     json!(in alloc; [number.get(), key.as_str(), rec.as_str()])
 }
 
-// Returns the row for a posting in a list.
+// Returns a posting as an entry of a list: an array of its number, key and record name.
 fn row_value(alloc: Global, history: &History) -> Result<Value, AllocError>
     ensures { IfOk result (λ v. view v ≡ row_data history.now) }
 {
     entry_value(alloc, history.number, &history.key, &history.rec)
 }
 
-// Returns an array of postings.
+// Returns a JSON array of postings, in the order given.
 fn rows_value(alloc: Global, rows: &[&History]) -> Result<Value, AllocError>
     ensures { IfOk result (λ v. view v ≡ array_data row_data (map (λ h. h.now) rows.now)) }
 {
     let mut list = Vec::new(alloc);
     for row in rows {
-        list.push(row_value(alloc, row)?)?;
+        push_value(&mut list, row_value(alloc, row))?;
     }
     Ok(Value::Array(list))
 }
 
-// Returns the postings of a concept as JSON.
+// Returns the postings of a concept as a JSON object with the one member `postings`.
 fn postings_value(alloc: Global, postings: &PostingRows) -> Result<Value, AllocError>
     ensures { IfOk result (λ v. view v ≡ postings_data postings.now) }
 {
@@ -307,25 +328,26 @@ fn postings_value(alloc: Global, postings: &PostingRows) -> Result<Value, AllocE
     json!(in alloc; {"postings": rows})
 }
 
-// Returns a move: an array of its number, source and target.
+// Returns a move as a JSON array of its number, source and target.
 fn move_value(alloc: Global, step: &Move) -> Result<Value, AllocError>
     ensures { IfOk result (λ v. view v ≡ move_data step.now) }
 {
     json!(in alloc; [step.number.get(), step.source.get(), step.target.get()])
 }
 
-// Returns an array of moves.
+// Returns a JSON array of moves, in the order given.
 fn moves_value(alloc: Global, moves: &[Move]) -> Result<Value, AllocError>
     ensures { IfOk result (λ v. view v ≡ array_data move_data moves.now) }
 {
     let mut list = Vec::new(alloc);
     for step in moves {
-        list.push(move_value(alloc, step)?)?;
+        push_value(&mut list, move_value(alloc, step))?;
     }
     Ok(Value::Array(list))
 }
 
-// Returns the concept to which a posting is assigned.
+// Returns the concept to which a posting is assigned: the target of its last move, or else its
+// first concept.
 fn place_of(history: &History) -> ResNo
     ensures { result ≡ place history.now }
 {
@@ -335,20 +357,59 @@ fn place_of(history: &History) -> ResNo
     }
 }
 
-// Returns a posting with its history as JSON.
+// Returns a JSON string of the text.
+fn text_value(alloc: Global, text: &str) -> Result<Value, AllocError>
+    ensures { IfOk result (λ v. view v ≡ string text.now) }
+{
+    json!(in alloc; text)
+}
+
+// Puts the key, the moves and the other facts about a posting into the members of its view.
+#[tactic(auto, unfolding(crate::specs::PostingMembers::members_with_posting))]
+fn put_posting(
+    members: &mut Map<String, Value>,
+    alloc: Global,
+    history: &History,
+) -> Result<(), AllocError>
+    ensures { OnOk result (members_view members.new.entries ≡ members_with_posting history.now
+        (members_view members.old.entries)) }
+{
+    put(members, alloc, "first", Value::from(history.first.get()))?;
+    put_value(
+        members,
+        alloc,
+        "key",
+        text_value(alloc, history.key.as_str()),
+    )?;
+    put_value(
+        members,
+        alloc,
+        "moves",
+        moves_value(alloc, history.moves.as_slice()),
+    )?;
+    put(members, alloc, "number", Value::from(history.number.get()))?;
+    put(
+        members,
+        alloc,
+        "place",
+        Value::from(place_of(history).get()),
+    )?;
+    put_value(
+        members,
+        alloc,
+        "record",
+        text_value(alloc, history.rec.as_str()),
+    )?;
+    put(members, alloc, "withdrawn", Value::from(history.withdrawn))
+}
+
+// Returns a posting with its history as a JSON object.
 fn posting_value(alloc: Global, history: &History) -> Result<Value, AllocError>
     ensures { IfOk result (λ v. view v ≡ posting_data history.now) }
 {
-    let moves = moves_value(alloc, history.moves.as_slice())?;
-    json!(in alloc; {
-        "first": history.first.get(),
-        "key": history.key.as_str(),
-        "moves": moves,
-        "number": history.number.get(),
-        "place": place_of(history).get(),
-        "record": history.rec.as_str(),
-        "withdrawn": history.withdrawn
-    })
+    let mut members = Map::new(alloc);
+    put_posting(&mut members, alloc, history)?;
+    Ok(Value::Object(members))
 }
 
 // Returns a JSON value as one compact line, with a line feed.
@@ -362,14 +423,14 @@ pub(crate) fn value_line(alloc: Global, value: &Value) -> Result<Vec<u8>, AllocE
     Ok(text)
 }
 
-// Returns the line for the totals.
+// Returns the line of JSON for the totals.
 fn totals_line(alloc: Global, totals: &Totals) -> Result<Vec<u8>, AllocError>
     ensures { IfOk result (λ text. text.items ≡ line_text (totals_data totals.now)) }
 {
     value_line(alloc, &totals_value(alloc, totals)?)
 }
 
-// Returns the line for a concept.
+// Returns the line of JSON for a concept.
 #[tactic(auto, using(crate::proofs::ViewLemmas::concept_has_no_float))]
 fn concept_line(alloc: Global, concept: &ConceptView) -> Result<Vec<u8>, AllocError>
     ensures { IfOk result (λ text. text.items ≡ line_text (concept_data concept.now)) }
@@ -377,7 +438,7 @@ fn concept_line(alloc: Global, concept: &ConceptView) -> Result<Vec<u8>, AllocEr
     value_line(alloc, &concept_value(alloc, concept)?)
 }
 
-// Returns the line for the postings of a concept.
+// Returns the line of JSON for the postings of a concept.
 #[tactic(auto, using(crate::proofs::ViewLemmas::postings_have_no_float))]
 fn postings_line(alloc: Global, postings: &PostingRows) -> Result<Vec<u8>, AllocError>
     ensures { IfOk result (λ text. text.items ≡ line_text (postings_data postings.now)) }
@@ -385,7 +446,7 @@ fn postings_line(alloc: Global, postings: &PostingRows) -> Result<Vec<u8>, Alloc
     value_line(alloc, &postings_value(alloc, postings)?)
 }
 
-// Returns the line for a posting.
+// Returns the line of JSON for a posting.
 #[tactic(auto, using(crate::proofs::ViewLemmas::posting_has_no_float))]
 fn posting_line(alloc: Global, history: &History) -> Result<Vec<u8>, AllocError>
     ensures { IfOk result (λ text. text.items ≡ line_text (posting_data history.now)) }
@@ -393,7 +454,7 @@ fn posting_line(alloc: Global, history: &History) -> Result<Vec<u8>, AllocError>
     value_line(alloc, &posting_value(alloc, history)?)
 }
 
-// Returns the line for a view or a refusal.
+// Returns the line of JSON for a view or a refusal.
 pub(crate) fn view_line(alloc: Global, view: &View) -> Result<Vec<u8>, AllocError>
     ensures { IfOk result (λ text. text.items ≡ view_text view.now) }
 {

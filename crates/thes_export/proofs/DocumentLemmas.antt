@@ -9,9 +9,7 @@ use Rattle.thes_export.proofs.TerminalLemmas.{head_of, tail_of, heads_differ, no
 use Rattle.thes_export.proofs.WritableLemmas.{IsWritable}
 use Rattle.thes_export.proofs.LineReadingLemmas.{line_then, not_blank, line_same}
 
--- ---- one reading
-
--- Before an end of line there is no byte but blanks and a comment.
+-- Before the end of a line there is only white space and a comment.
 no_line_end : (text : List ℕ) (c : ℕ) (x rest : List ℕ) → text ≡ c ∷ x → ¬ IsBlankByte c → (c ≡ 35 → ⊥)
     → IsLineEnd text rest → rest ≡ c ∷ x
 no_line_end text c x rest e blank hash at_line_end = elim at_line_end.content [
@@ -22,7 +20,7 @@ no_line_end text c x rest e blank hash at_line_end = elim at_line_end.content [
     start : at_line_end.start ≡ c ∷ x
     start = no_gap_before text at_line_end.start c x at_line_end.gap_before e blank
 
--- An end of line takes only one byte where another byte follows.
+-- An end of line is one byte if the next byte is no line end.
 one_eol : (eol rest text x : List ℕ) → IsEol eol → text ≡ eol ++ rest → text ≡ 10 ∷ x
     → ((c : ℕ) (z : List ℕ) → x ≡ c ∷ z → ¬ IsEolByte c) → rest ≡ x
 one_eol [] rest text x has_form text_is e stops = absurd (let l = has_form.0 in omega arith)
@@ -40,7 +38,7 @@ no_eol_empty : (eol rest text : List ℕ) → IsEol eol → text ≡ eol ++ rest
 no_eol_empty [] rest text has_form text_is e = let l = has_form.0 in omega arith
 no_eol_empty (b ∷ eol) rest text has_form text_is e = let bad : [] ≡ b ∷ (eol ++ rest) = sym e ∙ text_is in cc
 
--- An empty text begins with no triple.
+-- An empty text has an empty rest after white space.
 spaced_empty : (text rest : List ℕ) → IsSpaced text rest → text ≡ [] → rest ≡ []
 spaced_empty text rest gap_before e = go gap_before.gap (sym gap_before.text_is ∙ e)
   where
@@ -82,7 +80,7 @@ eol_blank = not_blank 10 (λ q. omega arith) (λ q. omega arith)
 open_eol : ¬ IsEolByte 60
 open_eol = ⊎_elim (λ q. omega arith) (λ q. omega arith)
 
--- The reading of what follows a triple.
+-- The text after a triple has only one reading.
 tail_same : (ts : List Triple) (others : List Statement) (text : List ℕ) → AllWritable ts → text ≡ 10 ∷ lines_text ts
     → IsTail others text → others ≡ map statement_of ts
 tail_same [] [] text fine e tail = refl
@@ -111,7 +109,7 @@ tail_same (t ∷ ts) (content ∷ others) text fine e tail =
     let more = tail_same ts others tail.more.more.rest fine.1 one.1 tail.more.more.more in
     (λ i. one.0 i ∷ more i)
 
--- A document that consists of these lines has exactly their triples.
+-- A document of these lines has exactly their triples.
 pub document_same : (ts : List Triple) (others : List Statement) (text : List ℕ) → AllWritable ts → text
     ≡ lines_text ts → IsDocument text others → others ≡ map statement_of ts
 document_same [] [] text fine e document = refl

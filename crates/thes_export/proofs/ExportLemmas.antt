@@ -1,8 +1,8 @@
--- Proves that exports of legal states are read as documents of exactly their triples.
+-- Proves that the only reading of the export of a legal state is the state's triples.
 use Rattle.std.proofs.Common.{◌≡◌, ◌∙◌, sym, ap, refl, subst, ℕ, List, [], ◌∷◌, ◌++◌, map, Contains, inl, inr}
 use Rattle.std.specs.List.{concat}
 use Rattle.std.proofs.lemmas.Cmp.{nat_list_cmp_total}
-use Rattle.thes_base.specs.Legal.{Legal}
+use Rattle.thes_base.specs.Legal.{IsLegalState}
 use Rattle.thes_base.specs.State.{State}
 use Rattle.thes_base.specs.Triples.{Triple, IsAsserted}
 use Rattle.thes_base.proofs.ListMemberLemmas.{Contains-none, Contains-head, Contains-later, Contains-cons_cases}
@@ -15,8 +15,8 @@ use Rattle.thes_export.proofs.SpellingLemmas.{lines_read, line_spelled, one_line
 use Rattle.thes_base.proofs.UniqueListingLemmas.{one_listing}
 use Rattle.thes_export.proofs.LegalTripleLemmas.{asserted_writable}
 
-module _ (base : List ℕ) (s : State) (legal : Legal base s) where
-  -- The triples of these lines.
+module _ (base : List ℕ) (s : State) (legal : IsLegalState base s) where
+  -- The lines are those of a list of triples of the state.
   record AreOf (lines : List (List ℕ)) : Type 0 where
     list : List Triple
     fine : AllWritable list
@@ -24,7 +24,7 @@ module _ (base : List ℕ) (s : State) (legal : Legal base s) where
     sound : (t : Triple) → Contains list t → IsAsserted base s t
     complete : (line : List ℕ) → Contains lines line → (t : Triple) × Contains list t × (line ≡ line_of t)
 
-  -- The lines of an export are those of a list of writable triples.
+  -- The lines of an export are those of a list of triples that can be spelled.
   triples_found : (lines : List (List ℕ)) → ((line : List ℕ) → Contains lines line → IsTripleLine base s line)
       → AreOf lines
   triples_found [] each = record {
@@ -51,7 +51,7 @@ module _ (base : List ℕ) (s : State) (legal : Legal base s) where
         ];
       }
 
-  -- An export of a legal state is read as exactly its triples.
+  -- The only reading of an export of a legal state is exactly its triples.
   pub export_read : (text : List ℕ) → IsExport base s text → IsReadAs base s text
   export_read text export =
       let of = triples_found export.lines export.listed.sound in

@@ -1,4 +1,4 @@
--- Proves that the sorted lines of all numbers are the export.
+-- Proves that the sorted lines about all resources are the export.
 use Rattle.std.proofs.Common.{◌≡◌, ◌⊎◌, ◌∙◌, sym, ap, refl, subst, inl, inr, ⊎_elim, ℕ, ◌+◌, ◌<◌, ◌≤◌, Bool, true}
 use Rattle.std.proofs.Common.{false, List, [], ◌∷◌, ◌++◌, length, get_or, take, Contains, IsPermutation, IsSorted}
 use Rattle.std.proofs.Common.{nat_eq, arith, eqb, eqb-true}
@@ -14,7 +14,7 @@ use Rattle.std.proofs.lemmas.List.Filters.{dedup_is}
 use Rattle.std.proofs.lemmas.List.Kept.{Contains-dedup, Contains-from_dedup, IsStrictlySortedBy-dedup}
 use Rattle.std.proofs.lemmas.List.Sorted.{Contains-permutation, IsPermutation-sym}
 use Rattle.std.specs.Ordering.{nat_cmp}
-use Rattle.thes_base.specs.Legal.{Legal}
+use Rattle.thes_base.specs.Legal.{IsLegalState}
 use Rattle.thes_base.specs.Listing.{IsListing}
 use Rattle.thes_base.specs.State.{State}
 use Rattle.thes_base.specs.Triples.{Triple}
@@ -23,34 +23,33 @@ use Rattle.thes_base.proofs.NumberedLemmas.{numbered_bound}
 use Rattle.thes_core.specs.CoreView.{CoreView, IsViewOf, with_histories}
 use Rattle.thes_export.specs.Export.{IsExport, IsTripleLine}
 use Rattle.thes_export.specs.Spelling.{line_of}
-use Rattle.thes_export.specs.Topics.{Adds, IsAbout, IsLineOf, IsUpTo}
+use Rattle.thes_export.specs.Topics.{Adds, IsResourceTriple, IsLineOf, IsTripleUpTo}
 use Rattle.thes_export.proofs.LineAppendLemmas.{added_then, no_lines}
 use Rattle.thes_export.proofs.ResourceTripleLemmas.{written_from, written_to}
 
--- Numbers from 1 upwards.
+pub none_up : (core : CoreView) (xs : List (List ℕ)) → Adds (IsLineOf (IsTripleUpTo core 0)) xs xs
+none_up core xs = no_lines (IsTripleUpTo core 0) xs (λ t w. let least = w.1 in let most = w.2 in omega arith)
 
-pub none_up : (core : CoreView) (xs : List (List ℕ)) → Adds (IsLineOf (IsUpTo core 0)) xs xs
-none_up core xs = no_lines (IsUpTo core 0) xs (λ t w. let least = w.1 in let most = w.2 in omega arith)
-
-pub one_up : (core : CoreView) (i : ℕ) (old mid new : List (List ℕ)) → Adds (IsLineOf (IsUpTo core i)) old mid
-    → Adds (IsLineOf (IsAbout core (i + 1))) mid new → Adds (IsLineOf (IsUpTo core (i + 1))) old new
+pub one_up : (core : CoreView) (i : ℕ) (old mid new : List (List ℕ)) → Adds (IsLineOf (IsTripleUpTo core i)) old mid
+    → Adds (IsLineOf (IsResourceTriple core (i + 1))) mid new → Adds (IsLineOf (IsTripleUpTo core (i + 1))) old new
 one_up core i old mid new =
-    added_then (IsLineOf (IsUpTo core i)) (IsLineOf (IsAbout core (i + 1))) (IsLineOf (IsUpTo core (i + 1))) old mid new
+    added_then (IsLineOf (IsTripleUpTo core i)) (IsLineOf (IsResourceTriple core (i + 1)))
+    (IsLineOf (IsTripleUpTo core (i + 1))) old mid new
     (λ l w. let of = w.1 in split l w.0 of.0 of.1 of.2 of.3 w.2 (eqb of.0 (i + 1)) refl)
     (λ l w. let of = w.1 in let most = of.2 in (w.0, (of.0, of.1, omega arith, of.3), w.2))
     (λ l w. (w.0, (i + 1, omega arith, omega arith, w.1), w.2))
   where
-    split : (l : List ℕ) (t : Triple) (n : ℕ) → 1 ≤ n → n ≤ i + 1 → IsAbout core n t → l ≡ line_of t → (b : Bool)
-        → eqb n (i + 1) ≡ b → IsLineOf (IsUpTo core i) l ⊎ IsLineOf (IsAbout core (i + 1)) l
+    split : (l : List ℕ) (t : Triple) (n : ℕ) → 1 ≤ n → n ≤ i + 1 → IsResourceTriple core n t → l ≡ line_of t
+        → (b : Bool) → eqb n (i + 1) ≡ b → IsLineOf (IsTripleUpTo core i) l ⊎ IsLineOf (IsResourceTriple core (i + 1)) l
     split l t n least most about spelling true e = inr (
       t,
-      subst (λ m. IsAbout core m t) (eqb-true n (i + 1) e) about,
+      subst (λ m. IsResourceTriple core m t) (eqb-true n (i + 1) e) about,
       spelling,
     )
     split l t n least most about spelling false e = let other = eqb-false n (i + 1) e in
         inl (t, (n, least, omega arith, about), spelling)
 
--- Sorting.
+-- Lines that are sorted without duplicates are a listing.
 
 pub sorted_listing : (xs ys zs : List (List ℕ)) → IsPermutation xs ys → IsSorted (slice_cmp nat_cmp) ys
     → IsFiltered (DiffersFromLast (pointwise nat_eq)) [] ys zs → IsListing (slice_cmp nat_cmp) (Contains xs) zs
@@ -66,7 +65,7 @@ sorted_listing xs ys zs moved sorted filtered =
           (Contains-permutation xs ys l moved c));
     }
 
--- One line more is appended to the text.
+-- One more line is appended to the text.
 pub joined_more : (xs : List (List ℕ)) (i : ℕ) (x old new : List ℕ) → i < length xs → x ≡ get_or xs i x → old
     ≡ concat (take i xs) → new ≡ old ++ x → new ≡ concat (take (i + 1) xs)
 joined_more xs i x old new below at so_far more =
@@ -75,10 +74,10 @@ joined_more xs i x old new below at so_far more =
     more ∙ ap (λ t. t ++ x) so_far ∙ ap (λ t. concat (take i xs) ++ t) (sym (append-nil x))
     ∙ sym (concat-append (take i xs) (x ∷ [])) ∙ ap concat (sym taken)
 
--- The export.
+-- The sorted lines about all resources are the export.
 
 module _ (core : CoreView) (s : State) (holds : IsViewOf core s) (gathered lines : List (List ℕ))
-    (added : Adds (IsLineOf (IsUpTo core (length core.resources))) [] gathered)
+    (added : Adds (IsLineOf (IsTripleUpTo core (length core.resources))) [] gathered)
     (sorted : IsListing (slice_cmp nat_cmp) (Contains gathered) lines) where
   abbrev base : List ℕ
   base = core.setting.base
@@ -86,8 +85,8 @@ module _ (core : CoreView) (s : State) (holds : IsViewOf core s) (gathered lines
   abbrev k : State
   k = with_histories s.histories core
 
-  legal : Legal base k
-  legal = subst (Legal base) (sym holds.state) holds.legal
+  legal : IsLegalState base k
+  legal = subst (IsLegalState base) (sym holds.state) holds.legal
 
   line_asserted : (l : List ℕ) → Contains gathered l → IsTripleLine base k l
   line_asserted l c = ⊎_elim (λ none. absurd (Contains-none l none)) (λ w. let of = w.1 in

@@ -1,4 +1,4 @@
--- Proves that the texts in the triples of a legal state can be spelled.
+-- Proves that the texts in the triples of a legal state have spellings.
 use Rattle.std.proofs.Common.{◌≡◌, ◌∙◌, sym, ap, refl, subst, ℕ, zero, suc, ◌+◌, ◌<◌, ◌≤◌, ◌==◌, ◌%◌, ◌/◌, Bool, true}
 use Rattle.std.proofs.Common.{false, cond, List, [], ◌∷◌, ◌++◌, All, arith, inl, inr, Option, None, Some, ne_eqb}
 use Rattle.std.specs.Prelude.{codes, flat_map, unwrap_or}
@@ -21,16 +21,14 @@ use Rattle.thes_base.specs.declared.triple.Class.TheVariants.{Concept, ConceptSc
 use Rattle.thes_base.specs.declared.data.LabelKind.{LabelKind}
 use Rattle.thes_base.specs.declared.data.LabelKind.TheVariants.{Pref, Alt, Hidden, Scope}
 use Rattle.thes_base.specs.Forms.{IsIriByte, IsSchemeByte, IsIriWithin, IsTag, IsTagPart, AreTagParts, IsPrintable}
-use Rattle.thes_base.specs.Legal.{Legal}
+use Rattle.thes_base.specs.Legal.{IsLegalState}
 use Rattle.thes_base.specs.State.{State}
-use Rattle.thes_base.specs.Texts.{HaveForms, LegalTexts, IsLabelText}
+use Rattle.thes_base.specs.Texts.{StateHasForms, HasLegalTexts, IsLabelText}
 use Rattle.thes_base.specs.Triples.{Triple, Object, Node, Class, Literal, True, IsIriOf, HasProperty, IsAsserted}
 use Rattle.thes_base.specs.Triples.{HasLabelOfKind}
 use Rattle.thes_export.specs.NTriples.{AreSome}
 use Rattle.thes_export.proofs.WritableLemmas.{IsTagForm, IsTextByte, IsWritableObject, IsWritable}
 use Rattle.thes_export.proofs.SpellingLemmas.{text_byte}
-
--- Bytes of an IRI.
 
 no_sign : (b : ℕ) → (60 ≡ b → ⊥) → (62 ≡ b → ⊥) → (34 ≡ b → ⊥) → (123 ≡ b → ⊥) → (125 ≡ b → ⊥) → (124 ≡ b → ⊥)
     → (94 ≡ b → ⊥) → (96 ≡ b → ⊥) → (92 ≡ b → ⊥) → list_any (λ c. c == b) (codes "<>\"{}|^`\\") ≡ false
@@ -46,7 +44,7 @@ no_sign b h1 h2 h3 h4 h5 h6 h7 h8 h9 = simp (
   ne_eqb 92 b h9,
 )
 
--- The bytes from the plus sign to the colon, and letters.
+-- The bytes from the plus sign to the colon are allowed in IRIs.
 middle_byte : (b : ℕ) → 43 ≤ b → b ≤ 58 → IsIriByte b
 middle_byte b least most = (
   omega arith,
@@ -81,7 +79,7 @@ iri_bytes most iri of = subst (All IsIriByte) (sym of.spelled)
     (All-append IsIriByte of.scheme _ (λ k d below. scheme_byte _ (of.named.each k d below))
     (All-cons IsIriByte 58 of.rest (middle_byte 58 (omega arith) (omega arith)) of.more.each))
 
--- Digits.
+-- The digits of numbers are allowed in IRIs.
 glyph_byte : (d : ℕ) → d < 10 → IsIriByte (digit_glyph false d)
 glyph_byte d small = subst IsIriByte (sym (is_glyph d small)) (middle_byte (48 + d) (omega arith) (omega arith))
   where
@@ -106,8 +104,6 @@ decimal_bytes : (n : ℕ) → All IsIriByte (decimal n)
 unfolding digits
 decimal_bytes n = onto_bytes 64 n [] (All-nil IsIriByte)
 
--- Tags.
-
 part_of : (Is : ℕ → Type 0) (part : List ℕ) → IsTagPart Is part → AreSome Is part
 part_of Is part of = (of.least, of.each)
 
@@ -116,7 +112,7 @@ joined_parts : (first : List ℕ) (others : List (List ℕ)) → join_with_byte 
 joined_parts first [] = sym (append-nil first)
 joined_parts first (part ∷ others) = ap (λ l. first ++ 45 ∷ l) (joined_parts part others)
 
--- A tag in its form is split as the grammar splits it.
+-- A tag in its form splits into the parts of the grammar.
 tag_form : (tag : List ℕ) → IsTag tag → IsTagForm tag
 tag_form tag of = go (slice_split (λ b. b == 45) tag) of.parts (join_with_byte-slice_split 45 tag)
   where
@@ -139,9 +135,7 @@ label_bytes Alt text of = printed_bytes text of.line.printed
 label_bytes Hidden text of = printed_bytes text of.line.printed
 label_bytes Scope text of = printed_bytes text of.line.printed
 
--- The triples of the state.
-
-module _ (base : List ℕ) (s : State) (forms : HaveForms base s) where
+module _ (base : List ℕ) (s : State) (forms : StateHasForms base s) where
   named_bytes : (n : ℕ) (x : List ℕ) → IsIriOf base s n x → All IsIriByte x
   named_bytes n x e = subst (All IsIriByte) (sym e) (go (dict.get s.iris n) refl)
     where
@@ -207,7 +201,8 @@ module _ (base : List ℕ) (s : State) (forms : HaveForms base s) where
   said_writable x p True content = (true_bytes p x content, tt)
 
 -- Each triple of a legal state can be spelled.
-pub asserted_writable : (base : List ℕ) (s : State) → Legal base s → (t : Triple) → IsAsserted base s t → IsWritable t
-unfolding LegalTexts
+pub asserted_writable : (base : List ℕ) (s : State) → IsLegalState base s → (t : Triple) → IsAsserted base s t
+    → IsWritable t
+unfolding HasLegalTexts
 asserted_writable base s legal t content = let fine = said_writable base s legal.texts t.subject t.property t.object
     content in record { subject = fine.0; object = fine.1 }

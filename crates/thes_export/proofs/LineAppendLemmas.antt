@@ -1,4 +1,4 @@
--- Proves how lists of lines grow, step by step.
+-- Proves which lines a list has after each step that appends lines.
 use Rattle.std.proofs.Common.{◌≡◌, ◌⊎◌, ◌∙◌, sym, ap, subst, inl, inr, ⊎_elim, ℕ, List, [], ◌∷◌, ◌++◌, Contains, ◌+◌}
 use Rattle.std.proofs.Common.{◌<◌, ◌≤◌, length, get_or, take, take_all}
 use Rattle.std.proofs.lemmas.List.{take_more}
@@ -8,11 +8,11 @@ use Rattle.thes_base.proofs.ListMemberLemmas.{Contains-none, Contains-head, Cont
 use Rattle.thes_export.specs.Spelling.{line_of}
 use Rattle.thes_export.specs.Topics.{Adds, IsLineOf}
 
--- Nothing is added for a property that no line has.
+-- A step for a property that no line has appends none.
 pub added_none : (Is : List ℕ → Type 0) (xs : List (List ℕ)) → ((l : List ℕ) → Is l → ⊥) → Adds Is xs xs
 added_none Is xs none = record { each = λ l. (inl, ⊎_elim (λ c. c) (λ is. absurd (none l is))) }
 
--- The same holds for an equivalent property.
+-- A step appends the lines of an equivalent property also.
 pub added_same : (Is Other : List ℕ → Type 0) (old new : List (List ℕ)) → ((l : List ℕ) → Is l → Other l)
     → ((l : List ℕ) → Other l → Is l) → Adds Is old new → Adds Other old new
 added_same Is Other old new to from adds = record {
@@ -22,7 +22,7 @@ added_same Is Other old new to from adds = record {
   );
 }
 
--- Two steps add what either adds.
+-- Two steps append the lines of either.
 pub added_then : (Is More All : List ℕ → Type 0) (old mid new : List (List ℕ))
     → ((l : List ℕ) → All l → Is l ⊎ More l) → ((l : List ℕ) → Is l → All l) → ((l : List ℕ) → More l → All l)
     → Adds Is old mid → Adds More mid new → Adds All old new
@@ -43,17 +43,17 @@ pub same_lines : (Is Other : Triple → Type 0) (old new : List (List ℕ)) → 
 same_lines Is Other old new to from = added_same (IsLineOf Is) (IsLineOf Other) old new
     (λ l w. (w.0, to w.0 w.1, w.2)) (λ l w. (w.0, from w.0 w.1, w.2))
 
--- A property that no triple has adds no line.
+-- A step for a property that no triple has appends no line.
 pub no_lines : (Is : Triple → Type 0) (xs : List (List ℕ)) → ((t : Triple) → Is t → ⊥) → Adds (IsLineOf Is) xs xs
 no_lines Is xs none = added_none (IsLineOf Is) xs (λ l w. none w.0 w.1)
 
--- A single triple adds its line.
+-- A step for a single triple appends its line.
 pub one_triple : (Is : Triple → Type 0) (u : Triple) (line : List ℕ) (old new : List (List ℕ)) → line ≡ line_of u
     → Is u → ((t : Triple) → Is t → t ≡ u) → Adds (λ l. l ≡ line) old new → Adds (IsLineOf Is) old new
 one_triple Is u line old new spelling is unique = added_same (λ l. l ≡ line) (IsLineOf Is) old new
     (λ l e. (u, is, e ∙ spelling)) (λ l w. w.2 ∙ ap line_of (unique w.0 w.1) ∙ sym spelling)
 
--- A loop over a list adds the lines of each element.
+-- A loop over a list appends the lines of each element.
 module _ {A : Type 0} (Is : A → Triple → Type 0) where
   abbrev pub OfSome : List A → Triple → Type 0
   OfSome xs t = (x : A) × Contains xs x × Is x t
@@ -75,7 +75,7 @@ module _ {A : Type 0} (Is : A → Triple → Type 0) where
   pub added_no_element : (xs : List (List ℕ)) → Adds (IsLineOf (OfSome [])) xs xs
   added_no_element xs = no_lines (OfSome []) xs (λ t w. Contains-none w.0 w.1)
 
-  -- One more pass of the loop adds the lines of one more element.
+  -- One more pass of the loop appends the lines of one more element.
   pub added_next : (xs : List A) (i : ℕ) (x : A) (old mid new : List (List ℕ)) → i < length xs → x ≡ get_or xs i x
       → Adds (IsLineOf (OfSome (take i xs))) old mid → Adds (IsLineOf (Is x)) mid new
       → Adds (IsLineOf (OfSome (take (i + 1) xs))) old new
@@ -84,7 +84,7 @@ module _ {A : Type 0} (Is : A → Triple → Type 0) where
       (sym (take_more xs i x below ∙ ap (λ z. take i xs ++ z ∷ []) (sym at)))
       (added_each (take i xs) x old mid new inv one)
 
-  -- At the end of the loop the lines of all elements are added.
+  -- The loop has appended the lines of all elements at its end.
   pub all_taken : (xs : List A) (i : ℕ) (old new : List (List ℕ)) → length xs ≤ i
       → Adds (IsLineOf (OfSome (take i xs))) old new → Adds (IsLineOf (OfSome xs)) old new
   all_taken xs i old new all added = subst (λ (ys : List A). Adds (IsLineOf (OfSome ys)) old new) (take_all i xs all)

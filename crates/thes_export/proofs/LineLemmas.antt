@@ -1,4 +1,4 @@
--- Proves that the parts of a line, appended in turn, are the line.
+-- Proves that the parts of a line, appended one by one, are the line.
 use Rattle.std.proofs.Common.{◌≡◌, ◌∙◌, ap, ℕ, List, [], ◌∷◌, ◌++◌, append_assoc}
 use Rattle.std.specs.Prelude.{codes}
 use Rattle.thes_base.specs.Triples.{Triple}

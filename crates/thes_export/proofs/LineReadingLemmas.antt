@@ -1,4 +1,4 @@
--- Proves that a spelled line is read in only one way, although the grammar allows other spellings.
+-- Proves that a spelled line has only one reading, although the grammar allows other spellings.
 use Rattle.std.proofs.Common.{◌≡◌, ◌⊎◌, ◌∙◌, sym, ap, refl, subst, ℕ, List, [], ◌∷◌, ◌++◌, All, arith, inl, inr, ⊎_elim}
 use Rattle.std.specs.Prelude.{codes, flat_map}
 use Rattle.std.proofs.lemmas.List.Elements.{All-head}
@@ -16,7 +16,7 @@ use Rattle.thes_export.proofs.WritableLemmas.{boolean_bytes}
 pub not_blank : (c : ℕ) → (c ≡ 32 → ⊥) → (c ≡ 9 → ⊥) → ¬ IsBlankByte c
 not_blank c space tab = ⊎_elim space tab
 
--- The object, as it is spelled before the remaining text.
+-- The spelling of an object before the remaining text.
 abbrev pub object_then : Object → List ℕ → List ℕ
 object_then (Node iri) y = 60 ∷ (iri ++ 62 ∷ y)
 object_then (Class kind) y = 60 ∷ (class_iri kind ++ 62 ∷ y)
@@ -24,7 +24,7 @@ object_then (Literal tag text) y = 34 ∷ (flat_map byte_spelling text ++ 34 ∷
 object_then True y = 34 ∷ (flat_map byte_spelling (codes "true") ++ 34 ∷ 94 ∷ 94 ∷ 60
     ∷ (xsd (codes "boolean") ++ 62 ∷ y))
 
--- The full stop after a space is where the object ends.
+-- An object ends before the space and the full stop.
 stop_same : (rest x stop : List ℕ) → rest ≡ 32 ∷ 46 ∷ x → IsSpaced rest (46 ∷ stop) → stop ≡ x
 stop_same rest x stop e gap_before =
     tail_of _ _ _ _
@@ -59,7 +59,7 @@ stops_gap [] x blank = λ is. omega arith
 stops_gap (b ∷ gap) x blank = λ is. elim (All-head IsBlankByte b gap blank)
     [ inl e ↦ omega arith | inr e ↦ omega arith ]
 
--- The bytes of a tag.
+-- The bytes of a tag in its form are bytes of tags.
 form_bytes : (tag : List ℕ) → IsTagForm tag → All IsTagByte tag
 form_bytes tag form = tag_bytes (64 ∷ (tag ++ [])) tag []
     (record {
@@ -72,7 +72,7 @@ form_bytes tag form = tag_bytes (64 ∷ (tag ++ [])) tag []
       text_is = refl;
     })
 
--- A tag is read up to the space behind it.
+-- A tag is read up to the space after it.
 tag_same : (start tag x other rest stop : List ℕ) → IsTagForm tag → start ≡ 64 ∷ (tag ++ 32 ∷ 46 ∷ x)
     → IsLangtag start other rest → IsSpaced rest (46 ∷ stop) → (other ≡ tag) × (rest ≡ 32 ∷ 46 ∷ x)
 tag_same start tag x other rest stop form e read gap_before =
@@ -81,7 +81,7 @@ tag_same start tag x other rest stop form e read gap_before =
     (tail_of _ _ _ _ (sym read.text_is ∙ e)) in
     (same.0, same.1)
 
--- A literal with a tag.
+-- A literal with a tag is read as itself.
 tagged_same : (text tag value x : List ℕ) (other : RdfTerm) (rest stop : List ℕ) → IsTagForm tag → text
     ≡ object_then (Literal tag value) (32 ∷ 46 ∷ x) → IsSpaced rest (46 ∷ stop) → IsLiteral text other rest
     → (other ≡ Tagged value tag) × (stop ≡ x)
@@ -104,7 +104,7 @@ tagged_same text tag value x other rest stop form e gap_before literal = go lite
         let same = tag_same tagged.start tag x tagged.tag rest stop form start tagged.langtag gap_before in
         (tagged.read ∙ (λ i. Tagged (within.0 i) (same.0 i)), stop_same rest x stop same.1 gap_before)
 
--- A literal with a type.
+-- A literal with a type is read as itself.
 typed_same : (text type value x : List ℕ) (other : RdfTerm) (rest stop : List ℕ) → All IsIriByte type → text ≡ 34
     ∷ (flat_map byte_spelling value ++ 34 ∷ 94 ∷ 94 ∷ 60 ∷ (type ++ 62 ∷ 32 ∷ 46 ∷ x)) → IsSpaced rest (46 ∷ stop)
     → IsLiteral text other rest → (other ≡ Typed value type) × (stop ≡ x)
@@ -146,9 +146,7 @@ object_same True text x other rest stop fine e read gap_before =
     literal_object text _ other rest e (typed_same text (xsd (codes "boolean")) (codes "true") x other rest stop
     boolean_bytes e gap_before) read
 
--- Lines.
-
--- A line, as it is spelled before the remaining text.
+-- The spelling of a line before the remaining text.
 abbrev pub line_then : Triple → List ℕ → List ℕ
 line_then t x =
     60 ∷ (t.subject ++ 62 ∷ 32 ∷ 60 ∷ (property_iri t.property ++ 62 ∷ 32 ∷ object_then t.object (32 ∷ 46 ∷ 10 ∷ x)))

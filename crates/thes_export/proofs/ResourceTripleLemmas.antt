@@ -1,4 +1,4 @@
--- Proves that the triples of a legal state are those that are written for its numbers, topic by topic.
+-- Proves that the triples of a legal state are those written about its resources, topic by topic.
 use Rattle.std.proofs.Common.{◌≡◌, ◌⊎◌, ◌∙◌, sym, ap, refl, subst, inl, inr, ⊎_elim, ℕ, List, Option, None, Some}
 use Rattle.std.specs.Prelude.{option_and_then}
 use Rattle.thes_base.specs.declared.data.Resource.{Resource}
@@ -15,8 +15,8 @@ use Rattle.thes_base.specs.declared.triple.Property.TheVariants as property
 use Rattle.thes_base.specs.declared.triple.Class.{Class as SkosClass}
 use Rattle.thes_base.specs.declared.triple.Class.TheVariants.{Concept, ConceptScheme, Collection}
 use Rattle.thes_base.specs.Labels.{HasLabel}
-use Rattle.thes_base.specs.Legal.{Legal}
-use Rattle.thes_base.specs.Links.{HeldIn, IsHierarchical, form_of}
+use Rattle.thes_base.specs.Legal.{IsLegalState}
+use Rattle.thes_base.specs.Links.{Holds, IsHierarchical, form_of}
 use Rattle.thes_base.specs.declared.data.LinkForm.TheVariants.{Within, Mapping}
 use Rattle.thes_base.specs.Resources.{CanOwn, Exists, IsConcept, IsCollection, entry_at, scheme_of, is_concept_kind}
 use Rattle.thes_base.specs.Resources.{is_collection_kind, is_scheme_kind, is_outside_kind}
@@ -28,31 +28,33 @@ use Rattle.thes_core.specs.CoreView.{CoreView, with_histories}
 use Rattle.thes_export.specs.declared.topic.Topic.{Topic}
 use Rattle.thes_export.specs.declared.topic.Topic.TheVariants.{Kind, Belonging, Top, Death, Replacement, Labels}
 use Rattle.thes_export.specs.declared.topic.Topic.TheVariants.{Broader, Narrower, Related, Mappings, Memberships}
-use Rattle.thes_export.specs.Topics.{IsOf, IsAbout, IsOfClass, IsTopIn, MapsBy, label_property, node_triple, number_iri}
+use Rattle.thes_export.specs.Topics.{IsTopicTriple, IsResourceTriple, IsOfClass, IsTopIn, MapsBy, label_property}
+use Rattle.thes_export.specs.Topics.{node_triple, number_iri}
 
-module _ (core : CoreView) (hs : List History) (legal : Legal core.setting.base (with_histories hs core)) where
+module _ (core : CoreView) (hs : List History) (legal : IsLegalState core.setting.base (with_histories hs core)) where
   abbrev base : List ℕ
   base = core.setting.base
 
   abbrev k : State
   k = with_histories hs core
 
-  -- The triple is written for some resource.
+  -- The triple is written about some resource.
   abbrev pub IsWritten : Triple → Type 0
-  IsWritten t = (n : ℕ) × Exists core.resources n × IsAbout core n t
+  IsWritten t = (n : ℕ) × Exists core.resources n × IsResourceTriple core n t
 
-  topic_written : (n : ℕ) (topic : Topic) (t : Triple) → Exists core.resources n → IsOf core topic n t → IsWritten t
+  topic_written : (n : ℕ) (topic : Topic) (t : Triple) → Exists core.resources n → IsTopicTriple core topic n t
+      → IsWritten t
   topic_written n topic t at is = (n, at, (topic, is))
 
   nodes : (p : Property) (m n : ℕ) (x y : List ℕ) → x ≡ number_iri core m → y ≡ number_iri core n
       → triple x p (Node y) ≡ node_triple core m p n
   nodes p m n x y d e = λ i. triple (d i) p (Node (e i))
 
-  -- Links by their kind and ends.
+  -- A link of the same kind and ends as one held is held.
 
-  as_link : (l : Link) (j : LinkKind) (a b : ℕ) → HeldIn core.links l → l.kind ≡ j → l.a ≡ a → l.b ≡ b
+  as_link : (l : Link) (j : LinkKind) (a b : ℕ) → Holds core.links l → l.kind ≡ j → l.a ≡ a → l.b ≡ b
       → HasLink core.links j a b
-  as_link l j a b held is d e = subst (HeldIn core.links) (λ i. record { kind = is i; a = d i; b = e i }) held
+  as_link l j a b held is d e = subst (Holds core.links) (λ i. record { kind = is i; a = d i; b = e i }) held
 
   broader_link : (a b : ℕ) → HasLinkOfKind base k IsHierarchical a b → HasBroader core.links a b
   broader_link a b (l, held, is, d, e) = (l.kind, is, as_link l l.kind a b held refl d e)
@@ -93,8 +95,6 @@ module _ (core : CoreView) (hs : List History) (legal : Legal core.setting.base 
   mapping_start kind.Narrow a b is has = (legal.links.each _ has).ends.0
   mapping_start kind.RelMatch a b is has = (legal.links.each _ has).ends.0
   mapping_start _ a b is has = absurd (cc)
-
-  -- From the triples of the state to those that are written.
 
   top_in : (c m : ℕ) → IsTopOf k c m → IsTopIn core c m
   top_in c m top = (top.live, top.within, λ b has. top.top (record { kind = has.0; a = c; b = b }) has.2 refl has.1)
@@ -198,8 +198,6 @@ module _ (core : CoreView) (hs : List History) (legal : Legal core.setting.base 
   pub written_from : (t : Triple) → IsAsserted base k t → IsWritten t
   written_from t content = object_written t.subject t.property t.object content
 
-  -- From the triples that are written to those of the state.
-
   asserted_same : (t u : Triple) → t ≡ u → IsAsserted base k u → IsAsserted base k t
   asserted_same t u e content = subst (IsAsserted base k) (sym e) content
 
@@ -263,8 +261,8 @@ module _ (core : CoreView) (hs : List History) (legal : Legal core.setting.base 
   map_said property.NarrowMatch n m concept by = (n, m, link_kind kind.Narrow n m by, refl, refl)
   map_said _ n m concept by = absurd by
 
-  -- Each triple that is written is asserted by the state, topic by topic.
-  said_of : (topic : Topic) (n : ℕ) (t : Triple) → IsOf core topic n t → IsAsserted base k t
+  -- Each triple written is asserted by the state, topic by topic.
+  said_of : (topic : Topic) (n : ℕ) (t : Triple) → IsTopicTriple core topic n t → IsAsserted base k t
   said_of Kind n t (class, is, e) = asserted_same t _ e (class_said class n is)
   said_of Belonging n t (m, of, e) = asserted_same t _ e (
     n,
@@ -285,5 +283,5 @@ module _ (core : CoreView) (hs : List History) (legal : Legal core.setting.base 
   said_of Mappings n t (concept, (p, (m, by, e))) = asserted_same t _ e (map_said p n m concept by)
   said_of Memberships n t (m, has, e) = asserted_same t _ e (m, n, link_kind kind.Member m n has, refl, refl)
 
-  pub written_to : (n : ℕ) (t : Triple) → IsAbout core n t → IsAsserted base k t
+  pub written_to : (n : ℕ) (t : Triple) → IsResourceTriple core n t → IsAsserted base k t
   written_to n t (topic, is) = said_of topic n t is

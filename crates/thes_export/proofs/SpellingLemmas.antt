@@ -16,8 +16,6 @@ use Rattle.thes_export.proofs.WritableLemmas.{property_bytes, boolean_bytes}
 use Rattle.thes_export.proofs.LineReadingLemmas.{object_then, line_then}
 use Rattle.thes_export.proofs.DocumentLemmas.{AllWritable, lines_text, document_same}
 
--- Terminals.
-
 iri_made : (iri : List ℕ) → All IsIriByte iri → IsMadeOf IsIriPiece iri iri
 iri_made [] each = record { pieces = []; each = All-nil IsIriPiece; text = refl; read = refl }
 iri_made (b ∷ iri) each =
@@ -106,8 +104,6 @@ space_reads text = record {
   text_is = refl;
 }
 
--- Terms and triples.
-
 object_reads : (o : Object) (x : List ℕ) → IsWritableObject o → IsObject (object_then o x) (term_of o) x
 object_reads (Node iri) x fine = inl (inl (iri, refl, iriref_reads iri x fine))
 object_reads (Class kind) x fine = inl (inl (class_iri kind, refl, iriref_reads (class_iri kind) x (class_bytes kind)))
@@ -157,8 +153,6 @@ line_reads t x fine = record {
   object = object_reads t.object (32 ∷ 46 ∷ 10 ∷ x) fine.object;
   stop_spaced = space_reads _;
 }
-
--- Documents.
 
 no_gap : (text : List ℕ) → IsLineEnd text text
 no_gap text = record {
@@ -211,7 +205,7 @@ object_spelled (Class kind) x = simp append_assoc
 object_spelled (Literal tag text) x = simp append_assoc
 object_spelled True x = simp append_assoc
 
--- The line of a triple, followed by other text.
+-- A line followed by other text is spelled as `line_then` spells it.
 pub line_spelled : (t : Triple) (x : List ℕ) → line_of t ++ x ≡ line_then t x
 unfolding line_of
 line_spelled t x = simp (append_assoc, object_spelled t.object (32 ∷ 46 ∷ 10 ∷ x))

@@ -1,4 +1,4 @@
--- Proves that spelled terminals are read in only one way, although the grammar allows other spellings.
+-- Proves that spelled terminals have only one reading, although the grammar allows other spellings.
 use Rattle.std.proofs.Common.{◌≡◌, ◌⊎◌, ◌∙◌, sym, ap, refl, subst, ℕ, ◌==◌, Bool, true, false, List, [], ◌∷◌, ◌++◌}
 use Rattle.std.proofs.Common.{All, arith, inl, inr, ⊎_elim, rules}
 use Rattle.std.specs.Prelude.{codes, flat_map}
@@ -21,9 +21,9 @@ tail_of c d x y e = cc
 pub heads_differ : {A : Type 0} (c d : ℕ) (x y : List ℕ) → (c ≡ d → ⊥) → c ∷ x ≡ d ∷ y → A
 heads_differ c d x y never e = absurd (never (head_of c d x y e))
 
--- Gaps.
+-- White space between terminals has one reading.
 
--- Before a byte that isn't blank there is no gap.
+-- Before a byte that is neither space nor tab there is no white space.
 pub no_gap_before : (text rest : List ℕ) (c : ℕ) (x : List ℕ) → IsSpaced text rest → text ≡ c ∷ x → ¬ IsBlankByte c
     → rest ≡ c ∷ x
 no_gap_before text rest c x gap_before e never = go gap_before.gap gap_before.blank (sym gap_before.text_is ∙ e)
@@ -33,7 +33,7 @@ no_gap_before text rest c x gap_before e never = go gap_before.gap gap_before.bl
     go (b ∷ gap) blank same =
         absurd (never (subst IsBlankByte (head_of _ _ _ _ same) (All-head IsBlankByte b gap blank)))
 
--- One space is skipped where the remaining text doesn't begin with a space.
+-- One space is skipped if the remaining text doesn't begin with another.
 pub past_space : (text rest : List ℕ) (c : ℕ) (x : List ℕ) → IsSpaced text rest → text ≡ 32 ∷ c ∷ x → ¬ IsBlankByte c
     → ((z : List ℕ) → rest ≡ 32 ∷ z → ⊥) → rest ≡ c ∷ x
 past_space text rest c x gap_before e never other = go gap_before.gap gap_before.blank (sym gap_before.text_is ∙ e)
@@ -42,8 +42,6 @@ past_space text rest c x gap_before e never other = go gap_before.gap gap_before
     go [] blank same = absurd (other (c ∷ x) same)
     go (b ∷ gap) blank same = no_gap_before (gap ++ rest) rest c x
         (record { gap = gap; blank = All-tail IsBlankByte b gap blank; text_is = refl }) (tail_of _ _ _ _ same) never
-
--- Bytes of an IRI.
 
 not_iri_byte : (b : ℕ) → list_any (λ c. c == b) (codes "<>\"{}|^`\\") ≡ true → ¬ IsIriByte b
 not_iri_byte b among of = let e = of.1 in absurd (cc)
@@ -78,9 +76,7 @@ iriref_same text iri x other rest own e ref =
     (inner ∙ ap (λ t. t ++ 62 ∷ rest) ref.spelling.text) in
     (ref.spelling.read ∙ same.0, sym same.1)
 
--- Bytes of a literal.
-
--- A byte that is spelled with a backslash.
+-- A byte that is spelled after a backslash.
 abbrev pub IsSpecial : ℕ → Type 0
 IsSpecial b = (b ≡ 34) ⊎ (b ≡ 92)
 
@@ -161,17 +157,15 @@ quoted_same text value x other rest e read =
     (inner ∙ ap (λ t. t ++ 34 ∷ rest) read.spelling.text) in
     (read.spelling.read ∙ same.0, sym same.1)
 
--- Language tags.
-
 abbrev pub IsTagByte : ℕ → Type 0
 IsTagByte b = IsAsciiAlphanumeric b ⊎ (b ≡ 45)
 
--- A text that doesn't begin with a byte of a tag.
+-- A text doesn't begin with a byte of a tag.
 abbrev pub Stops : List ℕ → Type 0
 Stops [] = Unit {0}
 Stops (c ∷ x) = IsTagByte c → ⊥
 
--- A run of bytes of a tag ends at only one place.
+-- A run of bytes of a tag ends at only one index.
 pub run_same : (a b x y : List ℕ) → All IsTagByte a → All IsTagByte b → Stops x → Stops y → a ++ x ≡ b ++ y → (a ≡ b)
     × (x ≡ y)
 run_same [] [] x y h k s t e = (refl, e)

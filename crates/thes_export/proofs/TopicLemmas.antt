@@ -1,9 +1,9 @@
--- Proves that the lines pushed for a resource are those of its topics.
+-- Proves that the lines appended for a resource are those of its topics.
 use Rattle.std.proofs.Common.{◌≡◌, ◌⊎◌, ◌∙◌, sym, ap, refl, subst, inl, inr, ⊎_elim, ℕ, ◌==◌, Bool, true, false, ◌&&◌}
 use Rattle.std.proofs.Common.{◌||◌, not, List, [], ◌∷◌, length, Contains, Option, None, Some, ◌≤◌, take, Result}
 use Rattle.std.proofs.Common.{arith, eqb-true, true≢false}
 use Rattle.std.specs.Prelude.{option_and_then, OnOk, nat_lt, if◌then◌else◌}
-use Rattle.thes_base.specs.Links.{HeldIn, reversed_link, is_symmetric, normal_form}
+use Rattle.thes_base.specs.Links.{Holds, reversed_link, is_symmetric, normal_form}
 use Rattle.std.specs.Ordering.{nat_cmp, eq_by_cmp}
 use Rattle.std.specs.Cmp.{Equal-is}
 use Rattle.std.proofs.lemmas.Bool.{and_parts, both_ways, not-true, or_cases, or_left, or_right}
@@ -31,7 +31,8 @@ use Rattle.thes_export.specs.declared.topic.Topic.{Topic}
 use Rattle.thes_export.specs.declared.topic.Topic.TheVariants.{Kind, Belonging, Top, Death, Replacement, Labels}
 use Rattle.thes_export.specs.declared.topic.Topic.TheVariants.{Broader, Narrower, Related, Mappings, Memberships}
 use Rattle.thes_export.specs.Spelling.{line_of}
-use Rattle.thes_export.specs.Topics.{Adds, IsLineOf, IsNode, IsOf, IsAbout, IsOfClass, IsTopIn, IsTopScheme, IsMatch}
+use Rattle.thes_export.specs.Topics.{Adds, IsLineOf, IsNode, IsTopicTriple, IsResourceTriple, IsOfClass, IsTopIn}
+use Rattle.thes_export.specs.Topics.{IsTopScheme, IsMatch}
 use Rattle.thes_export.specs.Topics.{MapsOne, MapsBy, Nodes, class_in, class_triple, dead_triple, label_triple}
 use Rattle.thes_export.specs.Topics.{node_triple, topics}
 use Rattle.thes_export.proofs.LineAppendLemmas.{OfSome, added_then, all_taken, no_lines, one_triple, same_lines}
@@ -40,7 +41,7 @@ module _ (core : CoreView) (n : ℕ) (r : Resource) where
   same_resource : (q : Resource) → entry_at core.resources n ≡ Some r → entry_at core.resources n ≡ Some q → q ≡ r
   same_resource q found other = let e : Some q ≡ Some r = sym other ∙ found in cc
 
-  -- Classes.
+  -- The lines of a resource's class are those of its topic.
 
   class_from : (k : ResourceKind) (class : SkosClass) → Some class ≡ class_in k → entry_at core.resources n ≡ Some r
       → r.kind ≡ k → IsOfClass core class n
@@ -82,36 +83,39 @@ module _ (core : CoreView) (n : ℕ) (r : Resource) where
 
   pub kind_line : (class : SkosClass) (line : List ℕ) (old new : List (List ℕ)) → entry_at core.resources n ≡ Some r
       → Some class ≡ class_in r.kind → line ≡ line_of (class_triple core n class) → Adds (λ l. l ≡ line) old new
-      → Adds (IsLineOf (IsOf core Kind n)) old new
+      → Adds (IsLineOf (IsTopicTriple core Kind n)) old new
   kind_line class line old new found e spelling =
-      one_triple (IsOf core Kind n) (class_triple core n class) line old new spelling
+      one_triple (IsTopicTriple core Kind n) (class_triple core n class) line old new spelling
       (class, class_from r.kind class e found refl, refl)
       (λ t w. let same : w.0 ≡ class = (let q : Some w.0 ≡ Some class = sym (class_to w.0 found w.1) ∙ sym e in cc) in
       w.2 ∙ ap (class_triple core n) same)
 
   pub no_kind : (xs : List (List ℕ)) → entry_at core.resources n ≡ Some r → None ≡ class_in r.kind
-      → Adds (IsLineOf (IsOf core Kind n)) xs xs
-  no_kind xs found e = no_lines (IsOf core Kind n) xs (λ t w. let q : None ≡ Some w.0 = e ∙ class_to w.0 found w.1 in
+      → Adds (IsLineOf (IsTopicTriple core Kind n)) xs xs
+  no_kind xs found e = no_lines (IsTopicTriple core Kind n) xs (λ t w. let q : None ≡ Some w.0 = e
+      ∙ class_to w.0 found w.1 in
       cc)
 
-  -- Schemes and replacements.
+  -- The lines of schemes and replacements are those of their topics.
 
   scheme_at : entry_at core.resources n ≡ Some r → scheme_of core.resources n ≡ r.scheme
   scheme_at found = ap (option_and_then (λ (z : Resource). z.scheme)) found
 
   pub belonging_line : (m : ℕ) (old new : List (List ℕ)) → entry_at core.resources n ≡ Some r → Some m ≡ r.scheme
-      → Adds (IsLineOf (IsNode core n property.InScheme m)) old new → Adds (IsLineOf (IsOf core Belonging n)) old new
+      → Adds (IsLineOf (IsNode core n property.InScheme m)) old new
+      → Adds (IsLineOf (IsTopicTriple core Belonging n)) old new
   belonging_line m old new found e =
-      same_lines (IsNode core n property.InScheme m) (IsOf core Belonging n) old new
+      same_lines (IsNode core n property.InScheme m) (IsTopicTriple core Belonging n) old new
       (λ t is. (m, scheme_at found ∙ sym e, is))
       (λ t w. let same : w.0 ≡ m = (let q : Some w.0 ≡ Some m = sym w.1 ∙ scheme_at found ∙ sym e in cc) in
       w.2 ∙ ap (node_triple core n property.InScheme) same)
 
   pub replacement_line : (m : ℕ) (old new : List (List ℕ)) → entry_at core.resources n ≡ Some r → Some m ≡ r.replaced
-      → Adds (IsLineOf (IsNode core n property.IsReplacedBy m)) old new → Adds (IsLineOf (IsOf core Replacement n))
+      → Adds (IsLineOf (IsNode core n property.IsReplacedBy m)) old new
+      → Adds (IsLineOf (IsTopicTriple core Replacement n))
       old new
   replacement_line m old new found e =
-      same_lines (IsNode core n property.IsReplacedBy m) (IsOf core Replacement n) old new
+      same_lines (IsNode core n property.IsReplacedBy m) (IsTopicTriple core Replacement n) old new
       (λ t is. (m, (r, found, sym e), is))
       (λ t w.
       let by = w.1 in
@@ -120,14 +124,14 @@ module _ (core : CoreView) (n : ℕ) (r : Resource) where
       ∙ sym e in cc) in
       w.2 ∙ ap (node_triple core n property.IsReplacedBy) same)
 
-  -- Deprecated concepts.
+  -- The line of a deprecated concept is that of its topic.
 
   pub death_line : (line : List ℕ) (old new : List (List ℕ)) → entry_at core.resources n ≡ Some r
       → (is_concept_kind r.kind && not r.live) ≡ true → line ≡ line_of (dead_triple core n) → Adds (λ l. l ≡ line) old
-      new → Adds (IsLineOf (IsOf core Death n)) old new
+      new → Adds (IsLineOf (IsTopicTriple core Death n)) old new
   death_line line old new found e spelling =
       let parts = and_parts (is_concept_kind r.kind) (not r.live) e in
-      one_triple (IsOf core Death n) (dead_triple core n) line old new spelling (
+      one_triple (IsTopicTriple core Death n) (dead_triple core n) line old new spelling (
         (r, found, parts.0),
         (λ live. both_ways r.live (not-true r.live parts.1)
             (ap (λ (z : Resource). z.live) (sym (same_resource live.0 found live.1)) ∙ live.2)),
@@ -135,7 +139,7 @@ module _ (core : CoreView) (n : ℕ) (r : Resource) where
       )
       (λ t w. w.2)
 
-  -- Top concepts.
+  -- The lines of a top concept are those of its topic.
 
   pub no_top : (broader xs : List ℕ) (empty : Bool) → xs ≡ broader → IsListing nat_cmp (HasBroader core.links n)
       broader → empty ≡ (length xs == 0) → empty ≡ false → (m : ℕ) → IsTopIn core n m → ⊥
@@ -159,10 +163,11 @@ module _ (core : CoreView) (n : ℕ) where
 
   pub top_lines : (m : ℕ) (old mid new : List (List ℕ)) → IsTopIn core n m
       → Adds (IsLineOf (IsNode core n property.TopConceptOf m)) old mid
-      → Adds (IsLineOf (IsNode core m property.HasTopConcept n)) mid new → Adds (IsLineOf (IsOf core Top n)) old new
+      → Adds (IsLineOf (IsNode core m property.HasTopConcept n)) mid new
+      → Adds (IsLineOf (IsTopicTriple core Top n)) old new
   top_lines m old mid new top =
       added_then (IsLineOf (IsNode core n property.TopConceptOf m))
-      (IsLineOf (IsNode core m property.HasTopConcept n)) (IsLineOf (IsOf core Top n)) old mid new
+      (IsLineOf (IsNode core m property.HasTopConcept n)) (IsLineOf (IsTopicTriple core Top n)) old mid new
       (λ l w.
       let of = w.1 in
       let same = same_top m of.0 top of.1 in
@@ -171,7 +176,7 @@ module _ (core : CoreView) (n : ℕ) where
       (λ l w. (w.0, (m, top, inl w.1), w.2))
       (λ l w. (w.0, (m, top, inr w.1), w.2))
 
-  -- Labels.
+  -- The lines of labels are those of their topic.
 
   own_contains : (own : List LabelData) (l : LabelData) → has_own own l ≡ true → Contains own l
   own_contains [] l e = absurd (true≢false (sym e))
@@ -192,14 +197,15 @@ module _ (core : CoreView) (n : ℕ) where
   pub label_lines : (own : List LabelData) (i : ℕ) (old new : List (List ℕ)) → length own ≤ i
       → AreLabelsOf core.labels n own
       → Adds (IsLineOf (OfSome (λ (d : LabelData) (t : Triple). t ≡ label_triple core n d) (take i own))) old new
-      → Adds (IsLineOf (IsOf core Labels n)) old new
+      → Adds (IsLineOf (IsTopicTriple core Labels n)) old new
   label_lines own i old new all are added =
-      same_lines (OfSome (λ (d : LabelData) (t : Triple). t ≡ label_triple core n d) own) (IsOf core Labels n) old new
+      same_lines (OfSome (λ (d : LabelData) (t : Triple). t ≡ label_triple core n d) own) (IsTopicTriple core Labels n)
+      old new
       (λ t w. (w.0, sym (are.each w.0) ∙ contains_own own w.0 w.1, w.2))
       (λ t w. (w.0, own_contains own w.0 (are.each w.0 ∙ w.1), w.2))
       (all_taken (λ (d : LabelData) (t : Triple). t ≡ label_triple core n d) own i old new all added)
 
-  -- Links.
+  -- The lines of semantic relations are those of their topics.
 
   listed_lines : (p : Property) (Is : ℕ → Type 0) (ms xs : List ℕ) (old new : List (List ℕ)) → xs ≡ ms
       → IsListing nat_cmp Is ms → Adds (IsLineOf (Nodes core p (Contains xs) n)) old new
@@ -211,18 +217,19 @@ module _ (core : CoreView) (n : ℕ) where
 
   pub broader_lines : (ms xs : List ℕ) (old new : List (List ℕ)) → xs ≡ ms
       → IsListing nat_cmp (HasBroader core.links n) ms → Adds (IsLineOf (Nodes core property.Broader (Contains xs) n))
-      old new → Adds (IsLineOf (IsOf core Broader n)) old new
+      old new → Adds (IsLineOf (IsTopicTriple core Broader n)) old new
   broader_lines = listed_lines property.Broader (HasBroader core.links n)
 
   pub narrower_lines : (ms xs : List ℕ) (old new : List (List ℕ)) → xs ≡ ms
       → IsListing nat_cmp (λ m. HasBroader core.links m n) ms
       → Adds (IsLineOf (Nodes core property.Narrower (Contains xs) n)) old new
-      → Adds (IsLineOf (IsOf core Narrower n)) old new
+      → Adds (IsLineOf (IsTopicTriple core Narrower n)) old new
   narrower_lines = listed_lines property.Narrower (λ m. HasBroader core.links m n)
 
   pub related_lines : (ms xs : List ℕ) (old new : List (List ℕ)) → xs ≡ ms
       → IsListing nat_cmp (λ m. HasLink core.links kind.Related n m ⊎ HasLink core.links kind.Related m n) ms
-      → Adds (IsLineOf (Nodes core property.Related (Contains xs) n)) old new → Adds (IsLineOf (IsOf core Related n))
+      → Adds (IsLineOf (Nodes core property.Related (Contains xs) n)) old new
+      → Adds (IsLineOf (IsTopicTriple core Related n))
       old new
   related_lines = listed_lines property.Related (λ m. HasLink core.links kind.Related n m
       ⊎ HasLink core.links kind.Related m n)
@@ -230,14 +237,14 @@ module _ (core : CoreView) (n : ℕ) where
   pub membership_lines : (ks xs : List ℕ) (i : ℕ) (old new : List (List ℕ)) → xs ≡ ks → length xs ≤ i
       → IsListing nat_cmp (λ k. HasLink core.links kind.Member k n) ks
       → Adds (IsLineOf (OfSome (λ (k : ℕ). IsNode core k property.Member n) (take i xs))) old new
-      → Adds (IsLineOf (IsOf core Memberships n)) old new
+      → Adds (IsLineOf (IsTopicTriple core Memberships n)) old new
   membership_lines ks xs i old new e all listed added =
-      same_lines (OfSome (λ (k : ℕ). IsNode core k property.Member n) xs) (IsOf core Memberships n) old new
+      same_lines (OfSome (λ (k : ℕ). IsNode core k property.Member n) xs) (IsTopicTriple core Memberships n) old new
       (λ t w. (w.0, listed.sound w.0 (subst (λ ys. Contains ys w.0) e w.1), w.2))
       (λ t w. (w.0, subst (λ ys. Contains ys w.0) (sym e) (listed.complete w.0 w.1), w.2))
       (all_taken (λ (k : ℕ). IsNode core k property.Member n) xs i old new all added)
 
-  -- Mappings.
+  -- The lines of mappings are those of their topic.
 
   pub match_line : (k : LinkKind) (p : Property) (m : ℕ) (old new : List (List ℕ)) → HasLink core.links k n m
       → Adds (IsLineOf (IsNode core n p m)) old new → Adds (IsLineOf (IsMatch core k n p m)) old new
@@ -267,15 +274,13 @@ module _ (core : CoreView) (n : ℕ) where
 
     pub mapping_lines : (xs : List (LinkKind × ℕ)) (i : ℕ) (old new : List (List ℕ)) → xs ≡ found → length xs ≤ i
         → IsConcept core.resources n → Adds (IsLineOf (OfSome (MapsOne core n) (take i xs))) old new
-        → Adds (IsLineOf (IsOf core Mappings n)) old new
+        → Adds (IsLineOf (IsTopicTriple core Mappings n)) old new
     mapping_lines xs i old new e all concept added =
-        same_lines (OfSome (MapsOne core n) found) (IsOf core Mappings n) old new
+        same_lines (OfSome (MapsOne core n) found) (IsTopicTriple core Mappings n) old new
         (λ t w. let pair = w.0 in (concept, maps_from pair.0 pair.1 t (listed.sound w.0 w.1) w.2))
         (λ t w. let by = w.1 in let node = by.1 in maps_to by.0 node.0 t node.1 node.2)
         (subst (λ (ys : List (LinkKind × ℕ)). Adds (IsLineOf (OfSome (MapsOne core n) ys)) old new) e
         (all_taken (MapsOne core n) xs i old new all added))
-
-  -- All topics.
 
   -- The list of topics contains each topic.
   among_topics : (topic : Topic) → Contains topics topic
@@ -292,19 +297,20 @@ module _ (core : CoreView) (n : ℕ) where
   among_topics Memberships = (10, omega arith, refl)
 
   pub all_topics : (xs : List Topic) (i : ℕ) (old new : List (List ℕ)) → xs ≡ topics → 11 ≤ i
-      → Adds (IsLineOf (OfSome (λ (topic : Topic). IsOf core topic n) (take i xs))) old new
-      → Adds (IsLineOf (IsAbout core n)) old new
+      → Adds (IsLineOf (OfSome (λ (topic : Topic). IsTopicTriple core topic n) (take i xs))) old new
+      → Adds (IsLineOf (IsResourceTriple core n)) old new
   all_topics xs i old new e all added =
-      same_lines (OfSome (λ (topic : Topic). IsOf core topic n) xs) (IsAbout core n) old new
+      same_lines (OfSome (λ (topic : Topic). IsTopicTriple core topic n) xs) (IsResourceTriple core n) old new
       (λ t w. (w.0, w.2))
       (λ t w. (w.0, subst (λ ys. Contains ys w.0) (sym e) (among_topics w.0), w.1))
-      (all_taken (λ (topic : Topic). IsOf core topic n) xs i old new
+      (all_taken (λ (topic : Topic). IsTopicTriple core topic n) xs i old new
       (subst (λ (ys : List Topic). length ys ≤ i) (sym e) all) added)
 
   pub as_topic : {T E : Type 0} (r : Result T E) (topic other : Topic) (old new : List (List ℕ)) → topic ≡ other
-      → OnOk r (Adds (IsLineOf (IsOf core other n)) old new) → OnOk r (Adds (IsLineOf (IsOf core topic n)) old new)
-  as_topic r topic other old new e added = subst (λ (t : Topic). OnOk r (Adds (IsLineOf (IsOf core t n)) old new))
-      (sym e) added
+      → OnOk r (Adds (IsLineOf (IsTopicTriple core other n)) old new)
+      → OnOk r (Adds (IsLineOf (IsTopicTriple core topic n)) old new)
+  as_topic r topic other old new e added = subst
+      (λ (t : Topic). OnOk r (Adds (IsLineOf (IsTopicTriple core t n)) old new)) (sym e) added
 
   pub as_kind : {T E : Type 0} (r : Result T E) (k other : LinkKind) (m : ℕ) (old new : List (List ℕ)) → k ≡ other
       → OnOk r (Adds (IsLineOf (MapsOne core n (other, m))) old new)
@@ -313,9 +319,9 @@ module _ (core : CoreView) (n : ℕ) where
       subst (λ (j : LinkKind). OnOk r (Adds (IsLineOf (MapsOne core n (j, m))) old new)) (sym e) added
 
   pub one_way : (k : LinkKind) (m : ℕ) → ((o : Bool) → is_symmetric o k ≡ false)
-      → HeldIn core.links (normal_form (is_outside core.resources) (record { kind = k; a = n; b = m }))
+      → Holds core.links (normal_form (is_outside core.resources) (record { kind = k; a = n; b = m }))
       → HasLink core.links k n m
   one_way k m one held =
-      subst (HeldIn core.links)
+      subst (Holds core.links)
       (ap (λ (b : Bool). if b && nat_lt m n then reversed_link (record { kind = k; a = n; b = m }) else
       record { kind = k; a = n; b = m }) (one (is_outside core.resources n || is_outside core.resources m))) held

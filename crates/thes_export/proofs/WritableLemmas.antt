@@ -1,4 +1,4 @@
--- Proves which texts a triple must have to be spelled, and that those of the vocabularies qualify.
+-- Proves which texts of triples have spellings, and that those of the vocabularies do.
 use Rattle.std.proofs.Common.{◌≡◌, refl, ℕ, ◌==◌, Bool, true, false, ◌&&◌, not, List, ◌∷◌, ◌++◌, All, arith}
 use Rattle.std.specs.Prelude.{codes, flat_map, nat_lt}
 use Rattle.std.specs.List.{list_any, list_all}
@@ -14,7 +14,7 @@ use Rattle.thes_base.specs.Triples.{Triple, Object, Node, Class, Literal, True}
 use Rattle.thes_export.specs.NTriples.{AreSome}
 use Rattle.thes_export.specs.Spelling.{rdf, skos, owl, dct, xsd, property_iri, class_iri}
 
--- A language tag, split as the grammar splits it.
+-- A language tag in the parts of the grammar.
 pub record IsTagForm (tag : List ℕ) : Type 0 where
   pub letters : List ℕ
   pub parts : List (List ℕ)
@@ -22,7 +22,7 @@ pub record IsTagForm (tag : List ℕ) : Type 0 where
   pub others : All (AreSome IsAsciiAlphanumeric) parts
   pub read : tag ≡ letters ++ flat_map (λ part. 45 ∷ part) parts
 
--- A byte of a literal that has a spelling: any but the ends of a line.
+-- A byte of a literal that has a spelling: any but those of a line end.
 abbrev pub IsTextByte : ℕ → Type 0
 IsTextByte b = (b ≡ 10 → ⊥) × (b ≡ 13 → ⊥)
 

@@ -1,4 +1,4 @@
--- Exports that are written to a pipe.
+-- Exports written to a pipe.
 use Rattle.std.specs.Prelude.{◌≡◌, ℕ, List, Option}
 use Rattle.std.specs.Io.KnownBytes.{Appends}
 use Rattle.thes_base.specs.declared.fault.Fault.TheVariants.{OutOfMemory}
@@ -10,13 +10,13 @@ use Rattle.thes_base.specs.State.{State}
 use Rattle.thes_export.specs.Export.{IsExport, IsReadAs}
 
 module _ {W : Type 0} (contents : W → Option (List ℕ)) (base : List ℕ) (s : State) where
-  -- The export was written; read as a document, it has exactly the triples of the state.
+  -- The whole export was written; the only reading of its text is the triples of the state.
   abbrev pub IsExportWritten : Pipe W → Pipe W → Type 0
   IsExportWritten old new =
       (text : List ℕ) × IsExport base s text × IsReadAs base s text
       × Appends (written_bytes contents old) (written_bytes contents new) text
 
-  -- A prefix of the export was written; nothing where memory ran out.
+  -- Only a prefix of the export was written, or nothing if memory ran out.
   abbrev pub IsExportStopped : Pipe W → Pipe W → PipeFault → Type 0
   IsExportStopped old new (pipe.Fault OutOfMemory) = new ≡ old
   IsExportStopped old new (pipe.Fault _) = ⊥

@@ -1,21 +1,22 @@
--- RDF 1.1 N-Triples (W3C Recommendation, 25 February 2014): which bytes are a document, and its triples. A definition
--- is named after its production in the grammar (section 7), or is part of one. White space between terminals and
--- comments are in sections 2.1 and 7. Whether a document is UTF-8 isn't checked here.
+-- RDF 1.1 N-Triples (W3C Recommendation, 25 February 2014): the bytes of a document, and its
+-- triples. Each definition is of a production in the grammar (section 7), which its comment cites,
+-- or of a part of one. Sections 2.1 and 7 define white space between terminals and comments.
+-- Whether a document is UTF-8 isn't checked here.
 use Rattle.std.specs.Prelude.{◌≡◌, ◌≢◌, ◌⊎◌, ◌==◌, ◌-◌, if◌then◌else◌, ℕ, ◌≤◌, List, slice_get, IsSomeAnd, [], ◌∷◌}
 use Rattle.std.specs.Prelude.{◌++◌, length, All, Contains, codes, flat_map, encode_utf8, encode_utf8_all}
 use Rattle.std.specs.Char.{IsAsciiAlphabetic, IsAsciiAlphanumeric, IsAsciiDigit, IsAsciiHexdigit}
 use Rattle.std.specs.Str.Parse.{digits_value}
 use Rattle.thes_base.specs.Forms.{IsIriByte}
 
--- The result of reading: terms and triples of RDF 1.1. A language tag keeps its spelling.
-
+-- A term of RDF 1.1 as it is read: an IRI, a blank node, or a literal with a type or with a language tag, which keeps
+-- its spelling.
 pub data RdfTerm : Type 0 where
   Iri : (iri : List ℕ) → RdfTerm
   Blank : (label : List ℕ) → RdfTerm
   Tagged : (text tag : List ℕ) → RdfTerm
   Typed : (text type : List ℕ) → RdfTerm
 
--- An RDF triple.
+-- An RDF triple as it is read.
 pub record Statement : Type 0 where
   pub subject : RdfTerm
   pub predicate : List ℕ
@@ -25,15 +26,15 @@ pub record Statement : Type 0 where
 unfoldable pub string_type : List ℕ
 string_type = codes "http://www.w3.org/2001/XMLSchema#string"
 
--- Terminals.
-
 -- A space or a tab.
 abbrev pub IsBlankByte : ℕ → Type 0
 IsBlankByte b = (b ≡ 32) ⊎ (b ≡ 9)
 
+-- White space between terminals: any number of spaces and tabs.
 abbrev pub IsGap : List ℕ → Type 0
 IsGap bytes = All IsBlankByte bytes
 
+-- A carriage return or a line feed.
 abbrev pub IsEolByte : ℕ → Type 0
 IsEolByte b = (b ≡ 13) ⊎ (b ≡ 10)
 
@@ -48,10 +49,10 @@ pub record IsComment (bytes : List ℕ) : Type 0 where
   pub one_line : All (λ b. IsEolByte b → ⊥) content
 
 -- The code point is in one of the ranges, both ends included.
-abbrev pub IsIn : List (ℕ × ℕ) → ℕ → Type 0
-IsIn ranges c = (low : ℕ) × (high : ℕ) × Contains ranges (low, high) × (low ≤ c) × (c ≤ high)
+abbrev pub IsInRanges : List (ℕ × ℕ) → ℕ → Type 0
+IsInRanges ranges c = (low : ℕ) × (high : ℕ) × Contains ranges (low, high) × (low ≤ c) × (c ≤ high)
 
--- PN_CHARS_BASE
+-- PN_CHARS_BASE, as ranges of code points
 unfoldable pub base_ranges : List (ℕ × ℕ)
 base_ranges =
     (0x41, 0x5a) ∷ (0x61, 0x7a) ∷ (0xc0, 0xd6) ∷ (0xd8, 0xf6) ∷ (0xf8, 0x2ff) ∷ (0x370, 0x37d) ∷ (0x37f, 0x1fff)
@@ -59,25 +60,27 @@ base_ranges =
     ∷ (0x10000, 0xeffff) ∷ []
 
 -- PN_CHARS_U ::= PN_CHARS_BASE | '_' | ':'
-abbrev pub IsStart : ℕ → Type 0
-IsStart c = IsIn base_ranges c ⊎ (c ≡ 95) ⊎ (c ≡ 58)
+abbrev pub IsLabelStart : ℕ → Type 0
+IsLabelStart c = IsInRanges base_ranges c ⊎ (c ≡ 95) ⊎ (c ≡ 58)
 
 -- PN_CHARS ::= PN_CHARS_U | '-' | [0-9] | #x00B7 | [#x0300-#x036F] | [#x203F-#x2040]
-abbrev pub IsFurther : ℕ → Type 0
-IsFurther c = IsStart c ⊎ IsIn ((45, 45) ∷ (0x30, 0x39) ∷ (0xb7, 0xb7) ∷ (0x300, 0x36f) ∷ (0x203f, 0x2040) ∷ []) c
+abbrev pub IsLabelCharacter : ℕ → Type 0
+IsLabelCharacter c = IsLabelStart c
+    ⊎ IsInRanges ((45, 45) ∷ (0x30, 0x39) ∷ (0xb7, 0xb7) ∷ (0x300, 0x36f) ∷ (0x203f, 0x2040) ∷ []) c
 
 -- (PN_CHARS_U | [0-9]) ((PN_CHARS | '.')* PN_CHARS)?
-pub record IsLabel (characters : List ℕ) : Type 0 where
-  pub first : IsSomeAnd (slice_get characters 0) (λ c. IsStart c ⊎ IsAsciiDigit c)
-  pub each : All (λ c. IsFurther c ⊎ (c ≡ 46)) characters
-  pub last : IsSomeAnd (slice_get characters (length characters - 1)) IsFurther
+pub record IsBlankNodeLabel (characters : List ℕ) : Type 0 where
+  pub first : IsSomeAnd (slice_get characters 0) (λ c. IsLabelStart c ⊎ IsAsciiDigit c)
+  pub each : All (λ c. IsLabelCharacter c ⊎ (c ≡ 46)) characters
+  pub last : IsSomeAnd (slice_get characters (length characters - 1)) IsLabelCharacter
 
--- A piece of the text between angle brackets or quotation marks: a byte as it is, or an escape.
+-- A piece of the text between angle brackets or quotation marks: a byte that is spelled as itself, or an escape.
 pub data Piece : Type 0 where
   Plain : (byte : ℕ) → Piece
   Echar : (letter : ℕ) → Piece
   Uchar : (letter : ℕ) (digits : List ℕ) → Piece
 
+-- The bytes of a piece, as written.
 abbrev pub piece_text : Piece → List ℕ
 piece_text (Plain b) = b ∷ []
 piece_text (Echar letter) = 92 ∷ letter ∷ []
@@ -116,14 +119,14 @@ IsStringPiece (Plain b) = (b ≢ 34) × (b ≢ 92) × (b ≢ 10) × (b ≢ 13)
 IsStringPiece (Echar letter) = IsEchar letter
 IsStringPiece (Uchar letter digits) = IsUchar letter digits
 
--- The text between the brackets or quotation marks as pieces, and the value that they encode.
+-- The text between the brackets or quotation marks, as pieces, and the value that these encode.
 pub record IsMadeOf (IsPiece : Piece → Type 0) (text_is value : List ℕ) : Type 0 where
   pub pieces : List Piece
   pub each : All IsPiece pieces
   pub text : text_is ≡ flat_map piece_text pieces
   pub read : value ≡ flat_map piece_value pieces
 
--- A definition of a production takes the remaining text as an argument, too, so that it says where its own text ends.
+-- A definition of a production has the remaining text as an argument as well, and so states where its own text ends.
 
 -- IRIREF ::= '<' ([^#x00-#x20<>"{}|^`\] | UCHAR)* '>'
 pub record IsIriref (text iri rest : List ℕ) : Type 0 where
@@ -153,17 +156,15 @@ pub record IsLangtag (text tag rest : List ℕ) : Type 0 where
 -- BLANK_NODE_LABEL ::= '_:' (PN_CHARS_U | [0-9]) ((PN_CHARS | '.')* PN_CHARS)?
 pub record IsBlankNode (text label rest : List ℕ) : Type 0 where
   pub characters : List ℕ
-  pub has_form : IsLabel characters
+  pub has_form : IsBlankNodeLabel characters
   pub read : label ≡ encode_utf8_all characters
   pub text_is : text ≡ 95 ∷ 58 ∷ (label ++ rest)
 
--- Any number of spaces and tabs, and then the rest.
+-- The text is any number of spaces and tabs, and then the rest.
 pub record IsSpaced (text rest : List ℕ) : Type 0 where
   pub gap : List ℕ
   pub blank : IsGap gap
   pub text_is : text ≡ gap ++ rest
-
--- Productions.
 
 -- '^^' IRIREF
 pub record IsTypedAs (text : List ℕ) (value : List ℕ) (literal : RdfTerm) (rest : List ℕ) : Type 0 where
@@ -175,6 +176,7 @@ pub record IsTypedAs (text : List ℕ) (value : List ℕ) (literal : RdfTerm) (r
   pub iriref : IsIriref start type rest
   pub read : literal ≡ Typed value type
 
+-- LANGTAG, after white space
 pub record IsTaggedAs (text : List ℕ) (value : List ℕ) (literal : RdfTerm) (rest : List ℕ) : Type 0 where
   pub start : List ℕ
   pub gap_before : IsSpaced text start
@@ -226,13 +228,13 @@ pub record IsLineEnd (text rest : List ℕ) : Type 0 where
   pub content : (comment ≡ []) ⊎ IsComment comment
   pub text_is : start ≡ comment ++ rest
 
--- A triple, and then text with the property `Next`.
+-- The text is a triple, and then a text with the property `Next`.
 pub record IsTripleThen (t : Statement) (Next : List ℕ → Type 0) (text : List ℕ) : Type 0 where
   pub rest : List ℕ
   pub triple : IsTriple text t rest
   pub more : Next rest
 
--- An end of line, and then text with the property `Next`.
+-- The text is an end of line, and then a text with the property `Next`.
 pub record IsEolThen (Next : List ℕ → Type 0) (text : List ℕ) : Type 0 where
   pub eol : List ℕ
   pub has_form : IsEol eol
@@ -240,7 +242,7 @@ pub record IsEolThen (Next : List ℕ → Type 0) (text : List ℕ) : Type 0 whe
   pub text_is : text ≡ eol ++ rest
   pub more : Next rest
 
--- The remainder of a line, and then text with the property `Next`.
+-- The text is the remainder of a line, and then a text with the property `Next`.
 pub record IsEndThen (Next : List ℕ → Type 0) (text : List ℕ) : Type 0 where
   pub rest : List ℕ
   pub at_line_end : IsLineEnd text rest

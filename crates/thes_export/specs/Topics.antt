@@ -1,4 +1,4 @@
--- The triples that an export writes for each number, topic by topic.
+-- The triples that an export writes about each resource, topic by topic.
 use Rattle.std.specs.Prelude.{◌≡◌, ◌⊎◌, ◌↔◌, ◌∷◌, ◌≤◌, [], ℕ, List, Contains, Option, None, Some, true}
 use Rattle.std.specs.FinSet as set
 use Rattle.thes_base.specs.declared.data.LabelKind.{LabelKind}
@@ -23,9 +23,11 @@ use Rattle.thes_export.specs.declared.topic.Topic.TheVariants.{Kind, Belonging, 
 use Rattle.thes_export.specs.declared.topic.Topic.TheVariants.{Broader, Narrower, Related, Mappings, Memberships}
 use Rattle.thes_export.specs.Spelling.{line_of}
 
+-- The IRI of the resource with this number.
 abbrev pub number_iri : CoreView → ℕ → List ℕ
 number_iri core n = iri_of core.setting.base core.iris n
 
+-- The SKOS property for a label kind.
 abbrev pub label_property : LabelKind → Property
 label_property Pref = property.PrefLabel
 label_property Alt = property.AltLabel
@@ -33,25 +35,31 @@ label_property Hidden = property.HiddenLabel
 label_property Scope = property.ScopeNote
 
 module _ (core : CoreView) where
+  -- The triple from `n` to `m` with the property `p`.
   abbrev pub node_triple : ℕ → Property → ℕ → Triple
   node_triple n p m = triple (number_iri core n) p (Node (number_iri core m))
 
+  -- The triple is that from `n` to `m` with the property.
   abbrev pub IsNode : ℕ → Property → ℕ → Triple → Type 0
   IsNode n p m t = t ≡ node_triple n p m
 
+  -- The triple that states the class of `n`.
   abbrev pub class_triple : ℕ → SkosClass → Triple
   class_triple n class = triple (number_iri core n) property.HasType (Class class)
 
+  -- The triple that states that `n` is deprecated.
   abbrev pub dead_triple : ℕ → Triple
   dead_triple n = triple (number_iri core n) property.Deprecated True
 
+  -- The triple that states a label or scope note of `n`.
   abbrev pub label_triple : ℕ → LabelData → Triple
   label_triple n l = triple (number_iri core n) (label_property l.kind) (Literal l.tag l.text)
 
-  -- The triples of subject `n` and property `p` whose objects have the property `Is`.
+  -- The triple has the subject `n` and the property `p`, and its object has the property `Is`.
   abbrev pub Nodes : Property → (ℕ → Type 0) → ℕ → Triple → Type 0
   Nodes p Is n t = (m : ℕ) × Is m × IsNode n p m t
 
+  -- The resource `n` is of the kind for this class.
   abbrev pub IsOfClass : SkosClass → ℕ → Type 0
   IsOfClass ConceptScheme n = IsScheme core.resources n
   IsOfClass Concept n = IsConcept core.resources n
@@ -63,16 +71,17 @@ module _ (core : CoreView) where
       IsLiveConcept core.resources n × (scheme_of core.resources n ≡ Some m)
       × ((b : ℕ) → HasBroader core.links n b → ⊥)
 
-  -- The scheme of which `n` is a top concept, or none.
+  -- The option is the scheme of which `n` is a top concept, or None if there is none.
   abbrev pub IsTopScheme : ℕ → Option ℕ → Type 0
   IsTopScheme n None = (m : ℕ) → IsTopIn n m → ⊥
   IsTopScheme n (Some m) = IsTopIn n m
 
-  -- The triple of a link from `n` to `m` in this direction.
+  -- There is a link of this kind from `n` to `m`, and the triple is that from `n` to `m` with the
+  -- property.
   abbrev pub IsMatch : LinkKind → ℕ → Property → ℕ → Triple → Type 0
   IsMatch k n p m t = HasLink core.links k n m × IsNode n p m t
 
-  -- The triple of one mapping of `n`.
+  -- The triple is one that states this mapping from the end `n`.
   abbrev pub MapsOne : ℕ → LinkKind × ℕ → Triple → Type 0
   MapsOne n (kind.Exact, m) t = IsNode n property.ExactMatch m t
   MapsOne n (kind.Close, m) t = IsNode n property.CloseMatch m t
@@ -81,7 +90,7 @@ module _ (core : CoreView) where
   MapsOne n (kind.Narrow, m) t = IsMatch kind.Narrow n property.NarrowMatch m t
   MapsOne n (_, m) t = ⊥
 
-  -- `n` has a mapping to `m` that is stated by this property.
+  -- A mapping between `n` and `m` is stated by this property, with `n` as its subject.
   abbrev pub MapsBy : Property → ℕ → ℕ → Type 0
   MapsBy property.ExactMatch n m = HasLink core.links kind.Exact n m ⊎ HasLink core.links kind.Exact m n
   MapsBy property.CloseMatch n m = HasLink core.links kind.Close n m ⊎ HasLink core.links kind.Close m n
@@ -90,32 +99,34 @@ module _ (core : CoreView) where
   MapsBy property.NarrowMatch n m = HasLink core.links kind.Narrow n m
   MapsBy _ n m = ⊥
 
-  -- The triples that are written for `n` under a topic.
-  abbrev pub IsOf : Topic → ℕ → Triple → Type 0
-  IsOf Kind n t = (class : SkosClass) × IsOfClass class n × (t ≡ class_triple n class)
-  IsOf Belonging n t = Nodes property.InScheme (λ m. scheme_of core.resources n ≡ Some m) n t
-  IsOf Top n t =
+  -- The triple is one that is written about `n` under this topic.
+  abbrev pub IsTopicTriple : Topic → ℕ → Triple → Type 0
+  IsTopicTriple Kind n t = (class : SkosClass) × IsOfClass class n × (t ≡ class_triple n class)
+  IsTopicTriple Belonging n t = Nodes property.InScheme (λ m. scheme_of core.resources n ≡ Some m) n t
+  IsTopicTriple Top n t =
       (m : ℕ) × IsTopIn n m
       × (IsNode n property.TopConceptOf m t ⊎ IsNode m property.HasTopConcept n t)
-  IsOf Death n t = IsConcept core.resources n × (IsLive core.resources n → ⊥) × (t ≡ dead_triple n)
-  IsOf Replacement n t = Nodes property.IsReplacedBy (IsReplacedBy core.resources n) n t
-  IsOf Labels n t = (l : LabelData) × (set.contains core.labels (owned_label n l) ≡ true) × (t ≡ label_triple n l)
-  IsOf Broader n t = Nodes property.Broader (HasBroader core.links n) n t
-  IsOf Narrower n t = Nodes property.Narrower (λ m. HasBroader core.links m n) n t
-  IsOf Related n t =
+  IsTopicTriple Death n t = IsConcept core.resources n × (IsLive core.resources n → ⊥) × (t ≡ dead_triple n)
+  IsTopicTriple Replacement n t = Nodes property.IsReplacedBy (IsReplacedBy core.resources n) n t
+  IsTopicTriple Labels n t = (l : LabelData) × (set.contains core.labels (owned_label n l) ≡ true)
+      × (t ≡ label_triple n l)
+  IsTopicTriple Broader n t = Nodes property.Broader (HasBroader core.links n) n t
+  IsTopicTriple Narrower n t = Nodes property.Narrower (λ m. HasBroader core.links m n) n t
+  IsTopicTriple Related n t =
       Nodes property.Related (λ m. HasLink core.links kind.Related n m ⊎ HasLink core.links kind.Related m n) n t
-  IsOf Mappings n t = IsConcept core.resources n × ((p : Property) × Nodes p (MapsBy p n) n t)
-  IsOf Memberships n t = (k : ℕ) × HasLink core.links kind.Member k n × IsNode k property.Member n t
+  IsTopicTriple Mappings n t = IsConcept core.resources n × ((p : Property) × Nodes p (MapsBy p n) n t)
+  IsTopicTriple Memberships n t = (k : ℕ) × HasLink core.links kind.Member k n × IsNode k property.Member n t
 
-  -- The triples of all topics.
-  abbrev pub IsAbout : ℕ → Triple → Type 0
-  IsAbout n t = (topic : Topic) × IsOf topic n t
+  -- The triple is one that is written about `n` under any topic.
+  abbrev pub IsResourceTriple : ℕ → Triple → Type 0
+  IsResourceTriple n t = (topic : Topic) × IsTopicTriple topic n t
 
+-- All topics, in the order in which their lines are collected, before they are sorted.
 abbrev pub topics : List Topic
 topics =
     Kind ∷ Belonging ∷ Top ∷ Death ∷ Replacement ∷ Labels ∷ Broader ∷ Narrower ∷ Related ∷ Mappings ∷ Memberships ∷ []
 
--- The lines of triples with the property `Is`.
+-- The line is that of a triple with the property `Is`.
 abbrev pub IsLineOf : (Triple → Type 0) → List ℕ → Type 0
 IsLineOf Is line = (t : Triple) × Is t × (line ≡ line_of t)
 
@@ -123,17 +134,17 @@ IsLineOf Is line = (t : Triple) × Is t × (line ≡ line_of t)
 pub record Adds (Is : List ℕ → Type 0) (old new : List (List ℕ)) : Type 0 where
   pub each : (line : List ℕ) → Contains new line ↔ (Contains old line ⊎ Is line)
 
--- The SKOS class of a kind of resource; an outside concept has none, since it is described elsewhere.
+-- The SKOS class of a kind of resource; an outside concept has none, since other data describe it.
 abbrev pub class_in : ResourceKind → Option SkosClass
 class_in kinds.Scheme = Some ConceptScheme
 class_in kinds.Concept = Some Concept
 class_in kinds.Collection = Some Collection
 class_in kinds.Outside = None
 
--- The triples of the numbers from 1 up to this one.
-abbrev pub IsUpTo : CoreView → ℕ → Triple → Type 0
-IsUpTo core most t = (n : ℕ) × (1 ≤ n) × (n ≤ most) × IsAbout core n t
+-- The triple is one that is written about a resource with a number from 1 to `most`.
+abbrev pub IsTripleUpTo : CoreView → ℕ → Triple → Type 0
+IsTripleUpTo core most t = (n : ℕ) × (1 ≤ n) × (n ≤ most) × IsResourceTriple core n t
 
 -- The new list has exactly the lines of the old one and those of this topic of the resource.
 abbrev pub AddsTopic : LineSource → Topic → List (List ℕ) → List (List ℕ) → Type 0
-AddsTopic about topic old new = Adds (IsLineOf (IsOf about.core.now topic about.n)) old new
+AddsTopic about topic old new = Adds (IsLineOf (IsTopicTriple about.core.now topic about.n)) old new

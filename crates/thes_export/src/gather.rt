@@ -1,4 +1,4 @@
-//! The text of an export.
+//! Collecting the lines of an export, and its text.
 ghost use Rattle.std.specs.Prelude.{◌≡◌, ◌+◌, ◌++◌, ◌<◌, [], Contains, false, IfOk, OnOk, length};
 ghost use Rattle.std.specs.List.{concat};
 ghost use Rattle.std.specs.Ordering.{nat_cmp};
@@ -7,7 +7,7 @@ ghost use Rattle.thes_base.specs.Listing.{IsListing};
 ghost use Rattle.thes_base.specs.State.{State};
 ghost use Rattle.thes_core.specs.CoreView.{IsViewOf};
 ghost use Rattle.thes_export.specs.Export.{IsExport};
-ghost use Rattle.thes_export.specs.Topics.{Adds, IsAbout, IsLineOf, IsUpTo};
+ghost use Rattle.thes_export.specs.Topics.{Adds, IsResourceTriple, IsLineOf, IsTripleUpTo};
 
 use crate::line::TripleLine;
 use crate::line_source::LineSource;
@@ -16,7 +16,7 @@ use std::alloc::{AllocError, Global};
 use thes_base::number::ResNo;
 use thes_core::Core;
 
-// Adds all lines of the resource with this index.
+// Appends all lines about the resource with this index, counted from 0.
 fn push_at(
     alloc: Global,
     core: &Core,
@@ -25,7 +25,7 @@ fn push_at(
 ) -> Result<(), AllocError>
     requires unspent { core.now.spent ≡ false }
     requires within { i < length core.now.resources }
-    ensures { let is_about = IsAbout core.now (i + 1) in
+    ensures { let is_about = IsResourceTriple core.now (i + 1) in
         OnOk result (Adds (IsLineOf is_about) lines.old.items lines.new.items) }
 {
     let resources = core.resources();
@@ -40,7 +40,7 @@ fn push_at(
     Ok(())
 }
 
-// Returns the number of resources.
+// Returns the number of resources of all kinds.
 fn resource_count(core: &Core) -> usize
     requires { core.now.spent ≡ false }
     ensures { result ≡ length core.now.resources }
@@ -48,10 +48,10 @@ fn resource_count(core: &Core) -> usize
     core.resources().len()
 }
 
-// Returns the lines of all resources.
+// Returns the lines about all resources, in no particular order and perhaps with duplicates.
 fn all_lines(alloc: Global, core: &Core) -> Result<Vec<TripleLine>, AllocError>
     requires { core.now.spent ≡ false }
-    ensures { let is_told = IsUpTo core.now (length core.now.resources) in
+    ensures { let is_told = IsTripleUpTo core.now (length core.now.resources) in
         IfOk result (λ lines. Adds (IsLineOf is_told) [] lines.items) }
 {
     let mut lines = Vec::new(alloc);
@@ -71,7 +71,7 @@ fn sort_lines(lines: &mut Vec<TripleLine>) -> Result<(), AllocError>
     Ok(())
 }
 
-// Appends a line to a text.
+// Appends a line to the text of the export.
 fn push_text(text: &mut Vec<u8>, line: &TripleLine) -> Result<(), AllocError>
     ensures { OnOk result (text.new.items ≡ text.old.items ++ line.now) }
 {
@@ -79,7 +79,7 @@ fn push_text(text: &mut Vec<u8>, line: &TripleLine) -> Result<(), AllocError>
     Ok(())
 }
 
-// Returns the concatenation of the lines.
+// Returns the concatenation of the lines, in order.
 fn join_lines(alloc: Global, lines: &[TripleLine]) -> Result<Vec<u8>, AllocError>
     ensures { IfOk result (λ text. text.items ≡ concat lines.now) }
 {
@@ -90,7 +90,7 @@ fn join_lines(alloc: Global, lines: &[TripleLine]) -> Result<Vec<u8>, AllocError
     Ok(text)
 }
 
-/// Returns the export of the state that the core holds.
+/// Returns the export of the state that the core holds: the lines of its triples, sorted by their bytes, each once.
 pub fn export_text(alloc: Global, core: &Core) -> Result<Vec<u8>, AllocError>
     requires { core.now.spent ≡ false }
     ensures { (s : State) → IsViewOf core.now s →

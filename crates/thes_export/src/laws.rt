@@ -1,13 +1,13 @@
-//! Laws of exports as they are defined, whatever code writes them.
+//! Laws of exports, whatever code writes them.
 ghost use Rattle.thes_export.specs.Export.{HasOneExport, ReadsExports};
 
-/// States that the export of a legal state is an N-Triples document with exactly the state's triples, and has no other
-/// reading.
+/// No effect; states for the proof that the export of a legal state is an N-Triples document whose only reading is the
+/// state's triples.
 pub fn reads_exports()
     ensures { ReadsExports }
 {}
 
-/// States that a state has at most one export.
+/// No effect; states for the proof that a state has at most one export.
 pub fn one_export()
     ensures { HasOneExport }
 {}

@@ -1,4 +1,4 @@
-//! Exports the triples of a thesaurus as N-Triples.
+//! The export of a thesaurus as triples in N-Triples: SKOS, with rdf:type, owl:deprecated and dct:isReplacedBy.
 #![tactic(auto)]
 
 pub mod gather;

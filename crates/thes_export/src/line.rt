@@ -1,4 +1,4 @@
-//! Lines of N-Triples.
+//! Lines of N-Triples, each of one triple.
 ghost use Rattle.std.specs.Prelude.{◌≡◌, ◌++◌, [], ◌∷◌, List, ℕ, Some, false, IfOk, OnOk, flat_map, nat_eq, codes, refl};
 ghost use Rattle.std.specs.Cmp;
 ghost use Rattle.std.specs.Cmp.Lexicographic.{pointwise, slice_cmp, nat_list_eq_equiv, nat_list_cmp_total, texts_ties, texts_po};
@@ -17,7 +17,7 @@ use thes_base::number::ResNo;
 use thes_base::triple::{Class, Property};
 use thes_core::Core;
 
-/// A line with its line feed, ordered by its bytes.
+/// A line of N-Triples with its line feed; lines are compared by their bytes.
 #[derive(Drop)]
 pub struct TripleLine {
     text: Vec<u8>,
@@ -67,7 +67,8 @@ impl Ord for TripleLine {
     }
 }
 
-// Appends the IRI of a resource in angle brackets.
+// Appends the IRI of a resource in angle brackets: its own for an outside concept, and the base
+// with its number for any other.
 fn push_resource(text: &mut Vec<u8>, core: &Core, n: ResNo) -> Result<(), AllocError>
     requires { core.now.spent ≡ false }
     ensures { OnOk result
@@ -106,7 +107,7 @@ fn push_byte(text: &mut Vec<u8>, byte: u8) -> Result<(), AllocError>
     Ok(())
 }
 
-// Appends a text in quotation marks, with escapes.
+// Appends a text in quotation marks, with quotation marks and backslashes escaped.
 fn push_quoted(text: &mut Vec<u8>, value: &str) -> Result<(), AllocError>
     ensures { OnOk result (text.new.items ≡ text.old.items ++ text_spelling value.now) }
 {
@@ -118,7 +119,7 @@ fn push_quoted(text: &mut Vec<u8>, value: &str) -> Result<(), AllocError>
     Ok(())
 }
 
-// Returns the property for a kind of label.
+// Returns the SKOS property for a label kind, such as `skos:prefLabel`.
 fn property_of(kind: LabelKind) -> Property
     ensures { result ≡ label_property kind }
 {
@@ -130,7 +131,7 @@ fn property_of(kind: LabelKind) -> Property
     }
 }
 
-// Appends the literal `true` with its type.
+// Appends the literal `true` with the type `xsd:boolean`.
 fn push_true(text: &mut Vec<u8>) -> Result<(), AllocError>
     ensures { OnOk result (text.new.items ≡ text.old.items ++ object_text True) }
 {
@@ -138,7 +139,7 @@ fn push_true(text: &mut Vec<u8>) -> Result<(), AllocError>
     Ok(())
 }
 
-// Appends a label's text and tag.
+// Appends a label's text as a literal with its language tag.
 fn push_label_text(text: &mut Vec<u8>, label: &Label) -> Result<(), AllocError>
     ensures { let content = object_text (Literal label.now.tag label.now.text) in
         OnOk result (text.new.items ≡ text.old.items ++ content) }
@@ -149,7 +150,7 @@ fn push_label_text(text: &mut Vec<u8>, label: &Label) -> Result<(), AllocError>
     Ok(())
 }
 
-// Begins a line with the subject and the property, each followed by a space.
+// Returns the beginning of a line: the subject and the property, each followed by a space.
 fn begin_line(
     alloc: Global,
     core: &Core,
@@ -168,7 +169,7 @@ fn begin_line(
     Ok(text)
 }
 
-// Begins the line of a label.
+// Returns the beginning of a label's line, up to its literal.
 fn begin_label_line(
     alloc: Global,
     core: &Core,
@@ -183,7 +184,7 @@ fn begin_label_line(
     Ok(text)
 }
 
-// Completes a line.
+// Completes a line with a space, a full stop and a line feed.
 fn end_line(mut text: Vec<u8>) -> Result<TripleLine, AllocError>
     ensures { IfOk result (λ line. line ≡ text.items ++ codes " .\n") }
 {
@@ -192,14 +193,14 @@ fn end_line(mut text: Vec<u8>) -> Result<TripleLine, AllocError>
 }
 
 impl TripleLine {
-    /// Returns the line as bytes.
+    /// Returns the bytes of the line in UTF-8, with its line feed.
     pub fn as_bytes(&self) -> &[u8]
         ensures { result.now ≡ self.now }
     {
         self.text.as_slice()
     }
 
-    /// Makes the line of a triple whose object is a resource.
+    /// Returns the line of a triple whose object is a resource.
     pub fn of_node(
         alloc: Global,
         core: &Core,
@@ -217,7 +218,7 @@ impl TripleLine {
         Ok(line)
     }
 
-    /// Makes the line that states the class of a resource.
+    /// Returns the line of the triple that states the class of a resource.
     pub fn of_class(
         alloc: Global,
         core: &Core,
@@ -234,7 +235,7 @@ impl TripleLine {
         Ok(line)
     }
 
-    /// Makes the line that states that a concept is deprecated.
+    /// Returns the line of the triple that states that a concept is deprecated (`owl:deprecated`).
     pub fn of_dead(alloc: Global, core: &Core, n: ResNo) -> Result<TripleLine, AllocError>
         requires { core.now.spent ≡ false }
         ensures { let subject = number_iri core.now n in
@@ -246,7 +247,7 @@ impl TripleLine {
         Ok(line)
     }
 
-    /// Makes the line of a label.
+    /// Returns the line of the triple of a label or scope note.
     pub fn of_label(
         alloc: Global,
         core: &Core,

@@ -1,4 +1,4 @@
-//! A resource and its core, as a source of lines.
+//! A resource of a core, as the subject of lines.
 ghost use Rattle.std.specs.Prelude.{◌≡◌, false, Some};
 ghost use Rattle.thes_base.specs.Resources.{entry_at};
 
@@ -7,7 +7,7 @@ use thes_base::data::Resource;
 use thes_base::number::ResNo;
 use thes_core::Core;
 
-/// A resource to make lines of, with the core that has it.
+/// A resource about which lines are written, with the core that has it.
 #[derive(Clone, Copy)]
 pub struct LineSource<'a> {
     pub alloc: Global,

@@ -1,4 +1,4 @@
-//! Lines of a concept's links.
+//! Lines of a concept's links, as seen from the concept.
 ghost use Rattle.std.specs.Prelude.{◌≡◌, Bool, false, OnOk};
 ghost use Rattle.thes_base.specs.Links.{is_symmetric};
 ghost use Rattle.thes_export.specs.Topics.{Adds, AddsTopic, IsLineOf, IsMatch, MapsOne};
@@ -13,6 +13,7 @@ use thes_base::data::{Link, LinkKind};
 use thes_base::number::ResNo;
 use thes_base::triple::Property;
 
+// Appends the lines of the broader concepts (`skos:broader`).
 pub(crate) fn push_broader(
     about: &LineSource,
     lines: &mut Vec<TripleLine>,
@@ -24,6 +25,7 @@ pub(crate) fn push_broader(
     Ok(())
 }
 
+// Appends the lines of the narrower concepts (`skos:narrower`).
 pub(crate) fn push_narrower(
     about: &LineSource,
     lines: &mut Vec<TripleLine>,
@@ -35,6 +37,7 @@ pub(crate) fn push_narrower(
     Ok(())
 }
 
+// Appends the lines of the related concepts (`skos:related`).
 pub(crate) fn push_related(
     about: &LineSource,
     lines: &mut Vec<TripleLine>,
@@ -46,7 +49,8 @@ pub(crate) fn push_related(
     Ok(())
 }
 
-// Adds the line of a broader or a narrower match, if the link has this direction; otherwise its other end has the line.
+// Appends the line of a broader or a narrower match, if the link leads from the concept to the
+// object; a link in the other direction has no line here.
 fn push_match(
     about: &LineSource,
     lines: &mut Vec<TripleLine>,
@@ -70,7 +74,7 @@ fn push_match(
     Ok(())
 }
 
-// Adds the lines of one mapping.
+// Appends the line of one mapping, if the concept is its subject.
 fn push_mapping(
     about: &LineSource,
     lines: &mut Vec<TripleLine>,
@@ -100,6 +104,8 @@ fn push_mapping(
     }
 }
 
+// Appends the lines of the mappings of which the resource is the subject; none if it isn't a
+// concept.
 pub(crate) fn push_mappings(
     about: &LineSource,
     lines: &mut Vec<TripleLine>,
@@ -116,6 +122,7 @@ pub(crate) fn push_mappings(
     Ok(())
 }
 
+// Appends the line of each collection of which the resource is a member, with the collection as its subject.
 pub(crate) fn push_memberships(
     about: &LineSource,
     lines: &mut Vec<TripleLine>,

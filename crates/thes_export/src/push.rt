@@ -1,4 +1,4 @@
-//! Adds lines to a list.
+//! Appending lines to a list.
 ghost use Rattle.std.specs.Prelude.{◌≡◌, ℕ, List, Contains, OnOk};
 ghost use Rattle.thes_export.specs.Topics.{Adds, IsLineOf, IsNode, Nodes};
 
@@ -8,7 +8,7 @@ use std::alloc::AllocError;
 use thes_base::number::ResNo;
 use thes_base::triple::Property;
 
-/// Adds a line.
+/// Appends a line, unless memory runs out.
 pub(crate) fn push_line(lines: &mut Vec<TripleLine>, line: TripleLine) -> Result<(), AllocError>
     ensures { OnOk result (Adds (λ (l : List ℕ). l ≡ line) lines.old.items lines.new.items) }
 {
@@ -16,7 +16,7 @@ pub(crate) fn push_line(lines: &mut Vec<TripleLine>, line: TripleLine) -> Result
     Ok(())
 }
 
-/// Adds the line of a triple whose object is a resource.
+/// Appends the line of a triple whose object is a resource.
 pub(crate) fn push_node(
     about: &LineSource,
     lines: &mut Vec<TripleLine>,
@@ -32,7 +32,7 @@ pub(crate) fn push_node(
     Ok(())
 }
 
-/// Adds a line for each object.
+/// Appends the line of the triple from the resource to each object, in the order of the objects.
 pub(crate) fn push_nodes(
     about: &LineSource,
     lines: &mut Vec<TripleLine>,

@@ -1,4 +1,4 @@
-//! Lines of a resource's own data and labels.
+//! Lines of a resource's class, scheme, replacement and labels.
 ghost use Rattle.std.specs.Prelude.{◌≡◌, ◌&&◌, not, IfOk, OnOk};
 ghost use Rattle.thes_base.specs.Resources.{is_concept_kind};
 ghost use Rattle.thes_export.specs.Topics.{AddsTopic, IsTopScheme, class_in};
@@ -12,7 +12,7 @@ use thes_base::data::{Resource, ResourceKind};
 use thes_base::number::ResNo;
 use thes_base::triple::{Class, Property};
 
-// Returns the SKOS class of a resource; an outside concept has none, since it is described elsewhere.
+// Returns the SKOS class of a resource; an outside concept has none, since other data describe it.
 fn class_of(resource: &Resource) -> Option<Class>
     ensures { result ≡ class_in resource.now.kind }
 {
@@ -24,14 +24,14 @@ fn class_of(resource: &Resource) -> Option<Class>
     }
 }
 
-// Returns the scheme of a concept or a collection.
+// Returns the scheme of a concept or a collection, if the resource is one.
 fn scheme_in(resource: &Resource) -> Option<ResNo>
     ensures { result ≡ resource.now.scheme }
 {
     resource.scheme
 }
 
-// Returns the replacement of a deprecated concept.
+// Returns the replacement of a deprecated concept, if it has one.
 fn replacement_in(resource: &Resource) -> Option<ResNo>
     ensures { result ≡ resource.now.replaced }
 {
@@ -48,7 +48,7 @@ pub(crate) fn is_concept(resource: &Resource) -> bool
     }
 }
 
-// Returns whether the resource is a live concept.
+// Returns whether the resource is a live concept, one that isn't deprecated.
 fn is_live_concept(resource: &Resource) -> bool
     ensures { result ≡ (is_concept_kind resource.now.kind && resource.now.live) }
 {
@@ -62,6 +62,7 @@ fn is_dead_concept(resource: &Resource) -> bool
     is_concept(resource) && !resource.live
 }
 
+// Appends the line of the SKOS class; an outside concept has none.
 pub(crate) fn push_kind(about: &LineSource, lines: &mut Vec<TripleLine>) -> Result<(), AllocError>
     ensures { OnOk result (AddsTopic about.now Topic.Kind lines.old.items lines.new.items) }
 {
@@ -75,6 +76,8 @@ pub(crate) fn push_kind(about: &LineSource, lines: &mut Vec<TripleLine>) -> Resu
     }
 }
 
+// Appends the line of the scheme to which the resource belongs (`skos:inScheme`), if it belongs to
+// one.
 pub(crate) fn push_belonging(
     about: &LineSource,
     lines: &mut Vec<TripleLine>,
@@ -90,8 +93,9 @@ pub(crate) fn push_belonging(
     }
 }
 
-// Returns the scheme of which the resource is a top concept, if there is one.
-fn top_of(about: &LineSource) -> Result<Option<ResNo>, AllocError>
+// Returns the scheme of which the resource is a top concept; None if it isn't a live concept
+// without broader ones.
+fn top_scheme_of(about: &LineSource) -> Result<Option<ResNo>, AllocError>
     ensures { IfOk result (IsTopScheme about.now.core.now about.now.n) }
 {
     if !is_live_concept(about.resource) {
@@ -104,10 +108,12 @@ fn top_of(about: &LineSource) -> Result<Option<ResNo>, AllocError>
     Ok(scheme_in(about.resource))
 }
 
+// Appends the lines of a top concept in both directions (`skos:topConceptOf`,
+// `skos:hasTopConcept`), if the resource is one.
 pub(crate) fn push_top(about: &LineSource, lines: &mut Vec<TripleLine>) -> Result<(), AllocError>
     ensures { OnOk result (AddsTopic about.now Topic.Top lines.old.items lines.new.items) }
 {
-    match top_of(about)? {
+    match top_scheme_of(about)? {
         None => Ok(()),
         Some(scheme) => {
             push_node(about, lines, about.n, Property::TopConceptOf, scheme)?;
@@ -117,6 +123,7 @@ pub(crate) fn push_top(about: &LineSource, lines: &mut Vec<TripleLine>) -> Resul
     }
 }
 
+// Appends the line that states that a concept is deprecated, if the resource is such a concept.
 pub(crate) fn push_death(about: &LineSource, lines: &mut Vec<TripleLine>) -> Result<(), AllocError>
     ensures { OnOk result (AddsTopic about.now Topic.Death lines.old.items lines.new.items) }
 {
@@ -128,6 +135,7 @@ pub(crate) fn push_death(about: &LineSource, lines: &mut Vec<TripleLine>) -> Res
     Ok(())
 }
 
+// Appends the line of the concept that replaces the resource (`dct:isReplacedBy`), if there is one.
 pub(crate) fn push_replacement(
     about: &LineSource,
     lines: &mut Vec<TripleLine>,
@@ -143,6 +151,7 @@ pub(crate) fn push_replacement(
     }
 }
 
+// Appends the lines of all labels and scope notes.
 pub(crate) fn push_labels(about: &LineSource, lines: &mut Vec<TripleLine>) -> Result<(), AllocError>
     ensures { OnOk result (AddsTopic about.now Topic.Labels lines.old.items lines.new.items) }
 {

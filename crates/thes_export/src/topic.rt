@@ -1,6 +1,6 @@
-//! The topics under which lines are written for each resource.
+//! The topics of the lines about a resource.
 ghost use Rattle.std.specs.Prelude.{◌≡◌, OnOk};
-ghost use Rattle.thes_export.specs.Topics.{Adds, AddsTopic, IsAbout, IsLineOf, topics};
+ghost use Rattle.thes_export.specs.Topics.{Adds, AddsTopic, IsResourceTriple, IsLineOf, topics};
 
 use crate::line::TripleLine;
 use crate::line_source::LineSource;
@@ -12,20 +12,20 @@ use crate::resource_lines::{
 };
 use std::alloc::AllocError;
 
-/// A topic of the triples about a resource.
+/// A topic: a group of the triples about a resource.
 #[derive(Clone, Copy, Debug, PartialEq, Eq)]
 pub enum Topic {
-    /// The class.
+    /// The SKOS class of the resource.
     Kind,
-    /// The scheme that it belongs to.
+    /// The scheme to which the resource belongs.
     Belonging,
-    /// The scheme of which it is a top concept.
+    /// The scheme of which the resource is a top concept.
     Top,
-    /// The deprecation of a concept.
+    /// The fact that the concept is deprecated.
     Death,
-    /// The replacement of a deprecated concept.
+    /// The concept that replaces a deprecated one.
     Replacement,
-    /// The labels.
+    /// The labels and scope notes.
     Labels,
     /// The broader concepts.
     Broader,
@@ -35,12 +35,12 @@ pub enum Topic {
     Related,
     /// The mappings to concepts of other schemes and to outside concepts.
     Mappings,
-    /// The collections of which it is a member.
+    /// The collections of which the resource is a member.
     Memberships,
 }
 
 impl Topic {
-    /// Returns all topics.
+    /// Returns all topics, in the order in which their lines are collected, before they are sorted.
     pub fn all() -> [Topic; 11]
         ensures { result ≡ topics }
     {
@@ -60,7 +60,7 @@ impl Topic {
     }
 }
 
-// Adds the lines of a topic.
+// Appends the lines of one topic.
 fn push_topic(
     about: &LineSource,
     lines: &mut Vec<TripleLine>,
@@ -83,9 +83,9 @@ fn push_topic(
     }
 }
 
-/// Adds all lines of a resource.
+/// Appends all lines about a resource, topic by topic.
 pub fn push_about(about: &LineSource, lines: &mut Vec<TripleLine>) -> Result<(), AllocError>
-    ensures { let is_about = IsAbout about.now.core.now about.now.n in
+    ensures { let is_about = IsResourceTriple about.now.core.now about.now.n in
         OnOk result (Adds (IsLineOf is_about) lines.old.items lines.new.items) }
 {
     let topics = Topic::all();

@@ -1,11 +1,11 @@
-//! The IRIs of properties and classes.
+//! The IRIs of properties and classes, in the vocabularies RDF, SKOS, OWL and DCMI Metadata Terms.
 ghost use Rattle.std.specs.Prelude.{◌≡◌};
 ghost use Rattle.thes_export.specs.Spelling.{class_iri, object_text, property_iri};
 ghost use Rattle.thes_base.specs.Triples.{True};
 
 use thes_base::triple::{Class, Property};
 
-/// Returns the IRI of a property.
+/// Returns the full IRI of a property.
 #[tactic(auto, unfolding(crate::specs::Spelling::rdf, crate::specs::Spelling::skos, crate::specs::Spelling::owl, crate::specs::Spelling::dct))]
 pub fn property_text(property: Property) -> &'static str
     ensures { result.now ≡ property_iri property }
@@ -33,7 +33,7 @@ pub fn property_text(property: Property) -> &'static str
     }
 }
 
-/// Returns the IRI of a class.
+/// Returns the full IRI of a class of SKOS.
 #[tactic(auto, unfolding(crate::specs::Spelling::skos))]
 pub fn class_text(class: Class) -> &'static str
     ensures { result.now ≡ class_iri class }
@@ -45,7 +45,7 @@ pub fn class_text(class: Class) -> &'static str
     }
 }
 
-/// Returns the literal `true` with its type, the object of the triple of a deprecated concept.
+/// Returns the spelling of the literal `true` with the type `xsd:boolean`.
 #[tactic(auto, unfolding(crate::specs::Spelling::xsd))]
 pub fn true_text() -> &'static str
     ensures { result.now ≡ object_text True }

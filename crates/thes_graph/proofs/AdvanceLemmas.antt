@@ -15,12 +15,12 @@ use Rattle.thes_graph.specs.declared.side_search.SideSearch.{SideSearch}
 use Rattle.thes_graph.specs.Side.{side_in, side_no, IsOneSided}
 use Rattle.thes_graph.specs.declared.relation.Relation.TheVariants.{Broader, Narrower}
 use Rattle.thes_graph.specs.LinkEdit.{HeldAfter, CoversAt}
-use Rattle.thes_graph.specs.Steps.{Steps, Reaches, IsReachOf, IsClosedBelow}
-use Rattle.thes_graph.specs.SideSearch.{IsSearchResult, weight, read_cost, IsHierarchy, IsSideSearch, LeadsTo}
+use Rattle.thes_graph.specs.Steps.{Steps, Reaches, IsReachOf, IsSearchedUpTo}
+use Rattle.thes_graph.specs.SideSearch.{IsSearchResult, link_visits, read_cost, IsHierarchy, IsSideSearch, LeadsTo}
 use Rattle.thes_graph.specs.SideSearch.{IsReadBounded, IsAdvanceResult}
 use Rattle.thes_graph.proofs.PivotLemmas.{Reaches-then_chain, Chain-one}
 use Rattle.thes_graph.proofs.ProbeLemmas.{Path-last}
-use Rattle.thes_graph.proofs.ReachLemmas.{IsClosedBelow-start, IsClosedBelow-more, IsClosedBelow-end}
+use Rattle.thes_graph.proofs.ReachLemmas.{IsSearchedUpTo-start, IsSearchedUpTo-more, IsSearchedUpTo-end}
 use Rattle.thes_graph.proofs.ReadCostLemmas.{spent_one}
 
 pub hierarchy_is_one_sided : (r : Relation) → IsHierarchy r → IsOneSided r
@@ -40,15 +40,15 @@ module _ (edit : LinkEdit) (held : Links) (relation : Relation) (goals : List �
   pub IsSideSearch-start : (side_search : SideSearch) → side_search.nodes ≡ start ∷ [] → side_search.next ≡ 0
       → IsSideSearch edit held relation goals start side_search 0
   IsSideSearch-start side_search nodes next = record {
-    closed = subst (λ ns. IsClosedBelow S start ns side_search.next) (sym nodes)
-        (subst (IsClosedBelow S start (start ∷ [])) (sym next) (IsClosedBelow-start S start));
+    closed = subst (λ ns. IsSearchedUpTo S start ns side_search.next) (sym nodes)
+        (subst (IsSearchedUpTo S start (start ∷ [])) (sym next) (IsSearchedUpTo-start S start));
     no_goal = λ k lt. absurd (omega (arith, next));
     cost = λ ns covers. omega arith;
     in_range = omega (arith, next);
   }
 
   module _ (walked : IsHierarchy relation) where
-    -- The nodes read take at most one visit for each link at a node that the start reaches.
+    -- Reading the first nodes takes at most one visit for each link at a node that the start reaches.
     paid_by : (nodes : List ℕ) (i read : ℕ) → IsDistinct nat_eq nodes
         → ((y : ℕ) → Contains nodes y → Reaches S start y) → i ≤ length nodes
         → ((ns : List Link) → ((k : ℕ) → k < i → CoversAt edit held (get_or nodes k 0) ns) → read
@@ -61,7 +61,7 @@ module _ (edit : LinkEdit) (held : Links) (relation : Relation) (goals : List �
         omega (
           arith,
           paid,
-          sum_by-take-le (λ n. sum_by (weight edit n (side_in relation)) ns) nodes i,
+          sum_by-take-le (λ n. sum_by (link_visits edit n (side_in relation)) ns) nodes i,
           spent_one edit relation walked nodes distinct ns,
         )
 
@@ -73,9 +73,9 @@ module _ (edit : LinkEdit) (held : Links) (relation : Relation) (goals : List �
     module _ (old new : SideSearch) (x gone before after : ℕ) (inside : old.next < length old.nodes)
         (at : x ≡ get_or old.nodes old.next 0)
         (next : new.next ≡ old.next + 1) (read : after ≤ before + gone)
-        (cost : (ns : List Link) → CoversAt edit held x ns → gone ≤ sum_by (weight edit x (side_in relation)) ns)
+        (cost : (ns : List Link) → CoversAt edit held x ns → gone ≤ sum_by (link_visits edit x (side_in relation)) ns)
         (is : IsSideSearch edit held relation goals start old before) where
-      -- The node read is the next one, in a list of nodes that has grown.
+      -- Assumes that the next node was read, and the list of nodes has grown.
       module _ (nodes : List ℕ) (more : List ℕ) (grown : nodes ≡ old.nodes ++ more) where
         same : (k : ℕ) → k < length old.nodes → get_or nodes k 0 ≡ get_or old.nodes k 0
         same k lt = rw grown (get_or_append_left old.nodes more 0 k lt)
@@ -90,7 +90,7 @@ module _ (edit : LinkEdit) (held : Links) (relation : Relation) (goals : List �
         spent_more : (ns : List Link) → ((k : ℕ) → k < old.next + 1 → CoversAt edit held (get_or nodes k 0) ns)
             → after ≤ read_cost edit (side_in relation) (take (old.next + 1) nodes) ns
         spent_more ns covers =
-            let w : ℕ → ℕ = λ n. sum_by (weight edit n (side_in relation)) ns in
+            let w : ℕ → ℕ = λ n. sum_by (link_visits edit n (side_in relation)) ns in
             let P : ℕ → Type 0 = λ n. CoversAt edit held n ns in
             let first : before ≤ sum_by w (take old.next old.nodes) =
             is.cost ns (λ k lt. subst P (same k (omega arith)) (covers k (omega arith))) in
@@ -111,8 +111,8 @@ module _ (edit : LinkEdit) (held : Links) (relation : Relation) (goals : List �
       )
       IsAdvanceResult-more false (grows, off) =
           let grown : new.nodes ≡ old.nodes ++ grows.extends.0 = grows.extends.1 in record {
-            closed = subst (IsClosedBelow S start new.nodes) (sym next)
-                (IsClosedBelow-more S start old.nodes new.nodes old.next x inside at grows is.closed);
+            closed = subst (IsSearchedUpTo S start new.nodes) (sym next)
+                (IsSearchedUpTo-more S start old.nodes new.nodes old.next x inside at grows is.closed);
             no_goal = λ k lt. below_more (λ k. (y : ℕ) → Contains goals y → S (get_or new.nodes k 0) y → ⊥) old.next
                 (λ k lt y has leads. is.no_goal k lt y has (let P : ℕ → Type 0 = λ w. S w y in
                 subst P (same new.nodes grows.extends.0 grown k (omega arith)) leads))
@@ -129,7 +129,7 @@ module _ (edit : LinkEdit) (held : Links) (relation : Relation) (goals : List �
   -- If all nodes are read, they are those that the start reaches, and no chain leads from the start to a goal.
   pub IsSideSearch-reach : (side_search : SideSearch) (read : ℕ) → length side_search.nodes ≤ side_search.next
       → IsSideSearch edit held relation goals start side_search read → IsReachOf S start side_search.nodes
-  IsSideSearch-reach side_search read done is = IsClosedBelow-end S start side_search.nodes side_search.next done
+  IsSideSearch-reach side_search read done is = IsSearchedUpTo-end S start side_search.nodes side_search.next done
       is.closed
 
   pub IsSideSearch-no_goal : (side_search : SideSearch) (read : ℕ) → length side_search.nodes ≤ side_search.next
@@ -142,7 +142,7 @@ module _ (edit : LinkEdit) (held : Links) (relation : Relation) (goals : List �
       (subst P (sym there.2 ∙ get_or_default side_search.nodes there.0 last.0 0 there.1) last.2)
 
 module _ (edit : LinkEdit) (held : Links) where
-  -- The invariant bounds the number of visits from above.
+  -- A state of a search with some number of visits is one with fewer visits.
   pub IsSideSearch-less : (relation : Relation) (goals : List ℕ) (start : ℕ) (side_search : SideSearch) (a b : ℕ) → a
       ≤ b → IsSideSearch edit held relation goals start side_search b → IsSideSearch edit held relation goals start
       side_search a

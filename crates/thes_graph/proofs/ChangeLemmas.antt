@@ -1,4 +1,4 @@
--- Sets of links after additions and removals have the expected members.
+-- The members of sets of links after additions and removals.
 use Rattle.std.proofs.Common.{◌≡◌, ◌≢◌, ◌+◌, ◌-◌, ◌<◌, ◌≤◌, ◌⊎◌, inl, inr, ℕ, List, [], ◌∷◌, ◌++◌, cond, not}
 use Rattle.std.proofs.Common.{Contains, length, take, get_or, Option, Some, None, slice_get, refl, sym, ap, subst}
 use Rattle.std.proofs.Common.{◌∙◌, arith}
@@ -8,12 +8,12 @@ use Rattle.std.proofs.lemmas.Option.{slice_get_within, get_or_from_slice_get}
 use Rattle.std.proofs.lemmas.List.{take_more}
 use Rattle.std.proofs.lemmas.Bool.{both_ways}
 use Rattle.thes_base.specs.declared.data.Link.{Link}
-use Rattle.thes_base.specs.Links.{Links, link_cmp, HeldIn, links_after_deprecation, HasEnd}
+use Rattle.thes_base.specs.Links.{Links, link_cmp, Holds, links_after_deprecation, HasEnd}
 use Rattle.thes_base.proofs.LinkSetLemmas.{links_total, link_inserted_cases, link_retained, without_node_from}
 use Rattle.thes_base.proofs.LinkSetLemmas.{without_node_to}
 use Rattle.thes_base.proofs.ListMemberLemmas.{Contains-none, Contains-head, Contains-later, Contains-cons_cases}
-use Rattle.thes_graph.specs.Net.{Net, ends_at}
-use Rattle.thes_graph.specs.MergeAdditions.{with_all, without_all}
+use Rattle.thes_graph.specs.GraphView.{GraphView, ends_at}
+use Rattle.thes_graph.specs.MergeAdditions.{with_all, without_links}
 use Rattle.thes_graph.proofs.WeightLemmas.{past_of_none}
 use Rattle.thes_graph.proofs.SetLemmas.{same_links, inserted_held, insert_keeps, remove_keeps, removed_cases}
 
@@ -39,14 +39,14 @@ without_node_removed n links l at =
     (λ m held. let r = without_node_from n links m held in without_node_to n (remove links l) m
     (remove_keeps links l m (λ same. r.1 (subst (HasEnd n) (sym same) at)) r.0, r.1))
 
-pub without_node_none : (n : ℕ) (links : Links) → ((l : Link) → HeldIn links l → HasEnd n l → ⊥)
+pub without_node_none : (n : ℕ) (links : Links) → ((l : Link) → Holds links l → HasEnd n l → ⊥)
     → links_after_deprecation n links ≡ links
 without_node_none n links none =
     same_links (links_after_deprecation n links) links
     (λ m held. (link_retained links (λ l. not (ends_at n l)) m held).0)
     (λ m held. without_node_to n links m (held, none m held))
 
-pub fewer_links : (links : Links) (l : Link) → HeldIn links l → len (remove links l) < len links
+pub fewer_links : (links : Links) (l : Link) → Holds links l → len (remove links l) < len links
 fewer_links links l held =
     let less : len (remove links l) ≡ len links - 1 = len-remove links_total links l
     ∙ ap (λ b. cond b (len links - 1) (len links)) held in
@@ -54,15 +54,13 @@ fewer_links links l held =
     (ap (λ (s : Links). contains s l) (empty_of_len links none) ∙ contains-empty link_cmp l) held in
     omega arith
 
--- Members of a set after the addition or removal of a list of links.
-
 pub with_push : (links : Links) (xs : List Link) (x : Link) → with_all links (xs ++ x ∷ [])
     ≡ insert (with_all links xs) x
 with_push links [] x = refl
 with_push links (y ∷ ys) x = with_push (insert links y) ys x
 
-pub without_push : (links : Links) (xs : List Link) (x : Link) → without_all links (xs ++ x ∷ [])
-    ≡ remove (without_all links xs) x
+pub without_push : (links : Links) (xs : List Link) (x : Link) → without_links links (xs ++ x ∷ [])
+    ≡ remove (without_links links xs) x
 without_push links [] x = refl
 without_push links (y ∷ ys) x = without_push (remove links y) ys x
 
@@ -73,12 +71,12 @@ with_more links xs i x within is =
     ∙ with_push links (take i xs) x
 
 without_more : (links : Links) (xs : List Link) (i : ℕ) (x : Link) → i < length xs → x ≡ get_or xs i x
-    → without_all links (take (i + 1) xs) ≡ remove (without_all links (take i xs)) x
+    → without_links links (take (i + 1) xs) ≡ remove (without_links links (take i xs)) x
 without_more links xs i x within is =
-    ap (without_all links) (take_more xs i x within ∙ ap (λ y. take i xs ++ y ∷ []) (sym is))
+    ap (without_links links) (take_more xs i x within ∙ ap (λ y. take i xs ++ y ∷ []) (sym is))
     ∙ without_push links (take i xs) x
 
-pub with_from : (links : Links) (xs : List Link) (m : Link) → HeldIn (with_all links xs) m → HeldIn links m
+pub with_from : (links : Links) (xs : List Link) (m : Link) → Holds (with_all links xs) m → Holds links m
     ⊎ Contains xs m
 with_from links [] m held = inl held
 with_from links (x ∷ xs) m held = elim (with_from (insert links x) xs m held) [
@@ -89,18 +87,18 @@ with_from links (x ∷ xs) m held = elim (with_from (insert links x) xs m held) 
   | inr later ↦ inr (Contains-later x xs m later)
 ]
 
-pub with_keeps : (links : Links) (xs : List Link) (m : Link) → HeldIn links m → HeldIn (with_all links xs) m
+pub with_keeps : (links : Links) (xs : List Link) (m : Link) → Holds links m → Holds (with_all links xs) m
 with_keeps links [] m held = held
 with_keeps links (x ∷ xs) m held = with_keeps (insert links x) xs m (insert_keeps links x m held)
 
-pub with_has : (links : Links) (xs : List Link) (m : Link) → Contains xs m → HeldIn (with_all links xs) m
+pub with_has : (links : Links) (xs : List Link) (m : Link) → Contains xs m → Holds (with_all links xs) m
 with_has links [] m has = absurd (Contains-none m has)
 with_has links (x ∷ xs) m has = elim (Contains-cons_cases x xs m has) [
-  | inl same ↦ with_keeps (insert links x) xs m (subst (HeldIn (insert links x)) same (inserted_held links x))
+  | inl same ↦ with_keeps (insert links x) xs m (subst (Holds (insert links x)) same (inserted_held links x))
   | inr later ↦ with_has (insert links x) xs m later
 ]
 
-without_from : (links : Links) (xs : List Link) (m : Link) → HeldIn (without_all links xs) m → HeldIn links m
+without_from : (links : Links) (xs : List Link) (m : Link) → Holds (without_links links xs) m → Holds links m
     × (Contains xs m → ⊥)
 without_from links [] m held = (held, λ has. Contains-none m has)
 without_from links (x ∷ xs) m held =
@@ -108,8 +106,8 @@ without_from links (x ∷ xs) m held =
     let c = removed_cases links x m r.0 in
     (c.1, λ has. elim (Contains-cons_cases x xs m has) [ inl same ↦ c.0 (sym same) | inr later ↦ r.1 later ])
 
-without_keeps : (links : Links) (xs : List Link) (m : Link) → HeldIn links m → (Contains xs m → ⊥)
-    → HeldIn (without_all links xs) m
+without_keeps : (links : Links) (xs : List Link) (m : Link) → Holds links m → (Contains xs m → ⊥)
+    → Holds (without_links links xs) m
 without_keeps links [] m held off = held
 without_keeps links (x ∷ xs) m held off =
     without_keeps (remove links x) xs m
@@ -118,34 +116,35 @@ without_keeps links (x ∷ xs) m held off =
     (λ has. off (Contains-later x xs m has))
 
 -- The removal of new links undoes their addition.
-pub undo_additions : (links : Links) (xs : List Link) → ((l : Link) → Contains xs l → HeldIn links l → ⊥)
-    → without_all (with_all links xs) xs ≡ links
-undo_additions links xs new = same_links (without_all (with_all links xs) xs) links to from
+pub undo_additions : (links : Links) (xs : List Link) → ((l : Link) → Contains xs l → Holds links l → ⊥)
+    → without_links (with_all links xs) xs ≡ links
+undo_additions links xs new = same_links (without_links (with_all links xs) xs) links to from
   where
-    to : (m : Link) → HeldIn (without_all (with_all links xs) xs) m → HeldIn links m
+    to : (m : Link) → Holds (without_links (with_all links xs) xs) m → Holds links m
     to m held =
         let r = without_from (with_all links xs) xs m held in
         elim (with_from links xs m r.0) [ inl old ↦ old | inr has ↦ absurd (r.1 has) ]
 
-    from : (m : Link) → HeldIn links m → HeldIn (without_all (with_all links xs) xs) m
+    from : (m : Link) → Holds links m → Holds (without_links (with_all links xs) xs) m
     from m held = without_keeps (with_all links xs) xs m (with_keeps links xs m held) (λ has. new m has held)
 
--- One iteration of a loop that adds or removes the links of a list.
-pub net_with : (links : Links) (xs : List Link) (i : ℕ) (x y : Link) (before after : Net) → i < length xs → x
+-- One iteration of a loop adds or removes the next link of a list.
+pub net_with : (links : Links) (xs : List Link) (i : ℕ) (x y : Link) (before after : GraphView) → i < length xs → x
     ≡ get_or xs i x → y ≡ x
-    → (outside : Net) → before ≡ record { links = with_all links (take i xs); outside = outside.outside } → after
+    → (outside : GraphView) → before ≡ record { links = with_all links (take i xs); outside = outside.outside } → after
     ≡ record { links = insert before.links y; outside = before.outside }
     → after ≡ record { links = with_all links (take (i + 1) xs); outside = outside.outside }
 net_with links xs i x y before after within is same outside e f =
-    f ∙ ap (λ (n : Net). record { links = insert n.links y; outside = n.outside }) e
+    f ∙ ap (λ (n : GraphView). record { links = insert n.links y; outside = n.outside }) e
     ∙ ap (λ (s : Links). record { links = s; outside = outside.outside })
     (ap (insert (with_all links (take i xs))) same ∙ sym (with_more links xs i x within is))
 
-pub net_without : (links : Links) (xs : List Link) (i : ℕ) (x : Link) (before after : Net) → i < length xs → x
+pub net_without : (links : Links) (xs : List Link) (i : ℕ) (x : Link) (before after : GraphView) → i < length xs → x
     ≡ get_or xs i x
-    → (outside : Net) → before ≡ record { links = without_all links (take i xs); outside = outside.outside } → after
+    → (outside : GraphView) → before ≡ record { links = without_links links (take i xs); outside = outside.outside }
+    → after
     ≡ record { links = remove before.links x; outside = before.outside }
-    → after ≡ record { links = without_all links (take (i + 1) xs); outside = outside.outside }
+    → after ≡ record { links = without_links links (take (i + 1) xs); outside = outside.outside }
 net_without links xs i x before after within is outside e f =
-    f ∙ ap (λ (n : Net). record { links = remove n.links x; outside = n.outside }) e
+    f ∙ ap (λ (n : GraphView). record { links = remove n.links x; outside = n.outside }) e
     ∙ ap (λ (s : Links). record { links = s; outside = outside.outside }) (sym (without_more links xs i x within is))

@@ -6,7 +6,7 @@ use Rattle.std.proofs.lemmas.List.Sums.{sum_by-cons, sum_by-le}
 use Rattle.thes_base.specs.declared.data.Link.{Link}
 use Rattle.thes_base.proofs.AssignedCountLemmas.{sums_same}
 use Rattle.thes_graph.specs.declared.edit.LinkEdit.{LinkEdit}
-use Rattle.thes_graph.specs.LinkEdit.{node_after, touches}
+use Rattle.thes_graph.specs.LinkEdit.{node_after, ends_at_node}
 use Rattle.thes_graph.proofs.ReadLemmas.{one_at}
 
 module _ {X : Type 0} where
@@ -75,7 +75,7 @@ module _ (nodes : List ℕ) (weight : ℕ → Link → ℕ) where
       )
 
 module _ (edit : LinkEdit) (nodes : List ℕ) (distinct : IsDistinct nat_eq nodes) where
-  link_twice : (l : Link) → sum_by (λ n. touches edit n l) nodes ≤ 2
+  link_twice : (l : Link) → sum_by (λ n. ends_at_node edit n l) nodes ≤ 2
   link_twice l =
       omega (
         arith,
@@ -85,5 +85,5 @@ module _ (edit : LinkEdit) (nodes : List ℕ) (distinct : IsDistinct nat_eq node
       )
 
   -- Distinct nodes have at most two ends of each link.
-  pub met_twice : (ns : List Link) → sum_by (λ n. sum_by (touches edit n) ns) nodes ≤ 2 * length ns
-  met_twice ns = omega (arith, met_at_most nodes (touches edit) 2 link_twice ns)
+  pub met_twice : (ns : List Link) → sum_by (λ n. sum_by (ends_at_node edit n) ns) nodes ≤ 2 * length ns
+  met_twice ns = omega (arith, met_at_most nodes (ends_at_node edit) 2 link_twice ns)

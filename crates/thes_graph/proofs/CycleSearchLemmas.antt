@@ -1,27 +1,23 @@
 -- Each step of the search for a cycle keeps the invariant of the search and decreases its measure.
-use Rattle.std.proofs.Common.{◌≡◌, ◌⊎◌, inl, inr, ◌+◌, ◌-◌, ◌^◌, ◌<◌, ◌↔◌, ℕ, List, [], ◌∷◌, ◌++◌, Contains, length}
+use Rattle.std.proofs.Common.{◌≡◌, ◌⊎◌, inl, inr, ◌+◌, ◌-◌, ◌^◌, ◌<◌, ◌≤◌, ◌↔◌, ℕ, List, [], ◌∷◌, ◌++◌, Contains}
+use Rattle.std.proofs.Common.{length}
 use Rattle.std.proofs.Common.{take, get_or, slice_get, Option, Some, refl, sym, ap, subst, ◌∙◌, append-nil, arith}
-use Rattle.std.proofs.lemmas.List.{take_all, length-append}
+use Rattle.std.proofs.Math.Seq.{take-append-add}
+use Rattle.std.proofs.lemmas.Bool.{cases_lt}
+use Rattle.std.proofs.lemmas.List.{take_all, length-append, take-append-le, get_or_append_left, get_or_default}
 use Rattle.std.proofs.lemmas.Option.{slice_get-get_or, slice_get_within, get_or_from_slice_get}
-use Rattle.std.proofs.lemmas.List.Elements.{Contains-append_left, Contains-push, Contains-push_cases}
+use Rattle.std.proofs.lemmas.List.Elements.{Contains-append_left, Contains-push, Contains-push_cases, Contains-get_or}
 use Rattle.thes_base.specs.declared.data.Link.{Link}
-use Rattle.std.specs.List.{filter_map}
-use Rattle.thes_base.specs.Links.{Links, HeldIn, Path, Chain, broader_direction, IsBroader}
+use Rattle.thes_base.specs.Links.{Path, Chain, IsNarrower}
 use Rattle.thes_base.proofs.ListMemberLemmas.{Contains-none, Contains-head, Contains-later, Contains-cons_cases}
-use Rattle.thes_graph.specs.declared.relation.Relation.TheVariants.{Broader}
-use Rattle.thes_graph.specs.Reading.{IsRow}
 use Rattle.thes_graph.specs.declared.find_cycle.PathNode.{PathNode}
-use Rattle.thes_graph.specs.Steps.{GrowsBy, step_along}
+use Rattle.thes_graph.specs.Steps.{GrowsBy}
 use Rattle.thes_graph.specs.Local.{NoCycleAt}
-use Rattle.thes_graph.specs.Whole.{IsSomeCycle}
-use Rattle.thes_graph.specs.CycleSearch.{IsUpwardPath, IsCycleSearch, stack_measure, search_measure}
+use Rattle.thes_graph.specs.Whole.{HasCycle}
+use Rattle.thes_graph.specs.CycleSearch.{IsUpwardOrder, IsUpwardPath, IsCycleSearch, stack_measure, search_measure}
 use Rattle.thes_graph.proofs.ReachLemmas.{no_others}
 use Rattle.thes_graph.proofs.PivotLemmas.{Chain-join, Chain-one}
-use Rattle.thes_graph.proofs.StepLemmas.{step_from_Leads, Leads-from_step, Leads-first}
-use Rattle.thes_graph.proofs.EditLemmas.{filter_map-from, filter_map-to}
-use Rattle.thes_graph.proofs.WeightLemmas.{take_next}
-
--- Chains from the nodes of a stack to later ones, after a push or pop.
+use Rattle.thes_graph.proofs.WeightLemmas.{take_next, Contains-take}
 
 module _ (S : ℕ → ℕ → Type 0) where
   IsUpwardPath-push : (stack : List PathNode) (t : PathNode) → IsUpwardPath S stack
@@ -50,8 +46,6 @@ module _ (S : ℕ → ℕ → Type 0) where
     | inr later ↦ IsUpwardPath-last stack t leads.1 u later
   ]
 
--- A list of nodes to which a node was appended.
-
 pub GrowsBy-keeps : (old new : List ℕ) (New : ℕ → Type 0) → GrowsBy old new New → (n : ℕ) → Contains old n
     → Contains new n
 GrowsBy-keeps old new New grows n has = subst (λ (ns : List ℕ). Contains ns n) (sym grows.extends.1)
@@ -66,37 +60,28 @@ GrowsBy-longer old new n grows off = go grows.extends.0 grows.extends.1
     go (m ∷ more) is = let total : length new ≡ length old + length (m ∷ more) = ap length is
         ∙ length-append old (m ∷ more) in omega arith
 
--- The nodes that a node's row leads up to are exactly the broader ones.
-pub broader_nodes-all : (held : Links) (n : ℕ) (row : List Link) (above : List ℕ) → IsRow held n row → above
-    ≡ filter_map (λ l. step_along Broader l n) row
-    → (h : ℕ) → Contains above h ↔ IsBroader (HeldIn held) n h
-broader_nodes-all held n row above is made h = (to, from)
-  where
-    to : Contains above h → IsBroader (HeldIn held) n h
-    to has =
-        let r = filter_map-from (λ (l : Link). step_along Broader l n) row h
-        (subst (λ (hs : List ℕ). Contains hs h) made has) in
-        (r.0, (is.sound r.0 r.1).0, Leads-from_step (broader_direction r.0.kind) r.0.a r.0.b n h r.2)
-
-    from : IsBroader (HeldIn held) n h → Contains above h
-    from (l, held, leads) =
-        subst (λ (hs : List ℕ). Contains hs h) (sym made)
-        (filter_map-to (λ (l : Link). step_along Broader l n) row l h
-        (is.complete l held (Leads-first (broader_direction l.kind) l.a l.b n h leads))
-        (step_from_Leads (broader_direction l.kind) l.a l.b n h leads))
+take_past : (k : ℕ) (xs ys : List ℕ) → length xs ≤ k → take k (xs ++ ys) ≡ xs ++ take (k - length xs) ys
+take_past k xs ys past = let e : k ≡ length xs + (k - length xs) = omega arith in
+    ap (λ (n : ℕ). take n (xs ++ ys)) e ∙ take-append-add xs ys (k - length xs)
 
 module _ (Held : Link → Type 0) where
-  pub IsCycleSearch-start : (done : List ℕ) (t : PathNode) → ((n : ℕ) → Contains done n → NoCycleAt Held n)
-      → ((h : ℕ) → Contains t.above.items h ↔ IsBroader Held t.node h) → IsCycleSearch Held (t.node ∷ []) done
+  pub IsUpwardOrder-none : IsUpwardOrder Held []
+  IsUpwardOrder-none = record {
+    above_first = λ k within. absurd (omega arith);
+    free = λ n has. absurd (Contains-none n has);
+  }
+
+  pub IsCycleSearch-start : (done : List ℕ) (t : PathNode) → IsUpwardOrder Held done
+      → ((h : ℕ) → Contains t.above.items h ↔ IsNarrower Held t.node h) → IsCycleSearch Held (t.node ∷ []) done
       (t ∷ [])
-  IsCycleSearch-start done t none above = record {
+  IsCycleSearch-start done t order above = record {
     leads = ((λ u has. absurd (Contains-none u has)), tt);
     met_nodes = λ n has. inr (t, Contains-head t [], no_others t.node n has);
     open_nodes = λ u on h up. inr (subst (λ (v : PathNode). Contains v.above.items h) (no_others t u on)
-        ((above h).1 (subst (λ (v : PathNode). IsBroader Held v.node h) (sym (no_others t u on)) up)));
-    sound = λ u on h has. subst (λ (v : PathNode). IsBroader Held v.node h) (no_others t u on)
+        ((above h).1 (subst (λ (v : PathNode). IsNarrower Held v.node h) (sym (no_others t u on)) up)));
+    sound = λ u on h has. subst (λ (v : PathNode). IsNarrower Held v.node h) (no_others t u on)
         ((above h).0 (subst (λ (v : PathNode). Contains v.above.items h) (sym (no_others t u on)) has));
-    free = none;
+    order = order;
   }
 
   pub IsCycleSearch-end : (met done : List ℕ) → IsCycleSearch Held met done [] → (n : ℕ) → Contains met n
@@ -109,12 +94,12 @@ module _ (Held : Link → Type 0) where
   module _ (met done : List ℕ) (stack : List PathNode) (s : PathNode)
       (is : IsCycleSearch Held met done (stack ++ s ∷ [])) where
     abbrev S : ℕ → ℕ → Type 0
-    S = IsBroader Held
+    S = IsNarrower Held
 
     in_front : (t : PathNode) → Contains stack t → Contains (stack ++ s ∷ []) t
     in_front t on = Contains-append_left stack (s ∷ []) t on
 
-    -- The top of the stack is done, if all nodes above it are.
+    -- The top of the stack may be added to the nodes that are done, if all nodes above it are done.
     pub IsCycleSearch-done : (later : List ℕ) → s.above.items ≡ [] → GrowsBy done later (λ n. s.node ≡ n)
         → IsCycleSearch Held met later stack
     IsCycleSearch-done later empty grows = record {
@@ -131,30 +116,60 @@ module _ (Held : Link → Type 0) where
         | inr more ↦ inr more
       ];
       sound = λ t on h has. is.sound t (in_front t on) h has;
-      free = λ n has. elim (grows.no_others n has) [
-        | inl old ↦ is.free n old
-        | inr now ↦ subst (λ (m : ℕ). NoCycleAt Held m) now off_cycles
-      ];
+      order = record {
+        above_first = λ k within h up. elim (cases_lt k (length done)) [
+          | inl inside ↦ before k inside h up
+          | inr past ↦ after k within past h up
+        ];
+        free = λ n has. elim (grows.no_others n has) [
+          | inl old ↦ is.order.free n old
+          | inr now ↦ subst (λ (m : ℕ). NoCycleAt Held m) now off_cycles
+        ];
+      };
     }
       where
-        keeps : (n : ℕ) → Contains done n → Contains later n
-        keeps = GrowsBy-keeps done later (λ n. s.node ≡ n) grows
-
         all_done : (h : ℕ) → S s.node h → Contains done h
         all_done h up = elim (is.open_nodes s (Contains-push stack s) h up) [
           | inl old ↦ old
           | inr more ↦ absurd (Contains-none h (subst (λ (hs : List ℕ). Contains hs h) empty more))
         ]
 
+        before : (k : ℕ) → k < length done → (h : ℕ) → S (get_or later k 0) h → Contains (take k later) h
+        before k inside h up =
+            rw (grows.extends.1, take-append-le k done grows.extends.0 (omega arith))
+            (is.order.above_first k inside h (subst (λ (n : ℕ). S n h)
+            (ap (λ (ns : List ℕ). get_or ns k 0) grows.extends.1
+            ∙ get_or_append_left done grows.extends.0 0 k inside) up))
+
+        -- A node broader than one that is done is done.
+        above_done : (n h : ℕ) → Contains done n → S n h → Contains done h
+        above_done n h (i, inside, at) up =
+            Contains-take i done h (is.order.above_first i inside h (subst (λ (m : ℕ). S m h) (sym at
+            ∙ get_or_default done i n 0 inside) up))
+
+        after : (k : ℕ) → k < length later → length done ≤ k → (h : ℕ) → S (get_or later k 0) h
+            → Contains (take k later) h
+        after k within past h up =
+            let h_done : Contains done h =
+            elim (grows.no_others (get_or later k 0) (Contains-get_or later k 0 within)) [
+              | inl old ↦ above_done (get_or later k 0) h old up
+              | inr now ↦ all_done h (subst (λ (n : ℕ). S n h) (sym now) up)
+            ] in
+            rw (grows.extends.1, take_past k done grows.extends.0 past)
+            (Contains-append_left done (take (k - length done) grows.extends.0) h h_done)
+
+        keeps : (n : ℕ) → Contains done n → Contains later n
+        keeps = GrowsBy-keeps done later (λ n. s.node ≡ n) grows
+
         round : (ms : List ℕ) → Path S s.node ms s.node → ⊥
-        round [] one = is.free s.node (all_done s.node one) ([], one)
+        round [] one = is.order.free s.node (all_done s.node one) ([], one)
         round (m ∷ ms) path =
-            is.free m (all_done m path.0) (Chain-join S m s.node m (ms, path.1) (Chain-one S s.node m path.0))
+            is.order.free m (all_done m path.0) (Chain-join S m s.node m (ms, path.1) (Chain-one S s.node m path.0))
 
         off_cycles : NoCycleAt Held s.node
         off_cycles chain = round chain.0 chain.1
 
-    -- The invariant stays true if nodes that are done are removed from the top of the stack.
+    -- The invariant holds after nodes that are done are removed from those to be searched from at the top of the stack.
     pub IsCycleSearch-fewer : (t : PathNode) → t.node ≡ s.node → ((h : ℕ) → Contains s.above.items h → Contains done h
         ⊎ Contains t.above.items h) → ((h : ℕ) → Contains t.above.items h → Contains s.above.items h)
         → IsCycleSearch Held met done (stack ++ t ∷ [])
@@ -179,7 +194,7 @@ module _ (Held : Link → Type 0) where
             (is.sound s (Contains-push stack s) h
             (fewer h (subst (λ (v : PathNode). Contains v.above.items h) (sym last) has)))
       ];
-      free = is.free;
+      order = is.order;
     }
       where
         at : (u : PathNode) → t ≡ u → s.node ≡ u.node
@@ -189,8 +204,8 @@ module _ (Held : Link → Type 0) where
         here h up = elim (is.open_nodes s (Contains-push stack s) h up) [ inl old ↦ inl old | inr more ↦ split h more ]
 
     -- A node above the top of the stack that was met and isn't done is on the stack, and closes a cycle.
-    pub IsSomeCycle-met : (h : ℕ) → Contains s.above.items h → Contains met h → (Contains done h → ⊥) → IsSomeCycle Held
-    IsSomeCycle-met h above has off = elim (is.met_nodes h has) [
+    pub HasCycle-met : (h : ℕ) → Contains s.above.items h → Contains met h → (Contains done h → ⊥) → HasCycle Held
+    HasCycle-met h above has off = elim (is.met_nodes h has) [
       | inl old ↦ absurd (off old)
       | inr on ↦ elim (Contains-push_cases stack s on.0 on.1) [
         | inl front ↦ (
@@ -210,7 +225,7 @@ module _ (Held : Link → Type 0) where
         up : S s.node h
         up = is.sound s (Contains-push stack s) h above
 
-    -- The invariant stays true if a node above the top of the stack is pushed.
+    -- The invariant holds after a node above the top of the stack is pushed.
     pub IsCycleSearch-more : (later : List ℕ) (t : PathNode) → Contains s.above.items t.node
         → GrowsBy met later (λ n. t.node ≡ n) → ((h : ℕ) → Contains t.above.items h ↔ S t.node h)
         → IsCycleSearch Held later done ((stack ++ s ∷ []) ++ t ∷ [])
@@ -233,7 +248,7 @@ module _ (Held : Link → Type 0) where
         | inr last ↦ subst (λ (v : PathNode). S v.node h) last
             ((all h).0 (subst (λ (v : PathNode). Contains v.above.items h) (sym last) has))
       ];
-      free = is.free;
+      order = is.order;
     }
       where
         up : S s.node t.node
@@ -245,8 +260,6 @@ module _ (Held : Link → Type 0) where
               (Chain-one S s.node t.node up)
           | inr last ↦ subst (λ (v : PathNode). Chain S v.node t.node) last (Chain-one S s.node t.node up)
         ]
-
--- Each step decreases the measure.
 
 stack_measure-push : (stack : List PathNode) (t : PathNode) → stack_measure (stack ++ t ∷ []) ≡ stack_measure stack
     + (1 + length t.above.items)
@@ -276,8 +289,6 @@ search_measure-more met later stack s t more small few =
     + (1 + length t.above.items) = stack_measure-push (stack ++ s ∷ []) t in
     omega arith
 
--- A read of the last of the nodes that wait.
-
 pub none_above : (above : List ℕ) (o : Option ℕ) → o ≡ slice_get above (length above - 1) → ((h : ℕ) → o ≡ Some h → ⊥)
     → above ≡ []
 none_above [] o is none = refl
@@ -292,7 +303,7 @@ last_above above h is = (
   get_or_from_slice_get above (length above - 1) h h (sym is),
 )
 
--- The nodes that wait, after a pop of the last one.
+-- A pop splits the last node off those that are still to be searched from.
 pub all_but_last : (above rest : List ℕ) (h : ℕ) → Some h ≡ slice_get above (length above - 1) → rest
     ≡ take (length above - 1) above → above ≡ rest ++ h ∷ []
 all_but_last above rest h is open_nodes =

@@ -1,17 +1,17 @@
--- What the checks at the pivot find is what the links after the edit break.
+-- The checks at the pivot find what the links after the edit break.
 use Rattle.std.proofs.Common.{◌≡◌, ◌≢◌, ◌+◌, ◌⊎◌, inl, inr, ℕ, List, ◌∷◌, ◌++◌, length, ap, sym, subst, ◌∙◌, arith}
 use Rattle.std.proofs.Common.{refl, Contains, Option, length-append}
 use Rattle.std.proofs.lemmas.List.Elements.{Contains-append_left, Contains-append_right, Contains-append_cases}
 use Rattle.thes_base.specs.declared.data.Link.{Link}
 use Rattle.thes_base.specs.declared.data.LinkKind.{LinkKind}
 use Rattle.thes_base.specs.declared.fault.Refusal.{Refusal}
-use Rattle.thes_base.specs.Links.{Links, HeldIn, S46, IsFirstBroken, HasEnd}
+use Rattle.thes_base.specs.Links.{Links, Holds, S46, IsFirstBroken, HasEnd}
 use Rattle.thes_base.proofs.ListMemberLemmas.{Contains-cons_cases}
 use Rattle.thes_graph.specs.declared.edit.LinkEdit.TheVariants.{NoEdit, WithLink, AfterMerge}
 use Rattle.thes_graph.specs.Reading.{HaveTwoEnds}
 use Rattle.thes_graph.specs.LinkEdit.{node_after, HeldAfter, TouchesAt}
-use Rattle.thes_graph.specs.Local.{BreakNone, HeldAwayFrom, IsS46At, NoS46At, IsFirstBrokenAt, CoversNear}
-use Rattle.thes_graph.specs.Whole.{IsSomeS46}
+use Rattle.thes_graph.specs.Local.{BreakNone, HeldAwayFrom, BreaksS46At, KeepsS46At, IsFirstBrokenAt, CoversNear}
+use Rattle.thes_graph.specs.Whole.{BreaksS46}
 use Rattle.thes_graph.specs.EditChecks.{CoversEdit}
 use Rattle.thes_graph.proofs.PivotLemmas.{BreakNone-within, s46_pivot, S46-witness, IsFirstBroken-from_pivot}
 use Rattle.thes_graph.proofs.WeightLemmas.{cut}
@@ -21,27 +21,27 @@ pub link_same : (k k' : LinkKind) (a a' b b' : ℕ) → k ≡ k' → a ≡ a' �
     → ◌≡◌ {A = Link} (record { kind = k; a = a; b = b }) (record { kind = k'; a = a'; b = b' })
 link_same k k' a a' b b' e f g = cc
 
-module _ (held : Links) (new : Link) (two : new.a ≢ new.b) (all_two : HaveTwoEnds (HeldIn held))
-    (legal : BreakNone (HeldIn held)) where
+module _ (held : Links) (new : Link) (two : new.a ≢ new.b) (all_two : HaveTwoEnds (Holds held))
+    (legal : BreakNone (Holds held)) where
   with_two : HaveTwoEnds (HeldAfter (WithLink new) held)
   with_two l (inl has) = all_two l has
   with_two l (inr same) = λ ends. two (ap (λ (w : Link). w.a) same ∙ ends ∙ sym (ap (λ (w : Link). w.b) same))
 
-  -- The links with no end at the first end of the new link are links held before.
+  -- The links after the addition that have no end at the first end of the new link were held before.
   with_away : BreakNone (HeldAwayFrom (HeldAfter (WithLink new) held) new.a)
-  with_away = BreakNone-within (HeldAwayFrom (HeldAfter (WithLink new) held) new.a) (HeldIn held) old legal
+  with_away = BreakNone-within (HeldAwayFrom (HeldAfter (WithLink new) held) new.a) (Holds held) old legal
     where
-      old : (l : Link) → HeldAwayFrom (HeldAfter (WithLink new) held) new.a l → HeldIn held l
+      old : (l : Link) → HeldAwayFrom (HeldAfter (WithLink new) held) new.a l → Holds held l
       old l (inl has, _, _) = has
       old l (inr same, not_a, _) = absurd (not_a (sym (ap (λ (w : Link). w.a) same)))
 
-  pub S46-with : NoS46At (HeldAfter (WithLink new) held) new.a → S46 (HeldAfter (WithLink new) held)
+  pub S46-with : KeepsS46At (HeldAfter (WithLink new) held) new.a → S46 (HeldAfter (WithLink new) held)
   S46-with = s46_pivot (HeldAfter (WithLink new) held) new.a with_away
 
-  pub IsSomeS46-with : IsS46At (HeldAfter (WithLink new) held) new.a → IsSomeS46 (HeldAfter (WithLink new) held)
-  IsSomeS46-with = S46-witness (HeldAfter (WithLink new) held) with_two new.a
+  pub BreaksS46-with : BreaksS46At (HeldAfter (WithLink new) held) new.a → BreaksS46 (HeldAfter (WithLink new) held)
+  BreaksS46-with = S46-witness (HeldAfter (WithLink new) held) with_two new.a
 
-module _ (held : Links) (source target : ℕ) (two : source ≢ target) (legal : BreakNone (HeldIn held)) where
+module _ (held : Links) (source target : ℕ) (two : source ≢ target) (legal : BreakNone (Holds held)) where
   joined_two : HaveTwoEnds (HeldAfter (AfterMerge source target) held)
   joined_two m (l, has, gives) = (link_after_merge-ends source target l m gives).3
 
@@ -49,13 +49,13 @@ module _ (held : Links) (source target : ℕ) (two : source ≢ target) (legal :
   stays x y e off = grind arith
 
   joined_away : BreakNone (HeldAwayFrom (HeldAfter (AfterMerge source target) held) target)
-  joined_away = BreakNone-within (HeldAwayFrom (HeldAfter (AfterMerge source target) held) target) (HeldIn held) old
+  joined_away = BreakNone-within (HeldAwayFrom (HeldAfter (AfterMerge source target) held) target) (Holds held) old
       legal
     where
-      old : (m : Link) → HeldAwayFrom (HeldAfter (AfterMerge source target) held) target m → HeldIn held m
+      old : (m : Link) → HeldAwayFrom (HeldAfter (AfterMerge source target) held) target m → Holds held m
       old m ((l, has, gives), not_a, not_b) =
           let ends = link_after_merge-ends source target l m gives in
-          subst (λ (w : Link). HeldIn held w)
+          subst (λ (w : Link). Holds held w)
           (sym (link_same m.kind l.kind m.a l.a m.b l.b ends.0 (stays l.a m.a ends.1 not_a)
           (stays l.b m.b ends.2 not_b)))
           has
@@ -84,8 +84,8 @@ pub CoversNear-held : (held : Links) (p : ℕ) (ns : List Link) → CoversEdit N
     ns
 CoversNear-held held p ns all n near l has touch = all l has n (inr near) touch
 
--- The new link, which isn't held, makes room for one visit more.
-pub CoversNear-with : (held : Links) (new : Link) (ns : List Link) → (HeldIn held new → ⊥) → Contains ns new
+-- The new link, which isn't held, allows one visit more: the held links near it are one fewer than the neighbourhood.
+pub CoversNear-with : (held : Links) (new : Link) (ns : List Link) → (Holds held new → ⊥) → Contains ns new
     → CoversEdit (WithLink new) held new.a ns
     → (rest : List Link) × (length rest + 1 ≡ length ns) × CoversNear (WithLink new) held new.a rest
 CoversNear-with held new ns fresh has_new all =
@@ -100,13 +100,13 @@ CoversNear-with held new ns fresh has_new all =
       length-append before after,
     )
 
-    without : (before after : List Link) → ns ≡ before ++ new ∷ after → (l : Link) → HeldIn held l → Contains ns l
+    without : (before after : List Link) → ns ≡ before ++ new ∷ after → (l : Link) → Holds held l → Contains ns l
         → Contains (before ++ after) l
     without before after is l has in_ns =
         elim (Contains-append_cases before (new ∷ after) l (subst (λ (ws : List Link). Contains ws l) is in_ns)) [
           | inl left ↦ Contains-append_left before after l left
           | inr right ↦ elim (Contains-cons_cases new after l right) [
-            | inl same ↦ absurd (fresh (subst (λ (w : Link). HeldIn held w) (sym same) has))
+            | inl same ↦ absurd (fresh (subst (λ (w : Link). Holds held w) (sym same) has))
             | inr later ↦ Contains-append_right before after l later
           ]
         ]

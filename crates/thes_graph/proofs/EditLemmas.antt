@@ -4,7 +4,7 @@ use Rattle.std.proofs.Common.{Contains, true, false, if◌then◌else◌, Option
 use Rattle.std.specs.List.{filter_map, cons_option}
 use Rattle.std.proofs.lemmas.List.Elements.{Contains-append_left, Contains-push, Contains-push_cases}
 use Rattle.thes_base.specs.declared.data.Link.{Link}
-use Rattle.thes_base.specs.Links.{Links, HeldIn, HasEnd}
+use Rattle.thes_base.specs.Links.{Links, Holds, HasEnd}
 use Rattle.thes_base.proofs.ListMemberLemmas.{Contains-none, Contains-head, Contains-later, Contains-cons_cases}
 use Rattle.thes_graph.specs.declared.edit.LinkEdit.{LinkEdit}
 use Rattle.thes_graph.specs.declared.edit.LinkEdit.TheVariants.{NoEdit, WithLink, AfterMerge}
@@ -13,7 +13,7 @@ use Rattle.thes_graph.specs.LinkEdit.{node_after, link_after_merge, HeldAfter, T
 use Rattle.thes_graph.specs.LinkEdit.{row_after_edit}
 
 module _ {X Y : Type 0} (h : X → Option Y) where
-  -- The first item of a list gives one item or none.
+  -- The first item of a list adds one item or none to the filtered and mapped list.
   pub map_head : (x : X) (xs : List X) → ((y : Y) × (h x ≡ Some y) × (filter_map h (x ∷ xs) ≡ y ∷ filter_map h xs))
       ⊎ ((h x ≡ None) × (filter_map h (x ∷ xs) ≡ filter_map h xs))
   map_head x xs =
@@ -39,7 +39,7 @@ module _ {X Y : Type 0} (h : X → Option Y) where
           ]
       go later (inr (_, is)) = later (subst (λ (ws : List Y). Contains ws y) is has)
 
-  -- An item of the list gives an item of the filtered and mapped list.
+  -- An item that the function maps to a value has that value in the filtered and mapped list.
   pub filter_map-to : (xs : List X) (x : X) (y : Y) → Contains xs x → h x ≡ Some y → Contains (filter_map h xs) y
   filter_map-to [] x y has gives = absurd (Contains-none x has)
   filter_map-to (w ∷ xs) x y has gives = go (λ rest. filter_map-to xs x y rest gives) (map_head w xs)
@@ -68,7 +68,7 @@ module _ {X Y : Type 0} (h : X → Option Y) where
             | inr rest ↦ later rest
           ])
 
--- A link after a merge has the old kind, the ends after the merge, and two different ends.
+-- A link after a merge has the kind of the link before it, its ends redirected, and two different ends.
 pub link_after_merge-ends : (source target : ℕ) (l m : Link) → link_after_merge source target l ≡ Some m
     → (m.kind ≡ l.kind) × (m.a ≡ node_after (AfterMerge source target) l.a)
     × (m.b ≡ node_after (AfterMerge source target) l.b) × (m.a ≢ m.b)
@@ -125,8 +125,8 @@ module _ (held : Links) (node : ℕ) (row : List Link) where
       touch (inl a) = inl (sym (link_after_merge-ends source target l m gives).1 ∙ a)
       touch (inr b) = inr (sym (link_after_merge-ends source target l m gives).2 ∙ b)
 
--- Links with two different ends have two after the edit.
-pub would_two : (held : Links) (edit : LinkEdit) → IsValidEdit edit → HaveTwoEnds (HeldIn held)
+-- Links with two different ends have two different ends after the edit.
+pub would_two : (held : Links) (edit : LinkEdit) → IsValidEdit edit → HaveTwoEnds (Holds held)
     → HaveTwoEnds (HeldAfter edit held)
 would_two held NoEdit fit two l has = two l has
 would_two held (WithLink new) fit two l (inl has) = two l has

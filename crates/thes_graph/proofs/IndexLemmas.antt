@@ -1,4 +1,4 @@
--- The index of a graph stays correct: at each node it has the links of the set with an end there, sorted by side.
+-- The index of a graph stays right: each node has the links of the set with an end there, sorted by side.
 use Rattle.std.proofs.Common.{◌≡◌, ◌≢◌, ◌+◌, ◌⊎◌, inl, inr, ℕ, List, [], ◌∷◌, Bool, true, false, cond, ◌||◌, ◌==◌}
 use Rattle.std.proofs.Common.{◌<◌, Contains, length, get_or, map, Less, refl, sym, ap, subst, ◌∙◌, arith}
 use Rattle.std.specs.Prelude.{filter}
@@ -17,7 +17,7 @@ use Rattle.std.proofs.lemmas.List.{length-map, get_or-map, get_or_default}
 use Rattle.std.proofs.lemmas.Map.Keys.{sorted_tail, Less-from_sorted}
 use Rattle.std.proofs.lemmas.Bool.{false_from_ne_true, cases_eq}
 use Rattle.thes_base.specs.declared.data.Link.{Link}
-use Rattle.thes_base.specs.Links.{Links, link_cmp, HeldIn, normal_form, HasEnd}
+use Rattle.thes_base.specs.Links.{Links, link_cmp, Holds, normal_form, HasEnd}
 use Rattle.thes_base.specs.Listing.{IsListing}
 use Rattle.thes_base.proofs.LinkSetLemmas.{links_total, links_exact, link_inserted_cases}
 use Rattle.thes_base.proofs.UniqueListingLemmas.{one_listing}
@@ -34,7 +34,8 @@ use Rattle.thes_lists.proofs.ListingLemmas.{listing_remove}
 use Rattle.thes_graph.specs.declared.side.SidedLink.{SidedLink}
 use Rattle.thes_graph.specs.Side.{sided_link_at, sided_link_cmp}
 use Rattle.thes_graph.specs.Reading.{IsRow}
-use Rattle.thes_graph.specs.Net.{Net, ends_at, insertion_sort, sorted_links, sorted_row, sided_links_at, links_at}
+use Rattle.thes_graph.specs.GraphView.{GraphView, ends_at, insertion_sort, sorted_links, sorted_row, sided_links_at}
+use Rattle.thes_graph.specs.GraphView.{links_at}
 use Rattle.thes_graph.specs.Whole.{AreAll}
 use Rattle.thes_graph.specs.Index.{IsIndexed}
 use Rattle.thes_graph.proofs.LinkOrderLemmas.{derived_link_cmp, derived_link_cmp_is, derived_sided_cmp}
@@ -42,7 +43,7 @@ use Rattle.thes_graph.proofs.LinkOrderLemmas.{derived_sided_cmp_is, sided_links_
 use Rattle.thes_graph.proofs.SetLemmas.{same_links, held_from_list, listed_of_held, held_of_item, item_of_held}
 use Rattle.thes_graph.proofs.SetLemmas.{inserted_held, insert_keeps, remove_keeps as remove_keeps_link, removed_cases}
 
-abbrev net_of : Links → FinSet nat_cmp → Net
+abbrev net_of : Links → FinSet nat_cmp → GraphView
 net_of links outside = record { links = links; outside = outside }
 
 abbrev IsSorted : List Link → Type 0
@@ -54,8 +55,6 @@ with_key = insert_key link_cmp
 abbrev without_key : Link → List Link → List Link
 without_key l = remove_key (is_at (link_cmp l))
 
--- Members of a sorted list after an insertion or a removal.
-
 module _ {A : Type 0} (c : A → A → Ordering) (o : IsTotalOrder c) (exact : IsAntisymmetric c) where
   insert_members : (ks : List A) (x m : A) → Contains (insert_key c ks x) m → (m ≡ x) ⊎ Contains ks m
   insert_members ks x m has = elim (insert_cases c ks x m (Has-from (insert_key c ks x) m has))
@@ -66,8 +65,6 @@ module _ {A : Type 0} (c : A → A → Ordering) (o : IsTotalOrder c) (exact : I
 
   insert_old : (ks : List A) (x m : A) → Contains ks m → Contains (insert_key c ks x) m
   insert_old ks x m has = Contains-from (insert_key c ks x) m (order.insert_keeps c ks x m (Has-from ks m has))
-
-  -- Insertion sort keeps the members, and sorts them.
 
   in_order_sorted : (xs : List A) → IsStrictlySortedBy c (insertion_sort c xs)
   in_order_sorted [] = sorted_none c
@@ -108,18 +105,16 @@ without_old : (ks : List Link) (l m : Link) → Contains ks m → m ≢ l → Co
 without_old ks l m has other = Contains-from (without_key l ks) m (remove_keeps link_cmp links_total links_exact ks l
     m other (Has-from ks m has))
 
--- The sorted list of a set's links has exactly these.
-
-pub held_of_listed : (links : Links) (m : Link) → Contains (sorted_links links) m → HeldIn links m
+pub held_of_listed : (links : Links) (m : Link) → Contains (sorted_links links) m → Holds links m
 held_of_listed links m has = held_of_item links m (in_order_from link_cmp links_total links_exact (items links) m has)
 
-pub listed_held : (links : Links) (m : Link) → HeldIn links m → Contains (sorted_links links) m
+pub listed_held : (links : Links) (m : Link) → Holds links m → Contains (sorted_links links) m
 listed_held links m held = in_order_to link_cmp links_total links_exact (items links) m (item_of_held links m held)
 
 pub listed_sorted : (links : Links) → IsSorted (sorted_links links)
 listed_sorted links = in_order_sorted link_cmp links_total links_exact (items links)
 
--- A sorted list is the sorted list of its set.
+-- A sorted list of links is the sorted list of its set.
 pub listed_is : (ks : List Link) → IsSorted ks → sorted_links (from_list ks) ≡ ks
 listed_is ks sorted =
     one_listing links_total {P = Contains ks} (sorted_links (from_list ks)) ks
@@ -129,8 +124,6 @@ listed_is ks sorted =
       complete = λ m has. listed_held (from_list ks) m (held_from_list ks m has);
     })
     (record { rises = sorted; sound = λ m has. has; complete = λ m has. has })
-
--- The test for an end at a node is exact.
 
 pub ends_of_test : (n : ℕ) (l : Link) → ends_at n l ≡ true → HasEnd n l
 ends_of_test n l e = go (l.a == n) refl e
@@ -147,7 +140,7 @@ test_of_ends n l (inr at) = go (l.a == n)
     go true = refl
     go false = (Decides-eqb l.b n).1 at
 
--- A link of the list with its side at the node.
+-- The link is in the list and has an end at the node, and has the side on which it lies there.
 abbrev CoversSide : List Link → ℕ → SidedLink → Type 0
 CoversSide ks n s = Contains ks s.link × HasEnd n s.link × (sided_link_at n s.link ≡ s)
 
@@ -231,11 +224,11 @@ pub sided_links_sorted : (links : Links) (n : ℕ) → IsStrictlySortedBy sided_
 sided_links_sorted links n = (arranged_listing n (sorted_links links)).rises
 
 pub sided_links_from : (links : Links) (n : ℕ) (s : SidedLink) → Contains (sided_links_at links n) s
-    → HeldIn links s.link × HasEnd n s.link × (sided_link_at n s.link ≡ s)
+    → Holds links s.link × HasEnd n s.link × (sided_link_at n s.link ≡ s)
 sided_links_from links n s has = let is = (arranged_listing n (sorted_links links)).sound s has in
     (held_of_listed links s.link is.0, is.1, is.2)
 
-pub sided_links_to : (links : Links) (n : ℕ) (l : Link) → HeldIn links l → HasEnd n l
+pub sided_links_to : (links : Links) (n : ℕ) (l : Link) → Holds links l → HasEnd n l
     → Contains (sided_links_at links n) (sided_link_at n l)
 sided_links_to links n l held ends = (arranged_listing n (sorted_links links)).complete (sided_link_at n l)
     (listed_held links l held, ends, refl)
@@ -243,13 +236,13 @@ sided_links_to links n l held ends = (arranged_listing n (sorted_links links)).c
 abbrev link_of : SidedLink → Link
 link_of s = s.link
 
-pub links_at_from : (links : Links) (n : ℕ) (l : Link) → Contains (links_at links n) l → HeldIn links l × HasEnd n l
+pub links_at_from : (links : Links) (n : ℕ) (l : Link) → Contains (links_at links n) l → Holds links l × HasEnd n l
 links_at_from links n l has =
     let from = Contains-from_map link_of (sided_links_at links n) l has in
     let is = sided_links_from links n from.0 from.1 in
-    subst (λ (w : Link). HeldIn links w × HasEnd n w) from.2 (is.0, is.1)
+    subst (λ (w : Link). Holds links w × HasEnd n w) from.2 (is.0, is.1)
 
-pub links_at_to : (links : Links) (n : ℕ) (l : Link) → HeldIn links l → HasEnd n l → Contains (links_at links n) l
+pub links_at_to : (links : Links) (n : ℕ) (l : Link) → Holds links l → HasEnd n l → Contains (links_at links n) l
 links_at_to links n l held ends = Contains-map link_of (sided_links_at links n) (sided_link_at n l)
     (sided_links_to links n l held ends)
 
@@ -289,7 +282,7 @@ IsRow-links_at links n = record {
 pub row_is : (ks : List Link) (n : ℕ) → IsSorted ks → sorted_row n ks ≡ sided_links_at (from_list ks) n
 row_is ks n sorted = ap (sorted_row n) (sym (listed_is ks sorted))
 
--- An insertion or removal by the derived order is one by the defined order.
+-- An insertion or removal by the order that `cmp` computes is one by the defined order.
 pub with_computed : (ks : List Link) (l : Link) (keys : List Link) → keys ≡ insert_key derived_link_cmp ks l → keys
     ≡ with_key ks l
 with_computed ks l keys is = let P : (Link → Link → Ordering) → Type 0 = λ cmp. keys ≡ insert_key cmp ks l in
@@ -308,18 +301,16 @@ lookup_in_keys ks l b e =
     subst P derived_link_cmp_is e)
     ∙ sym (contains-from_list links_total ks l)
 
--- The set of the keys after an insertion or a removal.
-
 pub from_list_with : (ks : List Link) (l : Link) → from_list (with_key ks l) ≡ insert (from_list {R = link_cmp} ks) l
 from_list_with ks l = same_links (from_list (with_key ks l)) (insert (from_list ks) l) to from
   where
-    to : (m : Link) → HeldIn (from_list (with_key ks l)) m → HeldIn (insert (from_list ks) l) m
+    to : (m : Link) → Holds (from_list (with_key ks l)) m → Holds (insert (from_list ks) l) m
     to m held = elim (with_cases ks l m (listed_of_held (with_key ks l) m held)) [
-      | inl same ↦ subst (HeldIn (insert (from_list ks) l)) (sym same) (inserted_held (from_list ks) l)
+      | inl same ↦ subst (Holds (insert (from_list ks) l)) (sym same) (inserted_held (from_list ks) l)
       | inr old ↦ insert_keeps (from_list ks) l m (held_from_list ks m old)
     ]
 
-    from : (m : Link) → HeldIn (insert (from_list ks) l) m → HeldIn (from_list (with_key ks l)) m
+    from : (m : Link) → Holds (insert (from_list ks) l) m → Holds (from_list (with_key ks l)) m
     from m held = held_from_list (with_key ks l) m (elim (link_inserted_cases (from_list ks) l m held) [
       | inl same ↦ subst (λ (w : Link). Contains (with_key ks l) w) (sym same) (with_it ks l)
       | inr old ↦ with_old ks l m (listed_of_held ks m old)
@@ -329,15 +320,13 @@ pub from_list_without : (ks : List Link) (l : Link) → IsSorted ks → from_lis
     ≡ remove (from_list {R = link_cmp} ks) l
 from_list_without ks l sorted = same_links (from_list (without_key l ks)) (remove (from_list ks) l) to from
   where
-    to : (m : Link) → HeldIn (from_list (without_key l ks)) m → HeldIn (remove (from_list ks) l) m
+    to : (m : Link) → Holds (from_list (without_key l ks)) m → Holds (remove (from_list ks) l) m
     to m held = let c = without_cases ks l m sorted (listed_of_held (without_key l ks) m held) in
         remove_keeps_link (from_list ks) l m c.1 (held_from_list ks m c.0)
 
-    from : (m : Link) → HeldIn (remove (from_list ks) l) m → HeldIn (from_list (without_key l ks)) m
+    from : (m : Link) → Holds (remove (from_list ks) l) m → Holds (from_list (without_key l ks)) m
     from m held = let c = removed_cases (from_list ks) l m held in
         held_from_list (without_key l ks) m (without_old ks l m (listed_of_held ks m c.1) c.0)
-
--- The rows after a change at both ends of a link.
 
 module _ (op : List SidedLink → SidedLink → List SidedLink) (ks later : List Link) (old one both : Lists SidedLink)
     (l : Link) (two : l.a ≢ l.b)
@@ -346,7 +335,7 @@ module _ (op : List SidedLink → SidedLink → List SidedLink) (ks later : List
     (was : (n : ℕ) → listed_at old n ≡ sorted_row n ks) (here : (n : ℕ) → HasEnd n l → sorted_row n later
     ≡ op (sorted_row n ks) (sided_link_at n l))
     (others : (n : ℕ) → (HasEnd n l → ⊥) → sorted_row n later ≡ sorted_row n ks) where
-  -- If the rows at both ends of a link have changed as the list has, all rows fit the new list.
+  -- The rows at all nodes are right after the rows at both ends of a link change as the list does.
   rows_changed : (n : ℕ) → listed_at both n ≡ sorted_row n later
   rows_changed n = go (cases_eq l.a n) (cases_eq l.b n)
     where
@@ -374,14 +363,14 @@ len_is (k ∷ ks) sorted =
     (false_from_ne_true (contains (from_list {R = link_cmp} ks) k) absent)
     ∙ one_more (len_is ks (sorted_tail link_cmp k ks sorted))
   where
-    absent : HeldIn (from_list ks) k → ⊥
+    absent : Holds (from_list ks) k → ⊥
     absent held = never_below_itself link_cmp links_total k
         (above_head link_cmp k ks k sorted (Has-from ks k (listed_of_held ks k held)))
 
     one_more : len (from_list {R = link_cmp} ks) ≡ length ks → len (from_list {R = link_cmp} ks) + 1 ≡ length (k ∷ ks)
     one_more e = omega arith
 
--- The index of no links.
+-- An index without links is right.
 pub IsIndexed-none : (ks : List Link) (rows : Lists SidedLink) (outside : List ℕ) → ks ≡ []
     → ((n : ℕ) → listed_at rows n ≡ []) → IsIndexed ks rows outside
 IsIndexed-none ks rows outside none no_rows =
@@ -392,7 +381,7 @@ IsIndexed-none ks rows outside none no_rows =
       rows = no_rows;
     })
 
--- The index stays correct if the rows keep their values.
+-- The index stays right if the rows keep their values.
 pub IsIndexed-same : (ks : List Link) (outside : List ℕ) (old new : Lists SidedLink) → HaveSameValues old new
     → IsIndexed ks old outside → IsIndexed ks new outside
 IsIndexed-same ks outside old new same index = record {
@@ -416,7 +405,7 @@ module _ (ks : List Link) (outside : List ℕ) (old : Lists SidedLink) (index : 
   other_sorted new a b row two changes = subst (IsStrictlySortedBy derived_sided_cmp)
       (sym (changes.others b (λ e. two (sym e)))) (row_sorted b)
 
-  -- The index after an insertion or a removal of a link at both its ends.
+  -- Assumes that a link is inserted or removed at both its ends.
   module _ (one both : Lists SidedLink) (l : Link) (s t : SidedLink) (at_a : s ≡ sided_link_at l.a l)
       (at_b : t ≡ sided_link_at l.b l) (two : l.a ≢ l.b) (keys : List Link) where
     module _ (op : (SidedLink → SidedLink → Ordering) → List SidedLink → SidedLink → List SidedLink)
@@ -438,7 +427,7 @@ module _ (ks : List Link) (outside : List ℕ) (old : Lists SidedLink) (index : 
           (subst (λ (w : SidedLink). ChangesOnlyAt one both l.b (op derived_sided_cmp (listed_at one l.b) w)) at_b
           second)
 
-    -- The index is correct after the insertion of a new link at both its ends.
+    -- The index stays right if a new link is inserted at both its ends.
     pub IsIndexed-added : normal_form (contains (from_list {R = nat_cmp} outside)) l ≡ l → keys
         ≡ insert_key derived_link_cmp ks l
         → ChangesOnlyAt old one l.a (insert_key derived_sided_cmp (listed_at old l.a) s) → ChangesOnlyAt one both l.b
@@ -485,11 +474,11 @@ module _ (ks : List Link) (outside : List ℕ) (old : Lists SidedLink) (index : 
 pub AreAll-keys : (ks : List Link) → AreAll (from_list {R = link_cmp} ks) ks
 AreAll-keys ks = record { sound = held_from_list ks; complete = listed_of_held ks }
 
--- The view of a graph after the insertion of a key, whether or not it was there.
-pub Net-added : (ks keys : List Link) (outside : FinSet nat_cmp) (net : Net) (l m : Link)
+-- The graph after the insertion of a key has the link, whether or not the key was there.
+pub GraphView-added : (ks keys : List Link) (outside : FinSet nat_cmp) (net : GraphView) (l m : Link)
     → net_of (from_list ks) outside ≡ net → keys ≡ insert_key derived_link_cmp ks l → l ≡ m
     → net_of (from_list keys) outside ≡ net_of (insert net.links m) net.outside
-Net-added ks keys outside net l m is put same =
+GraphView-added ks keys outside net l m is put same =
     ap (λ (links : Links). net_of links outside) (ap from_list (with_computed ks l keys put) ∙ from_list_with ks l
     ∙ ap (insert (from_list ks)) same)
-    ∙ ap (λ (seen : Net). net_of (insert seen.links m) seen.outside) is
+    ∙ ap (λ (seen : GraphView). net_of (insert seen.links m) seen.outside) is

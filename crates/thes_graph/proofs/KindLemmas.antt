@@ -5,12 +5,12 @@ use Rattle.thes_base.specs.declared.data.LinkKind.{LinkKind}
 use Rattle.thes_base.specs.declared.data.Direction.{Direction}
 use Rattle.thes_base.specs.declared.data.Direction.TheVariants.{Forward, Backward, Either, Never}
 use Rattle.thes_base.specs.Links.{broader_direction, related_direction, exact_direction, disjoint_direction}
-use Rattle.thes_base.specs.Links.{LinkLeads, Path, Chain, IsJoined, IsBroader, IsAbove, IsRelated, NoCycle, S27, S46}
+use Rattle.thes_base.specs.Links.{LinkLeads, Path, Chain, IsJoined, IsNarrower, IsBelow, IsRelated, NoCycle, S27, S46}
 use Rattle.thes_base.specs.Links.{IsFirstBroken}
 use Rattle.thes_base.specs.declared.data.LinkKind.TheVariants as kinds
 use Rattle.thes_graph.specs.declared.relation.Relation.TheVariants.{Broader, Narrower, Related}
 use Rattle.thes_graph.specs.Steps.{Steps, Reaches}
-use Rattle.thes_graph.specs.Local.{BreakNone, ReachesUp, IsNear, IsFirstOfTwo}
+use Rattle.thes_graph.specs.Local.{BreakNone, ReachesUp, IsNearPivot, IsFirstOfCycleAndS27}
 use Rattle.thes_graph.specs.Whole.{HasEndAbove, HasNoEndAbove}
 use Rattle.thes_graph.specs.SideSearch.{IsBrokenBetween}
 use Rattle.thes_base.specs.declared.fault.Refusal.{Refusal}
@@ -30,8 +30,7 @@ turn_either _ a b x y h = absurd h
 pub related_turns : (Held : Link → Type 0) (x y : ℕ) → IsRelated Held x y → IsRelated Held y x
 related_turns Held x y (l, held, leads) = (l, held, turn_either l.kind l.a l.b x y leads)
 
--- A chain in a relation with one new step either does without that step, or leads to its start and further from its
--- end.
+-- A chain after a step was added either does without it, or leads to its start and from its end.
 module _ (S T : ℕ → ℕ → Type 0) (low high : ℕ) (cases : (x y : ℕ) → T x y → S x y ⊎ ((low ≡ x) × (high ≡ y))) where
   path_split : (x : ℕ) (ms : List ℕ) (y : ℕ) → Path T x ms y → Chain S x y ⊎ (Reaches S x low × Reaches S high y)
   path_split x [] y one =
@@ -52,7 +51,7 @@ module _ (Held : Link → Type 0) (new : Link) where
   abbrev WithLink : Link → Type 0
   WithLink l = Held l ⊎ (new ≡ l)
 
-  -- A new link that leads nowhere in a relation doesn't change the relation.
+  -- A new link that has no part in a relation doesn't change the relation.
   kept : (way : LinkKind → Direction) → way new.kind ≡ Never → (x y : ℕ) → IsJoined WithLink way x y
       → IsJoined Held way x y
   kept way never x y (l, inl held, leads) = (l, held, leads)
@@ -84,33 +83,33 @@ module _ (Held : Link → Type 0) (new : Link) where
             (kept disjoint_direction apart x y off);
       }
 
-  -- A new link that leads up from its low end to its high end.
+  -- Assumes that the new link leads from its low end up to its high end.
   module _ (low high : ℕ) (two : low ≢ high) (no_others : (x y : ℕ) → LinkLeads (broader_direction new.kind) new.a
       new.b x y → (low ≡ x) × (high ≡ y))
       (there : LinkLeads (broader_direction new.kind) new.a new.b low high) where
-    step_cases : (x y : ℕ) → IsBroader WithLink x y → IsBroader Held x y ⊎ ((low ≡ x) × (high ≡ y))
+    step_cases : (x y : ℕ) → IsNarrower WithLink x y → IsNarrower Held x y ⊎ ((low ≡ x) × (high ≡ y))
     step_cases x y (l, inl held, leads) = inl (l, held, leads)
     step_cases x y (l, inr same, leads) =
         let P : Link → Type 0 = λ w. LinkLeads (broader_direction w.kind) w.a w.b x y in
         inr (no_others x y (subst P (sym same) leads))
 
-    new_step : IsBroader WithLink low high
+    new_step : IsNarrower WithLink low high
     new_step = (new, inr refl, there)
 
-    split : (x y : ℕ) → IsAbove WithLink x y → IsAbove Held x y ⊎ (ReachesUp Held x low × ReachesUp Held high y)
-    split = chain_split (IsBroader Held) (IsBroader WithLink) low high step_cases
+    split : (x y : ℕ) → IsBelow WithLink x y → IsBelow Held x y ⊎ (ReachesUp Held x low × ReachesUp Held high y)
+    split = chain_split (IsNarrower Held) (IsNarrower WithLink) low high step_cases
 
-    round : (x : ℕ) → ReachesUp Held x low → ReachesUp Held high x → IsAbove Held high low
+    round : (x : ℕ) → ReachesUp Held x low → ReachesUp Held high x → IsBelow Held high low
     round x (inl same) (inl also) = absurd (two (sym (also ∙ same)))
-    round x (inl same) (inr from) = subst (λ (w : ℕ). IsAbove Held high w) same from
-    round x (inr to) from = Reaches-then_chain (IsBroader Held) high x low from to
+    round x (inl same) (inr from) = subst (λ (w : ℕ). IsBelow Held high w) same from
+    round x (inr to) from = Reaches-then_chain (IsNarrower Held) high x low from to
 
-    cycle_closed : IsAbove Held high low → IsAbove WithLink low low
+    cycle_closed : IsBelow Held high low → IsBelow WithLink low low
     cycle_closed above =
-        Chain-join (IsBroader WithLink) low high low (Chain-one (IsBroader WithLink) low high new_step)
-        (Chain-map (IsBroader Held) (IsBroader WithLink) (more broader_direction) high low above)
+        Chain-join (IsNarrower WithLink) low high low (Chain-one (IsNarrower WithLink) low high new_step)
+        (Chain-map (IsNarrower Held) (IsNarrower WithLink) (more broader_direction) high low above)
 
-    pub no_cycle_up : (IsAbove Held high low → ⊥) → NoCycle Held → NoCycle WithLink
+    pub no_cycle_up : (IsBelow Held high low → ⊥) → NoCycle Held → NoCycle WithLink
     no_cycle_up off legal =
         record {
           none = λ x above. elim (split x x above) [
@@ -128,22 +127,23 @@ module _ (Held : Link → Type 0) (new : Link) where
     }
 
     up_with : (x y : ℕ) → ReachesUp Held x y → ReachesUp WithLink x y
-    up_with = Reaches-map (IsBroader Held) (IsBroader WithLink) (more broader_direction)
+    up_with = Reaches-map (IsNarrower Held) (IsNarrower WithLink) (more broader_direction)
 
-    -- The new link makes each node at or above its high end broader than each at or below its low end.
-    over : (x y : ℕ) → ReachesUp Held x low → ReachesUp Held high y → IsAbove WithLink x y
+    -- The new link makes each node at or above its high end broader than each node at or below its low end.
+    over : (x y : ℕ) → ReachesUp Held x low → ReachesUp Held high y → IsBelow WithLink x y
     over x y to from =
-        Chain-then_reach (IsBroader WithLink) x high y
-        (Reaches-then_chain (IsBroader WithLink) x low high (up_with x low to)
-        (Chain-one (IsBroader WithLink) low high new_step))
+        Chain-then_reach (IsNarrower WithLink) x high y
+        (Reaches-then_chain (IsNarrower WithLink) x low high (up_with x low to)
+        (Chain-one (IsNarrower WithLink) low high new_step))
         (up_with high y from)
 
-    -- The rule broken by a link up from the low end to the high one is the first that the new links break.
-    pub IsFirstOfTwo-between : related_direction new.kind ≡ Never → NoCycle Held → S27 Held → (r : Option Refusal)
-        → IsBrokenBetween Held low high r → IsFirstOfTwo WithLink r
-    IsFirstOfTwo-between beside cycle s27 None (off, pair) = (no_cycle_up off cycle, s27_up beside pair s27)
-    IsFirstOfTwo-between beside cycle s27 (Some no.Cycle) above = (low, cycle_closed above)
-    IsFirstOfTwo-between beside cycle s27 (Some no.S27) (off, found) = (
+    -- The rule that a link from the low end up to the high one breaks is the first that the new links break.
+    pub IsFirstOfCycleAndS27-between : related_direction new.kind ≡ Never → NoCycle Held → S27 Held
+        → (r : Option Refusal)
+        → IsBrokenBetween Held low high r → IsFirstOfCycleAndS27 WithLink r
+    IsFirstOfCycleAndS27-between beside cycle s27 None (off, pair) = (no_cycle_up off cycle, s27_up beside pair s27)
+    IsFirstOfCycleAndS27-between beside cycle s27 (Some no.Cycle) above = (low, cycle_closed above)
+    IsFirstOfCycleAndS27-between beside cycle s27 (Some no.S27) (off, found) = (
       no_cycle_up off cycle,
       (
         found.0,
@@ -152,40 +152,41 @@ module _ (Held : Link → Type 0) (new : Link) where
         over found.0 found.1 found.2 found.3,
       ),
     )
-    IsFirstOfTwo-between beside cycle s27 (Some _) h = absurd h
+    IsFirstOfCycleAndS27-between beside cycle s27 (Some _) h = absurd h
 
-    -- The nodes at or below the low end, and at or above the high end, are near both ends.
-    pub near_low : (n : ℕ) → ReachesUp Held n low ⊎ ReachesUp Held high n → IsNear WithLink low n
+    -- The nodes at or below the low end, and at or above the high end, are near the low end.
+    pub near_low : (n : ℕ) → ReachesUp Held n low ⊎ ReachesUp Held high n → IsNearPivot WithLink low n
     near_low n (inl (inl same)) = inl (inl (sym same))
     near_low n (inl (inr chain)) =
-        inr (inl (Chain-map (IsBroader Held) (IsBroader WithLink) (more broader_direction) n low chain))
+        inr (inl (Chain-map (IsNarrower Held) (IsNarrower WithLink) (more broader_direction) n low chain))
     near_low n (inr from) = inl (inr (over low n (inl refl) from))
 
-    pub near_high : (n : ℕ) → ReachesUp Held n low ⊎ ReachesUp Held high n → IsNear WithLink high n
+    pub near_high : (n : ℕ) → ReachesUp Held n low ⊎ ReachesUp Held high n → IsNearPivot WithLink high n
     near_high n (inl to) = inr (inl (over n high to (inl refl)))
     near_high n (inr (inl same)) = inl (inl same)
     near_high n (inr (inr chain)) =
-        inl (inr (Chain-map (IsBroader Held) (IsBroader WithLink) (more broader_direction) high n chain))
+        inl (inr (Chain-map (IsNarrower Held) (IsNarrower WithLink) (more broader_direction) high n chain))
 
-  -- A new link that leads neither up nor down keeps what is above or below each node.
+  -- Assumes that the new link leads neither up nor down, so that it keeps what is above or below each node.
   module _ (level : broader_direction new.kind ≡ Never) where
-    pub near_level : (p n : ℕ) → ReachesUp Held n p ⊎ ReachesUp Held p n → IsNear WithLink p n
+    pub near_level : (p n : ℕ) → ReachesUp Held n p ⊎ ReachesUp Held p n → IsNearPivot WithLink p n
     near_level p n (inl (inl same)) = inl (inl (sym same))
     near_level p n (inl (inr chain)) =
-        inr (inl (Chain-map (IsBroader Held) (IsBroader WithLink) (more broader_direction) n p chain))
+        inr (inl (Chain-map (IsNarrower Held) (IsNarrower WithLink) (more broader_direction) n p chain))
     near_level p n (inr (inl same)) = inl (inl same)
     near_level p n (inr (inr chain)) =
-        inl (inr (Chain-map (IsBroader Held) (IsBroader WithLink) (more broader_direction) p n chain))
+        inl (inr (Chain-map (IsNarrower Held) (IsNarrower WithLink) (more broader_direction) p n chain))
 
-    pub IsFirstOfTwo-kept : related_direction new.kind ≡ Never → NoCycle Held → S27 Held → IsFirstOfTwo WithLink None
-    IsFirstOfTwo-kept beside cycle s27 = (no_cycle_kept level cycle, s27_kept level beside s27)
+    pub IsFirstOfCycleAndS27-kept : related_direction new.kind ≡ Never → NoCycle Held → S27 Held
+        → IsFirstOfCycleAndS27 WithLink None
+    IsFirstOfCycleAndS27-kept beside cycle s27 = (no_cycle_kept level cycle, s27_kept level beside s27)
 
     -- A new related link breaks S27 exactly when one of its ends is above the other.
     module _ (two : new.a ≢ new.b) (beside : related_direction new.kind ≡ Either) (cycle : NoCycle Held) where
-      pub IsFirstOfTwo-above : HasEndAbove Held new → IsFirstOfTwo WithLink (Some no.S27)
-      IsFirstOfTwo-above (inl (inl same)) = absurd (two same)
-      IsFirstOfTwo-above (inr (inl same)) = absurd (two (sym same))
-      IsFirstOfTwo-above (inl (inr chain)) = (
+      pub IsFirstOfCycleAndS27-above : HasEndAbove Held new → IsFirstOfCycleAndS27 WithLink (Some no.S27)
+      IsFirstOfCycleAndS27-above (inl (inl same)) = absurd (two same)
+      IsFirstOfCycleAndS27-above (inr (inl same)) = absurd (two (sym same))
+      IsFirstOfCycleAndS27-above (inl (inr chain)) = (
         no_cycle_kept level cycle,
         (
           new.a,
@@ -196,11 +197,11 @@ module _ (Held : Link → Type 0) (new : Link) where
             subst (λ (d : Direction). LinkLeads d new.a new.b new.a new.b) (sym beside)
                 (inl (refl, refl)),
           ),
-          Chain-map (IsBroader Held) (IsBroader WithLink) (more broader_direction) new.a new.b
+          Chain-map (IsNarrower Held) (IsNarrower WithLink) (more broader_direction) new.a new.b
               chain,
         ),
       )
-      IsFirstOfTwo-above (inr (inr chain)) = (
+      IsFirstOfCycleAndS27-above (inr (inr chain)) = (
         no_cycle_kept level cycle,
         (
           new.b,
@@ -211,19 +212,19 @@ module _ (Held : Link → Type 0) (new : Link) where
             subst (λ (d : Direction). LinkLeads d new.a new.b new.b new.a) (sym beside)
                 (inr (refl, refl)),
           ),
-          Chain-map (IsBroader Held) (IsBroader WithLink) (more broader_direction) new.b new.a
+          Chain-map (IsNarrower Held) (IsNarrower WithLink) (more broader_direction) new.b new.a
               chain,
         ),
       )
 
       -- A new related link breaks neither rule if neither of its ends is above the other.
-      pub IsFirstOfTwo-apart : S27 Held → HasNoEndAbove Held new → IsFirstOfTwo WithLink None
-      IsFirstOfTwo-apart s27 (not_up, not_down) = (
+      pub IsFirstOfCycleAndS27-apart : S27 Held → HasNoEndAbove Held new → IsFirstOfCycleAndS27 WithLink None
+      IsFirstOfCycleAndS27-apart s27 (not_up, not_down) = (
         no_cycle_kept level cycle,
         record { none = λ x y related above. pair x y related (chain_kept broader_direction level x y above) },
       )
         where
-          pair : (x y : ℕ) → IsRelated WithLink x y → IsAbove Held x y → ⊥
+          pair : (x y : ℕ) → IsRelated WithLink x y → IsBelow Held x y → ⊥
           pair x y (l, inl held, leads) above = s27.none x y (l, held, leads) above
           pair x y (l, inr same, leads) above =
               let P : Link → Type 0 = λ w. LinkLeads (related_direction w.kind) w.a w.b x y in
@@ -231,14 +232,14 @@ module _ (Held : Link → Type 0) (new : Link) where
             where
               go : ((new.a ≡ x) × (new.b ≡ y)) ⊎ ((new.b ≡ x) × (new.a ≡ y)) → ⊥
               go (inl (a, b)) =
-                  not_up (inr (subst (λ (w : ℕ). IsAbove Held new.a w) (sym b)
-                  (subst (λ (w : ℕ). IsAbove Held w y) (sym a) above)))
+                  not_up (inr (subst (λ (w : ℕ). IsBelow Held new.a w) (sym b)
+                  (subst (λ (w : ℕ). IsBelow Held w y) (sym a) above)))
               go (inr (b, a)) =
                   not_down
-                  (inr (subst (λ (w : ℕ). IsAbove Held new.b w) (sym a)
-                  (subst (λ (w : ℕ). IsAbove Held w y) (sym b) above)))
+                  (inr (subst (λ (w : ℕ). IsBelow Held new.b w) (sym a)
+                  (subst (λ (w : ℕ). IsBelow Held w y) (sym b) above)))
 
--- Links that lead up from their first end, or from their second end.
+-- Assumes that the new link leads up from one of its ends.
 module _ (new : Link) where
   pub only_up : broader_direction new.kind ≡ Forward → (x y : ℕ) → LinkLeads (broader_direction new.kind) new.a new.b
       x y → (new.a ≡ x) × (new.b ≡ y)
@@ -255,7 +256,7 @@ module _ (new : Link) where
       new.a
   there_down down = subst (λ (d : Direction). LinkLeads d new.a new.b new.b new.a) (sym down) (refl, refl)
 
--- Links that lead up or down don't relate their ends.
+-- Links that lead up or down don't state that their ends are related.
 pub beside_of_up : (k : LinkKind) → broader_direction k ≡ Forward → related_direction k ≡ Never
 beside_of_up kinds.Related up = cc
 beside_of_up kinds.RelMatch up = cc
@@ -267,14 +268,12 @@ beside_of_down kinds.RelMatch down = cc
 beside_of_down _ down = refl
 
 module _ (Held : Link → Type 0) (low high : ℕ) where
-  -- No chain leads up from a node with nothing broader, or to a node with nothing narrower.
-
-  pub no_chain_from : ((y : ℕ) → IsBroader Held low y → ⊥) → IsAbove Held low high → ⊥
+  pub no_chain_from : ((y : ℕ) → IsNarrower Held low y → ⊥) → IsBelow Held low high → ⊥
   no_chain_from off ([], one) = off high one
   no_chain_from off (m ∷ ms, path) = off m path.0
 
-  pub no_chain_to : ((y : ℕ) → Steps Narrower Held high y → ⊥) → IsAbove Held low high → ⊥
-  no_chain_to off (ms, path) = let last = Path-last (IsBroader Held) low ms high path in
+  pub no_chain_to : ((y : ℕ) → Steps Narrower Held high y → ⊥) → IsBelow Held low high → ⊥
+  no_chain_to off (ms, path) = let last = Path-last (IsNarrower Held) low ms high path in
       off last.0 (narrower_to Held high last.0 high last.2)
 
 -- A new link up breaks no rule if nothing is narrower than its low end or related to it, or nothing is broader than
@@ -282,7 +281,7 @@ module _ (Held : Link → Type 0) (low high : ℕ) where
 module _ (Held : Link → Type 0) (new : Link) (two : new.a ≢ new.b) (legal : BreakNone Held)
     (up : broader_direction new.kind ≡ Forward) (beside : related_direction new.kind ≡ Never)
     (alike : exact_direction new.kind ≡ Never) (apart : disjoint_direction new.kind ≡ Never) where
-  unbroken : (IsAbove Held new.b new.a → ⊥) → ((x y : ℕ) → ReachesUp Held x new.a → ReachesUp Held new.b y
+  unbroken : (IsBelow Held new.b new.a → ⊥) → ((x y : ℕ) → ReachesUp Held x new.a → ReachesUp Held new.b y
       → IsRelated Held x y → ⊥) → BreakNone (WithLink Held new)
   unbroken no_chain no_pair = (
     no_cycle_up Held new new.a new.b two (only_up new up) (there_up new up) no_chain legal.0,
@@ -315,7 +314,8 @@ unbroken_loose Held new legal up beside alike apart =
     (no_cycle_kept Held new up legal.0, s27_kept Held new up beside legal.1, s46_kept Held new alike apart legal.2)
 
 -- If Cycle or S27 is broken, the first of these two is the first of all three rules.
-pub IsFirstBroken-two : (Held : Link → Type 0) (r : Refusal) → IsFirstOfTwo Held (Some r) → IsFirstBroken Held (Some r)
+pub IsFirstBroken-two : (Held : Link → Type 0) (r : Refusal) → IsFirstOfCycleAndS27 Held (Some r)
+    → IsFirstBroken Held (Some r)
 IsFirstBroken-two Held no.Cycle above = above
 IsFirstBroken-two Held no.S27 found = found
 IsFirstBroken-two Held _ h = absurd h

@@ -32,3 +32,6 @@ mod AdvanceLemmas
 mod MergeStepLemmas
 mod UpwardLinkLemmas
 mod PairedSearchLemmas
+mod NextNodeLemmas
+mod UpperSetLemmas
+mod S27Lemmas

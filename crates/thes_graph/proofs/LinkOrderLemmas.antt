@@ -72,8 +72,6 @@ sided_links_exact x y e =
     (exact_pairs (λ j k. nat_cmp (side_no j) (side_no k)) link_cmp same_side links_exact (x.side, x.link)
     (y.side, y.link) e)
 
--- Typed links are sorted alike by `cmp` and by the names of their kinds.
-
 same_words : (j k : TypedKind) → typed_kind.ghosts.cmp j k ≡ slice_cmp nat_cmp (typed_kind_name j) (typed_kind_name k)
 same_words typed.BroaderGeneric typed.BroaderGeneric = refl
 same_words typed.BroaderGeneric _ = refl

@@ -9,11 +9,11 @@ use Rattle.std.specs.Result.{is_ok}
 use Rattle.std.proofs.lemmas.Bool.{cases_lt, false_from_ne_true}
 use Rattle.std.proofs.lemmas.List.{get_or_default}
 use Rattle.thes_base.specs.declared.data.Link.{Link}
-use Rattle.thes_base.specs.Links.{Links, HeldIn, HasEnd}
+use Rattle.thes_base.specs.Links.{Links, Holds, HasEnd}
 use Rattle.thes_lists.proofs.OrderLemmas.{never_below_itself, sorted_by_index}
 use Rattle.thes_graph.specs.declared.side.SidedLink.{SidedLink}
 use Rattle.thes_graph.specs.Side.{sided_link_at, sided_link_cmp}
-use Rattle.thes_graph.specs.Net.{sided_links_at}
+use Rattle.thes_graph.specs.GraphView.{sided_links_at}
 use Rattle.thes_graph.proofs.LinkOrderLemmas.{derived_sided_cmp, derived_sided_cmp_is, sided_links_total}
 use Rattle.thes_graph.proofs.LinkOrderLemmas.{sided_links_exact}
 use Rattle.thes_graph.proofs.IndexLemmas.{sided_links_sorted, sided_links_from, sided_links_to}
@@ -26,7 +26,7 @@ module _ (links : Links) (n : ℕ) (l : Link) (ends : HasEnd n l) where
   searched (Ok i) within is =
       let it = sided_link_at n l in
       let found = get_or (sided_links_at links n) i it in
-      sym (subst (λ (s : SidedLink). HeldIn links s.link) (sided_links_exact found it (is it))
+      sym (subst (λ (s : SidedLink). Holds links s.link) (sided_links_exact found it (is it))
       (sided_links_from links n found (i, within, get_or_default (sided_links_at links n) i found it within)).0)
   searched (Err i) within is =
       sym (false_from_ne_true (contains links l) (λ held. missing (sided_links_to links n l held ends)))

@@ -1,4 +1,4 @@
--- The mappings and typed links that are listed of a concept are exactly those of the links at it.
+-- The mappings and typed links of a concept are those of the links at it.
 use Rattle.std.proofs.Common.{◌≡◌, ◌≢◌, inl, inr, ◌==◌, ◌<◌, ◌≤◌, ℕ, List, Bool, true, false, length, Some, Ordering}
 use Rattle.std.proofs.Common.{if◌then◌else◌, Result, Ok, Err, refl, sym, ap, subst, ◌∙◌}
 use Rattle.std.specs.List.{insert}
@@ -15,20 +15,18 @@ use Rattle.thes_base.specs.declared.data.LinkKind.TheVariants.{BroaderGeneric, B
 use Rattle.thes_base.specs.declared.data.TypedKind.{TypedKind}
 use Rattle.thes_base.specs.declared.data.TypedKind.TheVariants as typed
 use Rattle.thes_base.specs.declared.data.Link.{Link}
-use Rattle.thes_base.specs.Links.{Links, HeldIn, HasEnd}
+use Rattle.thes_base.specs.Links.{Links, Holds, HasEnd}
 use Rattle.thes_base.specs.KindNames.{link_kind_name}
 use Rattle.thes_base.specs.Views.{HasLink, IsMapping, mapping_cmp, IsTypedLink}
 use Rattle.thes_base.proofs.KindNameOrderLemmas.{mapping_total}
 use Rattle.thes_lists.proofs.OrderLemmas.{sorted_by_index, insert_found, insert_missing}
 use Rattle.thes_graph.specs.Reading.{HaveTwoEnds}
 use Rattle.thes_graph.specs.Mappings.{mapping_of_kind, mapping_seen_from, typed_link_of_kind, typed_link_seen_from}
-use Rattle.thes_graph.specs.Mappings.{word_place}
+use Rattle.thes_graph.specs.Mappings.{kind_name_rank}
 use Rattle.thes_graph.proofs.NumberLemmas.{same_of, other_of}
 use Rattle.thes_graph.proofs.ReaderLemmas.{IsSeen}
 
--- The ranks of the kinds are ordered as the kinds' names are.
-
-same_places : (j k : LinkKind) → nat_cmp (word_place j) (word_place k) ≡ slice_cmp nat_cmp (link_kind_name j)
+same_places : (j k : LinkKind) → nat_cmp (kind_name_rank j) (kind_name_rank k) ≡ slice_cmp nat_cmp (link_kind_name j)
     (link_kind_name k)
 same_places Broader Broader = refl
 same_places Broader _ = refl
@@ -36,7 +34,7 @@ same_places _ Broader = refl
 same_places _ _ = refl
 
 abbrev pub place_cmp : LinkKind × ℕ → LinkKind × ℕ → Ordering
-place_cmp x y = ordering_then (nat_cmp (word_place x.0) (word_place y.0)) (nat_cmp x.1 y.1)
+place_cmp x y = ordering_then (nat_cmp (kind_name_rank x.0) (kind_name_rank y.0)) (nat_cmp x.1 y.1)
 
 place_cmp_is : place_cmp ≡ mapping_cmp
 place_cmp_is = λ i x y. ordering_then (same_places x.0 y.0 i) (nat_cmp x.1 y.1)
@@ -58,8 +56,6 @@ module _ (list : List (LinkKind × ℕ)) (i : ℕ) (mapping : LinkKind × ℕ)
   listed_new within missed = insert_missing mapping_cmp mapping_total list i mapping within
       (as_words (Err i) missed (sorted_by_index mapping_cmp mapping_total list mapping sorted))
 
--- A mapping of the concept is what a held link with an end at it is, viewed from there, and conversely.
-
 module _ (links : Links) (n : ℕ) where
   seen_forward : (k : LinkKind) (m : ℕ) (p : LinkKind × ℕ) → HasLink links k n m → mapping_of_kind true k m ≡ Some p
       → IsMapping links n p
@@ -79,7 +75,7 @@ module _ (links : Links) (n : ℕ) where
   seen_backward Narrow m p held e = subst (IsMapping links n) (same_Some (Broad, m) p e) (inr held)
   seen_backward _ m p held e = absurd (none-some p e)
 
-  pub seen_from : (l : Link) (p : LinkKind × ℕ) → HeldIn links l → HasEnd n l → mapping_seen_from n l ≡ Some p
+  pub seen_from : (l : Link) (p : LinkKind × ℕ) → Holds links l → HasEnd n l → mapping_seen_from n l ≡ Some p
       → IsMapping links n p
   seen_from l p held at e = go (l.a == n) refl e
     where
@@ -95,7 +91,7 @@ module _ (links : Links) (n : ℕ) where
           seen_backward l.kind l.a p (subst (λ (k : ℕ). HasLink links l.kind l.a k) (second (other_of l.a n other) at)
           held) e
 
-  -- What a link of this kind from n, or to n, is when viewed from n.
+  -- A link from n, or to n, seen from n.
   seen_as_first : (k : LinkKind) (m : ℕ) → mapping_seen_from n (record { kind = k; a = n; b = m })
       ≡ mapping_of_kind true k m
   seen_as_first k m = ap (λ t. mapping_of_kind t k (if t then m else n)) ((Decides-eqb n n).1 refl)
@@ -105,13 +101,13 @@ module _ (links : Links) (n : ℕ) where
   seen_as_second k m other = ap (λ t. mapping_of_kind t k (if t then n else m))
       (false_from_ne_true (m == n) (λ e. other (same_of m n e)))
 
-  module _ (two_ends : HaveTwoEnds (HeldIn links)) where
+  module _ (two_ends : HaveTwoEnds (Holds links)) where
     first : (k : LinkKind) (m : ℕ) (p : LinkKind × ℕ) → HasLink links k n m → mapping_of_kind true k m ≡ Some p
-        → (l : Link) × HeldIn links l × HasEnd n l × (mapping_seen_from n l ≡ Some p)
+        → (l : Link) × Holds links l × HasEnd n l × (mapping_seen_from n l ≡ Some p)
     first k m p held gives = (record { kind = k; a = n; b = m }, held, inl refl, seen_as_first k m ∙ gives)
 
     second : (k : LinkKind) (m : ℕ) (p : LinkKind × ℕ) → HasLink links k m n → mapping_of_kind false k m ≡ Some p
-        → (l : Link) × HeldIn links l × HasEnd n l × (mapping_seen_from n l ≡ Some p)
+        → (l : Link) × Holds links l × HasEnd n l × (mapping_seen_from n l ≡ Some p)
     second k m p held gives = (
       record { kind = k; a = m; b = n },
       held,
@@ -119,8 +115,8 @@ module _ (links : Links) (n : ℕ) where
       seen_as_second k m (two_ends (record { kind = k; a = m; b = n }) held) ∙ gives,
     )
 
-    -- Each mapping of the concept is what some held link with an end at it is, viewed from there.
-    pub seen_to : (p : LinkKind × ℕ) → IsMapping links n p → (l : Link) × HeldIn links l × HasEnd n l
+    -- Each mapping of the concept is a held link with an end there, seen from it.
+    pub seen_to : (p : LinkKind × ℕ) → IsMapping links n p → (l : Link) × Holds links l × HasEnd n l
         × (mapping_seen_from n l ≡ Some p)
     seen_to (Exact, m) (inl held) = first Exact m (Exact, m) held refl
     seen_to (Exact, m) (inr held) = second Exact m (Exact, m) held refl
@@ -133,8 +129,6 @@ module _ (links : Links) (n : ℕ) where
     seen_to (Narrow, m) (inl held) = first Narrow m (Narrow, m) held refl
     seen_to (Narrow, m) (inr held) = second Broad m (Narrow, m) held refl
     seen_to (_, m) h = absurd h
-
-  -- A typed link of the concept is what a held link with an end at it is, viewed from there, and conversely.
 
   typed_forward : (k : LinkKind) (m : ℕ) (p : TypedKind × ℕ) → HasLink links k n m → typed_link_of_kind true k m
       ≡ Some p → IsTypedLink links n p
@@ -169,7 +163,7 @@ module _ (links : Links) (n : ℕ) where
           typed_backward l.kind l.a p
           (subst (λ (k : ℕ). HasLink links l.kind l.a k) (second (other_of l.a n other) at) held) e
 
-  module _ (two_ends : HaveTwoEnds (HeldIn links)) where
+  module _ (two_ends : HaveTwoEnds (Holds links)) where
     typed_up : (k : LinkKind) (m : ℕ) (p : TypedKind × ℕ) → HasLink links k n m → typed_link_of_kind true k m ≡ Some p
         → IsSeen links n (typed_link_seen_from n) p
     typed_up k m p held gives = (

@@ -1,4 +1,4 @@
--- A new mark for an outside concept keeps the index correct, if no link has an end there.
+-- The index stays right after an outside concept without links is marked.
 use Rattle.std.proofs.Common.{◌≡◌, ◌≢◌, inl, inr, ℕ, List, Bool, true, cond, ◌&&◌, ◌||◌, nat_lt, if◌then◌else◌, sym}
 use Rattle.std.proofs.Common.{ap, ◌∙◌}
 use Rattle.std.specs.List.{list_any}
@@ -9,14 +9,14 @@ use Rattle.std.specs.FinSet.{nat_cmp-IsAntisymmetric}
 use Rattle.std.specs.BTreeMap.{is_at}
 use Rattle.std.proofs.lemmas.Bool.{false_from_ne_true}
 use Rattle.thes_base.specs.declared.data.Link.{Link}
-use Rattle.thes_base.specs.Links.{HeldIn, is_symmetric, reversed_link, normal_form, HasEnd}
+use Rattle.thes_base.specs.Links.{Holds, is_symmetric, reversed_link, normal_form, HasEnd}
 use Rattle.thes_lists.specs.declared.lists.Lists.{Lists}
 use Rattle.thes_graph.specs.declared.side.SidedLink.{SidedLink}
 use Rattle.thes_graph.specs.Index.{IsIndexed}
 use Rattle.thes_graph.proofs.NumberLemmas.{same_of}
 use Rattle.thes_graph.proofs.SetLemmas.{cond-or}
 
--- The set of marks after the insertion of a number.
+-- The set of marks after the insertion of a number has that number and the old ones.
 pub from_list_marked : (old new : List ℕ) (n : ℕ)
     → ((q : ℕ) → list_any (eq_by_cmp nat_cmp q) new ≡ cond (is_at (nat_cmp n) q) true
     (list_any (eq_by_cmp nat_cmp q) old))
@@ -36,16 +36,16 @@ still_marked s n q other =
     ∙ ap (λ b. b || contains s q)
     (false_from_ne_true (eq_by_cmp nat_cmp q n) (λ e. other (same_of q n (sym (unsigned_tied q n) ∙ e))))
 
--- The normal order of a link depends on whether its two ends are outside concepts, and on nothing else.
+-- The normal form of a link depends only on whether its two ends are outside concepts.
 pub norm_same : (f g : ℕ → Bool) (l : Link) → f l.a ≡ g l.a → f l.b ≡ g l.b → normal_form f l ≡ normal_form g l
 norm_same f g l a b =
     ap (λ o. if is_symmetric (o || f l.b) l.kind && nat_lt l.b l.a then reversed_link l else l) a
     ∙ ap (λ o. if is_symmetric (g l.a || o) l.kind && nat_lt l.b l.a then reversed_link l else l) b
 
--- The index stays correct if no link has an end at the new outside concept.
+-- The index stays right if no link has an end at the new outside concept.
 pub IsIndexed-marked : (ks : List Link) (rows : Lists SidedLink) (old new : List ℕ) (n : ℕ) → IsIndexed ks rows old
     → from_list {R = nat_cmp} new ≡ insert (from_list old) n
-    → ((l : Link) → HeldIn (from_list ks) l → HasEnd n l → ⊥) → IsIndexed ks rows new
+    → ((l : Link) → Holds (from_list ks) l → HasEnd n l → ⊥) → IsIndexed ks rows new
 IsIndexed-marked ks rows old new n index is free = record {
   ordered = index.ordered;
   two_ends = index.two_ends;

@@ -1,8 +1,8 @@
--- The nodes that a node leads to after a merge, and the number of visits that finding them takes.
+-- The nodes to which a node leads after a merge, and the number of visits in which they are found.
 use Rattle.std.proofs.Common.{◌≢◌, ◌+◌, ◌≤◌, ◌⊎◌, inl, inr, ℕ, List, sym, subst, arith, sum_by}
 use Rattle.std.proofs.lemmas.List.Sums.{sum_by-le-sum_by}
 use Rattle.thes_base.specs.declared.data.Link.{Link}
-use Rattle.thes_base.specs.Links.{Links, HeldIn}
+use Rattle.thes_base.specs.Links.{Links, Holds}
 use Rattle.thes_graph.specs.declared.relation.Relation.{Relation}
 use Rattle.thes_graph.specs.declared.side.Side.{Side}
 use Rattle.thes_graph.specs.declared.edit.LinkEdit.TheVariants.{AfterMerge}
@@ -10,7 +10,7 @@ use Rattle.thes_graph.specs.Reading.{HaveTwoEnds}
 use Rattle.thes_graph.specs.Side.{IsOneSided}
 use Rattle.thes_graph.specs.LinkEdit.{HeldAfter, CoversAt}
 use Rattle.thes_graph.specs.Steps.{Steps}
-use Rattle.thes_graph.specs.SideSearch.{LeadsFrom, CoversSide, one_on_side, weight}
+use Rattle.thes_graph.specs.SideSearch.{LeadsFrom, CoversSide, one_on_side, link_visits}
 use Rattle.thes_graph.proofs.ReadLemmas.{either_end, sum_by-two, node_after-source, node_after-stays, node_after-at}
 use Rattle.thes_graph.proofs.ReadLemmas.{node_after-target}
 use Rattle.thes_graph.proofs.ReadCostLemmas.{weight_target, weight_other}
@@ -20,8 +20,8 @@ module _ (held : Links) (source target : ℕ) (two : source ≢ target) where
   off : target ≢ source
   off e = two (sym e)
 
-  module _ (relation : Relation) (walked : IsOneSided relation) (two_ends : HaveTwoEnds (HeldIn held)) where
-    -- After a merge the target leads to the nodes that source and target led to before it.
+  module _ (relation : Relation) (walked : IsOneSided relation) (two_ends : HaveTwoEnds (Holds held)) where
+    -- After a merge the target leads only to nodes to which the source or the target led before it.
     pub Steps-target : (y : ℕ) → Steps relation (HeldAfter (AfterMerge source target) held) target y
         → LeadsFrom (AfterMerge source target) held relation target target y ⊎ LeadsFrom (AfterMerge source target)
         held relation source target y
@@ -57,13 +57,14 @@ module _ (held : Links) (source target : ℕ) (two : source ≢ target) where
         ends)
 
     pub target_cost : sum_by (one_on_side target side) ns + sum_by (one_on_side source side) ns
-        ≤ sum_by (weight (AfterMerge source target) target side) ns
+        ≤ sum_by (link_visits (AfterMerge source target) target side) ns
     target_cost =
-        sum_by-two (one_on_side target side) (one_on_side source side) (weight (AfterMerge source target) target side)
+        sum_by-two (one_on_side target side) (one_on_side source side)
+        (link_visits (AfterMerge source target) target side)
         (λ l. omega (arith, weight_target source target off side l)) ns
 
     pub other_cost : (x : ℕ) → x ≢ source → x ≢ target → sum_by (one_on_side x side) ns
-        ≤ sum_by (weight (AfterMerge source target) x side) ns
+        ≤ sum_by (link_visits (AfterMerge source target) x side) ns
     other_cost x off away =
-        sum_by-le-sum_by (one_on_side x side) (weight (AfterMerge source target) x side) ns
+        sum_by-le-sum_by (one_on_side x side) (link_visits (AfterMerge source target) x side) ns
         (λ l. omega (arith, weight_other source target x off away side l))

@@ -1,4 +1,4 @@
--- A link and the same link in normal order entail the same.
+-- A link and its normal form entail the same relations.
 use Rattle.std.proofs.Common.{◌≡◌, ◌≢◌, ◌⊎◌, inl, inr, ℕ, Option, Some, None, refl, sym, subst, ap, ◌∙◌, Bool, true}
 use Rattle.std.proofs.Common.{false, ◌&&◌, ◌||◌, nat_lt, if◌then◌else◌}
 use Rattle.thes_base.specs.declared.data.Link.{Link}
@@ -6,9 +6,9 @@ use Rattle.thes_base.specs.declared.data.LinkKind.{LinkKind}
 use Rattle.thes_base.specs.declared.data.Direction.TheVariants.{Either}
 use Rattle.thes_base.specs.declared.fault.Refusal.{Refusal}
 use Rattle.thes_base.specs.Links.{broader_direction, related_direction, exact_direction, disjoint_direction}
-use Rattle.thes_base.specs.Links.{is_symmetric, reversed_link, normal_form, LinkLeads, IsJoined, IsBroader, IsAbove}
+use Rattle.thes_base.specs.Links.{is_symmetric, reversed_link, normal_form, LinkLeads, IsJoined, IsNarrower, IsBelow}
 use Rattle.thes_base.specs.Links.{IsRelated, IsExactMatch, IsDisjointMatch, NoCycle, S27, S46, IsFirstBroken, Links}
-use Rattle.thes_base.specs.Links.{HeldIn, HasEnd}
+use Rattle.thes_base.specs.Links.{Holds, HasEnd}
 use Rattle.thes_base.specs.declared.fault.Refusal.TheVariants as no
 use Rattle.thes_base.specs.declared.data.LinkKind.TheVariants.{Related, Exact, Close, RelMatch}
 use Rattle.thes_graph.proofs.PivotLemmas.{Chain-map, BreakNone-within}
@@ -24,7 +24,7 @@ ends_or_not n l = elim (cases_eq l.a n) [
   | inr a ↦ elim (cases_eq l.b n) [ inl b ↦ inl (inr b) | inr b ↦ inr (λ at. elim at [ inl e ↦ a e | inr e ↦ b e ]) ]
 ]
 
--- The link m entails all that the link l entails.
+-- The link m entails each relation that the link l entails.
 pub record IsEntailedBy (l m : Link) : Type 0 where
   pub broader : (x y : ℕ) → LinkLeads (broader_direction l.kind) l.a l.b x y → LinkLeads (broader_direction m.kind)
       m.a m.b x y
@@ -73,7 +73,7 @@ IsEntailedBy-exchanged _ o h a b = cc
 pub IsEntailedBy-itself : (l : Link) → IsEntailedBy l l
 IsEntailedBy-itself l = record { broader = λ x y r. r; related = λ x y r. r; exact = λ x y r. r; apart = λ x y r. r }
 
--- A link and its normal form entail the same.
+-- A link and its normal form entail the same relations.
 pub norm-says : (is_outside : ℕ → Bool) (l : Link) → IsEntailedBy l (normal_form is_outside l)
     × IsEntailedBy (normal_form is_outside l) l
 norm-says is_outside l =
@@ -95,9 +95,9 @@ norm-says is_outside l =
     )
     by_less e false = (IsEntailedBy-itself l, IsEntailedBy-itself l)
 
--- Sets of links that entail the same break the same rules.
+-- Sets of links that entail the same relations break the same rules.
 module _ (P Q : Link → Type 0) (to : (l : Link) → P l → (m : Link) × Q m × IsEntailedBy l m) where
-  broader_to : (x y : ℕ) → IsBroader P x y → IsBroader Q x y
+  broader_to : (x y : ℕ) → IsNarrower P x y → IsNarrower Q x y
   broader_to x y (l, p, r) = let t = to l p in (t.0, t.1, t.2.broader x y r)
 
   related_to : (x y : ℕ) → IsRelated P x y → IsRelated Q x y
@@ -109,8 +109,8 @@ module _ (P Q : Link → Type 0) (to : (l : Link) → P l → (m : Link) × Q m 
   apart_to : (x y : ℕ) → IsDisjointMatch P x y → IsDisjointMatch Q x y
   apart_to x y (l, p, r) = let t = to l p in (t.0, t.1, t.2.apart x y r)
 
-  pub above_to : (x y : ℕ) → IsAbove P x y → IsAbove Q x y
-  above_to = Chain-map (IsBroader P) (IsBroader Q) broader_to
+  pub above_to : (x y : ℕ) → IsBelow P x y → IsBelow Q x y
+  above_to = Chain-map (IsNarrower P) (IsNarrower Q) broader_to
 
   pub exact_to : (x y : ℕ) → IsExactMatch P x y → IsExactMatch Q x y
   exact_to = Chain-map (IsJoined P exact_direction) (IsJoined Q exact_direction) exact_step_to
@@ -135,8 +135,6 @@ IsFirstBroken-same P Q to back (Some no.S27) (c1, (x, y, related, above)) =
 IsFirstBroken-same P Q to back (Some no.S46) (c1, s27, (x, y, exact, apart)) =
     (no_cycle_back Q P back c1, s27_back Q P back s27, (x, y, exact_to P Q to x y exact, apart_to P Q to x y apart))
 IsFirstBroken-same P Q to back (Some _) h = absurd h
-
--- The normal form of a link in normal order is the link, and has two different ends if the link has.
 
 pub norm_cases : (f : ℕ → Bool) (l : Link) → (normal_form f l ≡ l)
     ⊎ ((normal_form f l ≡ reversed_link l) × (nat_lt l.b l.a ≡ true))
@@ -200,16 +198,16 @@ ends_norm f l n = go (norm_cases f l)
 
 -- If the links break no rule and one with an end at p is added, those without an end at p break none, as `check_at`
 -- requires.
-pub away_of_added : (is_outside : ℕ → Bool) (links : Links) (l : Link) (p : ℕ) → HasEnd p l → BreakNone (HeldIn links)
-    → BreakNone (HeldAwayFrom (HeldIn (insert links (normal_form is_outside l))) p)
+pub away_of_added : (is_outside : ℕ → Bool) (links : Links) (l : Link) (p : ℕ) → HasEnd p l → BreakNone (Holds links)
+    → BreakNone (HeldAwayFrom (Holds (insert links (normal_form is_outside l))) p)
 away_of_added is_outside links l p at =
-    BreakNone-within (HeldAwayFrom (HeldIn (insert links (normal_form is_outside l))) p) (HeldIn links) old
+    BreakNone-within (HeldAwayFrom (Holds (insert links (normal_form is_outside l))) p) (Holds links) old
   where
     off : HasEnd p (normal_form is_outside l) → (normal_form is_outside l).a ≢ p → (normal_form is_outside l).b ≢ p → ⊥
     off (inl a) not_a not_b = not_a a
     off (inr b) not_a not_b = not_b b
 
-    old : (m : Link) → HeldAwayFrom (HeldIn (insert links (normal_form is_outside l))) p m → HeldIn links m
+    old : (m : Link) → HeldAwayFrom (Holds (insert links (normal_form is_outside l))) p m → Holds links m
     old m (held, not_a, not_b) = elim (link_inserted_cases links (normal_form is_outside l) m held) [
       | inl same ↦ absurd (off (ends_norm is_outside l p at) (subst (λ (w : Link). w.a ≢ p) same not_a)
           (subst (λ (w : Link). w.b ≢ p) same not_b))

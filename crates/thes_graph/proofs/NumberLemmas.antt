@@ -1,4 +1,4 @@
--- The tests of numbers for equality are exact.
+-- Tests of numbers for equality are exact.
 use Rattle.std.proofs.Common.{◌≡◌, ◌≢◌, ℕ, Bool, true, false, not, nat_eq, sym, ◌∙◌}
 use Rattle.std.proofs.lemmas.Bool.{not-true, not-false, true≢false}
 use Rattle.std.proofs.lemmas.Bool.Decides.{Decides-eqb}
@@ -9,7 +9,7 @@ same_of a b e = (Decides-eqb a b).0 e
 pub other_of : (a b : ℕ) → nat_eq a b ≡ false → a ≢ b
 other_of a b e same = true≢false (sym ((Decides-eqb a b).1 same) ∙ e)
 
--- The results of `==` and `!=`.
+-- If a test for equality returns true, the numbers are equal.
 pub eq_same : (r : Bool) (a b : ℕ) → r ≡ nat_eq a b → r ≡ true → a ≡ b
 eq_same r a b is e = same_of a b (sym is ∙ e)
 

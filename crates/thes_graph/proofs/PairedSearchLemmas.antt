@@ -1,10 +1,10 @@
--- Two searches from both ends of a link decide whether a chain leads from one to the other, by at most two visits for
--- each link near the first end.
+-- Two searches, one from each end of a link, decide whether a chain leads from the first to the second, in at most two
+-- visits for each link near the first end.
 use Rattle.std.proofs.Common.{◌≡◌, ◌≢◌, ◌+◌, ◌-◌, ◌≤◌, ◌<◌, ◌⊎◌, inl, inr, ℕ, List, [], ◌∷◌, length, sym, subst}
 use Rattle.std.proofs.Common.{arith, Bool, true, false, refl}
 use Rattle.std.specs.Bool.{MatchBool}
 use Rattle.thes_base.specs.declared.data.Link.{Link}
-use Rattle.thes_base.specs.Links.{Links, HeldIn, Chain, IsBroader}
+use Rattle.thes_base.specs.Links.{Links, Holds, Chain, IsNarrower}
 use Rattle.thes_graph.specs.Local.{ReachesUp}
 use Rattle.thes_graph.specs.Whole.{HasEndAbove, HasNoEndAbove}
 use Rattle.thes_base.proofs.ListMemberLemmas.{Contains-head}
@@ -26,27 +26,27 @@ converse_is_hierarchy Narrower walked = tt
 converse_is_hierarchy _ walked = absurd walked
 
 module _ (held : Links) where
-  step_back : (r : Relation) → IsHierarchy r → (x y : ℕ) → Steps r (HeldIn held) x y
-      → Steps (converse r) (HeldIn held) y x
-  step_back Broader walked x y = narrower_to (HeldIn held) x x y
-  step_back Narrower walked x y = narrower_from (HeldIn held) x x y
+  step_back : (r : Relation) → IsHierarchy r → (x y : ℕ) → Steps r (Holds held) x y
+      → Steps (converse r) (Holds held) y x
+  step_back Broader walked x y = narrower_to (Holds held) x x y
+  step_back Narrower walked x y = narrower_from (Holds held) x x y
   step_back _ walked x y = absurd walked
 
-  back_step : (r : Relation) → IsHierarchy r → (x y : ℕ) → Steps (converse r) (HeldIn held) x y
-      → Steps r (HeldIn held) y x
-  back_step Broader walked x y = narrower_from (HeldIn held) x x y
-  back_step Narrower walked x y = narrower_to (HeldIn held) x x y
+  back_step : (r : Relation) → IsHierarchy r → (x y : ℕ) → Steps (converse r) (Holds held) x y
+      → Steps r (Holds held) y x
+  back_step Broader walked x y = narrower_from (Holds held) x x y
+  back_step Narrower walked x y = narrower_to (Holds held) x x y
   back_step _ walked x y = absurd walked
 
   module _ (relation : Relation) (walked : IsHierarchy relation) where
-    chain_back : (x y : ℕ) → Chain (Steps relation (HeldIn held)) x y
-        → Chain (Steps (converse relation) (HeldIn held)) y x
-    chain_back = Chain-turn (Steps relation (HeldIn held)) (Steps (converse relation) (HeldIn held))
+    chain_back : (x y : ℕ) → Chain (Steps relation (Holds held)) x y
+        → Chain (Steps (converse relation) (Holds held)) y x
+    chain_back = Chain-turn (Steps relation (Holds held)) (Steps (converse relation) (Holds held))
         (step_back relation walked)
 
-    back_chain : (x y : ℕ) → Chain (Steps (converse relation) (HeldIn held)) x y
-        → Chain (Steps relation (HeldIn held)) y x
-    back_chain = Chain-turn (Steps (converse relation) (HeldIn held)) (Steps relation (HeldIn held))
+    back_chain : (x y : ℕ) → Chain (Steps (converse relation) (Holds held)) x y
+        → Chain (Steps relation (Holds held)) y x
+    back_chain = Chain-turn (Steps (converse relation) (Holds held)) (Steps relation (Holds held))
         (back_step relation walked)
 
     module _ (froms tos : List ℕ) (from to before : ℕ) where
@@ -62,7 +62,7 @@ module _ (held : Links) where
         omega arith,
       )
 
-      -- One step of the first search keeps the state of the two, or finds a goal.
+      -- A step of the first search keeps the state of the two, or finds a goal.
       pub first_step : (first later second : SideSearch) (left more size count after : ℕ) (found : Bool) → more ≤ left
           + size → after ≤ count + size
           → ((read : ℕ) → IsSideSearch NoEdit held relation tos from first read → IsAdvanceResult NoEdit held relation
@@ -70,12 +70,12 @@ module _ (held : Links) where
           → ArePairedSearches held relation froms tos from to first second left before count
           → MatchBool found (HasFoundGoal held relation froms tos from to before after)
           (ArePairedSearches held relation froms tos from to later second more before after)
-      first_step first later second left more size count after true room cost goes (a, b, one, two, within, paid) =
-          let on = goes a one in (inl on.0, λ ns covers. omega (arith, on.1 ns covers, within, paid, cost))
-      first_step first later second left more size count after false room cost goes (a, b, one, two, within, paid) =
-          (a + size, b, goes a one, two, omega (arith, within, room), omega (arith, paid, cost))
+      first_step first later second left more size count after true room cost advances (a, b, one, two, within, paid) =
+          let on = advances a one in (inl on.0, λ ns covers. omega (arith, on.1 ns covers, within, paid, cost))
+      first_step first later second left more size count after false room cost advances (a, b, one, two, within, paid) =
+          (a + size, b, advances a one, two, omega (arith, within, room), omega (arith, paid, cost))
 
-      -- One step of the second search keeps the state of the two, or finds a goal.
+      -- A step of the second search keeps the state of the two, or finds a goal.
       pub second_step : (first second later : SideSearch) (left size count after : ℕ) (found : Bool) → size ≤ left
           → after ≤ count + size
           → ((read : ℕ) → IsSideSearch NoEdit held (converse relation) froms to second read → IsAdvanceResult NoEdit
@@ -83,8 +83,8 @@ module _ (held : Links) where
           → ArePairedSearches held relation froms tos from to first second left before count
           → MatchBool found (HasFoundGoal held relation froms tos from to before after)
           (ArePairedSearches held relation froms tos from to first later (left - size) before after)
-      second_step first second later left size count after true room cost goes (a, b, one, two, within, paid) =
-          let on = goes b two in (
+      second_step first second later left size count after true room cost advances (a, b, one, two, within, paid) =
+          let on = advances b two in (
             inr on.0,
             λ ns covers. omega (
               arith,
@@ -96,8 +96,8 @@ module _ (held : Links) where
               room,
             ),
           )
-      second_step first second later left size count after false room cost goes (a, b, one, two, within, paid) =
-          (a, b + size, one, goes b two, omega (arith, within, room), omega (arith, paid, cost))
+      second_step first second later left size count after false room cost advances (a, b, one, two, within, paid) =
+          (a, b + size, one, advances b two, omega (arith, within, room), omega (arith, paid, cost))
 
       pub ArePairedSearches-paid : (first second : SideSearch) (left count : ℕ) → ArePairedSearches held relation
           froms tos from to first second left before count
@@ -114,22 +114,22 @@ module _ (held : Links) where
 
       -- If one search is done without a goal, no chain leads from one end to the other.
       none_from : (length first.nodes ≤ first.next) ⊎ (length second.nodes ≤ second.next) → Ended
-          → Chain (Steps relation (HeldIn held)) from to → ⊥
+          → Chain (Steps relation (Holds held)) from to → ⊥
       none_from (inl done) (left, (a, b, one, two, within, paid)) chain =
           IsSideSearch-no_goal NoEdit held relation (to ∷ []) from first a done one (to, Contains-head to [], chain)
       none_from (inr done) (left, (a, b, one, two, within, paid)) chain =
           IsSideSearch-no_goal NoEdit held (converse relation) (from ∷ []) to second b done two
           (from, Contains-head from [], chain_back from to chain)
 
-      -- The result of the two searches says whether a chain leads from one end to the other.
+      -- The two searches decide whether a chain leads from one end to the other.
       pub PairedSearch-chain : (found : Bool) → (found ≡ false → first.next < length first.nodes → length second.nodes
           ≤ second.next) → MatchBool found Led Ended
-          → MatchBool found (Chain (Steps relation (HeldIn held)) from to)
-          (Chain (Steps relation (HeldIn held)) from to → ⊥)
+          → MatchBool found (Chain (Steps relation (Holds held)) from to)
+          (Chain (Steps relation (Holds held)) from to → ⊥)
       PairedSearch-chain true done (inl (y, has, chain), paid) =
-          subst (λ (w : ℕ). Chain (Steps relation (HeldIn held)) from w) (sym (no_others to y has)) chain
+          subst (λ (w : ℕ). Chain (Steps relation (Holds held)) from w) (sym (no_others to y has)) chain
       PairedSearch-chain true done (inr (y, has, chain), paid) =
-          subst (λ (w : ℕ). Chain (Steps relation (HeldIn held)) w to) (sym (no_others from y has))
+          subst (λ (w : ℕ). Chain (Steps relation (Holds held)) w to) (sym (no_others from y has))
           (back_chain to y chain)
       PairedSearch-chain false done ended = none_from (which first.next (length first.nodes) (done refl)) ended
         where
@@ -146,17 +146,17 @@ module _ (held : Links) where
       PairedSearch-paid false (left, are) = ArePairedSearches-paid (from ∷ []) (to ∷ []) from to before first second
           left after are
 
--- Two chains, up and down, decide whether one end of a link is above the other.
+-- Chains from either end decide whether one end of a link is above the other.
 module _ (Held : Link → Type 0) (l : Link) where
   pub first_above : Chain (Steps Broader Held) l.a l.b → HasEndAbove Held l
   first_above chain = inl (inr chain)
 
-  -- If a chain leads from one end to the other, one end is above the other; if none does, neither is.
+  -- One end of a link is above the other exactly when a chain leads from one to the other.
   pub then_above : l.a ≢ l.b → (Chain (Steps Broader Held) l.a l.b → ⊥) → (found : Bool)
       → MatchBool found (Chain (Steps Narrower Held) l.a l.b) (Chain (Steps Narrower Held) l.a l.b → ⊥)
       → MatchBool found (HasEndAbove Held l) (HasNoEndAbove Held l)
   then_above two off true chain =
-      inr (inr (Chain-turn (Steps Narrower Held) (IsBroader Held) (narrower_from Held l.a) l.a l.b chain))
+      inr (inr (Chain-turn (Steps Narrower Held) (IsNarrower Held) (narrower_from Held l.a) l.a l.b chain))
   then_above two off false none = (up, down)
     where
       up : ReachesUp Held l.a l.b → ⊥
@@ -165,4 +165,4 @@ module _ (Held : Link → Type 0) (l : Link) where
 
       down : ReachesUp Held l.b l.a → ⊥
       down (inl same) = two (sym same)
-      down (inr chain) = none (Chain-turn (IsBroader Held) (Steps Narrower Held) (narrower_to Held l.a) l.b l.a chain)
+      down (inr chain) = none (Chain-turn (IsNarrower Held) (Steps Narrower Held) (narrower_to Held l.a) l.b l.a chain)

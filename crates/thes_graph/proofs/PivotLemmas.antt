@@ -1,5 +1,5 @@
--- If the links without an end at the pivot break no rule, the rule that the links break at the pivot is the first that
--- they break anywhere.
+-- The first rule that the links break at the pivot is the first that they break anywhere, if those without an end at
+-- the pivot break none.
 use Rattle.std.proofs.Common.{◌≡◌, ◌≢◌, ℕ, ◌⊎◌, inl, inr, List, [], ◌∷◌, ◌++◌, Option, Some, None, sym, subst, ◌∙◌}
 use Rattle.std.proofs.lemmas.Bool.{cases_eq}
 use Rattle.thes_base.specs.declared.data.Link.{Link}
@@ -8,18 +8,18 @@ use Rattle.thes_base.specs.declared.data.Direction.{Direction}
 use Rattle.thes_base.specs.declared.data.Direction.TheVariants.{Forward, Backward, Either, Never}
 use Rattle.thes_base.specs.declared.fault.Refusal.{Refusal}
 use Rattle.thes_base.specs.Links.{broader_direction, related_direction, exact_direction, disjoint_direction}
-use Rattle.thes_base.specs.Links.{LinkLeads, Path, Chain, IsJoined, IsBroader, IsAbove, IsRelated, IsExactMatch}
+use Rattle.thes_base.specs.Links.{LinkLeads, Path, Chain, IsJoined, IsNarrower, IsBelow, IsRelated, IsExactMatch}
 use Rattle.thes_base.specs.Links.{IsDisjointMatch, NoCycle, S27, S46, IsFirstBroken}
 use Rattle.thes_graph.specs.Reading.{HaveTwoEnds}
 use Rattle.thes_graph.specs.Steps.{Reaches}
-use Rattle.thes_graph.specs.Local.{BreakNone, HeldAwayFrom, ReachesUp, InClassOf, NoCycleAt, NoS27At, NoS46At}
+use Rattle.thes_graph.specs.Local.{BreakNone, HeldAwayFrom, ReachesUp, InClassOf, NoCycleAt, KeepsS27At, KeepsS46At}
 use Rattle.thes_graph.specs.Local.{IsFirstBrokenAt}
 use Rattle.thes_base.specs.declared.fault.Refusal.TheVariants as no
 use Rattle.thes_base.specs.declared.data.LinkKind.TheVariants.{Exact}
 use Rattle.thes_base.proofs.LegalResourceLemmas.{path_map}
 use Rattle.thes_base.proofs.LegalLinkLemmas.{fewer_no_cycle, fewer_s27, fewer_s46}
 
--- Chains that follow each other join to a chain.
+-- A chain and one that begins where it ends join to a chain.
 module _ (S : ℕ → ℕ → Type 0) where
   Path-join : (x : ℕ) (ms : List ℕ) (y : ℕ) (ns : List ℕ) (z : ℕ) → Path S x ms y → Path S y ns z
       → Path S x (ms ++ y ∷ ns) z
@@ -40,7 +40,7 @@ module _ (S : ℕ → ℕ → Type 0) where
   Reaches-then_chain x y z (inl same) c = subst (λ (w : ℕ). Chain S w z) (sym same) c
   Reaches-then_chain x y z (inr d) c = Chain-join x y z d c
 
--- A chain leads back in the converse relation.
+-- A chain, read backwards, is a chain in the converse relation.
 module _ (S T : ℕ → ℕ → Type 0) (turns : (x y : ℕ) → S x y → T y x) where
   Path-turn : (x : ℕ) (ms : List ℕ) (y : ℕ) → Path S x ms y → Chain T y x
   Path-turn x [] y one = ([], turns x y one)
@@ -73,7 +73,7 @@ Leads-at Either a b x y p (inr (e, f)) (inl at) = inr (sym f ∙ at)
 Leads-at Either a b x y p (inr (e, f)) (inr at) = inl (sym e ∙ at)
 Leads-at Never a b x y p h at = absurd h
 
--- A link with two different ends leads no node to itself.
+-- A link with two different ends doesn't lead from a node to itself.
 pub Leads-two : (d : Direction) (a b x : ℕ) → a ≢ b → LinkLeads d a b x x → ⊥
 Leads-two Forward a b x two (e, f) = two (e ∙ sym f)
 Leads-two Backward a b x two (e, f) = two (f ∙ sym e)
@@ -82,7 +82,7 @@ Leads-two Either a b x two (inr (e, f)) = two (f ∙ sym e)
 Leads-two Never a b x two h = h
 
 module _ (Held : Link → Type 0) (p : ℕ) where
-  -- A step does without links at p, or begins or ends at p.
+  -- A step uses no link with an end at p, or begins or ends at p.
   step_at : (way : LinkKind → Direction) (x y : ℕ) → IsJoined Held way x y
       → IsJoined (HeldAwayFrom Held p) way x y ⊎ ((x ≡ p) ⊎ (y ≡ p))
   step_at way x y (l, held, leads) =
@@ -94,7 +94,7 @@ module _ (Held : Link → Type 0) (p : ℕ) where
         ]
       ]
 
-  -- A path does without links at p, or has p on it.
+  -- A path uses no link with an end at p, or has p on it.
   path_at : (way : LinkKind → Direction) (x : ℕ) (ms : List ℕ) (y : ℕ) → Path (IsJoined Held way) x ms y
       → Path (IsJoined (HeldAwayFrom Held p) way) x ms y
       ⊎ (Reaches (IsJoined Held way) x p × Reaches (IsJoined Held way) p y)
@@ -144,15 +144,15 @@ module _ (Held : Link → Type 0) where
   pub InClassOf-turn : (x y : ℕ) → InClassOf Held x y → InClassOf Held y x
   InClassOf-turn = Reaches-turn (IsJoined Held exact_direction) (IsJoined Held exact_direction) exact_turns
 
--- A rule that is broken at p is broken.
+-- A rule that is broken at p is broken by the links.
 module _ (Held : Link → Type 0) (two : HaveTwoEnds Held) (p : ℕ) where
   pub S27-witness : (x : ℕ) × (y : ℕ) × ReachesUp Held x p × ReachesUp Held p y × IsRelated Held x y → (x : ℕ)
-      × (y : ℕ) × IsRelated Held x y × IsAbove Held x y
+      × (y : ℕ) × IsRelated Held x y × IsBelow Held x y
   S27-witness (x, y, to, from, r) = (x, y, r, climb to from)
     where
-      climb : ReachesUp Held x p → ReachesUp Held p y → IsAbove Held x y
-      climb to (inr from) = Reaches-then_chain (IsBroader Held) x p y to from
-      climb (inr to) (inl same) = subst (λ (w : ℕ). IsAbove Held x w) same to
+      climb : ReachesUp Held x p → ReachesUp Held p y → IsBelow Held x y
+      climb to (inr from) = Reaches-then_chain (IsNarrower Held) x p y to from
+      climb (inr to) (inl same) = subst (λ (w : ℕ). IsBelow Held x w) same to
       climb (inl one) (inl same) =
           absurd (Leads-two (related_direction r.0.kind) r.0.a r.0.b x (two r.0 r.1) (let P : ℕ → Type 0 =
           λ w. LinkLeads (related_direction r.0.kind) r.0.a r.0.b x w in subst P (sym same ∙ sym one) r.2))
@@ -171,29 +171,29 @@ module _ (Held : Link → Type 0) (two : HaveTwoEnds Held) (p : ℕ) where
 
 -- If the links without an end at p break no rule, a rule that the links break is broken at p.
 module _ (Held : Link → Type 0) (p : ℕ) (legal : BreakNone (HeldAwayFrom Held p)) where
-  no_cycle_from : NoCycleAt Held p → (x : ℕ) → IsAbove Held x x → ⊥
+  no_cycle_from : NoCycleAt Held p → (x : ℕ) → IsBelow Held x x → ⊥
   no_cycle_from none x bt =
       elim (chain_at Held p broader_direction x x bt) [
         | inl away ↦ legal.0.none x away
         | inr (to, from) ↦ none (round to from)
       ]
     where
-      round : ReachesUp Held x p → ReachesUp Held p x → IsAbove Held p p
-      round (inl same) from = subst (λ (w : ℕ). IsAbove Held w w) same bt
-      round (inr to) from = Reaches-then_chain (IsBroader Held) p x p from to
+      round : ReachesUp Held x p → ReachesUp Held p x → IsBelow Held p p
+      round (inl same) from = subst (λ (w : ℕ). IsBelow Held w w) same bt
+      round (inr to) from = Reaches-then_chain (IsNarrower Held) p x p from to
 
-  s27_from : NoS27At Held p → (x y : ℕ) → IsRelated Held x y → IsAbove Held x y → ⊥
+  s27_from : KeepsS27At Held p → (x y : ℕ) → IsRelated Held x y → IsBelow Held x y → ⊥
   s27_from none x y r bt =
       elim (chain_at Held p broader_direction x y bt) [
         | inr (to, from) ↦ none x y to from r
         | inl away ↦ elim (step_at Held p related_direction x y r) [
           | inl r_away ↦ legal.1.none x y r_away away
-          | inr (inl at) ↦ none x y (inl at) (inr (subst (λ (w : ℕ). IsAbove Held w y) at bt)) r
-          | inr (inr at) ↦ none x y (inr (subst (λ (w : ℕ). IsAbove Held x w) at bt)) (inl (sym at)) r
+          | inr (inl at) ↦ none x y (inl at) (inr (subst (λ (w : ℕ). IsBelow Held w y) at bt)) r
+          | inr (inr at) ↦ none x y (inr (subst (λ (w : ℕ). IsBelow Held x w) at bt)) (inl (sym at)) r
         ]
       ]
 
-  s46_from : NoS46At Held p → (x y : ℕ) → IsExactMatch Held x y → IsDisjointMatch Held x y → ⊥
+  s46_from : KeepsS46At Held p → (x y : ℕ) → IsExactMatch Held x y → IsDisjointMatch Held x y → ⊥
   s46_from none x y e m =
       elim (chain_at Held p exact_direction x y e) [
         | inr (to, from) ↦ none x y (InClassOf-turn Held x p to) from m
@@ -208,10 +208,10 @@ module _ (Held : Link → Type 0) (p : ℕ) (legal : BreakNone (HeldAwayFrom Hel
   no_cycle_pivot : NoCycleAt Held p → NoCycle Held
   no_cycle_pivot none = record { none = no_cycle_from none }
 
-  s27_pivot : NoS27At Held p → S27 Held
+  s27_pivot : KeepsS27At Held p → S27 Held
   s27_pivot none = record { none = s27_from none }
 
-  pub s46_pivot : NoS46At Held p → S46 Held
+  pub s46_pivot : KeepsS46At Held p → S46 Held
   s46_pivot none = record { none = s46_from none }
 
   -- The first rule broken at the pivot is the first rule broken anywhere.

@@ -1,12 +1,12 @@
--- The checks at the pivot decide the rules there, and read links near the pivot alone.
+-- The checks at the pivot decide the rules there, and read only links near the pivot.
 use Rattle.std.proofs.Common.{◌≡◌, ◌⊎◌, inl, inr, ℕ, List, [], ◌∷◌, sym, subst, refl, Contains, Some}
 use Rattle.thes_base.specs.declared.data.Link.{Link}
 use Rattle.thes_base.specs.declared.data.Direction.{Direction}
 use Rattle.thes_base.specs.declared.data.Direction.TheVariants.{Forward, Backward, Either, Never}
-use Rattle.thes_base.specs.Links.{broader_direction, disjoint_direction, LinkLeads, Path, Chain, IsBroader}
+use Rattle.thes_base.specs.Links.{broader_direction, disjoint_direction, LinkLeads, Path, Chain, IsNarrower}
 use Rattle.thes_base.specs.Links.{IsDisjointMatch}
 use Rattle.thes_graph.specs.Steps.{reverse_of, Steps, Reaches, Ties}
-use Rattle.thes_graph.specs.Local.{ReachesUp, InClassOf, NoS46At, IsReachableSet, IsNear, IsFirstBrokenAt}
+use Rattle.thes_graph.specs.Local.{ReachesUp, InClassOf, KeepsS46At, IsReachableSet, IsNearPivot, IsFirstBrokenAt}
 use Rattle.thes_graph.specs.Reading.{HaveTwoEnds}
 use Rattle.thes_graph.specs.SideSearch.{IsBrokenBetween}
 use Rattle.thes_base.specs.declared.fault.Refusal.{Refusal}
@@ -15,7 +15,7 @@ use Rattle.thes_graph.specs.declared.relation.Relation.TheVariants.{Narrower, Ex
 use Rattle.thes_graph.proofs.StepLemmas.{Leads-first}
 use Rattle.thes_graph.proofs.PivotLemmas.{Reaches-turn, Leads-two}
 
--- The last step of a path.
+-- A path ends with a step.
 module _ (S : ℕ → ℕ → Type 0) where
   pub Path-last : (x : ℕ) (ms : List ℕ) (z : ℕ) → Path S x ms z → (y : ℕ) × Reaches S x y × S y z
   Path-last x [] z one = (x, inl refl, one)
@@ -41,17 +41,17 @@ turned_Leads Either a b x y (inr (e, f)) = inl (f, e)
 turned_Leads Never a b x y h = h
 
 module _ (Would : Link → Type 0) (p : ℕ) where
-  pub narrower_from : (x y : ℕ) → Steps Narrower Would x y → IsBroader Would y x
+  pub narrower_from : (x y : ℕ) → Steps Narrower Would x y → IsNarrower Would y x
   narrower_from x y (l, would, leads) = (l, would, Leads-reverse_of (broader_direction l.kind) l.a l.b x y leads)
 
-  pub narrower_to : (x y : ℕ) → IsBroader Would x y → Steps Narrower Would y x
+  pub narrower_to : (x y : ℕ) → IsNarrower Would x y → Steps Narrower Would y x
   narrower_to x y (l, would, leads) = (l, would, turned_Leads (broader_direction l.kind) l.a l.b x y leads)
 
   pub below_from : (x : ℕ) → Reaches (Steps Narrower Would) p x → ReachesUp Would x p
-  below_from x = Reaches-turn (Steps Narrower Would) (IsBroader Would) narrower_from p x
+  below_from x = Reaches-turn (Steps Narrower Would) (IsNarrower Would) narrower_from p x
 
   pub below_to : (x : ℕ) → ReachesUp Would x p → Reaches (Steps Narrower Would) p x
-  below_to x = Reaches-turn (IsBroader Would) (Steps Narrower Would) narrower_to x p
+  below_to x = Reaches-turn (IsNarrower Would) (Steps Narrower Would) narrower_to x p
 
   module _ (same : List ℕ) (links : List Link) (alike : IsReachableSet Would Exact p same links) where
     pub s46_found : (l : Link) × Contains links l × Ties Apart l same same → (x : ℕ) × (y : ℕ) × InClassOf Would p x
@@ -59,14 +59,14 @@ module _ (Would : Link → Type 0) (p : ℕ) where
     s46_found (l, has, (x, y, in_x, in_y, leads)) =
         (x, y, alike.reach.sound x in_x, alike.reach.sound y in_y, (l, alike.sound l has, leads))
 
-    pub s46_none : ((l : Link) → Contains links l → Ties Apart l same same → ⊥) → NoS46At Would p
+    pub s46_none : ((l : Link) → Contains links l → Ties Apart l same same → ⊥) → KeepsS46At Would p
     s46_none none x y to from (l, would, leads) =
         let in_x : Contains same x = alike.reach.complete x to in
         none l (alike.complete l would x in_x (Leads-first (disjoint_direction l.kind) l.a l.b x y leads))
         (x, y, in_x, alike.reach.complete y from, leads)
 
-  -- A class of one node breaks S46 nowhere.
-  pub class_alone : HaveTwoEnds Would → ((y : ℕ) → Steps Exact Would p y → ⊥) → NoS46At Would p
+  -- A pivot without exact matches breaks S46 nowhere.
+  pub class_alone : HaveTwoEnds Would → ((y : ℕ) → Steps Exact Would p y → ⊥) → KeepsS46At Would p
   class_alone two none x y to from (l, would, leads) =
       let P : ℕ → ℕ → Type 0 = λ a b. LinkLeads (disjoint_direction l.kind) l.a l.b a b in
       Leads-two (disjoint_direction l.kind) l.a l.b p (two l would)
@@ -78,12 +78,12 @@ module _ (Would : Link → Type 0) (p : ℕ) where
       at z (inr (m ∷ ms, path)) = absurd (none m path.0)
 
   -- The nodes that the searches from the pivot meet are near it.
-  pub near_pivot : (n : ℕ) → ReachesUp Would n p ⊎ ReachesUp Would p n → IsNear Would p n
+  pub near_pivot : (n : ℕ) → ReachesUp Would n p ⊎ ReachesUp Would p n → IsNearPivot Would p n
   near_pivot n (inl (inl same)) = inl (inl (sym same))
   near_pivot n (inl (inr chain)) = inr (inl chain)
   near_pivot n (inr up) = inl up
 
-  pub near_same : (n : ℕ) → Reaches (Steps Exact Would) p n → IsNear Would p n
+  pub near_same : (n : ℕ) → Reaches (Steps Exact Would) p n → IsNearPivot Would p n
   near_same n (inl same) = inl (inl same)
   near_same n (inr c) = inr (inr c)
 

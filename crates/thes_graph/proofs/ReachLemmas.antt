@@ -1,14 +1,14 @@
--- The nodes that are collected step by step are exactly those that the relation reaches from the start.
+-- The nodes collected step by step are exactly those that the start reaches in the relation.
 use Rattle.std.proofs.Common.{◌≡◌, ℕ, zero, suc, ◌+◌, ◌<◌, ◌≤◌, inl, inr, List, [], ◌∷◌, length, get_or, Contains}
 use Rattle.std.proofs.Common.{nat_eq, refl, sym, subst, ◌∙◌, arith, below_more}
 use Rattle.std.specs.List.{IsDistinct}
 use Rattle.std.proofs.lemmas.List.{get_or_append_left, get_or_default}
 use Rattle.std.proofs.lemmas.List.Elements.{Contains-append_left, Contains-get_or}
 use Rattle.thes_base.specs.Links.{Path}
-use Rattle.thes_graph.specs.Steps.{Reaches, IsReachOf, IsClosedBelow, GrowsBy}
+use Rattle.thes_graph.specs.Steps.{Reaches, IsReachOf, IsSearchedUpTo, GrowsBy}
 use Rattle.thes_graph.proofs.PivotLemmas.{Reaches-then_chain}
 
--- A list of one item has no other.
+-- A list of one item has no other item.
 pub no_others : {X : Type 0} → (x y : X) → Contains (x ∷ []) y → x ≡ y
 no_others x y (zero, lt, e) = e
 no_others x y (suc k, lt, e) = absurd (omega arith)
@@ -22,17 +22,17 @@ module _ (S : ℕ → ℕ → Type 0) where
   distinct_one x = (tt, tt)
 
   module _ (start : ℕ) where
-    pub IsClosedBelow-start : IsClosedBelow S start (start ∷ []) 0
-    IsClosedBelow-start = record {
+    pub IsSearchedUpTo-start : IsSearchedUpTo S start (start ∷ []) 0
+    IsSearchedUpTo-start = record {
       starts = (0, omega arith, refl);
       sound = λ y has. inl (no_others start y has);
       closed = λ k below. absurd (omega arith);
       distinct = distinct_one start;
     }
 
-    pub IsClosedBelow-more : (nodes later : List ℕ) (i x : ℕ) → i < length nodes → x ≡ get_or nodes i 0
-        → GrowsBy nodes later (S x) → IsClosedBelow S start nodes i → IsClosedBelow S start later (i + 1)
-    IsClosedBelow-more nodes later i x within at grows before = record {
+    pub IsSearchedUpTo-more : (nodes later : List ℕ) (i x : ℕ) → i < length nodes → x ≡ get_or nodes i 0
+        → GrowsBy nodes later (S x) → IsSearchedUpTo S start nodes i → IsSearchedUpTo S start later (i + 1)
+    IsSearchedUpTo-more nodes later i x within at grows before = record {
       starts = keeps start before.starts;
       sound = λ y has. elim (grows.no_others y has) [
         | inl old ↦ before.sound y old
@@ -58,9 +58,9 @@ module _ (S : ℕ → ℕ → Type 0) where
             subst P (same k in_nodes) leads)))
             (λ y leads. grows.has_new y (let P : ℕ → Type 0 = λ w. S w y in subst P (same i within ∙ sym at) leads))
 
-    pub IsClosedBelow-end : (nodes : List ℕ) (i : ℕ) → length nodes ≤ i → IsClosedBelow S start nodes i
+    pub IsSearchedUpTo-end : (nodes : List ℕ) (i : ℕ) → length nodes ≤ i → IsSearchedUpTo S start nodes i
         → IsReachOf S start nodes
-    IsClosedBelow-end nodes i done all = record {
+    IsSearchedUpTo-end nodes i done all = record {
       sound = all.sound;
       complete = λ y reach. reached y reach;
       distinct = all.distinct;

@@ -1,5 +1,5 @@
--- A read of two sides of distinct nodes takes at most two visits for each link, and a read of one side, up or down,
--- takes one.
+-- Reading two sides of distinct nodes takes at most two visits for each link, and reading one side, up or down, takes
+-- at most one.
 use Rattle.std.proofs.Common.{◌≡◌, ◌≢◌, ◌==◌, ◌+◌, ◌*◌, ◌≤◌, inl, inr, ℕ, List, length, sym, subst, ◌∙◌, arith}
 use Rattle.std.proofs.Common.{sum_by, Bool, true, false, refl, ◌&&◌, ◌||◌, if◌then◌else◌, nat_eq}
 use Rattle.std.specs.List.{IsDistinct}
@@ -15,19 +15,19 @@ use Rattle.thes_graph.specs.declared.side.Side.{Side}
 use Rattle.thes_graph.specs.declared.side.Side.TheVariants.{Sideways, Alike, Apart}
 use Rattle.thes_graph.specs.declared.edit.LinkEdit.{LinkEdit}
 use Rattle.thes_graph.specs.declared.edit.LinkEdit.TheVariants.{NoEdit, WithLink, AfterMerge}
-use Rattle.thes_graph.specs.Net.{ends_at}
-use Rattle.thes_graph.specs.Side.{side_no, side_at, side_in, side_by, if_either}
-use Rattle.thes_graph.specs.LinkEdit.{node_after, touches}
-use Rattle.thes_graph.specs.SideSearch.{one_on_side, weight, read_cost, IsHierarchy}
+use Rattle.thes_graph.specs.GraphView.{ends_at}
+use Rattle.thes_graph.specs.Side.{side_no, side_at, side_in, side_by_directions, if_either}
+use Rattle.thes_graph.specs.LinkEdit.{node_after, ends_at_node}
+use Rattle.thes_graph.specs.SideSearch.{one_on_side, link_visits, read_cost, IsHierarchy}
 use Rattle.thes_graph.specs.Steps.{reverse_of}
 use Rattle.thes_graph.proofs.ReadLemmas.{one_at, sum_by-two}
 use Rattle.thes_graph.proofs.CountLemmas.{met_twice, met_at_most, sum_by-one_at}
 
--- 1 if the node is an end of the link, else 0.
+-- The number 1 if the node is an end of the link, or else 0.
 abbrev one_end : ℕ → Link → ℕ
 one_end n l = if ends_at n l then 1 else 0
 
--- A link lies at one side of a node.
+-- A link lies on at most one of two sides of a node.
 on_two : (n : ℕ) (j k : Side) (l : Link) → side_no j ≢ side_no k → one_on_side n j l + one_on_side n k l ≤ one_end n l
 on_two n j k l differ = go (ends_at n l) (side_no (side_at n l)) (side_no j) (side_no k) differ
   where
@@ -43,7 +43,7 @@ either_one false b = omega arith
 end_one : (n : ℕ) (l : Link) → one_end n l ≤ one_at l.a n + one_at l.b n
 end_one n l = either_one (l.a == n) (l.b == n)
 
--- The end from which a link of this direction leads up.
+-- The end of a link from which it leads up in this direction.
 abbrev foot : Direction → (a b : ℕ) → ℕ
 foot Backward a b = b
 foot _ a b = a
@@ -62,7 +62,7 @@ unless : (e : Bool) (s k : ℕ) → s ≢ k → ◌≡◌ {A = ℕ} (if e && (s 
 unless true s k differ = grind arith
 unless false s k differ = omega arith
 
--- A link that leads neither up nor down lies at neither of these sides.
+-- A link that leads neither up nor down lies on neither of these sides.
 level_side : (d : Direction) (x y : Side) (k : ℕ) → side_no x ≢ k → side_no y ≢ k → side_no (if_either d x y) ≢ k
 level_side Forward x y k one other = other
 level_side Backward x y k one other = other
@@ -77,7 +77,7 @@ level_down : (r e : Direction) → side_no (if_either r Sideways (if_either e Al
 level_down r e = level_side r Sideways (if_either e Alike Apart) 4 (λ is. absurd (omega (arith, is)))
     (level_side e Alike Apart 4 (λ is. absurd (omega (arith, is))) (λ is. absurd (omega (arith, is))))
 
-up_one : (d r e : Direction) (a b : Bool) → (if (a || b) && (side_no (side_by d a r e) == 1) then 1 else 0)
+up_one : (d r e : Direction) (a b : Bool) → (if (a || b) && (side_no (side_by_directions d a r e) == 1) then 1 else 0)
     ≤ (if foot_test d a b then 1 else 0)
 up_one Forward r e true b = omega arith
 up_one Forward r e false true = omega arith
@@ -97,7 +97,7 @@ up_one Never r e a b = omega (
       (level_up r e),
 )
 
-down_one : (d r e : Direction) (a b : Bool) → (if (a || b) && (side_no (side_by d a r e) == 4) then 1 else 0)
+down_one : (d r e : Direction) (a b : Bool) → (if (a || b) && (side_no (side_by_directions d a r e) == 4) then 1 else 0)
     ≤ (if foot_test (reverse_of d) a b then 1 else 0)
 down_one Forward r e true true = omega arith
 down_one Forward r e true false = omega arith
@@ -117,7 +117,7 @@ down_one Never r e a b = omega (
       (level_down r e),
 )
 
--- A link lies at the side of a hierarchical relation at no more than one of its ends.
+-- A link lies on the side of a hierarchical relation at no more than one of its ends.
 on_foot : (relation : Relation) → IsHierarchy relation → (l : Link) → (p : ℕ)
     × ((n : ℕ) → one_on_side n (side_in relation) l ≤ one_at p n)
 on_foot Broader walked l = (
@@ -148,30 +148,31 @@ module _ (source target : ℕ) where
   other_one : (n x : ℕ) → n ≢ source → one_at x n ≤ one_at (node_after (AfterMerge source target) x) n
   other_one n x off = grind arith
 
-  -- The visits after a merge, for the target, the source and each other node.
-  pub weight_target : target ≢ source → (side : Side) (l : Link) → weight (AfterMerge source target) target side l
+  -- The visits to a link at the target of a merge are those at the target and at the source.
+  pub weight_target : target ≢ source → (side : Side) (l : Link) → link_visits (AfterMerge source target) target side l
       ≡ one_on_side target side l + one_on_side source side l
   weight_target off side l = go (one_on_side target side l) (one_on_side source side l) (one_on_side target side l)
     where
       go : (p q r : ℕ) → (if target == source then 0 else if target == target then p + q else r) ≡ p + q
       go p q r = grind arith
 
-  pub weight_other : (n : ℕ) → n ≢ source → n ≢ target → (side : Side) (l : Link) → weight (AfterMerge source target)
+  pub weight_other : (n : ℕ) → n ≢ source → n ≢ target → (side : Side) (l : Link)
+      → link_visits (AfterMerge source target)
       n side l ≡ one_on_side n side l
   weight_other n off away side l = go (one_on_side target side l) (one_on_side source side l) (one_on_side n side l)
     where
       go : (p q r : ℕ) → (if n == source then 0 else if n == target then p + q else r) ≡ r
       go p q r = grind arith
 
-  weight_source : (side : Side) (l : Link) → weight (AfterMerge source target) source side l ≡ 0
+  weight_source : (side : Side) (l : Link) → link_visits (AfterMerge source target) source side l ≡ 0
   weight_source side l = go (one_on_side target side l) (one_on_side source side l) (one_on_side source side l)
     where
       go : (p q r : ℕ) → (if source == source then 0 else if source == target then p + q else r) ≡ 0
       go p q r = grind arith
 
-  -- After a merge, a link lies at the side of a hierarchical relation at no more than one node.
+  -- After a merge a link lies on the side of a hierarchical relation at no more than one node.
   merged_one : (n : ℕ) (side : Side) (l : Link) (p : ℕ) → ((m : ℕ) → one_on_side m side l ≤ one_at p m)
-      → weight (AfterMerge source target) n side l ≤ one_at (node_after (AfterMerge source target) p) n
+      → link_visits (AfterMerge source target) n side l ≤ one_at (node_after (AfterMerge source target) p) n
   merged_one n side l p at = elim (cases_eq n source) [
     | inl is ↦ subst IsWithin (sym is) (omega (arith, weight_source side l))
     | inr off ↦ elim (cases_eq n target) [
@@ -181,14 +182,14 @@ module _ (source target : ℕ) where
   ]
     where
       IsWithin : ℕ → Type 0
-      IsWithin m = weight (AfterMerge source target) m side l ≤ one_at (node_after (AfterMerge source target) p) m
+      IsWithin m = link_visits (AfterMerge source target) m side l ≤ one_at (node_after (AfterMerge source target) p) m
 
       at_target : target ≢ source → IsWithin target
       at_target off = omega (arith, weight_target off side l, at target, at source, target_one (λ e. off (sym e)) p)
 
-  -- After a merge, reads of two sides of a node take at most one visit for each end that a link has there.
-  merged_two : (n : ℕ) (j k : Side) (l : Link) → side_no j ≢ side_no k → weight (AfterMerge source target) n j l
-      + weight (AfterMerge source target) n k l ≤ touches (AfterMerge source target) n l
+  -- After a merge, reading two sides of a node takes at most one visit for each end that a link has there.
+  merged_two : (n : ℕ) (j k : Side) (l : Link) → side_no j ≢ side_no k → link_visits (AfterMerge source target) n j l
+      + link_visits (AfterMerge source target) n k l ≤ ends_at_node (AfterMerge source target) n l
   merged_two n j k l differ = elim (cases_eq n source) [
     | inl at ↦ subst IsWithin (sym at) (omega (arith, weight_source j l, weight_source k l))
     | inr off ↦ elim (cases_eq n target) [
@@ -206,8 +207,8 @@ module _ (source target : ℕ) where
   ]
     where
       IsWithin : ℕ → Type 0
-      IsWithin m = weight (AfterMerge source target) m j l + weight (AfterMerge source target) m k l
-          ≤ touches (AfterMerge source target) m l
+      IsWithin m = link_visits (AfterMerge source target) m j l + link_visits (AfterMerge source target) m k l
+          ≤ ends_at_node (AfterMerge source target) m l
 
       at_target : target ≢ source → IsWithin target
       at_target off =
@@ -224,48 +225,49 @@ module _ (source target : ℕ) where
           )
 
 module _ (edit : LinkEdit) (j k : Side) (differ : side_no j ≢ side_no k) where
-  weight_two : (n : ℕ) (l : Link) → weight edit n j l + weight edit n k l ≤ touches edit n l
+  weight_two : (n : ℕ) (l : Link) → link_visits edit n j l + link_visits edit n k l ≤ ends_at_node edit n l
   weight_two n l = go edit
     where
       plain : one_on_side n j l + one_on_side n k l ≤ one_at l.a n + one_at l.b n
       plain = omega (arith, on_two n j k l differ, end_one n l)
 
-      go : (edit : LinkEdit) → weight edit n j l + weight edit n k l ≤ touches edit n l
+      go : (edit : LinkEdit) → link_visits edit n j l + link_visits edit n k l ≤ ends_at_node edit n l
       go NoEdit = plain
       go (WithLink new) = plain
       go (AfterMerge source target) = merged_two source target n j k l differ
 
-  -- Reads of two sides of distinct nodes take at most two visits for each link.
+  -- Reading two sides of distinct nodes takes at most two visits for each link.
   pub spent_two : (nodes : List ℕ) → IsDistinct nat_eq nodes → (ns : List Link) → read_cost edit j nodes ns
       + read_cost edit k nodes ns ≤ 2 * length ns
   spent_two nodes distinct ns =
-      let each : read_cost edit j nodes ns + read_cost edit k nodes ns ≤ sum_by (λ n. sum_by (touches edit n) ns)
+      let each : read_cost edit j nodes ns + read_cost edit k nodes ns ≤ sum_by (λ n. sum_by (ends_at_node edit n) ns)
       nodes =
-      sum_by-two (λ n. sum_by (weight edit n j) ns) (λ n. sum_by (weight edit n k) ns) (λ n. sum_by (touches edit n) ns)
-      (λ n. sum_by-two (weight edit n j) (weight edit n k) (touches edit n) (weight_two n) ns) nodes in
+      sum_by-two (λ n. sum_by (link_visits edit n j) ns) (λ n. sum_by (link_visits edit n k) ns)
+      (λ n. sum_by (ends_at_node edit n) ns)
+      (λ n. sum_by-two (link_visits edit n j) (link_visits edit n k) (ends_at_node edit n) (weight_two n) ns) nodes in
       omega (arith, each, met_twice edit nodes distinct ns)
 
 module _ (edit : LinkEdit) (relation : Relation) (walked : IsHierarchy relation) where
-  weight_one : (l : Link) → (p : ℕ) × ((n : ℕ) → weight edit n (side_in relation) l ≤ one_at p n)
+  weight_one : (l : Link) → (p : ℕ) × ((n : ℕ) → link_visits edit n (side_in relation) l ≤ one_at p n)
   weight_one l = go edit (on_foot relation walked l)
     where
       go : (edit : LinkEdit) → ((p : ℕ) × ((n : ℕ) → one_on_side n (side_in relation) l ≤ one_at p n)) → (p : ℕ)
-          × ((n : ℕ) → weight edit n (side_in relation) l ≤ one_at p n)
+          × ((n : ℕ) → link_visits edit n (side_in relation) l ≤ one_at p n)
       go NoEdit (p, at) = (p, at)
       go (WithLink new) (p, at) = (p, at)
       go (AfterMerge source target) (p, at) =
           (node_after (AfterMerge source target) p, λ n. merged_one source target n (side_in relation) l p at)
 
-  -- Reads of one side, up or down, of distinct nodes take at most one visit for each link.
+  -- Reading one side, up or down, of distinct nodes takes at most one visit for each link.
   pub spent_one : (nodes : List ℕ) → IsDistinct nat_eq nodes → (ns : List Link) → read_cost edit (side_in relation)
       nodes ns ≤ length ns
-  spent_one nodes distinct ns = omega (arith, met_at_most nodes (λ n. weight edit n (side_in relation)) 1 each ns)
+  spent_one nodes distinct ns = omega (arith, met_at_most nodes (λ n. link_visits edit n (side_in relation)) 1 each ns)
     where
-      each : (l : Link) → sum_by (λ n. weight edit n (side_in relation) l) nodes ≤ 1
+      each : (l : Link) → sum_by (λ n. link_visits edit n (side_in relation) l) nodes ≤ 1
       each l =
           let w = weight_one l in
           omega (
             arith,
-            sum_by-le-sum_by (λ n. weight edit n (side_in relation) l) (one_at w.0) nodes w.1,
+            sum_by-le-sum_by (λ n. link_visits edit n (side_in relation) l) (one_at w.0) nodes w.1,
             sum_by-one_at w.0 nodes distinct,
           )

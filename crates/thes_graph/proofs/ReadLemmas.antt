@@ -1,25 +1,25 @@
--- A read of a node takes at most one visit for each end that a link has there.
+-- Reading a node takes at most one visit for each end that a link has there.
 use Rattle.std.proofs.Common.{◌≡◌, ◌≢◌, ◌==◌, ◌+◌, ◌≤◌, ◌⊎◌, inl, inr, ℕ, List, [], ◌∷◌, ◌++◌, length, ap, sym, ◌∙◌}
 use Rattle.std.proofs.Common.{arith, Contains, sum_by, if◌then◌else◌}
 use Rattle.std.proofs.lemmas.Bool.Decides.{Decides-eqb}
 use Rattle.std.proofs.lemmas.List.Elements.{Contains-append_left, Contains-append_right, Contains-append_cases}
 use Rattle.std.proofs.lemmas.List.Sums.{sum_by-cons}
 use Rattle.thes_base.specs.declared.data.Link.{Link}
-use Rattle.thes_base.specs.Links.{Links, HeldIn, HasEnd}
+use Rattle.thes_base.specs.Links.{Links, Holds, HasEnd}
 use Rattle.thes_graph.specs.declared.edit.LinkEdit.{LinkEdit}
 use Rattle.thes_graph.specs.declared.edit.LinkEdit.TheVariants.{NoEdit, AfterMerge}
 use Rattle.thes_graph.specs.Reading.{IsRow}
-use Rattle.thes_graph.specs.LinkEdit.{node_after, TouchesAt, touches, IsReadOf, CoversAt}
+use Rattle.thes_graph.specs.LinkEdit.{node_after, TouchesAt, ends_at_node, IsReadOf, CoversAt}
 use Rattle.thes_graph.proofs.WeightLemmas.{length-apart}
 
--- 1 if the numbers are equal, else 0.
+-- The number 1 if both numbers are equal, or else 0.
 abbrev pub one_at : ℕ → ℕ → ℕ
 one_at x n = if x == n then 1 else 0
 
 pub one_at_same : (x n : ℕ) → x ≡ n → one_at x n ≡ 1
 one_at_same x n same = ap (λ b. if b then 1 else 0) ((Decides-eqb x n).1 same)
 
-touches_one : (edit : LinkEdit) (n : ℕ) (l : Link) → TouchesAt edit n l → 1 ≤ touches edit n l
+touches_one : (edit : LinkEdit) (n : ℕ) (l : Link) → TouchesAt edit n l → 1 ≤ ends_at_node edit n l
 touches_one edit n l (inl a) = omega (arith, one_at_same (node_after edit l.a) n a)
 touches_one edit n l (inr b) = omega (arith, one_at_same (node_after edit l.b) n b)
 
@@ -40,13 +40,13 @@ module _ (edit : LinkEdit) (held : Links) (node : ℕ) (row : List Link) (is : I
       ends l (inr b) = inr (plain l.b b)
 
   pub read_few : ((x : ℕ) → x ≡ node → node_after edit x ≡ node) → (ns : List Link) → CoversAt edit held node ns
-      → length row ≤ sum_by (touches edit node) ns
+      → length row ≤ sum_by (ends_at_node edit node) ns
   read_few moves ns covers =
-      length-apart (touches edit node) row ns is.once
+      length-apart (ends_at_node edit node) row ns is.once
       (λ l has. let both = is.sound l has in covers l both.0 (either_end edit node node l moves both.1))
       (λ l has. touches_one edit node l (either_end edit node node l moves (is.sound l has).1))
 
--- Two sums are at most the sum of a weight that is at least both together.
+-- The sums of two weights are at most the sum of a weight that is at least both together.
 pub sum_by-two : {X : Type 0} (f g h : X → ℕ) → ((x : X) → f x + g x ≤ h x) → (xs : List X) → sum_by f xs
     + sum_by g xs ≤ sum_by h xs
 sum_by-two f g h each [] = omega arith
@@ -81,11 +81,11 @@ module _ (source target : ℕ) (two : source ≢ target) where
       complete = λ l has at. complete l has at;
     }
       where
-        by_end : (l : Link) → HeldIn held l → HasEnd target l ⊎ HasEnd source l → Contains (row ++ more) l
+        by_end : (l : Link) → Holds held l → HasEnd target l ⊎ HasEnd source l → Contains (row ++ more) l
         by_end l has (inl t) = Contains-append_left row more l (at_target.complete l has t)
         by_end l has (inr s) = Contains-append_right row more l (at_source.complete l has s)
 
-        complete : (l : Link) → HeldIn held l → TouchesAt (AfterMerge source target) target l → Contains (row ++ more) l
+        complete : (l : Link) → Holds held l → TouchesAt (AfterMerge source target) target l → Contains (row ++ more) l
         complete l has (inl a) =
             by_end l has (elim (node_after-target l.a a) [ inl t ↦ inl (inl t) | inr s ↦ inr (inl s) ])
         complete l has (inr b) =
@@ -93,7 +93,7 @@ module _ (source target : ℕ) (two : source ≢ target) where
 
     -- The rows at source and target together have at most one link for each end at the target after the merge.
     pub length-target : (ns : List Link) → CoversAt (AfterMerge source target) held target ns → length row
-        + length more ≤ sum_by (touches (AfterMerge source target) target) ns
+        + length more ≤ sum_by (ends_at_node (AfterMerge source target) target) ns
     length-target ns covers =
         let at : ℕ → Link → ℕ = λ n l. one_at l.a n + one_at l.b n in
         let first : length row ≤ sum_by (at target) ns =
@@ -107,9 +107,10 @@ module _ (source target : ℕ) (two : source ≢ target) where
         (λ l has. let both = at_source.sound l has in
         covers l both.0 (either_end (AfterMerge source target) target source l node_after-source both.1))
         (λ l has. touches_one NoEdit source l (at_source.sound l has).1) in
-        let both : sum_by (at target) ns + sum_by (at source) ns ≤ sum_by (touches (AfterMerge source target) target)
+        let both : sum_by (at target) ns + sum_by (at source) ns ≤ sum_by
+        (ends_at_node (AfterMerge source target) target)
         ns =
-        sum_by-two (at target) (at source) (touches (AfterMerge source target) target)
+        sum_by-two (at target) (at source) (ends_at_node (AfterMerge source target) target)
         (λ l. omega (arith, one l.a, one l.b)) ns in
         omega arith
       where

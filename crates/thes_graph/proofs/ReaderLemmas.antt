@@ -1,4 +1,4 @@
--- The lists of neighbours, mappings and typed links are sorted and have exactly what the links at the node give.
+-- The lists of neighbours, mappings and typed links have exactly what the links at the node are mapped to, sorted.
 use Rattle.std.proofs.Common.{◌≡◌, ◌⊎◌, inl, inr, ◌+◌, ◌<◌, ◌++◌, ℕ, List, [], ◌∷◌, Contains, take, length, get_or}
 use Rattle.std.proofs.Common.{Option, Some, None, Ordering, refl, sym, ap, subst, ◌∙◌, append-nil}
 use Rattle.std.specs.List.{filter_map}
@@ -12,16 +12,16 @@ use Rattle.thes_base.specs.declared.data.LinkKind.{LinkKind}
 use Rattle.thes_base.specs.declared.data.LinkKind.TheVariants.{Broader, Related, Member, BroaderGeneric}
 use Rattle.thes_base.specs.declared.data.LinkKind.TheVariants.{BroaderPartitive, BroaderInstantial}
 use Rattle.thes_base.specs.declared.data.Direction.{Direction}
-use Rattle.thes_base.specs.Links.{Links, HeldIn, LinkLeads, IsHierarchical, HasEnd}
+use Rattle.thes_base.specs.Links.{Links, Holds, LinkLeads, IsHierarchical, HasEnd}
 use Rattle.thes_base.specs.Listing.{IsListing}
 use Rattle.thes_base.specs.Views.{HasLink, HasBroader}
 use Rattle.thes_lists.proofs.ListingLemmas.{listing_as, listing_insert}
 use Rattle.thes_graph.specs.declared.side.SidedLink.{SidedLink}
-use Rattle.thes_graph.specs.declared.neighbours.Neighbours.{Neighbours}
-use Rattle.thes_graph.specs.declared.neighbours.Neighbours.TheVariants as list
+use Rattle.thes_graph.specs.declared.neighbours.NeighbourKind.{NeighbourKind}
+use Rattle.thes_graph.specs.declared.neighbours.NeighbourKind.TheVariants as list
 use Rattle.thes_graph.specs.Side.{sided_link_at}
 use Rattle.thes_graph.specs.Steps.{reverse_of}
-use Rattle.thes_graph.specs.Net.{sided_links_at}
+use Rattle.thes_graph.specs.GraphView.{sided_links_at}
 use Rattle.thes_graph.specs.Neighbours.{direction_by_form, neighbour_direction, IsNeighbour, neighbour_by_link}
 use Rattle.thes_graph.proofs.StepLemmas.{step_from_Leads, Leads-from_step, Leads-first}
 use Rattle.thes_graph.proofs.EditLemmas.{filter_map-from, filter_map-to}
@@ -29,19 +29,19 @@ use Rattle.thes_graph.proofs.EditCheckLemmas.{link_same}
 use Rattle.thes_graph.proofs.IndexLemmas.{sided_links_from, sided_links_to}
 use Rattle.thes_graph.proofs.MergeAdditionLemmas.{filter_map_more}
 
--- Some held link with an end at the node gives p.
+-- A held link with an end at the node is mapped to p.
 abbrev pub IsSeen : {K : Type 0} → Links → ℕ → (Link → Option K) → K → Type 0
-IsSeen links n f p = (l : Link) × HeldIn links l × HasEnd n l × (f l ≡ Some p)
+IsSeen links n f p = (l : Link) × Holds links l × HasEnd n l × (f l ≡ Some p)
 
 module _ {K : Type 0} (c : K → K → Ordering) (f : Link → Option K) where
   abbrev seen_standing : SidedLink → Option K
   seen_standing s = f s.link
 
-  -- The list is sorted, and has exactly what these links give.
+  -- The list is sorted, and has exactly what these links are mapped to.
   abbrev pub ListsSeen : List SidedLink → List K → Type 0
   ListsSeen ss found = IsListing c (λ p. Contains (filter_map seen_standing ss) p) found
 
-  -- One iteration of the loop over the node's links.
+  -- Assumes one iteration of the loop over the node's links.
   module _ (ss : List SidedLink) (i : ℕ) (s : SidedLink) (within : i < length ss) (at : s ≡ get_or ss i s)
       (found : List K) (is : ListsSeen (take i ss) found) where
     -- The list stays correct after the insertion of what the next link gives.
@@ -72,7 +72,7 @@ module _ {K : Type 0} (c : K → K → Ordering) (f : Link → Option K) where
         (sym (filter_map_more seen_standing ss i s None within at none
         ∙ append-nil (filter_map seen_standing (take i ss)))) is
 
-  -- The list after the last of the node's links.
+  -- The list is complete after the last of the node's links.
   pub seen_listing : (links : Links) (n : ℕ) (P : K → Type 0) → ((p : K) → IsSeen links n f p → P p)
       → ((p : K) → P p → IsSeen links n f p)
       → (row : List SidedLink) (i : ℕ) → i ≡ length row → row ≡ sided_links_at links n → (found : List K)
@@ -89,14 +89,12 @@ module _ {K : Type 0} (c : K → K → Ordering) (f : Link → Option K) where
       (sided_links_to links n l.0 l.1 l.2) l.3)
       (subst (λ (ss : List SidedLink). ListsSeen ss found) (ap (λ j. take j row) end ∙ take-length row ∙ at_n) is)
 
--- A neighbour is a node that some held link with an end at the concept leads to, and conversely.
-
-pub linked_from : (links : Links) (neighbours : Neighbours) (n m : ℕ)
+pub linked_from : (links : Links) (neighbours : NeighbourKind) (n m : ℕ)
     → IsSeen links n (neighbour_by_link neighbours n) m → IsNeighbour links neighbours n m
 linked_from links neighbours n m (l, held, at, gives) =
     (l, held, Leads-from_step (neighbour_direction neighbours l.kind) l.a l.b n m gives)
 
-pub linked_to : (links : Links) (neighbours : Neighbours) (n m : ℕ) → IsNeighbour links neighbours n m
+pub linked_to : (links : Links) (neighbours : NeighbourKind) (n m : ℕ) → IsNeighbour links neighbours n m
     → IsSeen links n (neighbour_by_link neighbours n) m
 linked_to links neighbours n m (l, held, leads) = (
   l,
@@ -106,12 +104,12 @@ linked_to links neighbours n m (l, held, leads) = (
 )
 
 module _ (links : Links) where
-  held_as : (l : Link) (a b : ℕ) → HeldIn links l → l.a ≡ a → l.b ≡ b → HasLink links l.kind a b
-  held_as l a b held e f = subst (HeldIn links) (link_same l.kind l.kind l.a a l.b b refl e f) held
+  held_as : (l : Link) (a b : ℕ) → Holds links l → l.a ≡ a → l.b ≡ b → HasLink links l.kind a b
+  held_as l a b held e f = subst (Holds links) (link_same l.kind l.kind l.a a l.b b refl e f) held
 
-  held_kind : (l : Link) (kind : LinkKind) (a b : ℕ) → HeldIn links l → l.kind ≡ kind → l.a ≡ a → l.b ≡ b
+  held_kind : (l : Link) (kind : LinkKind) (a b : ℕ) → Holds links l → l.kind ≡ kind → l.a ≡ a → l.b ≡ b
       → HasLink links kind a b
-  held_kind l kind a b held k e f = subst (HeldIn links) (link_same l.kind kind l.a a l.b b k e f) held
+  held_kind l kind a b held k e f = subst (Holds links) (link_same l.kind kind l.a a l.b b k e f) held
 
   upward : (k : LinkKind) (a b n m : ℕ) → LinkLeads (neighbour_direction list.Broader k) a b n m → IsHierarchical k
       × (a ≡ n) × (b ≡ m)
@@ -157,7 +155,7 @@ module _ (links : Links) where
         (refl, refl),
   )
 
-  sideward : (l : Link) (k : LinkKind) (n m : ℕ) → HeldIn links l → l.kind ≡ k
+  sideward : (l : Link) (k : LinkKind) (n m : ℕ) → Holds links l → l.kind ≡ k
       → LinkLeads (neighbour_direction list.Related k) l.a l.b n m → Sideways n m
   sideward l Related n m held is (inl (e, f)) = inl (held_kind l Related n m held is e f)
   sideward l Related n m held is (inr (e, f)) = inr (held_kind l Related m n held is f e)
@@ -170,7 +168,7 @@ module _ (links : Links) where
   related_to n m (inl held) = (record { kind = Related; a = n; b = m }, held, inl (refl, refl))
   related_to n m (inr held) = (record { kind = Related; a = m; b = n }, held, inr (refl, refl))
 
-  inward : (l : Link) (k : LinkKind) (n m : ℕ) → HeldIn links l → l.kind ≡ k
+  inward : (l : Link) (k : LinkKind) (n m : ℕ) → Holds links l → l.kind ≡ k
       → LinkLeads (neighbour_direction list.Collections k) l.a l.b n m → HasLink links Member m n
   inward l Member n m held is (e, f) = held_kind l Member m n held is f e
   inward l _ n m held is h = absurd h

@@ -4,7 +4,7 @@ use Rattle.std.specs.Ordering.{eq_by_cmp}
 use Rattle.std.specs.Cmp.{Equal-is}
 use Rattle.std.specs.FinSet.{insert, remove, items, from_list}
 use Rattle.thes_base.specs.declared.data.Link.{Link}
-use Rattle.thes_base.specs.Links.{Links, link_cmp, HeldIn}
+use Rattle.thes_base.specs.Links.{Links, link_cmp, Holds}
 use Rattle.thes_base.proofs.LinkSetLemmas.{links_total, links_exact}
 use Rattle.thes_base.proofs.SetMemberLemmas as set
 
@@ -15,35 +15,35 @@ cond-or false b = refl
 pub same_of_equal_order : (x y : Link) → eq_by_cmp link_cmp x y ≡ true → x ≡ y
 same_of_equal_order x y e = links_exact x y ((Equal-is (link_cmp x y)).0 e)
 
-pub same_links : (s t : Links) → ((m : Link) → HeldIn s m → HeldIn t m) → ((m : Link) → HeldIn t m → HeldIn s m) → s ≡ t
+pub same_links : (s t : Links) → ((m : Link) → Holds s m → Holds t m) → ((m : Link) → Holds t m → Holds s m) → s ≡ t
 same_links = set.same_members links_total links_exact
 
-pub held_from_list : (ls : List Link) (m : Link) → Contains ls m → HeldIn (from_list ls) m
+pub held_from_list : (ls : List Link) (m : Link) → Contains ls m → Holds (from_list ls) m
 held_from_list = set.from_list_has links_total links_exact
 
-pub listed_of_held : (ls : List Link) (m : Link) → HeldIn (from_list ls) m → Contains ls m
+pub listed_of_held : (ls : List Link) (m : Link) → Holds (from_list ls) m → Contains ls m
 listed_of_held = set.from_list_of links_total links_exact
 
-pub held_of_item : (links : Links) (m : Link) → Contains (items links) m → HeldIn links m
+pub held_of_item : (links : Links) (m : Link) → Contains (items links) m → Holds links m
 held_of_item = set.items_of links_total links_exact
 
-pub item_of_held : (links : Links) (m : Link) → HeldIn links m → Contains (items links) m
+pub item_of_held : (links : Links) (m : Link) → Holds links m → Contains (items links) m
 item_of_held = set.items_has links_total links_exact
 
-pub inserted_held : (links : Links) (l : Link) → HeldIn (insert links l) l
+pub inserted_held : (links : Links) (l : Link) → Holds (insert links l) l
 inserted_held = set.inserted_new links_total links_exact
 
-pub insert_keeps : (links : Links) (l m : Link) → HeldIn links m → HeldIn (insert links l) m
+pub insert_keeps : (links : Links) (l m : Link) → Holds links m → Holds (insert links l) m
 insert_keeps = set.inserted_kept links_total links_exact
 
-pub remove_keeps : (links : Links) (l m : Link) → m ≢ l → HeldIn links m → HeldIn (remove links l) m
+pub remove_keeps : (links : Links) (l m : Link) → m ≢ l → Holds links m → Holds (remove links l) m
 remove_keeps = set.removed_kept links_total links_exact
 
-pub removed_cases : (links : Links) (l m : Link) → HeldIn (remove links l) m → (m ≢ l) × HeldIn links m
+pub removed_cases : (links : Links) (l m : Link) → Holds (remove links l) m → (m ≢ l) × Holds links m
 removed_cases = set.removed_cases links_total links_exact
 
-pub remove_absent : (links : Links) (l : Link) → (HeldIn links l → ⊥) → remove links l ≡ links
+pub remove_absent : (links : Links) (l : Link) → (Holds links l → ⊥) → remove links l ≡ links
 remove_absent links l absent =
     same_links (remove links l) links
     (λ m is. (removed_cases links l m is).1)
-    (λ m is. remove_keeps links l m (λ same. absent (subst (HeldIn links) same is)) is)
+    (λ m is. remove_keeps links l m (λ same. absent (subst (Holds links) same is)) is)

@@ -1,4 +1,4 @@
--- The range of a row between two partition points has exactly the links of one side.
+-- The range of a row between two partition points has exactly the links on one side.
 use Rattle.std.proofs.Common.{◌≡◌, ◌≢◌, ◌⊎◌, inl, inr, ◌==◌, ◌-◌, ◌<◌, ◌≤◌, ℕ, Bool, List, true, false, length}
 use Rattle.std.proofs.Common.{get_or, Less, Equal, Greater, Option, Some, None, slice_get, if◌then◌else◌, refl, sym}
 use Rattle.std.proofs.Common.{ap, subst, ◌∙◌, arith}
@@ -20,22 +20,21 @@ use Rattle.thes_base.specs.declared.data.LinkKind.{LinkKind}
 use Rattle.thes_base.specs.declared.data.LinkKind.TheVariants.{Broader, Related, Exact, RelMatch}
 use Rattle.thes_base.specs.declared.data.Direction.{Direction}
 use Rattle.thes_base.specs.declared.data.Direction.TheVariants.{Forward, Backward, Either, Never}
-use Rattle.thes_base.specs.Links.{Links, HeldIn, broader_direction, related_direction, exact_direction, LinkLeads}
+use Rattle.thes_base.specs.Links.{Links, Holds, broader_direction, related_direction, exact_direction, LinkLeads}
 use Rattle.thes_graph.specs.declared.relation.Relation.{Relation}
 use Rattle.thes_graph.specs.declared.relation.Relation.TheVariants as relation
 use Rattle.thes_graph.specs.declared.side.Side.{Side}
 use Rattle.thes_graph.specs.declared.side.Side.TheVariants.{Up, Sideways, Alike, Down, Apart}
 use Rattle.thes_graph.specs.declared.side.SidedLink.{SidedLink}
 use Rattle.thes_graph.specs.declared.side.Part.{Part}
-use Rattle.thes_graph.specs.Side.{side_no, side_by, side_at, sided_link_cmp, IsPart, IsPlaceOf, IsOneSided, side_in}
+use Rattle.thes_graph.specs.Side.{side_no, side_by_directions, side_at, sided_link_cmp, IsPart, IsPartitionIndex}
+use Rattle.thes_graph.specs.Side.{IsOneSided, side_in}
 use Rattle.thes_graph.specs.Reading.{HaveTwoEnds, IsRow}
 use Rattle.thes_graph.specs.Steps.{reverse_of, direction_of, Steps}
-use Rattle.thes_graph.specs.Net.{sided_links_at, links_at}
+use Rattle.thes_graph.specs.GraphView.{sided_links_at, links_at}
 use Rattle.thes_graph.proofs.NumberLemmas.{same_of}
 use Rattle.thes_graph.proofs.StepLemmas.{Leads-first}
 use Rattle.thes_graph.proofs.IndexLemmas.{sided_links_sorted, sided_links_from}
-
--- The sides in a row ascend.
 
 lower_side : (a b : ℕ) (o : Ordering) → ordering_then (nat_cmp a b) o ≡ Less → a ≤ b
 lower_side a b o less = go (nat_cmp a b) (ranked a b (nat_cmp a b) refl) less
@@ -61,7 +60,7 @@ sides_rise links n i j d lt in_range = go (eq-or-lt_of_le lt)
 
 -- If the first link of a partitioned row fails the test, all links do.
 pub none_pass : (p : SidedLink → Bool) (row : List SidedLink) (first : SidedLink) → slice_get row 0 ≡ Some first
-    → p first ≡ false → IsPlaceOf p row 0
+    → p first ≡ false → IsPartitionIndex p row 0
 none_pass p row first is off parted = (
   λ k d _ lt. absurd (omega arith),
   λ k d _ lt. false_from_ne_true (p (get_or row k d))
@@ -71,7 +70,7 @@ none_pass p row first is off parted = (
 -- If the last link of a partitioned row passes the test, all links do.
 pub all_pass : (p : SidedLink → Bool) (row : List SidedLink) (last : SidedLink) → slice_get row (length row - 1)
     ≡ Some last → p last ≡ true
-    → IsPlaceOf p row (length row)
+    → IsPartitionIndex p row (length row)
 all_pass p row last is on parted =
     let in_range : length row - 1 < length row = slice_get_within row (length row - 1) last is in (
       λ k d _ lt. parted k (length row - 1) d (omega arith) in_range
@@ -87,7 +86,7 @@ same_side Down Down e = refl
 same_side Apart Apart e = refl
 same_side _ _ e = absurd (omega arith)
 
--- The places that two searches find in the row bound the links of a side.
+-- Assumes the indexes that two searches find in the row.
 module _ (links : Links) (n : ℕ) (side : Side) (part : Part) (in_range : part.to ≤ length (sided_links_at links n))
     (low : IsPartitionPoint (λ s. ltb (number_of s) (side_no side) ≡ true) (λ s. ltb (number_of s) (side_no side)
     ≡ false) (sided_links_at links n) part.from)
@@ -96,7 +95,7 @@ module _ (links : Links) (n : ℕ) (side : Side) (part : Part) (in_range : part.
   abbrev link_of : SidedLink → Link
   link_of s = s.link
 
-  -- A link at a place of the row is there with its side.
+  -- A link at an index of the row has its side there.
   stands : (k : ℕ) (l : Link) → slice_get (links_at links n) k ≡ Some l → (s : SidedLink)
       × (slice_get (sided_links_at links n) k ≡ Some s) × (s.link ≡ l)
   stands k l at = go (slice_get (sided_links_at links n) k) refl
@@ -121,7 +120,7 @@ module _ (links : Links) (n : ℕ) (side : Side) (part : Part) (in_range : part.
         get_or_from_slice_get (sided_links_at links n) k s s at,
       )).2
 
-  -- The range between the two partition points has exactly the links of the side.
+  -- The range between the two partition points has exactly the links on the side.
   pub IsPart-found : IsPart (links_at links n) n side part
   IsPart-found = record {
     in_range = let P : ℕ → Type 0 = λ m. part.to ≤ m in subst P (sym (length-map (sided_links_at links n) link_of))
@@ -185,7 +184,7 @@ module _ (links : Links) (n : ℕ) (side : Side) (part : Part) (in_range : part.
               absurd (above_itself (number_of s) (side_no side) here (let P : SidedLink → Type 0 =
               λ w. leb (number_of w) (side_no side) ≡ false in subst P is (high.1 k s lt on_side)))
 
--- The numbers of links before a side, and up to it, are the bounds of its range.
+-- The number of links before a side, and up to it, are the bounds of the side's range.
 pub part_found : (links : Links) (n : ℕ) (side : Side) (row : List SidedLink) (number from to : ℕ) → row
     ≡ sided_links_at links n → number ≡ side_no side → to ≤ length row
     → (IsPartitionedBy (λ s. ltb (number_of s) number) row → IsPartitionPoint (λ s. ltb (number_of s) number ≡ true)
@@ -208,8 +207,6 @@ part_found links n side row number from to is_row is_number in_range low high =
     (low_at (IsPartitionedBy-ltb number_of (sided_links_at links n) (side_no side) (sides_rise links n)))
     (high_at (IsPartitionedBy-leb number_of (sided_links_at links n) (side_no side) (sides_rise links n)))
 
--- A link that leads from n in a relation lies on the side of that relation.
-
 module _ (a b n y : ℕ) (two : a ≢ b) where
   first_here : a ≡ n → (a == n) ≡ true
   first_here = (Decides-eqb a n).1
@@ -221,35 +218,39 @@ module _ (a b n y : ℕ) (two : a ≢ b) where
   never_either Broader e = cc
   never_either _ e = cc
 
-  up_side : (k : LinkKind) → LinkLeads (broader_direction k) a b n y → side_by (broader_direction k) (a == n)
+  up_side : (k : LinkKind) → LinkLeads (broader_direction k) a b n y → side_by_directions (broader_direction k) (a == n)
       (related_direction k) (exact_direction k) ≡ Up
   up_side k leads = go (broader_direction k) leads (never_either k)
     where
-      go : (d : Direction) → LinkLeads d a b n y → (d ≡ Either → ⊥) → side_by d (a == n) (related_direction k)
+      go : (d : Direction) → LinkLeads d a b n y → (d ≡ Either → ⊥)
+          → side_by_directions d (a == n) (related_direction k)
           (exact_direction k) ≡ Up
       go Forward (e, f) one = ap (λ t. if t then Up else Down) (first_here e)
       go Backward (e, f) one = ap (λ t. if t then Down else Up) (second_here e)
       go Either h one = absurd (one refl)
       go Never h one = absurd h
 
-  down_side : (k : LinkKind) → LinkLeads (reverse_of (broader_direction k)) a b n y → side_by (broader_direction k)
+  down_side : (k : LinkKind) → LinkLeads (reverse_of (broader_direction k)) a b n y
+      → side_by_directions (broader_direction k)
       (a == n) (related_direction k) (exact_direction k) ≡ Down
   down_side k leads = go (broader_direction k) leads (never_either k)
     where
       go : (d : Direction) → LinkLeads (reverse_of d) a b n y → (d ≡ Either → ⊥)
-          → side_by d (a == n) (related_direction k) (exact_direction k) ≡ Down
+          → side_by_directions d (a == n) (related_direction k) (exact_direction k) ≡ Down
       go Forward (e, f) one = ap (λ t. if t then Up else Down) (second_here e)
       go Backward (e, f) one = ap (λ t. if t then Down else Up) (first_here e)
       go Either h one = absurd (one refl)
       go Never h one = absurd h
 
-  beside_side : (k : LinkKind) → LinkLeads (related_direction k) a b n y → side_by (broader_direction k) (a == n)
+  beside_side : (k : LinkKind) → LinkLeads (related_direction k) a b n y
+      → side_by_directions (broader_direction k) (a == n)
       (related_direction k) (exact_direction k) ≡ Sideways
   beside_side Related leads = refl
   beside_side RelMatch leads = refl
   beside_side _ leads = absurd leads
 
-  alike_side : (k : LinkKind) → LinkLeads (exact_direction k) a b n y → side_by (broader_direction k) (a == n)
+  alike_side : (k : LinkKind) → LinkLeads (exact_direction k) a b n y
+      → side_by_directions (broader_direction k) (a == n)
       (related_direction k) (exact_direction k) ≡ Alike
   alike_side Exact leads = refl
   alike_side _ leads = absurd leads
@@ -264,8 +265,8 @@ side_of_lead relation.Apart walked l n y two leads = absurd walked
 
 -- A node with an empty range of links leads nowhere in the relation.
 pub no_steps : (held : Links) (r : Relation) (n : ℕ) (row : List Link) (part : Part) → IsOneSided r
-    → HaveTwoEnds (HeldIn held) → IsRow held n row → IsPart row n (side_in r) part → part.to ≤ part.from
-    → (y : ℕ) → Steps r (HeldIn held) n y → ⊥
+    → HaveTwoEnds (Holds held) → IsRow held n row → IsPart row n (side_in r) part → part.to ≤ part.from
+    → (y : ℕ) → Steps r (Holds held) n y → ⊥
 no_steps held r n row part walked two_ends is_row is empty y (l, has, leads) =
     let at = is_row.complete l has (Leads-first (direction_of r l.kind) l.a l.b n y leads) in
     let here : slice_get row at.0 ≡ Some l = slice_get-get_or row at.0 l at.1 ∙ ap Some at.2 in

@@ -1,4 +1,4 @@
--- A read of one side of a node finds exactly the nodes that it leads to after the edit, by at most one visit for each
+-- Reading one side of a node finds exactly the nodes to which it leads after the edit, in at most one visit for each
 -- link there.
 use Rattle.std.proofs.Common.{◌≡◌, ◌==◌, ◌+◌, ◌-◌, ◌≤◌, ◌<◌, ◌⊎◌, inl, inr, ℕ, List, length, take, drop, get_or, ap}
 use Rattle.std.proofs.Common.{sym, subst, ◌∙◌, arith, refl, Contains, sum_by, Bool, true, false, Option, Some, None}
@@ -10,7 +10,7 @@ use Rattle.std.proofs.lemmas.Option.{none-some}
 use Rattle.thes_base.specs.declared.data.Link.{Link}
 use Rattle.thes_base.specs.declared.data.Direction.{Direction}
 use Rattle.thes_base.specs.declared.data.Direction.TheVariants.{Forward, Backward, Either, Never}
-use Rattle.thes_base.specs.Links.{Links, HeldIn, LinkLeads, HasEnd}
+use Rattle.thes_base.specs.Links.{Links, Holds, LinkLeads, HasEnd}
 use Rattle.thes_graph.specs.declared.relation.Relation.{Relation}
 use Rattle.thes_graph.specs.declared.side.Part.{Part}
 use Rattle.thes_graph.specs.declared.edit.LinkEdit.{LinkEdit}
@@ -25,7 +25,7 @@ use Rattle.std.specs.Cmp.Derive.{both_true}
 use Rattle.std.proofs.lemmas.Bool.{or_left, or_right}
 use Rattle.std.proofs.lemmas.Bool.Decides.{Decides-eqb}
 use Rattle.thes_graph.specs.declared.side.Side.{Side}
-use Rattle.thes_graph.specs.Net.{ends_at}
+use Rattle.thes_graph.specs.GraphView.{ends_at}
 use Rattle.thes_graph.proofs.WeightLemmas.{length-once, once_from_pairs, once_take, once_drop}
 use Rattle.thes_graph.proofs.StepLemmas.{GrowsBy-then, Leads-first, Leads-from_step, step_from_Leads}
 use Rattle.thes_graph.proofs.EditLemmas.{link_after_merge-ends}
@@ -37,8 +37,6 @@ pub item_at : (items xs : List ℕ) (i x : ℕ) → items ≡ xs → i < length 
 item_at items xs i x same in_range is =
     let on_side : i < length xs = subst (λ (l : List ℕ). i < length l) same in_range in
     (on_side, is ∙ ap (λ (l : List ℕ). get_or l i x) same ∙ get_or_default xs i x 0 on_side)
-
--- The results of two reads in succession are one result.
 
 module _ (old new goals : List ℕ) (P Q : ℕ → Type 0) (to : (y : ℕ) → P y → Q y) (from : (y : ℕ) → Q y → P y) where
   pub IsSearchResult-same : (found : Bool) → IsSearchResult found old new goals P → IsSearchResult found old new goals Q
@@ -63,8 +61,6 @@ module _ (xs ys zs goals : List ℕ) (P Q S : ℕ → Type 0) (parts : (y : ℕ)
     GrowsBy-then xs ys zs P Q S parts left right grows more,
     λ y has s. elim (parts y s) [ inl p ↦ off y has p | inr q ↦ away y has q ],
   )
-
--- The part of a row that a loop has read so far.
 
 module _ (edit : LinkEdit) (relation : Relation) (x : ℕ) (row : List Link) where
   abbrev Within : (from to y : ℕ) → Type 0
@@ -94,7 +90,7 @@ module _ (edit : LinkEdit) (relation : Relation) (x : ℕ) (row : List Link) whe
   pub LeadsWithin-to : (from i j y : ℕ) → i - from ≤ j - from → Within from i y → Within from j y
   LeadsWithin-to from i j y in_range (k, l, low, high, at, leads) = (k, l, low, omega arith, at, leads)
 
-  -- The links in the range of a side are exactly those of that side.
+  -- Assumes the range of a side, whose links are exactly those on it.
   module _ (held : Links) (at : ℕ) (part : Part) (is_row : IsRow held at row)
       (is_part : IsPart row at (side_in relation) part) where
     pub LeadsFrom-read : (i y : ℕ) → i - part.from ≤ part.to - part.from → Within part.from i y
@@ -114,8 +110,6 @@ module _ (edit : LinkEdit) (relation : Relation) (x : ℕ) (row : List Link) whe
         let high : there.0 < part.to = between.1 in
         (there.0, l, between.0, omega arith, is, leads)
 
--- The steps from a node after the edit are those of the held links at it, or at the source and target of a merge.
-
 some_led : (edit : LinkEdit) (relation : Relation) (x y : ℕ) (l : Link) {P : Type 0} → step_after_edit edit relation x
     l ≡ Some y
     → ((m : Link) → link_after edit l ≡ Some m → LinkLeads (direction_of relation m.kind) m.a m.b x y → P) → P
@@ -124,7 +118,7 @@ some_led edit relation x y l leads go =
     (λ m is one. go m is (Leads-from_step (direction_of relation m.kind) m.a m.b x y one))
 
 module _ (held : Links) (relation : Relation) where
-  pub Steps-with_none : (new : Link) (x : ℕ) → ((z : ℕ) → Steps relation (HeldIn held) x z → ⊥)
+  pub Steps-with_none : (new : Link) (x : ℕ) → ((z : ℕ) → Steps relation (Holds held) x z → ⊥)
       → step_along relation new x ≡ None
       → (y : ℕ) → Steps relation (HeldAfter (WithLink new) held) x y → ⊥
   Steps-with_none new x none off y (l, inl has, leads) = none y (l, has, leads)
@@ -141,8 +135,8 @@ module _ (held : Links) (relation : Relation) where
   Steps-sound (AfterMerge source target) at x y (l, has, _, _, leads) =
       some_led (AfterMerge source target) relation x y l leads (λ m is one. (m, (l, has, is), one))
 
-  module _ (walked : IsOneSided relation) (two : HaveTwoEnds (HeldIn held)) where
-    pub Steps-held : (x y : ℕ) → Steps relation (HeldIn held) x y → LeadsFrom NoEdit held relation x x y
+  module _ (walked : IsOneSided relation) (two : HaveTwoEnds (Holds held)) where
+    pub Steps-held : (x y : ℕ) → Steps relation (Holds held) x y → LeadsFrom NoEdit held relation x x y
     Steps-held x y (l, has, leads) = (
       l,
       has,
@@ -164,7 +158,7 @@ module _ (held : Links) (relation : Relation) where
         (new, inr refl, Leads-from_step (direction_of relation new.kind) new.a new.b x y leads)
 
     module _ (source target : ℕ) where
-      -- The ends of a link after a merge determine those before it.
+      -- The ends of a link after a merge determine its ends before it, up to source and target.
       lead_back : (d : Direction) (a b x y : ℕ) → LinkLeads d (node_after (AfterMerge source target) a)
           (node_after (AfterMerge source target) b) x y
           → (at : ℕ) × (z : ℕ) × (node_after (AfterMerge source target) at ≡ x) × LinkLeads d a b at z
@@ -187,28 +181,28 @@ module _ (held : Links) (relation : Relation) where
           (subst (λ a. P (direction_of relation m.kind) a m.b) ends.1 leads))
 
       pub Steps-merged_held : (x y : ℕ) → Steps relation (HeldAfter (AfterMerge source target) held) x y
-          → (at : ℕ) × (z : ℕ) × (node_after (AfterMerge source target) at ≡ x) × Steps relation (HeldIn held) at z
+          → (at : ℕ) × (z : ℕ) × (node_after (AfterMerge source target) at ≡ x) × Steps relation (Holds held) at z
       Steps-merged_held x y (m, (l, has, is), leads) =
           let back = lead_back (direction_of relation l.kind) l.a l.b x y (led_same x y l m is leads) in
           (back.0, back.1, back.2, (l, has, back.3))
 
       -- If no link leads from the node, nor from the source if the node is the target, none does after the merge.
-      pub Steps-merged_none : (x : ℕ) → ((z : ℕ) → Steps relation (HeldIn held) x z → ⊥)
-          → (x ≡ target → (z : ℕ) → Steps relation (HeldIn held) source z → ⊥)
+      pub Steps-merged_none : (x : ℕ) → ((z : ℕ) → Steps relation (Holds held) x z → ⊥)
+          → (x ≡ target → (z : ℕ) → Steps relation (Holds held) source z → ⊥)
           → (y : ℕ) → Steps relation (HeldAfter (AfterMerge source target) held) x y → ⊥
       Steps-merged_none x none also y steps =
           let back = Steps-merged_held x y steps in
           elim (at_cases back.0) [
             | inl (at, sent) ↦ also (sym back.2 ∙ sent) back.1
-                (subst (λ (w : ℕ). Steps relation (HeldIn held) w back.1) at back.3)
-            | inr at ↦ none back.1 (subst (λ (w : ℕ). Steps relation (HeldIn held) w back.1) (sym at ∙ back.2) back.3)
+                (subst (λ (w : ℕ). Steps relation (Holds held) w back.1) at back.3)
+            | inr at ↦ none back.1 (subst (λ (w : ℕ). Steps relation (Holds held) w back.1) (sym at ∙ back.2) back.3)
           ]
         where
           at_cases : (n : ℕ) → ((n ≡ source) × (node_after (AfterMerge source target) n ≡ target))
               ⊎ (node_after (AfterMerge source target) n ≡ n)
           at_cases n = grind arith
 
-      -- After a merge each step from a node is one of the held links at it, or at the source if it is the target.
+      -- After a merge each step from a node is that of a held link at it, or at the source if it is the target.
       pub Steps-merged : (x y : ℕ) → Steps relation (HeldAfter (AfterMerge source target) held) x y
           → (at : ℕ) × (node_after (AfterMerge source target) at ≡ x) × LeadsFrom (AfterMerge source target) held
           relation at x y
@@ -226,8 +220,6 @@ module _ (held : Links) (relation : Relation) where
             ),
           )
 
--- A range has distinct links of its side, so its length is at most their number.
-
 pub on_one : (at : ℕ) (side : Side) (l : Link) → HasEnd at l → side_at at l ≡ side → one_on_side at side l ≡ 1
 on_one at side l ends is =
     ap (λ b. if b then 1 else 0)
@@ -239,7 +231,7 @@ on_one at side l ends is =
 
 module _ (held : Links) (at : ℕ) (side : Side) (row : List Link) (part : Part) (is_row : IsRow held at row)
     (is_part : IsPart row at side part) where
-  -- The length of a range is at most the number of links of its side.
+  -- The length of a range is at most the number of links on its side.
   pub part_cost : (ns : List Link) → CoversSide held at side ns → part.to - part.from ≤ sum_by (one_on_side at side) ns
   part_cost ns stands =
       let few : length places ≤ sum_by (one_on_side at side) ns =
@@ -252,7 +244,7 @@ module _ (held : Links) (at : ℕ) (side : Side) (row : List Link) (part : Part)
       places : List Link
       places = take (part.to - part.from) (drop part.from row)
 
-      stood : (l : Link) → Contains places l → HeldIn held l × HasEnd at l × (side_at at l ≡ side)
+      stood : (l : Link) → Contains places l → Holds held l × HasEnd at l × (side_at at l ≡ side)
       stood l (k, lt, is) =
           let below : k < part.to - part.from = omega (arith, length-take (part.to - part.from) (drop part.from row)) in
           let on_side : part.from + k < length row = omega (arith, is_part.in_range) in

@@ -1,4 +1,4 @@
--- The list of nodes grows by exactly the nodes that one link leads to.
+-- The list of nodes grows by exactly the nodes to which one link leads.
 use Rattle.std.proofs.Common.{◌≡◌, ℕ, ◌+◌, ◌<◌, ◌⊎◌, inl, inr, List, [], ◌∷◌, ◌++◌, length, take, get_or, Contains}
 use Rattle.std.proofs.Common.{nat_eq, false, Some, None, refl, sym, ap, subst, ◌∙◌, append_assoc, append-nil, arith}
 use Rattle.std.specs.List.{list_any}
@@ -14,7 +14,7 @@ use Rattle.thes_base.specs.Links.{LinkLeads}
 use Rattle.thes_graph.specs.declared.relation.Relation.{Relation}
 use Rattle.thes_graph.specs.Steps.{direction_of, Steps, step_in, step_along, Extends, GrowsBy}
 
--- A new node is appended.
+-- Appending a new node grows the list by it.
 pub GrowsBy-push : (xs : List ℕ) (y : ℕ) → list_any (nat_eq y) xs ≡ false → GrowsBy xs (xs ++ y ∷ []) (λ z. y ≡ z)
 GrowsBy-push xs y fresh = record {
   extends = (y ∷ [], refl);
@@ -34,7 +34,7 @@ GrowsBy-none xs P none = record {
 Extends-trans : (xs ys zs : List ℕ) → Extends xs ys → Extends ys zs → Extends xs zs
 Extends-trans xs ys zs (m, e) (n, f) = (m ++ n, f ∙ ap (λ l. l ++ n) e ∙ append_assoc xs m n)
 
--- Two growths in succession are one, where S is P or Q.
+-- Two growths in sequence are one growth.
 pub GrowsBy-then : (xs ys zs : List ℕ) (P Q S : ℕ → Type 0) → ((y : ℕ) → S y → P y ⊎ Q y) → ((y : ℕ) → P y → S y)
     → ((y : ℕ) → Q y → S y)
     → GrowsBy xs ys P → GrowsBy ys zs Q → GrowsBy xs zs S
@@ -54,7 +54,7 @@ GrowsBy-then xs ys zs P Q S parts left right g h = record {
     Extends-keeps : (ys zs : List ℕ) → Extends ys zs → (y : ℕ) → Contains ys y → Contains zs y
     Extends-keeps ys zs (more, e) y has = rw e (Contains-append_left ys more y has)
 
--- The computed step of a link is the relation that it states.
+-- The computed step of a link is the one that it states.
 pub step_from_Leads : (d : Direction) (a b x y : ℕ) → LinkLeads d a b x y → step_in d a b x ≡ Some y
 step_from_Leads Forward a b x y (p, q) = grind arith
 step_from_Leads Backward a b x y (p, q) = grind arith
@@ -71,7 +71,7 @@ Leads-from_step Never a b x y e = absurd (none-some y e)
 abbrev LeadsAlong : Relation → Link → ℕ → ℕ → Type 0
 LeadsAlong relation l x y = LinkLeads (direction_of relation l.kind) l.a l.b x y
 
--- The steps of the first links of a list, and of the next one.
+-- Splits the steps of a prefix of a list into those of a shorter prefix and those of the next link.
 module _ (relation : Relation) (links : List Link) (k : ℕ) (d : Link) (x : ℕ) (within : k < length links) where
   Steps-parts : (y : ℕ) → Steps relation (Contains (take (k + 1) links)) x y
       → Steps relation (Contains (take k links)) x y ⊎ LeadsAlong relation (get_or links k d) x y

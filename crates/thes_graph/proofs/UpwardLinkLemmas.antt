@@ -1,4 +1,4 @@
--- Two alternating searches, up from the high node and down from the low one, find what a link up would break, by at
+-- Two alternating searches, up from the high node and down from the low one, find what a link up would break, in at
 -- most four visits for each link near it.
 use Rattle.std.proofs.Common.{◌≡◌, ◌+◌, ◌-◌, ◌*◌, ◌≤◌, ◌<◌, inl, inr, ℕ, List, [], ◌∷◌, length, sym, subst, arith}
 use Rattle.std.proofs.Common.{Contains, Bool, true, false, Option, Some, None, ap, take, get_or}
@@ -8,7 +8,7 @@ use Rattle.std.specs.Bool.{MatchBool}
 use Rattle.thes_base.specs.declared.data.Link.{Link}
 use Rattle.thes_base.specs.declared.fault.Refusal.{Refusal}
 use Rattle.thes_base.specs.declared.fault.Refusal.TheVariants as no
-use Rattle.thes_base.specs.Links.{Links, Chain, IsBroader, IsAbove}
+use Rattle.thes_base.specs.Links.{Links, Chain, IsNarrower, IsBelow}
 use Rattle.thes_base.proofs.ListMemberLemmas.{Contains-head}
 use Rattle.thes_graph.specs.declared.relation.Relation.{Relation}
 use Rattle.thes_graph.specs.declared.relation.Relation.TheVariants.{Broader, Narrower}
@@ -19,7 +19,8 @@ use Rattle.thes_graph.specs.Side.{side_in}
 use Rattle.thes_graph.specs.LinkEdit.{HeldAfter, CoversAt}
 use Rattle.thes_graph.specs.Steps.{Steps, Reaches}
 use Rattle.thes_graph.specs.SideSearch.{read_cost, IsHierarchy, IsSideSearch, LeadsTo, IsAdvanceResult}
-use Rattle.thes_graph.specs.SideSearch.{AreAlternating, HaveMet, IsSecondResult, IsBrokenBetween, CoversBetween}
+use Rattle.thes_graph.specs.SideSearch.{AreAlternating, HasEitherFoundGoal, IsSecondResult, IsBrokenBetween}
+use Rattle.thes_graph.specs.SideSearch.{CoversBetween}
 use Rattle.thes_graph.proofs.ReachLemmas.{no_others}
 use Rattle.thes_graph.proofs.PivotLemmas.{Chain-turn}
 use Rattle.thes_graph.proofs.ProbeLemmas.{narrower_from, narrower_to, below_from, below_to}
@@ -39,7 +40,7 @@ module _ (edit : LinkEdit) (held : Links) where
     pub covers_down : (n : ℕ) → Reaches (Steps Narrower Would) low n → CoversAt edit held n ns
     covers_down n r = covers n (inl (below_from Would low n r))
 
-  -- One step of either search keeps the state of the two, or finds a goal.
+  -- Assumes the state of both searches.
   module _ (lows highs : List ℕ) (low high from : ℕ) (up down : SideSearch) where
     pub AreAlternating-start : (count : ℕ) → up.nodes ≡ high ∷ [] → up.next ≡ 0 → down.nodes ≡ low ∷ [] → down.next
         ≡ 0 → AreAlternating edit held lows highs low high up down count count
@@ -55,10 +56,10 @@ module _ (edit : LinkEdit) (held : Links) where
         → ((read : ℕ) → IsSideSearch edit held Broader lows high up read → IsAdvanceResult edit held Broader lows high
         later (read + (count - before)) found)
         → AreAlternating edit held lows highs low high up down from before
-        → MatchBool found (HaveMet edit held lows highs low high from count)
+        → MatchBool found (HasEitherFoundGoal edit held lows highs low high from count)
         (AreAlternating edit held lows highs low high later down from count)
-    turn_up later before count true goes (a, b, u, d, paid) =
-        let on = goes a u in (
+    turn_up later before count true advances (a, b, u, d, paid) =
+        let on = advances a u in (
           inl on.0,
           λ ns covers. omega (
             arith,
@@ -67,17 +68,17 @@ module _ (edit : LinkEdit) (held : Links) where
             IsSideSearch-paid edit held Narrower highs low tt down b d ns (covers_down low high ns covers),
           ),
         )
-    turn_up later before count false goes (a, b, u, d, paid) =
-        (a + (count - before), b, goes a u, d, omega (arith, paid))
+    turn_up later before count false advances (a, b, u, d, paid) =
+        (a + (count - before), b, advances a u, d, omega (arith, paid))
 
     pub turn_down : (later : SideSearch) (before count : ℕ) (found : Bool)
         → ((read : ℕ) → IsSideSearch edit held Narrower highs low down read → IsAdvanceResult edit held Narrower highs
         low later (read + (count - before)) found)
         → AreAlternating edit held lows highs low high up down from before
-        → MatchBool found (HaveMet edit held lows highs low high from count)
+        → MatchBool found (HasEitherFoundGoal edit held lows highs low high from count)
         (AreAlternating edit held lows highs low high up later from count)
-    turn_down later before count true goes (a, b, u, d, paid) =
-        let on = goes b d in (
+    turn_down later before count true advances (a, b, u, d, paid) =
+        let on = advances b d in (
           inr on.0,
           λ ns covers. omega (
             arith,
@@ -86,32 +87,33 @@ module _ (edit : LinkEdit) (held : Links) where
             IsSideSearch-paid edit held Broader lows high tt up a u ns (covers_up low high ns covers),
           ),
         )
-    turn_down later before count false goes (a, b, u, d, paid) =
-        (a, b + (count - before), u, goes b d, omega (arith, paid))
+    turn_down later before count false advances (a, b, u, d, paid) =
+        (a, b + (count - before), u, advances b d, omega (arith, paid))
 
-  -- A chain of broader concepts is, read the other way round, a chain of narrower ones.
-  chain_down : (low high : ℕ) → IsAbove Would high low → Chain (Steps Narrower Would) low high
-  chain_down low high = Chain-turn (IsBroader Would) (Steps Narrower Would) (narrower_to Would low) high low
+  -- A chain of broader concepts, read backwards, is a chain of narrower ones.
+  chain_down : (low high : ℕ) → IsBelow Would high low → Chain (Steps Narrower Would) low high
+  chain_down low high = Chain-turn (IsNarrower Would) (Steps Narrower Would) (narrower_to Would low) high low
 
-  chain_up : (low high : ℕ) → Chain (Steps Narrower Would) low high → IsAbove Would high low
-  chain_up low high = Chain-turn (Steps Narrower Would) (IsBroader Would) (narrower_from Would low) low high
+  chain_up : (low high : ℕ) → Chain (Steps Narrower Would) low high → IsBelow Would high low
+  chain_up low high = Chain-turn (Steps Narrower Would) (IsNarrower Would) (narrower_from Would low) low high
 
-  pub found_up : (low high : ℕ) → LeadsTo edit held Broader (low ∷ []) high → IsAbove Would high low
-  found_up low high (y, has, chain) = subst (λ (w : ℕ). IsAbove Would high w) (sym (no_others low y has)) chain
+  pub found_up : (low high : ℕ) → LeadsTo edit held Broader (low ∷ []) high → IsBelow Would high low
+  found_up low high (y, has, chain) = subst (λ (w : ℕ). IsBelow Would high w) (sym (no_others low y has)) chain
 
-  pub found_down : (low high : ℕ) → LeadsTo edit held Narrower (high ∷ []) low → IsAbove Would high low
+  pub found_down : (low high : ℕ) → LeadsTo edit held Narrower (high ∷ []) low → IsBelow Would high low
   found_down low high (y, has, chain) =
       chain_up low high (subst (λ (w : ℕ). Chain (Steps Narrower Would) low w) (sym (no_others high y has)) chain)
 
-  pub HaveMet-cycle : (low high from count : ℕ) → HaveMet edit held (low ∷ []) (high ∷ []) low high from count
-      → IsAbove Would high low
-  HaveMet-cycle low high from count (met, paid) =
+  pub HasEitherFoundGoal-cycle : (low high from count : ℕ)
+      → HasEitherFoundGoal edit held (low ∷ []) (high ∷ []) low high from count
+      → IsBelow Would high low
+  HasEitherFoundGoal-cycle low high from count (met, paid) =
       elim met [ inl u ↦ found_up low high u | inr d ↦ found_down low high d ]
 
-  -- What the second search finds, once the search up is done.
+  -- Assumes that the search up is done, and the search down is finished.
   module _ (low high : ℕ) (up down : SideSearch) (a : ℕ) (done : length up.nodes ≤ up.next)
       (is : IsSideSearch edit held Broader (low ∷ []) high up a) where
-    off_up : IsAbove Would high low → ⊥
+    off_up : IsBelow Would high low → ⊥
     off_up above = IsSideSearch-no_goal edit held Broader (low ∷ []) high up a done is (
       low,
       Contains-head low [],
@@ -139,10 +141,10 @@ module _ (edit : LinkEdit) (held : Links) where
     )
     broken_up (Some _) h = absurd h
 
-  -- What the second search finds, once the search down is done.
+  -- Assumes that the search down is done, and the search up is finished.
   module _ (low high : ℕ) (down : SideSearch) (b : ℕ) (done : length down.nodes ≤ down.next)
       (is : IsSideSearch edit held Narrower (high ∷ []) low down b) where
-    off_down : IsAbove Would high low → ⊥
+    off_down : IsBelow Would high low → ⊥
     off_down above = IsSideSearch-no_goal edit held Narrower (high ∷ []) low down b done is
         (high, Contains-head high [], chain_down low high above)
 
@@ -168,8 +170,7 @@ module _ (edit : LinkEdit) (held : Links) where
     )
     broken_down (Some _) h = absurd h
 
-  -- A search that is done, and a read of the related links at its nodes, take at most two visits for each link
-  -- together.
+  -- A search that is done, and reading the related links at its nodes, take together at most two visits for each link.
   pub done_cost : (relation : Relation) → IsHierarchy relation → (goals : List ℕ) (start : ℕ)
       (side_search : SideSearch) (read : ℕ) → length side_search.nodes ≤ side_search.next
       → IsSideSearch edit held relation goals start side_search read → (ns : List Link)
@@ -189,15 +190,16 @@ module _ (edit : LinkEdit) (held : Links) where
       omega (arith, paid, both, ap (λ nodes. read_cost edit (side_in relation) nodes ns) whole)
 
   -- A search that is done has read its start.
-  pub begun : (relation : Relation) (goals : List ℕ) (start : ℕ) (side_search : SideSearch) (read : ℕ)
+  pub start_was_read : (relation : Relation) (goals : List ℕ) (start : ℕ) (side_search : SideSearch) (read : ℕ)
       → length side_search.nodes ≤ side_search.next → IsSideSearch edit held relation goals start side_search read → 0
       < side_search.next
-  begun relation goals start side_search read done is = let some : is.closed.starts.0 < length side_search.nodes =
+  start_was_read relation goals start side_search read done is = let some : is.closed.starts.0 < length
+      side_search.nodes =
       is.closed.starts.1 in omega arith
 
   module _ (low high : ℕ) (lows highs : List ℕ) (up down : SideSearch) (a b from before after : ℕ)
       (paid : before ≤ from + a + b) where
-    -- The total number of visits, if the search up was done first.
+    -- Bounds the total number of visits if the search up was done first.
     pub up_cost : length up.nodes ≤ up.next → IsSideSearch edit held Broader lows high up a
         → ((ns : List Link) → ((n : ℕ) → Reaches (Steps Narrower Would) low n → CoversAt edit held n ns)
         → ((n : ℕ) → Contains up.nodes n → CoversAt edit held n ns)
@@ -211,7 +213,7 @@ module _ (edit : LinkEdit) (held : Links) where
           rest ns (covers_down low high ns covers) (λ n has. covers_up low high ns covers n (is.closed.sound n has)),
         )
 
-    -- The total number of visits, if the search down was done first.
+    -- Bounds the total number of visits if the search down was done first.
     pub down_cost : length down.nodes ≤ down.next → IsSideSearch edit held Narrower highs low down b
         → ((ns : List Link) → ((n : ℕ) → Reaches (Steps Broader Would) high n → CoversAt edit held n ns)
         → ((n : ℕ) → Contains down.nodes n → CoversAt edit held n ns)

@@ -11,28 +11,29 @@ use Rattle.thes_base.specs.declared.data.Link.{Link}
 use Rattle.thes_base.specs.Links.{Links, HasEnd}
 use Rattle.thes_graph.specs.declared.relation.Relation.{Relation}
 use Rattle.thes_graph.specs.declared.edit.LinkEdit.{LinkEdit}
-use Rattle.thes_graph.specs.Steps.{direction_of, Steps, IsClosedBelow, GrowsBy}
-use Rattle.thes_graph.specs.LinkEdit.{HeldAfter, touches, IsReadOf, CoversAt, row_after_edit}
+use Rattle.thes_graph.specs.Steps.{direction_of, Steps, IsSearchedUpTo, GrowsBy}
+use Rattle.thes_graph.specs.LinkEdit.{HeldAfter, ends_at_node, IsReadOf, CoversAt, row_after_edit}
 use Rattle.thes_graph.specs.Local.{IsReachableSet}
 use Rattle.thes_graph.proofs.StepLemmas.{Leads-first}
-use Rattle.thes_graph.proofs.ReachLemmas.{IsClosedBelow-start, IsClosedBelow-more, IsClosedBelow-end}
+use Rattle.thes_graph.proofs.ReachLemmas.{IsSearchedUpTo-start, IsSearchedUpTo-more, IsSearchedUpTo-end}
 use Rattle.thes_graph.proofs.EditLemmas.{row_after_edit-sound, row_after_edit-complete}
 use Rattle.thes_graph.proofs.CountLemmas.{met_twice}
 
--- The state of the collection: the first i nodes are read, by which the count has grown from `from` to `count`.
+-- The state of the collection: the first i nodes are read, and their visits have raised the count from `from` to
+-- `count`.
 pub record IsGatherState (edit : LinkEdit) (held : Links) (relation : Relation) (start : ℕ) (nodes : List ℕ)
     (links : List Link) (i from count : ℕ) : Type 0 where
-  pub closed : IsClosedBelow (Steps relation (HeldAfter edit held)) start nodes i
+  pub closed : IsSearchedUpTo (Steps relation (HeldAfter edit held)) start nodes i
   pub sound : (l : Link) → Contains links l → HeldAfter edit held l
   pub complete : (l : Link) → HeldAfter edit held l → (k : ℕ) → k < i → HasEnd (get_or nodes k 0) l → Contains links l
   pub cost : (ns : List Link) → ((k : ℕ) → k < i → CoversAt edit held (get_or nodes k 0) ns) → count ≤ from
-      + sum_by (λ n. sum_by (touches edit n) ns) (take i nodes)
+      + sum_by (λ n. sum_by (ends_at_node edit n) ns) (take i nodes)
   pub within : i ≤ length nodes
 
 module _ (edit : LinkEdit) (held : Links) (relation : Relation) (start : ℕ) where
   pub IsGatherState-start : (from : ℕ) → IsGatherState edit held relation start (start ∷ []) [] 0 from from
   IsGatherState-start from = record {
-    closed = IsClosedBelow-start (Steps relation (HeldAfter edit held)) start;
+    closed = IsSearchedUpTo-start (Steps relation (HeldAfter edit held)) start;
     sound = λ l (k, lt, e). absurd (omega arith);
     complete = λ l w k lt. absurd (omega arith);
     cost = λ ns covers. omega arith;
@@ -44,11 +45,11 @@ module _ (edit : LinkEdit) (held : Links) (relation : Relation) (start : ℕ) wh
       < length nodes → x ≡ get_or nodes i 0
       → IsReadOf edit held x raw
       → GrowsBy nodes later (Steps relation (Contains (row_after_edit edit raw)) x)
-      → ((ns : List Link) → CoversAt edit held x ns → count ≤ before + sum_by (touches edit x) ns)
+      → ((ns : List Link) → CoversAt edit held x ns → count ≤ before + sum_by (ends_at_node edit x) ns)
       → IsGatherState edit held relation start nodes links i from before
       → IsGatherState edit held relation start later (links ++ row_after_edit edit raw) (i + 1) from count
   IsGatherState-more nodes later links raw i x from before count inside at is grows cost walked = record {
-    closed = IsClosedBelow-more (Steps relation (HeldAfter edit held)) start nodes later i x inside at
+    closed = IsSearchedUpTo-more (Steps relation (HeldAfter edit held)) start nodes later i x inside at
         (record {
           extends = grows.extends;
           has_new = λ y (l, would, leads). grows.has_new y (
@@ -78,7 +79,7 @@ module _ (edit : LinkEdit) (held : Links) (relation : Relation) (start : ℕ) wh
         (row_after_edit-complete held x raw edit is l would (let P : ℕ → Type 0 = λ n. HasEnd n l in
         subst P (same i inside ∙ sym at) ends)));
     cost = λ ns covers.
-        let weight : ℕ → ℕ = λ n. sum_by (touches edit n) ns in
+        let weight : ℕ → ℕ = λ n. sum_by (ends_at_node edit n) ns in
         let old : before ≤ from + sum_by weight (take i nodes) =
         walked.cost ns (λ k lt. let P : ℕ → Type 0 = λ n. CoversAt edit held n ns in
         subst P (same k (omega arith)) (covers k (omega arith))) in
@@ -104,7 +105,7 @@ module _ (edit : LinkEdit) (held : Links) (relation : Relation) (start : ℕ) wh
       → IsGatherState edit held relation start nodes links i from count
       → IsReachableSet (HeldAfter edit held) relation start nodes links
   IsGatherState-end nodes links i from count done walked = record {
-    reach = IsClosedBelow-end (Steps relation (HeldAfter edit held)) start nodes i done walked.closed;
+    reach = IsSearchedUpTo-end (Steps relation (HeldAfter edit held)) start nodes i done walked.closed;
     sound = walked.sound;
     complete = λ l would n (k, lt, is) ends.
         walked.complete l would k (omega arith) (let P : ℕ → Type 0 = λ m. HasEnd m l in
@@ -123,7 +124,7 @@ module _ (edit : LinkEdit) (held : Links) (relation : Relation) (start : ℕ) wh
       omega (arith, ap (sum_by weight) whole)
     where
       weight : ℕ → ℕ
-      weight n = sum_by (touches edit n) ns
+      weight n = sum_by (ends_at_node edit n) ns
 
       all : i ≡ length nodes
       all = omega (arith, walked.within)

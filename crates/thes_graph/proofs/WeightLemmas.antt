@@ -7,14 +7,14 @@ use Rattle.std.proofs.lemmas.List.Elements.{Contains-append_left, Contains-appen
 use Rattle.std.proofs.lemmas.List.Sums.{sum_by-append, sum_by-cons}
 use Rattle.thes_base.proofs.ListMemberLemmas.{Contains-none, Contains-head, Contains-later, Contains-cons_cases}
 
--- The item read at a place extends the prefix before that place.
+-- A prefix and the item after it are a prefix.
 pub take_next : {X : Type 0} (xs : List X) (i : ℕ) (x : X) → Some x ≡ slice_get xs i → take (i + 1) xs ≡ take i xs
     ++ x ∷ []
 take_next xs i x e =
     take_more xs i x (slice_get_within xs i x (sym e)) ∙ ap (λ y. take i xs ++ y ∷ [])
     (get_or_from_slice_get xs i x x (sym e))
 
--- A read that gives no item is past the end.
+-- A read that finds no item is past the end.
 pub past_of_none : {X : Type 0} (xs : List X) (i : ℕ) → slice_get xs i ≡ None → length xs ≤ i
 past_of_none xs i none = elim (slice_get_cases xs i).1 [
   | inl (x, inside, is, _) ↦ absurd (none-some x (sym none ∙ is))
@@ -22,7 +22,7 @@ past_of_none xs i none = elim (slice_get_cases xs i).1 [
 ]
 
 module _ {X : Type 0} where
-  -- An item divides the list into the items before it and after it.
+  -- A list with an item is the items before it, the item, and those after it.
   pub cut : (xs : List X) (x : X) → Contains xs x → (before : List X) × (after : List X) × (xs ≡ before ++ x ∷ after)
   cut [] x has = absurd (Contains-none x has)
   cut (y ∷ xs) x has =
@@ -42,7 +42,7 @@ module _ {X : Type 0} where
     once_from_pairs xs (λ i j d lt inside. apart (suc i) (suc j) d (omega arith) (omega arith)),
   )
 
-  -- A part of a list of distinct items has distinct items.
+  -- Distinct items stay distinct when the first ones are dropped.
   pub once_drop : (i : ℕ) (xs : List X) → IsOnce xs → IsOnce (drop i xs)
   once_drop zero xs once = once
   once_drop (suc i) [] once = once

@@ -4,30 +4,30 @@ use Rattle.std.specs.FinSet.{insert}
 use Rattle.thes_base.specs.declared.data.Link.{Link}
 use Rattle.thes_base.specs.declared.fault.Refusal.TheVariants as no
 use Rattle.thes_base.specs.RefusalRules.{RefusalRule, refused_if}
-use Rattle.thes_base.specs.Links.{Links, HeldIn, IsFirstBroken, HasEnd}
-use Rattle.thes_base.specs.Neighbourhood.{LinkEdit as EditToCheck}
+use Rattle.thes_base.specs.Links.{Links, Holds, IsFirstBroken, HasEnd}
+use Rattle.thes_base.specs.Neighbourhood.{EditToCheck}
 use Rattle.thes_base.specs.Neighbourhood as edit
 use Rattle.thes_graph.specs.declared.edit.LinkEdit.{LinkEdit}
 use Rattle.thes_graph.specs.declared.edit.LinkEdit.TheVariants.{NoEdit, WithLink, AfterMerge}
 use Rattle.thes_graph.specs.LinkEdit.{HeldAfter}
-use Rattle.thes_graph.specs.Local.{IsNear}
+use Rattle.thes_graph.specs.Local.{IsNearPivot}
 
--- The answer to a request for a new link in normal order: LinkThere if it is held, else the first rule that the links
+-- The answer to the check of a new link in normal form: LinkThere if it is held, or else the first rule that the links
 -- with it break.
 abbrev pub checks_of_add : Links → Link → RefusalRule
-checks_of_add held new = refused_if (HeldIn held new) no.LinkThere (IsFirstBroken (HeldIn (insert held new)))
+checks_of_add held new = refused_if (Holds held new) no.LinkThere (IsFirstBroken (Holds (insert held new)))
 
--- The node n is the pivot p of the check, or the source of the merge.
+-- The node n is changed by the edit: it is the pivot p of the check, or the source of the merge.
 abbrev pub IsChanged : LinkEdit → (p n : ℕ) → Type 0
 IsChanged NoEdit p n = p ≡ n
 IsChanged (WithLink new) p n = p ≡ n
 IsChanged (AfterMerge source target) p n = (source ≡ n) ⊎ (p ≡ n)
 
--- The list has each held link with an end at a node of the edit, or at one above p, below p or in its class of exact
--- matches after the edit; so has the neighbourhood of the edit.
+-- The list has each held link with an end at a changed node, or at a node that after the edit is above p, below p or in
+-- p's class of exact matches. Every neighbourhood of the edit is such a list.
 abbrev pub CoversEdit : LinkEdit → Links → (p : ℕ) → List Link → Type 0
 CoversEdit edit held p ns =
-    (l : Link) → HeldIn held l → (n : ℕ) → IsChanged edit p n ⊎ IsNear (HeldAfter edit held) p n → HasEnd n l
+    (l : Link) → Holds held l → (n : ℕ) → IsChanged edit p n ⊎ IsNearPivot (HeldAfter edit held) p n → HasEnd n l
     → Contains ns l
 
 -- The count grows by at most six visits for each link in the neighbourhood of the edit.

@@ -5,7 +5,7 @@ pub mod LinkEdit
 pub mod Local
 pub mod EditChecks
 pub mod NodeSet
-pub mod Net
+pub mod GraphView
 pub mod Index
 pub mod CycleSearch
 pub mod Neighbours
@@ -15,3 +15,4 @@ pub mod Whole
 pub mod Ends
 pub mod SideSearch
 pub mod PairedSearch
+pub mod UpperSets

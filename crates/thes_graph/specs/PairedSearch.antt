@@ -1,7 +1,7 @@
--- The state of two searches from both ends of a link, of which the second reads no more than the first.
+-- The state of two searches, one from each end of a link, of which the second reads no more links than the first.
 use Rattle.std.specs.Prelude.{◌⊎◌, ◌+◌, ◌*◌, ◌≤◌, ℕ, List, length}
 use Rattle.thes_base.specs.declared.data.Link.{Link}
-use Rattle.thes_base.specs.Links.{Links, HeldIn}
+use Rattle.thes_base.specs.Links.{Links, Holds}
 use Rattle.thes_graph.specs.declared.relation.Relation.{Relation}
 use Rattle.thes_graph.specs.declared.relation.Relation.TheVariants as along
 use Rattle.thes_graph.specs.declared.edit.LinkEdit.TheVariants.{NoEdit}
@@ -16,13 +16,14 @@ converse along.Broader = along.Narrower
 converse along.Narrower = along.Broader
 converse relation = relation
 
--- The count grows by at most two visits for each link at a node that the start reaches.
+-- The count grows by at most two visits for each link at a node that the start reaches in the relation.
 abbrev pub AreVisitsBounded : Links → Relation → (start before after : ℕ) → Type 0
 AreVisitsBounded held relation start before after =
-    (ns : List Link) → ((n : ℕ) → Reaches (Steps relation (HeldIn held)) start n → CoversAt NoEdit held n ns)
+    (ns : List Link) → ((n : ℕ) → Reaches (Steps relation (Holds held)) start n → CoversAt NoEdit held n ns)
     → after ≤ before + 2 * length ns
 
--- The state of the two searches: the first has read at least what the second has read and may yet read.
+-- The state of the two searches: the first has read at least as many links as the second has read and may still read,
+-- and the count has grown from `before` by at most the number of links that the two have read.
 abbrev pub ArePairedSearches : Links → Relation → (froms tos : List ℕ) → (from to : ℕ) → (first second : SideSearch)
     → (left before count : ℕ) → Type 0
 ArePairedSearches held relation froms tos from to first second left before count =
@@ -30,7 +31,7 @@ ArePairedSearches held relation froms tos from to first second left before count
     (converse relation) froms to second b
     × (b + left ≤ a) × (count ≤ before + a + b)
 
--- One of the two searches has found a goal, by few visits.
+-- One of the two searches has found a goal, within the bound on visits.
 abbrev pub HasFoundGoal : Links → Relation → (froms tos : List ℕ) → (from to before after : ℕ) → Type 0
 HasFoundGoal held relation froms tos from to before after =
     (LeadsTo NoEdit held relation tos from ⊎ LeadsTo NoEdit held (converse relation) froms to)

@@ -1,23 +1,23 @@
 -- Links that are read one at a time, with a count of the visits.
 use Rattle.std.specs.Prelude.{◌≢◌, ◌+◌, ◌-◌, ◌^◌, ℕ, min, List, Contains, AllPairs, Option, None, Some}
 use Rattle.thes_base.specs.declared.data.Link.{Link}
-use Rattle.thes_base.specs.Links.{Links, HeldIn, HasEnd}
+use Rattle.thes_base.specs.Links.{Links, Holds, HasEnd}
 
 -- Each of the links has two different ends.
 abbrev pub HaveTwoEnds : (Link → Type 0) → Type 0
 HaveTwoEnds Held = (l : Link) → Held l → l.a ≢ l.b
 
--- The list has exactly those links held that have an end at the node, each once.
+-- The list has exactly the held links with an end at the node, each once.
 pub record IsRow (held : Links) (node : ℕ) (row : List Link) : Type 0 where
-  pub sound : (l : Link) → Contains row l → HeldIn held l × HasEnd node l
-  pub complete : (l : Link) → HeldIn held l → HasEnd node l → Contains row l
+  pub sound : (l : Link) → Contains row l → Holds held l × HasEnd node l
+  pub complete : (l : Link) → Holds held l → HasEnd node l → Contains row l
   pub once : AllPairs (λ x y. x ≢ y) row
 
--- The count after a visit, which stays at its maximum.
+-- The count after one more visit, which saturates at 2 ^ 64 - 1.
 abbrev pub count_after_visit : ℕ → ℕ
 count_after_visit n = min (n + 1) (2 ^ 64 - 1)
 
--- The count after a read, which is a visit if there was a link.
+-- The count after a read, which is a visit only if there was a link.
 abbrev pub count_after_read : ℕ → Option Link → ℕ
 count_after_read n None = n
 count_after_read n (Some l) = count_after_visit n

@@ -14,7 +14,7 @@ use Rattle.thes_graph.specs.declared.side.Side.TheVariants.{Up, Sideways, Alike,
 use Rattle.thes_graph.specs.declared.side.SidedLink.{SidedLink}
 use Rattle.thes_graph.specs.declared.side.Part.{Part}
 
--- The rank of the side in the order of a node's links.
+-- The rank of the side in the order of a node's links, from 1 to 5.
 abbrev pub side_no : Side → ℕ
 side_no Up = 1
 side_no Sideways = 2
@@ -22,23 +22,24 @@ side_no Alike = 3
 side_no Down = 4
 side_no Apart = 5
 
--- The first of two sides for links that lead both ways, and the second for all others.
+-- The side `one` if the direction is Either, or else the side `other`.
 abbrev pub if_either : Direction → Side → Side → Side
 if_either Either one other = one
 if_either _ one other = other
 
--- The side of a link at its first end or its second, by the directions in which it leads to a broader concept, a
--- related one and an exact match.
-abbrev pub side_by : Direction → (first : Bool) → (beside alike : Direction) → Side
-side_by Forward first beside alike = if first then Up else Down
-side_by Backward first beside alike = if first then Down else Up
-side_by _ first beside alike = if_either beside Sideways (if_either alike Alike Apart)
+-- The side of an end on which a link lies, given whether that is its first end, and the directions in which the link
+-- leads to a broader concept, a related one and an exact match.
+abbrev pub side_by_directions : Direction → (first : Bool) → (related exact : Direction) → Side
+side_by_directions Forward first related exact = if first then Up else Down
+side_by_directions Backward first related exact = if first then Down else Up
+side_by_directions _ first related exact = if_either related Sideways (if_either exact Alike Apart)
 
--- The side of n on which the link lies.
+-- The side of n on which the link lies, where n is one of its ends.
 abbrev pub side_at : ℕ → Link → Side
-side_at n l = side_by (broader_direction l.kind) (l.a == n) (related_direction l.kind) (exact_direction l.kind)
+side_at n l = side_by_directions (broader_direction l.kind) (l.a == n) (related_direction l.kind)
+    (exact_direction l.kind)
 
--- The link with its side at n.
+-- The link with the side of n on which it lies.
 abbrev pub sided_link_at : ℕ → Link → SidedLink
 sided_link_at n l = record { side = side_at n l; link = l }
 
@@ -46,18 +47,18 @@ sided_link_at n l = record { side = side_at n l; link = l }
 abbrev pub sided_link_cmp : SidedLink → SidedLink → Ordering
 sided_link_cmp x y = ordering_then (nat_cmp (side_no x.side) (side_no y.side)) (link_cmp x.link y.link)
 
--- The range of the row has exactly those links that lie on this side of n.
+-- The range of the row has exactly the links on this side of n.
 pub record IsPart (row : List Link) (n : ℕ) (side : Side) (part : Part) : Type 0 where
   pub in_range : part.to ≤ length row
   pub on_side : (k : ℕ) (l : Link) → slice_get row k ≡ Some l → part.from ≤ k → k < part.to → side_at n l ≡ side
   pub has : (k : ℕ) (l : Link) → slice_get row k ≡ Some l → side_at n l ≡ side → (part.from ≤ k) × (k < part.to)
 
--- All links of the relation lie on one side of a node.
+-- The links of the relation lie on one side of each node; those of `Apart` don't.
 abbrev pub IsOneSided : Relation → Type 0
 IsOneSided relation.Apart = ⊥
 IsOneSided _ = Unit {0}
 
--- The side on which the links of the relation lie.
+-- The side of a node on which the links of the relation lie; arbitrary for `Apart`, whose links lie on several sides.
 abbrev pub side_in : Relation → Side
 side_in relation.Broader = Up
 side_in relation.Narrower = Down
@@ -65,6 +66,6 @@ side_in relation.Related = Sideways
 side_in relation.Exact = Alike
 side_in relation.Apart = Apart
 
--- If the row has the links that pass the test before all others, n is their number.
-abbrev pub IsPlaceOf : (SidedLink → Bool) → List SidedLink → ℕ → Type 0
-IsPlaceOf p row n = IsPartitionedBy p row → IsPartitionPoint (λ s. p s ≡ true) (λ s. p s ≡ false) row n
+-- If the links of the row that pass the test come before all others, n is their number.
+abbrev pub IsPartitionIndex : (SidedLink → Bool) → List SidedLink → ℕ → Type 0
+IsPartitionIndex p row n = IsPartitionedBy p row → IsPartitionPoint (λ s. p s ≡ true) (λ s. p s ≡ false) row n

@@ -1,13 +1,14 @@
-//! Checks a new link against the rules. Each rule is checked for those kinds of link that can break it.
+//! Checks a new link against the rules Cycle, S27 and S46. Each rule is checked only for the kinds
+//! of link that can break it.
 ghost use Rattle.std.specs.Prelude.{◌≡◌, ◌≢◌, ◌+◌, ◌*◌, ◌≤◌, false, List, OnOk, IfOk, MatchBool, length};
 ghost use Rattle.thes_base.specs.declared.data.Link.{Link};
 ghost use Rattle.thes_base.specs.declared.data.Direction.TheVariants.{Either, Never};
-ghost use Rattle.thes_base.specs.Links.{HeldIn, S46, broader_direction, related_direction, exact_direction, disjoint_direction, IsFirstBroken};
+ghost use Rattle.thes_base.specs.Links.{Holds, S46, broader_direction, related_direction, exact_direction, disjoint_direction, IsFirstBroken};
 ghost use Rattle.thes_graph.specs.declared.edit.LinkEdit.TheVariants.{WithLink};
 ghost use Rattle.thes_graph.specs.Reading.{HaveTwoEnds};
 ghost use Rattle.thes_graph.specs.LinkEdit.{HeldAfter};
-ghost use Rattle.thes_graph.specs.Local.{BreakNone, IsFirstOfTwo, CoversNear};
-ghost use Rattle.thes_graph.specs.Whole.{IsSomeS46};
+ghost use Rattle.thes_graph.specs.Local.{BreakNone, IsFirstOfCycleAndS27, CoversNear};
+ghost use Rattle.thes_graph.specs.Whole.{BreaksS46};
 
 use crate::class::breaks_class;
 use crate::edit::LinkEdit;
@@ -19,14 +20,15 @@ use std::alloc::{AllocError, Global};
 use thes_base::data::{Direction, Link, LinkKind};
 use thes_base::fault::Refusal;
 
-// Checks whether links of this kind relate their ends.
+// Checks whether links of this kind state that their ends are related (SKOS S23, S41).
 fn relates(kind: LinkKind) -> bool
     ensures { MatchBool result (related_direction kind ≡ Either) (related_direction kind ≡ Never) }
 {
     matches!(kind, LinkKind::Related | LinkKind::RelMatch)
 }
 
-// Checks whether S46 concerns links of this kind.
+// Checks whether links of this kind are exact, broader, narrower or related matches, which rule S46
+// concerns.
 fn matches_exactly_or_apart(kind: LinkKind) -> bool
     ensures { result ≡ false → (exact_direction kind ≡ Never) × (disjoint_direction kind ≡ Never) }
 {
@@ -36,21 +38,21 @@ fn matches_exactly_or_apart(kind: LinkKind) -> bool
     )
 }
 
-// Checks a link that leads neither up nor down for Cycle and S27.
+// Returns S27 if the new link, which is neither broader nor narrower, would break it, or else None; such a link can't
+// break Cycle.
 fn check_level_link<L: Links>(
     alloc: Global,
     links: &mut L,
     new: &Link,
 ) -> Result<Option<Refusal>, AllocError>
     requires ends { new.now.a ≢ new.now.b }
-    requires unbroken { BreakNone (HeldIn (L.held links.old)) }
+    requires unbroken { BreakNone (Holds (L.net links.old).links) }
     requires level { broader_direction new.now.kind ≡ Never }
-    ensures held { L.held links.new ≡ L.held links.old }
-    ensures outside { L.outside links.new ≡ L.outside links.old }
-    ensures rows { L.links_of links.new ≡ L.links_of links.old }
-    ensures first { IfOk result (IsFirstOfTwo (HeldAfter (WithLink new.now) (L.held links.old))) }
+    ensures net { L.net links.new ≡ L.net links.old }
+    ensures first { IfOk result
+        (IsFirstOfCycleAndS27 (HeldAfter (WithLink new.now) (L.net links.old).links)) }
     ensures count { OnOk result
-        ((ns : List Link) → CoversNear (WithLink new.now) (L.held links.old) new.now.a ns
+        ((ns : List Link) → CoversNear (WithLink new.now) (L.net links.old).links new.now.a ns
         → L.count links.new ≤ L.count links.old + 4 * length ns) }
 {
     if !relates(new.kind) {
@@ -62,20 +64,19 @@ fn check_level_link<L: Links>(
     Ok(None)
 }
 
-// Checks the link for Cycle and S27.
+// Returns the first of Cycle and S27 that the links held and the new one would break together.
 fn check_cycle_and_s27<L: Links>(
     alloc: Global,
     links: &mut L,
     new: &Link,
 ) -> Result<Option<Refusal>, AllocError>
     requires ends { new.now.a ≢ new.now.b }
-    requires unbroken { BreakNone (HeldIn (L.held links.old)) }
-    ensures held { L.held links.new ≡ L.held links.old }
-    ensures outside { L.outside links.new ≡ L.outside links.old }
-    ensures rows { L.links_of links.new ≡ L.links_of links.old }
-    ensures first { IfOk result (IsFirstOfTwo (HeldAfter (WithLink new.now) (L.held links.old))) }
+    requires unbroken { BreakNone (Holds (L.net links.old).links) }
+    ensures net { L.net links.new ≡ L.net links.old }
+    ensures first { IfOk result
+        (IsFirstOfCycleAndS27 (HeldAfter (WithLink new.now) (L.net links.old).links)) }
     ensures count { OnOk result
-        ((ns : List Link) → CoversNear (WithLink new.now) (L.held links.old) new.now.a ns
+        ((ns : List Link) → CoversNear (WithLink new.now) (L.net links.old).links new.now.a ns
         → L.count links.new ≤ L.count links.old + 4 * length ns) }
 {
     let edit = LinkEdit::NoEdit;
@@ -95,19 +96,18 @@ fn check_cycle_and_s27<L: Links>(
     }
 }
 
-// Checks whether two exact matches would also be broader or related matches (SKOS S46).
+// Checks whether two exact matches would also be broader or related matches after the new link
+// (SKOS S46).
 fn breaks_s46<L: Links>(alloc: Global, links: &mut L, new: &Link) -> Result<bool, AllocError>
     requires ends { new.now.a ≢ new.now.b }
-    requires two_ends { HaveTwoEnds (HeldIn (L.held links.old)) }
-    requires unbroken { BreakNone (HeldIn (L.held links.old)) }
-    ensures held { L.held links.new ≡ L.held links.old }
-    ensures outside { L.outside links.new ≡ L.outside links.old }
-    ensures rows { L.links_of links.new ≡ L.links_of links.old }
+    requires two_ends { HaveTwoEnds (Holds (L.net links.old).links) }
+    requires unbroken { BreakNone (Holds (L.net links.old).links) }
+    ensures net { L.net links.new ≡ L.net links.old }
     ensures s46 { IfOk result
-        (λ found. MatchBool found (IsSomeS46 (HeldAfter (WithLink new.now) (L.held links.old)))
-        (S46 (HeldAfter (WithLink new.now) (L.held links.old)))) }
+        (λ found. MatchBool found (BreaksS46 (HeldAfter (WithLink new.now) (L.net links.old).links))
+        (S46 (HeldAfter (WithLink new.now) (L.net links.old).links))) }
     ensures count { OnOk result
-        ((ns : List Link) → CoversNear (WithLink new.now) (L.held links.old) new.now.a ns
+        ((ns : List Link) → CoversNear (WithLink new.now) (L.net links.old).links new.now.a ns
         → L.count links.new ≤ L.count links.old + 2 * length ns) }
 {
     if !matches_exactly_or_apart(new.kind) {
@@ -117,21 +117,21 @@ fn breaks_s46<L: Links>(alloc: Global, links: &mut L, new: &Link) -> Result<bool
     Ok(found)
 }
 
-/// Returns the first rule that the links with the new one would break.
+/// Returns the first of Cycle, S27 and S46 that the links held and the new one would break
+/// together.
 pub fn check_added_link<L: Links>(
     alloc: Global,
     links: &mut L,
     new: &Link,
 ) -> Result<Option<Refusal>, AllocError>
     requires ends { new.now.a ≢ new.now.b }
-    requires two_ends { HaveTwoEnds (HeldIn (L.held links.old)) }
-    requires unbroken { BreakNone (HeldIn (L.held links.old)) }
-    ensures held { L.held links.new ≡ L.held links.old }
-    ensures outside { L.outside links.new ≡ L.outside links.old }
-    ensures rows { L.links_of links.new ≡ L.links_of links.old }
-    ensures first { IfOk result (IsFirstBroken (HeldAfter (WithLink new.now) (L.held links.old))) }
+    requires two_ends { HaveTwoEnds (Holds (L.net links.old).links) }
+    requires unbroken { BreakNone (Holds (L.net links.old).links) }
+    ensures net { L.net links.new ≡ L.net links.old }
+    ensures first { IfOk result
+        (IsFirstBroken (HeldAfter (WithLink new.now) (L.net links.old).links)) }
     ensures count { OnOk result
-        ((ns : List Link) → CoversNear (WithLink new.now) (L.held links.old) new.now.a ns
+        ((ns : List Link) → CoversNear (WithLink new.now) (L.net links.old).links new.now.a ns
         → L.count links.new ≤ L.count links.old + 6 * length ns) }
 {
     match check_cycle_and_s27(alloc, links, new)? {

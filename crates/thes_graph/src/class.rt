@@ -1,16 +1,16 @@
-//! The check of S46 in one class of exact matches.
+//! The check of S46 in one class of exact matches, which is a set of concepts that chains of exact matches join.
 ghost use Rattle.std.specs.Prelude.{◌≡◌, ◌+◌, ◌*◌, ◌≤◌, List, OnOk, IfOk, MatchBool, length};
 ghost use Rattle.thes_base.specs.declared.data.Link.{Link};
-ghost use Rattle.thes_base.specs.Links.{HeldIn};
+ghost use Rattle.thes_base.specs.Links.{Holds};
 ghost use Rattle.thes_graph.specs.Reading.{HaveTwoEnds};
 ghost use Rattle.thes_graph.specs.LinkEdit.{HeldAfter, IsValidEdit, IsNoEdit};
-ghost use Rattle.thes_graph.specs.Local.{IsS46At, NoS46At, CoversNear};
+ghost use Rattle.thes_graph.specs.Local.{BreaksS46At, KeepsS46At, CoversNear};
 
 use crate::edit::LinkEdit;
 use crate::ends::is_end_after;
 use crate::links::Links;
 use crate::relation::Relation;
-use crate::walk::{gather, some_ties};
+use crate::walk::{gather, has_link_between};
 use std::alloc::{AllocError, Global};
 use thes_base::number::ResNo;
 
@@ -23,19 +23,18 @@ pub fn breaks_class<L: Links>(
     pivot: ResNo,
 ) -> Result<bool, AllocError>
     requires { IsValidEdit edit.now }
-    ensures held { L.held links.new ≡ L.held links.old }
-    ensures outside { L.outside links.new ≡ L.outside links.old }
-    ensures rows { L.links_of links.new ≡ L.links_of links.old }
+    ensures net { L.net links.new ≡ L.net links.old }
     ensures found { IfOk result
-        (λ found. MatchBool found (IsS46At (HeldAfter edit.now (L.held links.old)) pivot)
-        (NoS46At (HeldAfter edit.now (L.held links.old)) pivot)) }
-    ensures count { OnOk result ((ns : List Link) → CoversNear edit.now (L.held links.old) pivot ns
+        (λ found. MatchBool found (BreaksS46At (HeldAfter edit.now (L.net links.old).links) pivot)
+        (KeepsS46At (HeldAfter edit.now (L.net links.old).links) pivot)) }
+    ensures count { OnOk result ((ns : List Link)
+        → CoversNear edit.now (L.net links.old).links pivot ns
         → L.count links.new ≤ L.count links.old + 2 * length ns) }
 {
     if is_end_after(links, edit, pivot, Relation::Exact) {
         return Ok(false);
     }
     let same = gather(alloc, links, edit, pivot, Relation::Exact)?;
-    let found = some_ties(Relation::Apart, &same.links, &same.nodes, &same.nodes);
+    let found = has_link_between(Relation::Apart, &same.links, &same.nodes, &same.nodes);
     Ok(found)
 }

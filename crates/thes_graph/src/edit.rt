@@ -1,4 +1,4 @@
-//! Edits of the links held, whose result is checked before they are made.
+//! Edits of the links held, which are checked before they are made.
 ghost use Rattle.std.specs.Prelude.{◌≡◌, IfOk};
 ghost use Rattle.std.specs.List.{filter_map};
 ghost use Rattle.thes_graph.specs.LinkEdit.{link_after_merge, row_after_edit};
@@ -7,15 +7,20 @@ use std::alloc::{AllocError, Global};
 use thes_base::data::Link;
 use thes_base::number::ResNo;
 
-/// An edit of the links held: none, one new link, or a merge of the first node into the second.
+/// An edit of the links held: no change, one new link, or a merge of the first node into the
+/// second.
 #[derive(Clone, Copy)]
 pub enum LinkEdit {
+    /// No edit: the links held are to be checked.
     NoEdit,
+    /// The link is added.
     WithLink(Link),
+    /// The first node is merged into the second.
     AfterMerge(ResNo, ResNo),
 }
 
-/// Returns the link after the merge, or None if the merge makes its two ends one node.
+/// Returns the link with the target in place of the source, or None if both its ends are then the
+/// target.
 pub fn merge(link: &Link, source: ResNo, target: ResNo) -> Option<Link>
     ensures { result ≡ link_after_merge source target link.now }
 {
@@ -29,7 +34,8 @@ pub fn merge(link: &Link, source: ResNo, target: ResNo) -> Option<Link>
     }
 }
 
-// Returns the links after the merge, without those whose two ends are one node then.
+// Returns the links with the target in place of the source, without those whose two ends are then
+// the target.
 fn merge_all(
     alloc: Global,
     row: &[Link],
@@ -49,7 +55,7 @@ fn merge_all(
     Ok(merged)
 }
 
-/// Maps held links to the links after the edit.
+/// Returns the links of the list as they are after the edit, with the new link appended if the edit has one.
 pub fn links_after_edit(
     alloc: Global,
     edit: &LinkEdit,

@@ -1,7 +1,8 @@
-//! Links that break no rule because nothing held is below, above or related to one of their ends: most links that
-//! build a hierarchy from its top or its bottom. Reads no link.
+//! Finds links that break no rule because their narrower end has neither narrower nor related concepts, or their
+//! broader end neither broader nor related ones: most links of a hierarchy that is built from its top or its bottom. No
+//! function here makes a visit.
 ghost use Rattle.std.specs.Prelude.{◌≡◌, ◌≢◌, ℕ, true, MatchBool};
-ghost use Rattle.thes_base.specs.Links.{HeldIn};
+ghost use Rattle.thes_base.specs.Links.{Holds};
 ghost use Rattle.thes_graph.specs.declared.relation.Relation.TheVariants as relation;
 ghost use Rattle.thes_graph.specs.declared.edit.LinkEdit.TheVariants.{WithLink};
 ghost use Rattle.thes_graph.specs.Reading.{HaveTwoEnds};
@@ -18,22 +19,22 @@ use crate::side::side_for;
 use thes_base::data::{Link, LinkKind};
 use thes_base::number::ResNo;
 
-// Returns true if no link leads from the node in the relation. Reads no link.
+// Returns true if no held link leads from the node in the relation.
 fn is_end<L: Links>(links: &L, n: ResNo, relation: Relation) -> bool
     requires { IsOneSided relation }
-    ensures two_ends { HaveTwoEnds (HeldIn (L.held links.now)) }
-    ensures end { result ≡ true → (y : ℕ) → Steps relation (HeldIn (L.held links.now)) n y → ⊥ }
+    ensures two_ends { HaveTwoEnds (Holds (L.net links.now).links) }
+    ensures end { result ≡ true → (y : ℕ) → Steps relation (Holds (L.net links.now).links) n y → ⊥ }
 {
     let part = links.part(n, side_for(relation));
     part.to <= part.from
 }
 
-/// Returns true if certainly no link leads from the node in the relation after the edit. Reads no link.
+/// Returns true if certainly no link leads from the node in the relation after the edit; false decides nothing.
 pub fn is_end_after<L: Links>(links: &L, edit: &LinkEdit, x: ResNo, relation: Relation) -> bool
     requires { IsOneSided relation }
-    ensures two_ends { HaveTwoEnds (HeldIn (L.held links.now)) }
+    ensures two_ends { HaveTwoEnds (Holds (L.net links.now).links) }
     ensures end { result ≡ true → (y : ℕ)
-        → Steps relation (HeldAfter edit.now (L.held links.now)) x y → ⊥ }
+        → Steps relation (HeldAfter edit.now (L.net links.now).links) x y → ⊥ }
 {
     match edit {
         LinkEdit::NoEdit => is_end(links, x, relation),
@@ -53,27 +54,28 @@ pub fn is_end_after<L: Links>(links: &L, edit: &LinkEdit, x: ResNo, relation: Re
     }
 }
 
-// Returns true if nothing is narrower than the node or related to it.
+// Returns true if no held link makes a concept narrower than the node or related to it.
 fn is_lowest<L: Links>(links: &L, n: ResNo) -> bool
     ensures narrower { result ≡ true → (y : ℕ)
-        → Steps relation.Narrower (HeldIn (L.held links.now)) n y → ⊥ }
+        → Steps relation.Narrower (Holds (L.net links.now).links) n y → ⊥ }
     ensures related { result ≡ true → (y : ℕ)
-        → Steps relation.Related (HeldIn (L.held links.now)) n y → ⊥ }
+        → Steps relation.Related (Holds (L.net links.now).links) n y → ⊥ }
 {
     is_end(links, n, Relation::Narrower) && is_end(links, n, Relation::Related)
 }
 
-// Returns true if nothing is broader than the node or related to it.
+// Returns true if no held link makes a concept broader than the node or related to it.
 fn is_highest<L: Links>(links: &L, n: ResNo) -> bool
     ensures broader { result ≡ true → (y : ℕ)
-        → Steps relation.Broader (HeldIn (L.held links.now)) n y → ⊥ }
+        → Steps relation.Broader (Holds (L.net links.now).links) n y → ⊥ }
     ensures related { result ≡ true → (y : ℕ)
-        → Steps relation.Related (HeldIn (L.held links.now)) n y → ⊥ }
+        → Steps relation.Related (Holds (L.net links.now).links) n y → ⊥ }
 {
     is_end(links, n, Relation::Broader) && is_end(links, n, Relation::Related)
 }
 
-/// Checks whether links of this kind lead up from their first end and concern no other rule.
+/// Checks whether links of this kind lead from their first end to a broader concept, and only Cycle and S27 concern
+/// them.
 pub fn leads_up(kind: LinkKind) -> bool
     ensures { MatchBool result (LeadsUp kind) (Unit {0}) }
 {
@@ -86,7 +88,7 @@ pub fn leads_up(kind: LinkKind) -> bool
     }
 }
 
-// Checks whether no rule concerns links of this kind.
+// Checks whether none of Cycle, S27 and S46 concerns links of this kind, as of close matches and memberships.
 fn is_loose(kind: LinkKind) -> bool
     ensures { MatchBool result (IsLoose kind) (Unit {0}) }
 {
@@ -97,12 +99,13 @@ fn is_loose(kind: LinkKind) -> bool
     }
 }
 
-// Returns true if a link up breaks no rule because its low end is a lowest node or its high end a highest one.
+// Returns true if a link to a broader concept breaks no rule because its narrower end is a lowest node, or its broader
+// end a highest one.
 fn is_outermost<L: Links>(links: &L, new: &Link) -> bool
     requires ends { new.now.a ≢ new.now.b }
-    requires unbroken { BreakNone (HeldIn (L.held links.now)) }
+    requires unbroken { BreakNone (Holds (L.net links.now).links) }
     requires up { LeadsUp new.now.kind }
-    ensures { result ≡ true → BreakNone (HeldAfter (WithLink new.now) (L.held links.now)) }
+    ensures { result ≡ true → BreakNone (HeldAfter (WithLink new.now) (L.net links.now).links) }
 {
     if is_lowest(links, new.a) {
         return true;
@@ -110,11 +113,12 @@ fn is_outermost<L: Links>(links: &L, new: &Link) -> bool
     is_highest(links, new.b)
 }
 
-/// Returns true if the link breaks no rule by its kind, or because one of its ends is lowest or highest.
+/// Returns true if the link breaks no rule because of its kind, or because one of its ends is a lowest or highest node;
+/// false decides nothing.
 pub fn is_harmless<L: Links>(links: &L, new: &Link) -> bool
     requires ends { new.now.a ≢ new.now.b }
-    requires unbroken { BreakNone (HeldIn (L.held links.now)) }
-    ensures { result ≡ true → BreakNone (HeldAfter (WithLink new.now) (L.held links.now)) }
+    requires unbroken { BreakNone (Holds (L.net links.now).links) }
+    ensures { result ≡ true → BreakNone (HeldAfter (WithLink new.now) (L.net links.now).links) }
 {
     if is_loose(new.kind) {
         return true;

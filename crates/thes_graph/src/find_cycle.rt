@@ -1,58 +1,42 @@
-//! The depth-first search for a cycle of broader links. A node is done once all nodes above it are, as no cycle runs
-//! through it then; so each node is searched from once.
+//! The depth-first search for a cycle of broader links. A node is done once all nodes above it are; no cycle runs
+//! through it then, so that each node is searched from once.
 ghost use Rattle.std.specs.Prelude.{◌≡◌, ◌<◌, ◌↔◌, ◌++◌, ◌∷◌, [], ℕ, false, Contains, IfOk, OnOk, MatchBool};
-ghost use Rattle.std.specs.List.{filter_map};
-ghost use Rattle.thes_base.specs.Links.{HeldIn, IsBroader};
-ghost use Rattle.thes_graph.specs.declared.relation.Relation.TheVariants.{Broader};
-ghost use Rattle.thes_graph.specs.Steps.{step_along};
-ghost use Rattle.thes_graph.specs.Local.{NoCycleAt};
-ghost use Rattle.thes_graph.specs.Whole.{IsSomeCycle};
-ghost use Rattle.thes_graph.specs.CycleSearch.{IsCycleSearch, search_measure};
+ghost use Rattle.thes_base.specs.Links.{Holds, IsNarrower};
+ghost use Rattle.thes_graph.specs.Whole.{HasCycle};
+ghost use Rattle.thes_graph.specs.CycleSearch.{IsUpwardOrder, IsCycleSearch, search_measure};
 
 use crate::links::Links;
 use crate::nodes::Nodes;
-use crate::relation::{Relation, step};
-use crate::walk::fetch;
+use crate::relation::Relation;
+use crate::walk::next_nodes;
 use std::alloc::{AllocError, Global};
-use thes_base::data::Link;
 use thes_base::number::ResNo;
 
-/// A node on the stack of the search, and those of its broader nodes that may not be done yet.
+/// A node on the stack of the search, with those of its broader nodes that are still to be searched from.
 #[derive(Drop)]
 pub struct PathNode {
     pub node: ResNo,
     pub above: Vec<ResNo>,
 }
 
-// Returns the nodes that these links make broader than `n`.
-fn broader_nodes(alloc: Global, links: &[Link], n: ResNo) -> Result<Vec<ResNo>, AllocError>
-    ensures { IfOk result
-        (λ above. above.items ≡ filter_map (λ l. step_along Broader l n) links.now) }
-{
-    let mut above = Vec::new(alloc);
-    for link in links {
-        match step(Relation::Broader, link, n) {
-            Some(high) => above.push(high)?,
-            None => {}
-        }
-    }
-    Ok(above)
-}
-
-// Returns the node with all its broader nodes.
-fn path_node_at<L: Links>(alloc: Global, links: &mut L, n: ResNo) -> Result<PathNode, AllocError>
-    ensures held { L.held links.new ≡ L.held links.old }
+/// Returns the node with all its broader nodes, as the search pushes it.
+pub fn path_node_at<L: Links>(
+    alloc: Global,
+    links: &mut L,
+    n: ResNo,
+) -> Result<PathNode, AllocError>
+    ensures net { L.net links.new ≡ L.net links.old }
     ensures node { IfOk result (λ stop. stop.node ≡ n) }
     ensures above { IfOk result (λ stop. (h : ℕ)
-        → Contains stop.above.items h ↔ IsBroader (HeldIn (L.held links.old)) n h) }
+        → Contains stop.above.items h ↔ IsNarrower (Holds (L.net links.old).links) n h) }
 {
-    let row = fetch(alloc, links, n)?;
-    let above = broader_nodes(alloc, &row, n)?;
+    let above = next_nodes(alloc, links, Relation::Broader, n)?;
     Ok(PathNode { node: n, above })
 }
 
-// Advances the search from the top of the stack: pushes a node above it, or pops it if all of these are done. Returns
-// whether this closes a cycle.
+// Advances the search from `last`, the node popped from the top of the stack: pushes it and one of its broader nodes,
+// or pushes it without a broader node that is done, or appends it to `done` if it has no more broader nodes. Returns
+// whether this finds a cycle.
 fn advance_path<L: Links>(
     alloc: Global,
     links: &mut L,
@@ -61,13 +45,13 @@ fn advance_path<L: Links>(
     stack: &mut Vec<PathNode>,
     mut last: PathNode,
 ) -> Result<bool, AllocError>
-    requires { IsCycleSearch (HeldIn (L.held links.old)) met.old done.old
+    requires { IsCycleSearch (Holds (L.net links.old).links) met.old done.old
         (stack.old.items ++ last ∷ []) }
-    ensures held { L.held links.new ≡ L.held links.old }
+    ensures net { L.net links.new ≡ L.net links.old }
     ensures met { OnOk result ((n : ℕ) → Contains met.old n → Contains met.new n) }
     ensures done { OnOk result ((n : ℕ) → Contains done.old n → Contains done.new n) }
-    ensures found { IfOk result (λ found. MatchBool found (IsSomeCycle (HeldIn (L.held links.old)))
-        (IsCycleSearch (HeldIn (L.held links.old)) met.new done.new stack.new.items)) }
+    ensures found { IfOk result (λ found. MatchBool found (HasCycle (Holds (L.net links.old).links))
+        (IsCycleSearch (Holds (L.net links.old).links) met.new done.new stack.new.items)) }
     ensures less { IfOk result (λ found. found ≡ false
         → search_measure met.new stack.new.items
         < search_measure met.old (stack.old.items ++ last ∷ [])) }
@@ -91,22 +75,25 @@ fn advance_path<L: Links>(
     Ok(false)
 }
 
-/// Searches for a cycle above the node, and returns whether there is one. If there is none, the node is done, and no
-/// cycle runs through a node that is done.
+/// Searches for a cycle through the node or above it, unless the node is done, and returns whether there is one. If
+/// there is none, the node is appended to those that are done, after all nodes broader than it.
 pub fn find_cycle<L: Links>(
     alloc: Global,
     links: &mut L,
     start: ResNo,
     done: &mut Nodes,
 ) -> Result<bool, AllocError>
-    requires { (n : ℕ) → Contains done.old n → NoCycleAt (HeldIn (L.held links.old)) n }
-    ensures held { L.held links.new ≡ L.held links.old }
-    ensures found { IfOk result (λ found. MatchBool found (IsSomeCycle (HeldIn (L.held links.old)))
+    requires { IsUpwardOrder (Holds (L.net links.old).links) done.old }
+    ensures net { L.net links.new ≡ L.net links.old }
+    ensures found { IfOk result (λ found. MatchBool found (HasCycle (Holds (L.net links.old).links))
         (Contains done.new start)) }
     ensures extends { OnOk result ((n : ℕ) → Contains done.old n → Contains done.new n) }
-    ensures done { IfOk result (λ found. found ≡ false → (n : ℕ) → Contains done.new n
-        → NoCycleAt (HeldIn (L.held links.old)) n) }
+    ensures order { IfOk result
+        (λ found. found ≡ false → IsUpwardOrder (Holds (L.net links.old).links) done.new) }
 {
+    if done.has(start) {
+        return Ok(false);
+    }
     let mut met = Nodes::singleton(alloc, start)?;
     let first = path_node_at(alloc, links, start)?;
     let mut stack = vec![in alloc; first]?;

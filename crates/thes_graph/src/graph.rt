@@ -1,26 +1,26 @@
-//! A set of links, indexed by their ends.
+//! A set of links, indexed by their ends, with its edits and its look-ups.
 ghost use Rattle.std.specs.Prelude.{◌≡◌, ◌≢◌, ◌↔◌, ◌⊎◌, ℕ, Contains, IfOk, OnOk, OnErr, MatchOption, slice_get};
 ghost use Rattle.std.specs.Ordering.{nat_cmp};
 ghost use Rattle.std.specs.FinSet.{empty, contains, insert, remove, len, items};
 ghost use Rattle.thes_base.specs.declared.data.Link.{Link};
 ghost use Rattle.thes_base.specs.declared.data.LinkKind.TheVariants as kinds;
-ghost use Rattle.thes_base.specs.Links.{HeldIn, normal_form, links_after_merge, links_after_deprecation, IsFirstBroken, HasEnd};
+ghost use Rattle.thes_base.specs.Links.{Holds, normal_form, links_after_merge, links_after_deprecation, IsFirstBroken, HasEnd};
 ghost use Rattle.thes_base.specs.Listing.{IsListing};
 ghost use Rattle.thes_graph.specs.Reading.{HaveTwoEnds};
 ghost use Rattle.thes_graph.specs.Side.{IsPart};
-ghost use Rattle.thes_graph.specs.Net.{is_marked, sided_links_at, links_at};
+ghost use Rattle.thes_graph.specs.GraphView.{is_marked, sided_links_at, links_at};
 ghost use Rattle.thes_base.specs.Views.{HasLink, HasBroader, IsMapping, mapping_cmp, IsTypedLink, typed_cmp};
 ghost use Rattle.thes_graph.specs.Neighbours.{IsNeighbour};
-ghost use Rattle.thes_graph.specs.MergeAdditions.{AreNormal, AreMergeAdditions, AreNew, added_link, with_all, without_all};
+ghost use Rattle.thes_graph.specs.MergeAdditions.{AreNormal, AreMergeAdditions, AreNew, added_link, with_all, without_links};
 
 use crate::edit::merge;
 use crate::judge::normalize_ends;
 use crate::links::Links;
 use crate::mappings::{list_mapping, mapping_from, typed_link_from};
-use crate::neighbours::{Neighbours, direction_to, list_in};
+use crate::neighbours::{NeighbourKind, direction_to, list_in};
 use crate::relation::lead;
 use crate::side::{Part, Side, SidedLink, count_before, count_until, sided_link_of};
-use crate::whole::check_all;
+use crate::whole::check_listed_links;
 use std::alloc::{AllocError, Global};
 use std::collections::BTreeSet;
 use std::marker::Model;
@@ -30,7 +30,7 @@ use thes_base::number::ResNo;
 use thes_lists::Lists;
 
 /// A set of links, indexed by their ends, and the resources marked as outside concepts. Each link has two different
-/// ends, and is kept in normal order whatever order it is passed in.
+/// ends, and is held in normal form, whichever end it was stated from.
 #[derive(Drop)]
 pub struct Graph {
     alloc: Global,
@@ -43,10 +43,10 @@ impl Model for Graph {
     ghost use Rattle.std.specs.Coded.{codes};
     ghost use Rattle.std.specs.FinSet as set;
     ghost use Rattle.std.specs.FinSet.{from_list};
-    ghost use Rattle.thes_graph.specs.Net.{Net};
+    ghost use Rattle.thes_graph.specs.GraphView.{GraphView};
     ghost use Rattle.thes_graph.specs.Index.{IsIndexed};
 
-    ghost Value = { Net };
+    ghost Value = { GraphView };
 
     ghost coded = { Prim.hlevel (codes, set.code) };
 
@@ -57,7 +57,7 @@ impl Model for Graph {
 }
 
 impl Graph {
-    /// Creates a graph without links and without outside concepts.
+    /// Creates a graph without links and without outside concepts, without allocating.
     pub fn new(alloc: Global) -> Graph
         ensures { result ≡ record { links = empty; outside = empty } }
     {
@@ -69,34 +69,34 @@ impl Graph {
         }
     }
 
-    // Returns the link in the order in which it is kept.
+    // Returns the normal form of the link, in which it is held.
     fn normal(&self, link: &Link) -> Link
         ensures { result ≡ normal_form (is_marked self.now) link.now }
     {
         normalize_ends(link, self.is_outside(link.a) || self.is_outside(link.b))
     }
 
-    // Returns the links with an end at the node, sorted by their side there.
+    // Returns the links with an end at the node, sorted by the side of the node on which they lie.
     fn row_of_node(&self, n: ResNo) -> &[SidedLink]
         ensures row { result.now ≡ sided_links_at self.now.links n }
-        ensures two_ends { HaveTwoEnds (HeldIn self.now.links) }
+        ensures two_ends { HaveTwoEnds (Holds self.now.links) }
         ensures normal { AreNormal self.now }
     {
         self.rows.at(n)
     }
 
-    // Returns the i-th of the node's links, with its side.
+    // Returns the i-th of the node's links, with the side on which it lies.
     fn sided_link(&self, n: ResNo, i: usize) -> Option<SidedLink>
         ensures place { result ≡ slice_get (sided_links_at self.now.links n) i }
-        ensures two_ends { HaveTwoEnds (HeldIn self.now.links) }
+        ensures two_ends { HaveTwoEnds (Holds self.now.links) }
     {
         self.row_of_node(n).get(i).copied()
     }
 
-    // Returns the i-th of the node's links.
+    // Returns the i-th of the node's links, in the order of sides.
     fn nth_at(&self, n: ResNo, i: usize) -> Option<Link>
         ensures link { result ≡ slice_get (links_at self.now.links n) i }
-        ensures two_ends { HaveTwoEnds (HeldIn self.now.links) }
+        ensures two_ends { HaveTwoEnds (Holds self.now.links) }
     {
         match self.sided_link(n, i) {
             Some(sided_link) => Some(sided_link.link),
@@ -104,10 +104,10 @@ impl Graph {
         }
     }
 
-    // Returns the range of the node's links that lie on this side.
+    // Returns the range of the node's links that lie on this side, in logarithmic time.
     fn part_at(&self, n: ResNo, side: Side) -> Part
         ensures part { IsPart (links_at self.now.links n) n side result }
-        ensures two_ends { HaveTwoEnds (HeldIn self.now.links) }
+        ensures two_ends { HaveTwoEnds (Holds self.now.links) }
     {
         let number = side.number();
         let row = self.row_of_node(n);
@@ -116,7 +116,7 @@ impl Graph {
         Part { from, to }
     }
 
-    // Returns that end of the link which has fewer links.
+    // Returns the end of the link at which fewer links are held.
     fn emptier_end(&self, link: &Link) -> ResNo
         ensures { HasEnd result link.now }
     {
@@ -127,10 +127,10 @@ impl Graph {
         }
     }
 
-    // Checks whether the link is held with its ends in this order.
+    // Checks whether the link is held with its ends in this order, in logarithmic time.
     fn holds(&self, link: &Link) -> bool
         ensures holds { result ≡ contains self.now.links link.now }
-        ensures two_ends { HaveTwoEnds (HeldIn self.now.links) }
+        ensures two_ends { HaveTwoEnds (Holds self.now.links) }
     {
         let end = self.emptier_end(link);
         self.row_of_node(end)
@@ -138,33 +138,34 @@ impl Graph {
             .is_ok()
     }
 
-    /// Checks whether the resource is marked as an outside concept.
+    /// Checks whether the resource is marked as an outside concept, so that mappings to it are held with their ends in
+    /// the order given.
     pub fn is_outside(&self, n: ResNo) -> bool
         ensures { result ≡ is_marked self.now n }
     {
         self.marked.contains(&n)
     }
 
-    /// Checks whether the link is held.
+    /// Checks whether the link is held in its normal form, so that a symmetric link may be stated from either end.
     pub fn has(&self, link: &Link) -> bool
         ensures { result ≡ contains self.now.links (normal_form (is_marked self.now) link.now) }
     {
         self.holds(&self.normal(link))
     }
 
-    /// Returns the number of links held.
+    /// Returns the number of links held, each counted once.
     pub fn size(&self) -> u64
         ensures { result ≡ len self.now.links }
     {
         self.held.len() as u64
     }
 
-    // Lists these neighbours of the concept in ascending order.
+    // Lists the neighbours of this sort of the concept in ascending order.
     fn neighbours(
         &self,
         alloc: Global,
         n: ResNo,
-        neighbours: Neighbours,
+        neighbours: NeighbourKind,
     ) -> Result<Vec<ResNo>, AllocError>
         ensures { IfOk result
             (λ found. IsListing nat_cmp (IsNeighbour self.now.links neighbours n) found.items) }
@@ -180,40 +181,40 @@ impl Graph {
         Ok(found)
     }
 
-    /// Lists the concepts that are broader than this one in its own scheme, by links of any type, in ascending order.
+    /// Lists the concepts broader than this one in its scheme, by links of any type, in ascending order.
     pub fn broader_of(&self, alloc: Global, n: ResNo) -> Result<Vec<ResNo>, AllocError>
         ensures { IfOk result
             (λ found. IsListing nat_cmp (λ b. HasBroader self.now.links n b) found.items) }
     {
-        self.neighbours(alloc, n, Neighbours::Broader)
+        self.neighbours(alloc, n, NeighbourKind::Broader)
     }
 
-    /// Lists the concepts that are narrower than this one in its own scheme, by links of any type, in ascending order.
+    /// Lists the concepts narrower than this one in its scheme, by links of any type, in ascending order.
     pub fn narrower_of(&self, alloc: Global, n: ResNo) -> Result<Vec<ResNo>, AllocError>
         ensures { IfOk result
             (λ found. IsListing nat_cmp (λ a. HasBroader self.now.links a n) found.items) }
     {
-        self.neighbours(alloc, n, Neighbours::Narrower)
+        self.neighbours(alloc, n, NeighbourKind::Narrower)
     }
 
-    /// Lists the concepts related to this one in its own scheme, in ascending order.
+    /// Lists the concepts related to this one in its scheme, in ascending order.
     pub fn related_of(&self, alloc: Global, n: ResNo) -> Result<Vec<ResNo>, AllocError>
         ensures { IfOk result (λ found. IsListing nat_cmp
             (λ m. HasLink self.now.links kinds.Related n m
             ⊎ HasLink self.now.links kinds.Related m n) found.items) }
     {
-        self.neighbours(alloc, n, Neighbours::Related)
+        self.neighbours(alloc, n, NeighbourKind::Related)
     }
 
-    /// Lists the collections that the resource is a member of, in ascending order.
+    /// Lists the collections of which the resource is a member, in ascending order.
     pub fn collections_of(&self, alloc: Global, n: ResNo) -> Result<Vec<ResNo>, AllocError>
         ensures { IfOk result (λ found. IsListing nat_cmp
             (λ c. HasLink self.now.links kinds.Member c n) found.items) }
     {
-        self.neighbours(alloc, n, Neighbours::Collections)
+        self.neighbours(alloc, n, NeighbourKind::Collections)
     }
 
-    /// Lists the mappings of the concept as seen from it, sorted by their kinds' names and then by number.
+    /// Lists the mappings of the concept as seen from it, sorted by the names of their kinds and then by number.
     pub fn mappings(&self, alloc: Global, n: ResNo) -> Result<Vec<(LinkKind, ResNo)>, AllocError>
         ensures { IfOk result
             (λ found. IsListing mapping_cmp (IsMapping self.now.links n) found.items) }
@@ -227,8 +228,8 @@ impl Graph {
         Ok(found)
     }
 
-    /// Lists the typed hierarchical links of the concept as seen from it, sorted by their types' names and then by
-    /// number.
+    /// Lists the typed hierarchical links of the concept as seen from it, sorted by the names of their types and then
+    /// by number.
     pub fn typed_of(&self, alloc: Global, n: ResNo) -> Result<Vec<(TypedKind, ResNo)>, AllocError>
         ensures { IfOk result
             (λ found. IsListing typed_cmp (IsTypedLink self.now.links n) found.items) }
@@ -242,7 +243,7 @@ impl Graph {
         Ok(found)
     }
 
-    /// Adds the link, unless it is held.
+    /// Adds the link in normal form, unless it is held.
     pub fn add(&mut self, link: &Link) -> Result<(), AllocError>
         requires { link.now.a ≢ link.now.b }
         ensures ok { OnOk result (self.new ≡ record self.old {
@@ -261,7 +262,7 @@ impl Graph {
         Ok(())
     }
 
-    /// Removes the link, if it is held.
+    /// Removes the normal form of the link, if it is held.
     pub fn remove(&mut self, link: &Link)
         ensures { self.new ≡ record self.old {
           links = remove self.old.links
@@ -272,7 +273,7 @@ impl Graph {
         self.detach(&old);
     }
 
-    // Removes the link, if it is held with its ends in this order.
+    // Removes the link at both its ends, if it is held with its ends in this order.
     fn detach(&mut self, link: &Link)
         ensures { self.new ≡ record self.old { links = remove self.old.links link.now } }
     {
@@ -282,7 +283,7 @@ impl Graph {
         }
     }
 
-    // Returns the link as it is kept after the merge, or None if both its ends are the target then or it is held
+    // Returns the link in normal form as a merge adds it, or None if both its ends are then the target or it is held
     // already.
     fn merge_addition(&self, link: &Link, source: ResNo, target: ResNo) -> Option<Link>
         ensures { result ≡ added_link self.now source target link.now }
@@ -291,12 +292,12 @@ impl Graph {
         if self.holds(&new) { None } else { Some(new) }
     }
 
-    // Returns the links that the merge adds for those at the source.
+    // Returns the links that a merge adds in place of those with an end at the source.
     fn merge_additions(&self, source: ResNo, target: ResNo) -> Result<Vec<Link>, AllocError>
         requires { source ≢ target }
         ensures merge_additions { IfOk result
             (λ merge_additions. AreMergeAdditions self.now source target merge_additions.items) }
-        ensures two_ends { HaveTwoEnds (HeldIn self.now.links) }
+        ensures two_ends { HaveTwoEnds (Holds self.now.links) }
         ensures normal { AreNormal self.now }
     {
         let mut merge_additions = Vec::new(self.alloc);
@@ -308,7 +309,7 @@ impl Graph {
         Ok(merge_additions)
     }
 
-    // Adds all of these links, none of which is held, or none if memory runs out.
+    // Adds these links, none of which is held yet; adds none if memory runs out.
     fn add_all(&mut self, links: &[Link]) -> Result<(), AllocError>
         requires { AreNew self.old links.now }
         ensures ok { OnOk result
@@ -324,19 +325,19 @@ impl Graph {
         Ok(())
     }
 
-    // Removes these links.
+    // Removes these links; it can't fail.
     fn detach_all(&mut self, links: &[Link])
-        ensures { self.new ≡ record self.old { links = without_all self.old.links links.now } }
+        ensures { self.new ≡ record self.old { links = without_links self.old.links links.now } }
     {
         for link in links {
             self.detach(link);
         }
     }
 
-    // Returns the last of the node's links.
+    // Returns a link with an end at the node, or None if there is none.
     fn last_at(&self, n: ResNo) -> Option<Link>
-        ensures { MatchOption result ((l : Link) → HeldIn self.now.links l → HasEnd n l
-            → ⊥) (λ l. HeldIn self.now.links l × HasEnd n l) }
+        ensures { MatchOption result ((l : Link) → Holds self.now.links l → HasEnd n l
+            → ⊥) (λ l. Holds self.now.links l × HasEnd n l) }
     {
         match self.row_of_node(n).last() {
             Some(sided_link) => Some(sided_link.link),
@@ -344,7 +345,7 @@ impl Graph {
         }
     }
 
-    /// Removes all links of the node.
+    /// Removes all links with an end at the node; it can't fail.
     pub fn drop_all(&mut self, n: ResNo)
         ensures { self.new ≡ record self.old { links = links_after_deprecation n self.old.links } }
     {
@@ -353,7 +354,7 @@ impl Graph {
         }
     }
 
-    /// Replaces the source by the target in each link.
+    /// Replaces the source with the target in each link, and drops links whose two ends are then the target.
     pub fn contract(&mut self, source: ResNo, target: ResNo) -> Result<(), AllocError>
         requires { source ≢ target }
         ensures ok { OnOk result (self.new ≡ record self.old {
@@ -363,14 +364,16 @@ impl Graph {
         ensures err { OnErr result (self.new ≡ self.old) }
     {
         let merge_additions = self.merge_additions(source, target)?;
+        // Adding can run out of memory; removing can't fail.
         self.add_all(&merge_additions)?;
         self.drop_all(source);
         Ok(())
     }
 
-    /// Marks the resource as an outside concept. It must have no links.
+    /// Marks a resource without links as an outside concept, so that mappings to it are held with their ends in the
+    /// order given.
     pub fn mark_outside(&mut self, n: ResNo) -> Result<(), AllocError>
-        requires { (l : Link) → HeldIn self.old.links l → HasEnd n l → ⊥ }
+        requires { (l : Link) → Holds self.old.links l → HasEnd n l → ⊥ }
         ensures ok { OnOk result
             (self.new ≡ record self.old { outside = insert self.old.outside n }) }
         ensures err { OnErr result (self.new ≡ self.old) }
@@ -379,7 +382,7 @@ impl Graph {
         Ok(())
     }
 
-    /// Returns the links for reading, with no visits yet.
+    /// Returns a reader of the links, with its count of visits at 0.
     pub fn walk(&self) -> Walk<'_>
         ensures { result ≡ record { net = self.now; visits = 0 } }
     {
@@ -389,18 +392,18 @@ impl Graph {
         }
     }
 
-    /// Returns the first rule that the links held break.
+    /// Returns the first of Cycle, S27 and S46 that the links held break, by a check of all links.
     pub fn check_whole(&self, alloc: Global) -> Result<Option<Refusal>, AllocError>
-        ensures { IfOk result (IsFirstBroken (HeldIn self.now.links)) }
+        ensures { IfOk result (IsFirstBroken (Holds self.now.links)) }
     {
         let all: Vec<Link> = self.held.iter().copied().collect(alloc)?;
         let mut walk = self.walk();
-        let first = check_all(alloc, &mut walk, &all)?;
+        let first = check_listed_links(alloc, &mut walk, &all)?;
         Ok(first)
     }
 }
 
-/// The links of a graph, read one at a time, with a count of the visits.
+/// A reader of a graph's links, one at a time, with a count of the visits.
 #[derive(Drop)]
 pub struct Walk<'a> {
     graph: &'a Graph,
@@ -410,9 +413,9 @@ pub struct Walk<'a> {
 impl<'a> Model for Walk<'a> {
     ghost use Rattle.std.specs.Coded.{codes};
     ghost use Rattle.std.specs.FinSet as set;
-    ghost use Rattle.thes_graph.specs.Net.{CountedNet};
+    ghost use Rattle.thes_graph.specs.GraphView.{CountedGraphView};
 
-    ghost Value = { CountedNet };
+    ghost Value = { CountedGraphView };
 
     ghost coded = { Prim.hlevel (codes, set.code) };
 
@@ -420,11 +423,9 @@ impl<'a> Model for Walk<'a> {
 }
 
 impl<'a> Links for Walk<'a> {
-    ghost held = { λ w. w.net.links };
+    ghost net = { λ w. w.net };
 
-    ghost outside = { λ w. is_marked w.net };
-
-    ghost links_of = { λ w. links_at w.net.links };
+    ghost links_of = { λ n. links_at n.links };
 
     ghost count = { λ w. w.visits };
 

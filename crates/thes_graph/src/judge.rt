@@ -1,10 +1,12 @@
-//! Checks whether the links, or the links after an edit, keep the rules. The links near the edit are enough: two
-//! alternating searches, up and down, and one along exact matches find all that the edit can break.
+//! Checks whether the links, or the links after an edit, keep the rules. It reads only links near the edit: two
+//! alternating searches, for broader and for narrower concepts, and one along exact matches find all that the edit can
+//! break.
 ghost use Rattle.std.specs.Prelude.{◌≡◌, ◌≢◌, ◌+◌, ◌*◌, ◌≤◌, List, Contains, OnOk, IfOk, length, nat_lt, if◌then◌else◌, ◌&&◌};
 ghost use Rattle.thes_base.specs.declared.data.Link.{Link};
-ghost use Rattle.thes_base.specs.Links.{HeldIn, is_symmetric, reversed_link, normal_form, links_after_merge, IsFirstBroken};
+ghost use Rattle.thes_base.specs.Links.{Holds, is_symmetric, reversed_link, normal_form, links_after_merge, IsFirstBroken};
 ghost use Rattle.thes_base.specs.Neighbourhood.{Add, Merge, Recheck};
 ghost use Rattle.thes_graph.specs.declared.edit.LinkEdit.TheVariants.{WithLink};
+ghost use Rattle.thes_graph.specs.GraphView.{is_marked};
 ghost use Rattle.thes_graph.specs.Reading.{HaveTwoEnds};
 ghost use Rattle.thes_graph.specs.LinkEdit.{HeldAfter, IsValidEdit, IsNoEdit};
 ghost use Rattle.thes_graph.specs.Local.{BreakNone, HeldAwayFrom, IsFirstBrokenAt, CoversNear};
@@ -21,8 +23,8 @@ use thes_base::data::{Link, LinkKind};
 use thes_base::fault::Refusal;
 use thes_base::number::ResNo;
 
-/// Returns the link with its ends in the order in which it is kept. `outside` says whether an end is an outside
-/// concept.
+/// Returns the link in normal form: a symmetric link has its ends in ascending order. `outside` states whether an end
+/// is an outside concept, in which case no mapping is symmetric.
 pub fn normalize_ends(link: &Link, outside: bool) -> Link
     ensures { result ≡ (if is_symmetric outside link.now.kind && nat_lt link.now.b link.now.a
         then reversed_link link.now else link.now) }
@@ -43,28 +45,29 @@ pub fn normalize_ends(link: &Link, outside: bool) -> Link
     }
 }
 
-// Returns the link as these links would keep it.
+// Returns the normal form of the link, in which these links would hold it.
 fn normal<L: Links>(links: &L, link: &Link) -> Link
-    ensures { result ≡ normal_form (L.outside links.now) link.now }
+    ensures { result ≡ normal_form (is_marked (L.net links.now)) link.now }
 {
     normalize_ends(link, links.is_outside(link.a) || links.is_outside(link.b))
 }
 
-// Returns the first rule that the links after the edit break by a chain or pair through the pivot.
-fn probe<L: Links>(
+// Returns the first rule that the links after the edit break by a chain or pair through the pivot; None says nothing
+// about other nodes.
+fn first_broken_at<L: Links>(
     alloc: Global,
     links: &mut L,
     edit: &LinkEdit,
     pivot: ResNo,
 ) -> Result<Option<Refusal>, AllocError>
     requires { IsValidEdit edit.now }
-    ensures held { L.held links.new ≡ L.held links.old }
-    ensures outside { L.outside links.new ≡ L.outside links.old }
-    ensures rows { L.links_of links.new ≡ L.links_of links.old }
+    ensures net { L.net links.new ≡ L.net links.old }
     ensures two_ends { OnOk result
-        (IsNoEdit edit.now → HaveTwoEnds (HeldIn (L.held links.old))) }
-    ensures first { IfOk result (IsFirstBrokenAt (HeldAfter edit.now (L.held links.old)) pivot) }
-    ensures count { OnOk result ((ns : List Link) → CoversNear edit.now (L.held links.old) pivot ns
+        (IsNoEdit edit.now → HaveTwoEnds (Holds (L.net links.old).links)) }
+    ensures first { IfOk result (IsFirstBrokenAt (HeldAfter edit.now (L.net links.old).links)
+        pivot) }
+    ensures count { OnOk result ((ns : List Link)
+        → CoversNear edit.now (L.net links.old).links pivot ns
         → L.count links.new ≤ L.count links.old + 6 * length ns) }
 {
     match check_upward_link(alloc, links, edit, pivot, pivot)? {
@@ -77,7 +80,7 @@ fn probe<L: Links>(
     Ok(None)
 }
 
-/// Returns the first rule that the links held break, where those without an end at the pivot break none.
+/// Returns the first rule that the links held break, if those without an end at the pivot break none.
 ///
 /// The visits are bounded by the links near the pivot: those with an end at it, or at a node above it, below it or in
 /// its class of exact matches.
@@ -86,53 +89,55 @@ pub fn check_at<L: Links>(
     links: &mut L,
     pivot: ResNo,
 ) -> Result<Option<Refusal>, AllocError>
-    requires { BreakNone (HeldAwayFrom (HeldIn (L.held links.old)) pivot) }
-    ensures held { L.held links.new ≡ L.held links.old }
-    ensures outside { L.outside links.new ≡ L.outside links.old }
-    ensures first { IfOk result (IsFirstBroken (HeldIn (L.held links.old))) }
-    ensures count { OnOk result (AreFewVisits (L.outside links.old) (Recheck pivot) (L.held links.old)
-        (L.count links.old) (L.count links.new)) }
+    requires { BreakNone (HeldAwayFrom (Holds (L.net links.old).links) pivot) }
+    ensures held { (L.net links.new).links ≡ (L.net links.old).links }
+    ensures outside { is_marked (L.net links.new) ≡ is_marked (L.net links.old) }
+    ensures first { IfOk result (IsFirstBroken (Holds (L.net links.old).links)) }
+    ensures count { OnOk result (AreFewVisits (is_marked (L.net links.old)) (Recheck pivot)
+        (L.net links.old).links (L.count links.old) (L.count links.new)) }
 {
-    let answer = probe(alloc, links, &LinkEdit::NoEdit, pivot)?;
+    let answer = first_broken_at(alloc, links, &LinkEdit::NoEdit, pivot)?;
     Ok(answer)
 }
 
 /// Checks a new link: returns LinkThere if it is held, or else the first rule that the links with it would break.
 ///
-/// The visits are bounded by the links near its first end, including itself.
+/// The visits are bounded by the links near its first end, and the new link itself.
 pub fn judge_add<L: Links>(
     alloc: Global,
     links: &mut L,
     link: &Link,
 ) -> Result<Option<Refusal>, AllocError>
     requires ends { link.now.a ≢ link.now.b }
-    requires unbroken { BreakNone (HeldIn (L.held links.old)) }
-    ensures held { L.held links.new ≡ L.held links.old }
-    ensures outside { L.outside links.new ≡ L.outside links.old }
+    requires unbroken { BreakNone (Holds (L.net links.old).links) }
+    ensures held { (L.net links.new).links ≡ (L.net links.old).links }
+    ensures outside { is_marked (L.net links.new) ≡ is_marked (L.net links.old) }
     ensures answer { IfOk result
-        (checks_of_add (L.held links.old) (normal_form (L.outside links.old) link.now)) }
-    ensures count { let edit = Add (normal_form (L.outside links.old) link.now) in
+        (checks_of_add (L.net links.old).links
+        (normal_form (is_marked (L.net links.old)) link.now)) }
+    ensures count { let edit = Add (normal_form (is_marked (L.net links.old)) link.now) in
         OnOk result (AreFewVisits
-        (L.outside links.old) edit (L.held links.old) (L.count links.old) (L.count links.new)) }
+        (is_marked (L.net links.old)) edit (L.net links.old).links (L.count links.old)
+        (L.count links.new)) }
 {
     let new = normal(links, link);
     let answer = check_normal_link(alloc, links, &new)?;
     Ok(answer)
 }
 
-// Checks a new link whose ends are in the order in which it would be kept.
+// Checks a new link in normal form: returns LinkThere if it is held, or else the first rule that the links with it
+// would break.
 fn check_normal_link<L: Links>(
     alloc: Global,
     links: &mut L,
     new: &Link,
 ) -> Result<Option<Refusal>, AllocError>
     requires ends { new.now.a ≢ new.now.b }
-    requires unbroken { BreakNone (HeldIn (L.held links.old)) }
-    ensures held { L.held links.new ≡ L.held links.old }
-    ensures outside { L.outside links.new ≡ L.outside links.old }
-    ensures answer { IfOk result (checks_of_add (L.held links.old) new.now) }
+    requires unbroken { BreakNone (Holds (L.net links.old).links) }
+    ensures net { L.net links.new ≡ L.net links.old }
+    ensures answer { IfOk result (checks_of_add (L.net links.old).links new.now) }
     ensures count { OnOk result ((ns : List Link) → Contains ns new.now
-        → CoversEdit (WithLink new.now) (L.held links.old) new.now.a ns
+        → CoversEdit (WithLink new.now) (L.net links.old).links new.now.a ns
         → L.count links.new ≤ L.count links.old + 6 * length ns) }
 {
     if links.holds(new) {
@@ -155,16 +160,17 @@ pub fn judge_contract<L: Links>(
     target: ResNo,
 ) -> Result<Option<Refusal>, AllocError>
     requires ends { source ≢ target }
-    requires unbroken { BreakNone (HeldIn (L.held links.old)) }
-    ensures held { L.held links.new ≡ L.held links.old }
-    ensures outside { L.outside links.new ≡ L.outside links.old }
+    requires unbroken { BreakNone (Holds (L.net links.old).links) }
+    ensures held { (L.net links.new).links ≡ (L.net links.old).links }
+    ensures outside { is_marked (L.net links.new) ≡ is_marked (L.net links.old) }
     ensures first { IfOk result (IsFirstBroken
-        (HeldIn (links_after_merge (L.outside links.old) source target (L.held links.old)))) }
+        (Holds (links_after_merge (is_marked (L.net links.old)) source target
+        (L.net links.old).links))) }
     ensures count { OnOk result
-        (AreFewVisits (L.outside links.old) (Merge source target) (L.held links.old)
+        (AreFewVisits (is_marked (L.net links.old)) (Merge source target) (L.net links.old).links
         (L.count links.old) (L.count links.new)) }
 {
     let edit = LinkEdit::AfterMerge(source, target);
-    let answer = probe(alloc, links, &edit, target)?;
+    let answer = first_broken_at(alloc, links, &edit, target)?;
     Ok(answer)
 }

@@ -1,17 +1,17 @@
-//! Mappings and typed hierarchical links as seen from one of their ends.
+//! Mappings and typed hierarchical links as seen from one of their ends, in the order of their names.
 ghost use Rattle.std.specs.Prelude.{◌≡◌, OnOk};
 ghost use Rattle.std.specs.BTreeSet.{insert_key};
 ghost use Rattle.std.specs.List.Sorted.{IsStrictlySortedBy};
 ghost use Rattle.thes_base.specs.Views.{mapping_cmp};
-ghost use Rattle.thes_graph.specs.Mappings.{word_place, mapping_seen_from, typed_link_seen_from};
+ghost use Rattle.thes_graph.specs.Mappings.{kind_name_rank, mapping_seen_from, typed_link_seen_from};
 
 use std::alloc::AllocError;
 use thes_base::data::{Link, LinkKind, TypedKind};
 use thes_base::number::ResNo;
 
-// Returns the rank of the kind's name among the sorted names of all kinds.
+// Returns the rank of the kind's name among the names of all kinds, sorted by their bytes.
 fn place_of(kind: LinkKind) -> u8
-    ensures { result ≡ word_place kind }
+    ensures { result ≡ kind_name_rank kind }
 {
     match kind {
         LinkKind::Broad => 1,
@@ -28,14 +28,14 @@ fn place_of(kind: LinkKind) -> u8
     }
 }
 
-// Returns the sort key of a mapping: the rank of its kind's name, then the number.
+// Returns the sort key of a mapping: the rank of its kind's name, and then the number of the other end.
 fn key_of(mapping: &(LinkKind, ResNo)) -> (u8, ResNo)
-    ensures { result ≡ (word_place mapping.now.0, mapping.now.1) }
+    ensures { result ≡ (kind_name_rank mapping.now.0, mapping.now.1) }
 {
     (place_of(mapping.0), mapping.1)
 }
 
-/// Returns the mapping that the link is, as seen from its end `n`, or None for a link of another form.
+/// Returns the mapping as seen from its end `n`: its kind there and the other end; None for a link of another form.
 pub fn mapping_from(link: &Link, n: ResNo) -> Option<(LinkKind, ResNo)>
     ensures { result ≡ mapping_seen_from n link.now }
 {
@@ -51,7 +51,8 @@ pub fn mapping_from(link: &Link, n: ResNo) -> Option<(LinkKind, ResNo)>
     }
 }
 
-/// Returns the typed hierarchical link that the link is, as seen from its end `n`, or None for another link.
+/// Returns the typed hierarchical link as seen from its end `n`: its type there and the other end; None for another
+/// link.
 pub fn typed_link_from(link: &Link, n: ResNo) -> Option<(TypedKind, ResNo)>
     ensures { result ≡ typed_link_seen_from n link.now }
 {
@@ -68,7 +69,7 @@ pub fn typed_link_from(link: &Link, n: ResNo) -> Option<(TypedKind, ResNo)>
     }
 }
 
-/// Inserts the mapping at its place in a sorted list, unless it is there.
+/// Inserts the mapping at its place in a list sorted by name and number, unless it is there.
 pub fn list_mapping(
     list: &mut Vec<(LinkKind, ResNo)>,
     mapping: (LinkKind, ResNo),

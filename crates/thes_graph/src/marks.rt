@@ -1,14 +1,14 @@
-//! Marks by number, which replace a linear search where a list has many nodes.
+//! Marks by number, which replace a linear search in long lists of nodes.
 ghost use Rattle.std.specs.Prelude.{◌≡◌, ◌++◌, ◌∷◌, [], ℕ, OnErr, OnOk};
 ghost use Rattle.thes_graph.specs.NodeSet.{mark_at, AreMarked, IsNodeSet, IsOneMore};
 
 use std::alloc::AllocError;
 use thes_base::number::ResNo;
 
-/// The length up to which a list is searched linearly and has no marks.
+/// The length up to which a list of nodes is searched linearly, without marks.
 pub const FEW: usize = 16;
 
-/// Checks whether the number is marked.
+/// Checks whether the number is marked; numbers past the end aren't.
 pub fn has_mark(marks: &[bool], n: ResNo) -> bool
     ensures { result ≡ mark_at marks.now n }
 {
@@ -18,7 +18,7 @@ pub fn has_mark(marks: &[bool], n: ResNo) -> bool
     }
 }
 
-// Marks the number.
+// Marks the number, and extends the marks if they end before it.
 fn mark(marks: &mut Vec<bool>, n: ResNo) -> Result<(), AllocError>
     ensures ok { OnOk result (IsOneMore marks.old.items marks.new.items n) }
     ensures err { OnErr result (marks.new.items ≡ marks.old.items) }
@@ -31,7 +31,7 @@ fn mark(marks: &mut Vec<bool>, n: ResNo) -> Result<(), AllocError>
     Ok(())
 }
 
-// Replaces all marks by those of these nodes.
+// Marks exactly these nodes, and removes all other marks.
 fn mark_all(marks: &mut Vec<bool>, nodes: &[ResNo]) -> Result<(), AllocError>
     ensures { OnOk result (AreMarked nodes.now marks.new.items) }
 {
@@ -42,7 +42,8 @@ fn mark_all(marks: &mut Vec<bool>, nodes: &[ResNo]) -> Result<(), AllocError>
     Ok(())
 }
 
-/// Updates the marks for a list to which the node `n` is about to be appended.
+/// Updates the marks for a list to which the node `n` is to be appended; a list of at most `FEW`
+/// nodes needs none.
 pub fn mark_more(marks: &mut Vec<bool>, list: &[ResNo], n: ResNo) -> Result<(), AllocError>
     requires { IsNodeSet list.now marks.old.items }
     ensures ok { OnOk result (IsNodeSet (list.now ++ n ∷ []) marks.new.items) }

@@ -1,4 +1,4 @@
-//! The neighbours of a concept that are listed: concepts of its scheme, and collections.
+//! The neighbours of a concept that a view lists: concepts of its scheme, and collections.
 ghost use Rattle.std.specs.Prelude.{◌≡◌, OnOk};
 ghost use Rattle.std.specs.BTreeSet.{insert_key};
 ghost use Rattle.std.specs.List.Sorted.{IsStrictlySortedBy};
@@ -9,16 +9,21 @@ use crate::relation::{Relation, direction};
 use std::alloc::AllocError;
 use thes_base::data::{Direction, LinkForm, LinkKind};
 
-/// The neighbours of a concept that a list shall have.
+/// A sort of neighbour: broader, narrower or related concepts of the same scheme, or collections of
+/// which the concept is a member.
 #[derive(Clone, Copy)]
-pub enum Neighbours {
+pub enum NeighbourKind {
+    /// Concepts broader than the concept, by links of any type.
     Broader,
+    /// Concepts narrower than the concept, by links of any type.
     Narrower,
+    /// Concepts related to the concept.
     Related,
+    /// Collections of which the concept is a member.
     Collections,
 }
 
-// Returns whether links of this kind stay within a scheme, are mappings or are memberships.
+// Returns the form of the kind: a relation within a scheme, a mapping or a membership.
 fn form_of(kind: LinkKind) -> LinkForm
     ensures { result ≡ links.form_of kind }
 {
@@ -32,20 +37,20 @@ fn form_of(kind: LinkKind) -> LinkForm
     }
 }
 
-/// Returns the direction in which a link of this kind leads to a neighbour to list.
-pub fn direction_to(neighbours: Neighbours, kind: LinkKind) -> Direction
+/// Returns the direction in which a link of this kind leads to a neighbour of this sort.
+pub fn direction_to(neighbours: NeighbourKind, kind: LinkKind) -> Direction
     ensures { result ≡ neighbour_direction neighbours kind }
 {
     match (form_of(kind), neighbours) {
-        (LinkForm::Within, Neighbours::Broader) => direction(Relation::Broader, kind),
-        (LinkForm::Within, Neighbours::Narrower) => direction(Relation::Narrower, kind),
-        (LinkForm::Within, Neighbours::Related) => direction(Relation::Related, kind),
-        (LinkForm::Membership, Neighbours::Collections) => Direction::Backward,
+        (LinkForm::Within, NeighbourKind::Broader) => direction(Relation::Broader, kind),
+        (LinkForm::Within, NeighbourKind::Narrower) => direction(Relation::Narrower, kind),
+        (LinkForm::Within, NeighbourKind::Related) => direction(Relation::Related, kind),
+        (LinkForm::Membership, NeighbourKind::Collections) => Direction::Backward,
         _ => Direction::Never,
     }
 }
 
-/// Inserts the value at its place in a sorted list, unless it is there.
+/// Inserts the value at its place in a sorted list, unless an equal one is there.
 pub fn list_in<T: Ord + Drop>(list: &mut Vec<T>, x: T) -> Result<(), AllocError>
     requires { IsStrictlySortedBy T.cmp list.old.items }
     ensures { OnOk result (list.new.items ≡ insert_key T.cmp list.old.items x) }

@@ -1,4 +1,4 @@
-//! The nodes that a search has met.
+//! The nodes that a search has met, in the order in which it met them, with fast look-up.
 ghost use Rattle.std.specs.Prelude.{◌≡◌, ◌<◌, ◌^◌, ◌∷◌, [], Contains, IfOk, OnOk, IfSome, MatchBool, length, slice_get};
 ghost use Rattle.thes_graph.specs.Steps.{GrowsBy};
 
@@ -7,7 +7,8 @@ use std::alloc::{AllocError, Global};
 use std::marker::Model;
 use thes_base::number::ResNo;
 
-/// The distinct nodes that a search has met, in that order. A long list also has marks for fast look-up.
+/// The distinct nodes that a search has met, in the order in which it met them. A long list also
+/// has marks for fast look-up.
 #[derive(Drop)]
 pub struct Nodes {
     list: Vec<ResNo>,
@@ -26,7 +27,7 @@ impl Model for Nodes {
 }
 
 impl Nodes {
-    /// Creates an empty list.
+    /// Creates an empty list without allocating.
     pub fn none(alloc: Global) -> Nodes
         ensures { result ≡ [] }
     {
@@ -36,7 +37,7 @@ impl Nodes {
         }
     }
 
-    /// Creates a list of one node.
+    /// Creates a list of one node, from which a search starts.
     pub fn singleton(alloc: Global, start: ResNo) -> Result<Nodes, AllocError>
         ensures { IfOk result (λ nodes. nodes ≡ start ∷ []) }
     {
@@ -52,7 +53,7 @@ impl Nodes {
         self.list.as_slice()
     }
 
-    /// Returns the i-th node.
+    /// Returns the i-th node that was met, counted from 0.
     pub fn get(&self, i: usize) -> Option<ResNo>
         ensures node { result ≡ slice_get self.now i }
         ensures small { length self.now < 2 ^ 63 }
@@ -60,7 +61,7 @@ impl Nodes {
         self.list.get(i).copied()
     }
 
-    /// Checks whether the node was met.
+    /// Checks whether the node was met, in constant time.
     pub fn has(&self, n: ResNo) -> bool
         ensures { MatchBool result (Contains self.now n) (Contains self.now n → ⊥) }
     {

@@ -1,8 +1,8 @@
-//! Checks whether one end of a link is above the other by two searches, one from each end. The links at the first end
-//! are near the edit, those at the second may not be, so the second search reads no more than the first has read.
+//! Checks whether one end of a link is above the other by two searches, one from each end. The bound on visits counts
+//! only links near the first end, so the second search may read no more links than the first has read.
 ghost use Rattle.std.specs.Prelude.{◌≡◌, ◌≢◌, ◌+◌, ◌*◌, ◌≤◌, ◌<◌, ℕ, false, List, OnOk, IfOk, MatchBool, length};
 ghost use Rattle.thes_base.specs.declared.data.Link.{Link};
-ghost use Rattle.thes_base.specs.Links.{HeldIn, Chain};
+ghost use Rattle.thes_base.specs.Links.{Holds, Chain};
 ghost use Rattle.thes_graph.specs.declared.edit.LinkEdit.TheVariants.{NoEdit};
 ghost use Rattle.thes_graph.specs.Steps.{Steps};
 ghost use Rattle.thes_graph.specs.SideSearch.{IsHierarchy, CoversBetween};
@@ -17,81 +17,81 @@ use std::alloc::{AllocError, Global};
 use thes_base::data::Link;
 use thes_base::number::ResNo;
 
-// Advances the first search, if fewer than `size` reads are left to the second. Returns whether it found a goal.
+// Advances the first search by a node, and adds the number of links that it reads to `left`, the number that the second
+// may still read. Does nothing if `left` is already at least `size`. Returns whether the first found a goal.
 fn advance_first<L: Links>(
     links: &mut L,
     relation: Relation,
     first: &mut SideSearch,
-    left: &mut usize,
+    allowance: &mut usize,
     size: usize,
     tos: &Nodes,
 ) -> Result<bool, AllocError>
     requires walked { IsHierarchy relation }
     requires first { first.old.next < length first.old.nodes }
-    ensures held { L.held links.new ≡ L.held links.old }
-    ensures outside { L.outside links.new ≡ L.outside links.old }
-    ensures rows { L.links_of links.new ≡ L.links_of links.old }
+    ensures net { L.net links.new ≡ L.net links.old }
     ensures extends { OnOk result (first.old.next ≤ first.new.next) }
-    ensures next { OnOk result (left.new < size → first.new.next ≡ first.old.next + 1) }
-    ensures goes { IfOk result (λ found. (froms : List ℕ) (from to before : ℕ) (second : SideSearch)
-        → ArePairedSearches (L.held links.old) relation froms tos.now from to first.old second
-        left.old before (L.count links.old)
+    ensures next { OnOk result (allowance.new < size → first.new.next ≡ first.old.next + 1) }
+    ensures advances { IfOk result (λ found. (froms : List ℕ) (from to before : ℕ)
+        (second : SideSearch)
+        → ArePairedSearches (L.net links.old).links relation froms tos.now from to first.old second
+        allowance.old before (L.count links.old)
         → MatchBool found
-        (HasFoundGoal (L.held links.old) relation froms tos.now from to before (L.count links.new))
-        (ArePairedSearches (L.held links.old) relation froms tos.now from to first.new second
-        left.new before (L.count links.new))) }
+        (HasFoundGoal (L.net links.old).links relation froms tos.now from to before
+        (L.count links.new))
+        (ArePairedSearches (L.net links.old).links relation froms tos.now from to first.new second
+        allowance.new before (L.count links.new))) }
 {
-    if size <= *left {
+    if size <= *allowance {
         return Ok(false);
     }
     let part = first.next_part(links, relation);
     let found = first.advance_at(links, relation, part, tos)?;
-    *left = left.saturating_add(part.size());
+    *allowance = allowance.saturating_add(part.size());
     Ok(found)
 }
 
-// Advances the second search if the first has read enough for that, after a step of the first where needed. Returns
+// Advances the first search by a node if `left`, the number of links that the second may still read, is too small for
+// the second's next node; then advances the second if `left` is enough, and subtracts the links that it reads. Returns
 // whether one of them found a goal.
 fn advance_pair<L: Links>(
     links: &mut L,
     relation: Relation,
     first: &mut SideSearch,
     second: &mut SideSearch,
-    left: &mut usize,
+    allowance: &mut usize,
     froms: &Nodes,
     tos: &Nodes,
 ) -> Result<bool, AllocError>
     requires walked { IsHierarchy relation }
     requires first { first.old.next < length first.old.nodes }
     requires second { second.old.next < length second.old.nodes }
-    ensures held { L.held links.new ≡ L.held links.old }
-    ensures outside { L.outside links.new ≡ L.outside links.old }
-    ensures rows { L.links_of links.new ≡ L.links_of links.old }
+    ensures net { L.net links.new ≡ L.net links.old }
     ensures next { IfOk result (λ found. found ≡ false
         → first.old.next + second.old.next < first.new.next + second.new.next) }
-    ensures goes { IfOk result (λ found. (from to before : ℕ)
-        → ArePairedSearches (L.held links.old) relation froms.now tos.now from to first.old
-        second.old left.old before (L.count links.old)
-        → MatchBool found (HasFoundGoal (L.held links.old) relation froms.now tos.now from to before
-        (L.count links.new))
-        (ArePairedSearches (L.held links.old) relation froms.now tos.now from to first.new
-        second.new left.new before (L.count links.new))) }
+    ensures advances { IfOk result (λ found. (from to before : ℕ)
+        → ArePairedSearches (L.net links.old).links relation froms.now tos.now from to first.old
+        second.old allowance.old before (L.count links.old)
+        → MatchBool found (HasFoundGoal (L.net links.old).links relation froms.now tos.now from to
+        before (L.count links.new))
+        (ArePairedSearches (L.net links.old).links relation froms.now tos.now from to first.new
+        second.new allowance.new before (L.count links.new))) }
 {
     let back = converse_of(relation);
     let part = second.next_part(links, back);
     let size = part.size();
-    if advance_first(links, relation, first, left, size, tos)? {
+    if advance_first(links, relation, first, allowance, size, tos)? {
         return Ok(true);
     }
-    if *left < size {
+    if *allowance < size {
         return Ok(false);
     }
     let found = second.advance_at(links, back, part, froms)?;
-    *left -= size;
+    *allowance -= size;
     Ok(found)
 }
 
-// Advances the two searches until one is done or has found a goal. Returns whether a goal was found.
+// Advances the two searches until one of them is done or has found a goal, and returns whether a goal was found.
 fn run_paired_search<L: Links>(
     links: &mut L,
     relation: Relation,
@@ -101,30 +101,28 @@ fn run_paired_search<L: Links>(
     tos: &Nodes,
 ) -> Result<bool, AllocError>
     requires { IsHierarchy relation }
-    ensures held { L.held links.new ≡ L.held links.old }
-    ensures outside { L.outside links.new ≡ L.outside links.old }
-    ensures rows { L.links_of links.new ≡ L.links_of links.old }
+    ensures net { L.net links.new ≡ L.net links.old }
     ensures done { IfOk result (λ found. found ≡ false → first.new.next < length first.new.nodes
         → length second.new.nodes ≤ second.new.next) }
-    ensures goes { IfOk result (λ found. (from to before : ℕ)
-        → ArePairedSearches (L.held links.old) relation froms.now tos.now from to first.old
+    ensures advances { IfOk result (λ found. (from to before : ℕ)
+        → ArePairedSearches (L.net links.old).links relation froms.now tos.now from to first.old
         second.old 0 before (L.count links.old)
-        → MatchBool found (HasFoundGoal (L.held links.old) relation froms.now tos.now from to before
-        (L.count links.new))
-        ((left : ℕ) × ArePairedSearches (L.held links.old) relation froms.now tos.now from to
-        first.new second.new left
+        → MatchBool found (HasFoundGoal (L.net links.old).links relation froms.now tos.now from to
+        before (L.count links.new))
+        ((allowance : ℕ) × ArePairedSearches (L.net links.old).links relation froms.now tos.now
+        from to first.new second.new allowance
         before (L.count links.new))) }
 {
-    let mut left = 0;
+    let mut allowance = 0;
     'steps: while !first.is_done() && !second.is_done() {
-        if advance_pair(links, relation, first, second, &mut left, froms, tos)? {
+        if advance_pair(links, relation, first, second, &mut allowance, froms, tos)? {
             return Ok(true);
         }
     }
     Ok(false)
 }
 
-// Checks whether one or more steps in the relation lead from the one node to the other.
+// Checks whether a chain of one or more steps in the relation leads from the first node to the second.
 fn leads_to<L: Links>(
     alloc: Global,
     links: &mut L,
@@ -133,13 +131,11 @@ fn leads_to<L: Links>(
     to: ResNo,
 ) -> Result<bool, AllocError>
     requires { IsHierarchy relation }
-    ensures held { L.held links.new ≡ L.held links.old }
-    ensures outside { L.outside links.new ≡ L.outside links.old }
-    ensures rows { L.links_of links.new ≡ L.links_of links.old }
+    ensures net { L.net links.new ≡ L.net links.old }
     ensures leads { IfOk result
-        (λ found. MatchBool found (Chain (Steps relation (HeldIn (L.held links.old))) from to)
-        (Chain (Steps relation (HeldIn (L.held links.old))) from to → ⊥)) }
-    ensures count { OnOk result (AreVisitsBounded (L.held links.old) relation from
+        (λ found. MatchBool found (Chain (Steps relation (Holds (L.net links.old).links)) from to)
+        (Chain (Steps relation (Holds (L.net links.old).links)) from to → ⊥)) }
+    ensures count { OnOk result (AreVisitsBounded (L.net links.old).links relation from
         (L.count links.old) (L.count links.new)) }
 {
     let froms = Nodes::singleton(alloc, from)?;
@@ -150,21 +146,19 @@ fn leads_to<L: Links>(
     Ok(found)
 }
 
-/// Checks whether one end of the link is above the other in the links held.
+/// Checks whether one end of the link is above the other by the links held.
 pub fn has_end_above<L: Links>(
     alloc: Global,
     links: &mut L,
     link: &Link,
 ) -> Result<bool, AllocError>
     requires { link.now.a ≢ link.now.b }
-    ensures held { L.held links.new ≡ L.held links.old }
-    ensures outside { L.outside links.new ≡ L.outside links.old }
-    ensures rows { L.links_of links.new ≡ L.links_of links.old }
+    ensures net { L.net links.new ≡ L.net links.old }
     ensures above { IfOk result
-        (λ found. MatchBool found (HasEndAbove (HeldIn (L.held links.old)) link.now)
-        (HasNoEndAbove (HeldIn (L.held links.old)) link.now)) }
+        (λ found. MatchBool found (HasEndAbove (Holds (L.net links.old).links) link.now)
+        (HasNoEndAbove (Holds (L.net links.old).links) link.now)) }
     ensures count { OnOk result
-        ((ns : List Link) → CoversBetween NoEdit (L.held links.old) link.now.a link.now.a ns
+        ((ns : List Link) → CoversBetween NoEdit (L.net links.old).links link.now.a link.now.a ns
         → L.count links.new ≤ L.count links.old + 4 * length ns) }
 {
     if leads_to(alloc, links, Relation::Broader, link.a, link.b)? {

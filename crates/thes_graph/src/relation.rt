@@ -1,24 +1,29 @@
-//! The relations of two nodes that links state, and the direction of each kind of link in them.
-ghost use Rattle.std.specs.Prelude.{◌≡◌};
+//! The relations between two nodes that links state, and the direction in which each kind of link states them.
+ghost use Rattle.std.specs.Prelude.{◌≡◌, MatchBool};
 ghost use Rattle.thes_base.specs.Links.{broader_direction};
 ghost use Rattle.thes_graph.specs.Steps.{reverse_of, direction_of, step_in, step_along};
 ghost use Rattle.thes_graph.specs.PairedSearch.{converse};
+ghost use Rattle.thes_graph.specs.Whole.{HasDirection};
 
 use thes_base::data::{Direction, Link, LinkKind};
 use thes_base::number::ResNo;
 
-/// A relation of two nodes. `Apart` are the broader and related matches, which are disjoint from exact matches (SKOS
-/// S46).
+/// A relation between two nodes that links of some kinds state.
 #[derive(Clone, Copy)]
 pub enum Relation {
+    /// The second node is broader than the first, by a link or a mapping (SKOS S22, S41).
     Broader,
+    /// The second node is narrower than the first, the converse of `Broader` (SKOS S25, S43).
     Narrower,
+    /// The nodes are related, by a link or a mapping (SKOS S23, S41).
     Related,
+    /// The nodes are exact matches (SKOS S44).
     Exact,
+    /// The nodes are broader or related matches, which can't be exact matches (SKOS S46).
     Apart,
 }
 
-// Returns the direction in which a link of this kind leads to a broader concept.
+// Returns the direction in which a link of this kind leads to the broader concept.
 fn direction_up(kind: LinkKind) -> Direction
     ensures { result ≡ broader_direction kind }
 {
@@ -32,7 +37,7 @@ fn direction_up(kind: LinkKind) -> Direction
     }
 }
 
-// Returns the opposite direction.
+// Returns the opposite direction; `Either` and `Never` are their own opposites.
 fn reverse_direction(direction: Direction) -> Direction
     ensures { result ≡ reverse_of direction }
 {
@@ -44,7 +49,7 @@ fn reverse_direction(direction: Direction) -> Direction
     }
 }
 
-/// Returns the direction in which a link of this kind leads in the relation.
+/// Returns the direction in which a link of this kind leads from a node to those in the relation to it.
 pub fn direction(relation: Relation, kind: LinkKind) -> Direction
     ensures { result ≡ direction_of relation kind }
 {
@@ -71,7 +76,7 @@ pub fn converse_of(relation: Relation) -> Relation
     }
 }
 
-/// Returns the node that the link leads to from `x` in this direction.
+/// Returns the other end of the link if the direction leads there from `x`, or else None.
 pub fn lead(direction: Direction, link: &Link, x: ResNo) -> Option<ResNo>
     ensures { result ≡ step_in direction link.now.a link.now.b x }
 {
@@ -84,9 +89,20 @@ pub fn lead(direction: Direction, link: &Link, x: ResNo) -> Option<ResNo>
     }
 }
 
-/// Returns the node that the link leads to from `x` in the relation.
+/// Returns the other end of the link if it is in the relation to `x`, or else None.
 pub fn step(relation: Relation, link: &Link, x: ResNo) -> Option<ResNo>
     ensures { result ≡ step_along relation link.now x }
 {
     lead(direction(relation, link.kind), link, x)
+}
+
+/// Checks whether links of this link's kind have a part in the relation, in either direction.
+pub fn has_direction(relation: Relation, link: &Link) -> bool
+    ensures { MatchBool result (HasDirection relation link.now)
+        (HasDirection relation link.now → ⊥) }
+{
+    match direction(relation, link.kind) {
+        Direction::Never => false,
+        _ => true,
+    }
 }

@@ -1,25 +1,29 @@
-//! The sides of a node, by which its links are sorted.
+//! The sides of a node on which its links lie, by which they are sorted.
 ghost use Rattle.std.specs.Prelude.{◌≡◌, ◌-◌, ◌≤◌, length};
 ghost use Rattle.std.proofs.Math.Dec.{ltb, leb};
-ghost use Rattle.thes_graph.specs.Side.{side_no, side_in, side_at, sided_link_at, IsPlaceOf};
+ghost use Rattle.thes_graph.specs.Side.{side_no, side_in, side_at, sided_link_at, IsPartitionIndex};
 
 use crate::relation::{Relation, direction};
 use thes_base::data::{Direction, Link, LinkKind};
 use thes_base::number::ResNo;
 
-/// Where a link leads from one of its ends: up to a broader concept, to a related one, to an exact match, down to a
-/// narrower one, or to none of these.
+/// The side of a node on which a link lies, by what the link leads to from there.
 #[derive(Clone, Copy, PartialEq, Eq, PartialOrd, Ord)]
 pub enum Side {
+    /// The link leads up to a broader concept.
     Up,
+    /// The link leads to a related concept.
     Sideways,
+    /// The link leads to an exact match.
     Alike,
+    /// The link leads down to a narrower concept.
     Down,
+    /// The link leads to none of these, as a close match or a membership does.
     Apart,
 }
 
 impl Side {
-    /// Returns the rank of the side in the order of a node's links.
+    /// Returns the rank of the side in the order of a node's links, from 1 to 5.
     pub fn number(self) -> u8
         ensures { result ≡ side_no self }
     {
@@ -33,7 +37,8 @@ impl Side {
     }
 }
 
-/// Returns the side on which the links of the relation lie.
+/// Returns the side of a node on which the links of the relation lie; the result is arbitrary for `Apart`, whose links
+/// lie on several sides.
 pub fn side_for(relation: Relation) -> Side
     ensures { result ≡ side_in relation }
 {
@@ -46,14 +51,14 @@ pub fn side_for(relation: Relation) -> Side
     }
 }
 
-/// A link of a node and its side there, sorted by the side and then by the link.
+/// A link, and the side of one of its ends on which it lies; ordered by side, then by link.
 #[derive(Clone, Copy, PartialEq, Eq, PartialOrd, Ord)]
 pub struct SidedLink {
     pub side: Side,
     pub link: Link,
 }
 
-/// The range of a node's links that lie on one side.
+/// The range of a node's links that lie on one side: the indexes at least `from` and less than `to`.
 #[derive(Clone, Copy)]
 pub struct Part {
     pub from: usize,
@@ -61,7 +66,7 @@ pub struct Part {
 }
 
 impl Part {
-    /// Returns the number of links in the range.
+    /// Returns the number of links in the range, 0 if it is empty.
     pub fn size(self) -> usize
         ensures { result ≡ self.to - self.from }
     {
@@ -69,7 +74,7 @@ impl Part {
     }
 }
 
-/// Returns the side of the node on which the link lies.
+/// Returns the side of the node on which the link lies, where the node is one of its ends.
 pub fn side_of(link: &Link, n: ResNo) -> Side
     ensures { result ≡ side_at n link.now }
 {
@@ -88,24 +93,24 @@ pub fn side_of(link: &Link, n: ResNo) -> Side
     }
 }
 
-// Checks whether the link lies on a side of a lower rank than this.
+// Checks whether the link lies on a side whose rank is less than `number`.
 fn is_before(sided_link: &SidedLink, number: u8) -> bool
     ensures { result ≡ ltb (side_no sided_link.now.side) number }
 {
     sided_link.side.number() < number
 }
 
-// Checks whether the link lies on a side of this rank or a lower one.
+// Checks whether the link lies on a side whose rank is at most `number`.
 fn is_until(sided_link: &SidedLink, number: u8) -> bool
     ensures { result ≡ leb (side_no sided_link.now.side) number }
 {
     sided_link.side.number() <= number
 }
 
-/// Counts the links on sides of a lower rank than this, in a row that is sorted by side.
+/// Returns the number of links on sides whose rank is less than `number`, in a row that is sorted by side.
 pub fn count_before(row: &[SidedLink], number: u8) -> usize
     ensures bound { result ≤ length row.now }
-    ensures place { IsPlaceOf (λ s. ltb (side_no s.side) number) row.now result }
+    ensures place { IsPartitionIndex (λ s. ltb (side_no s.side) number) row.now result }
 {
     match row.first() {
         Some(first) if is_before(first, number) => {
@@ -115,10 +120,10 @@ pub fn count_before(row: &[SidedLink], number: u8) -> usize
     }
 }
 
-/// Counts the links on sides of this rank or a lower one, in a row that is sorted by side.
+/// Returns the number of links on sides whose rank is at most `number`, in a row that is sorted by side.
 pub fn count_until(row: &[SidedLink], number: u8) -> usize
     ensures bound { result ≤ length row.now }
-    ensures place { IsPlaceOf (λ s. leb (side_no s.side) number) row.now result }
+    ensures place { IsPartitionIndex (λ s. leb (side_no s.side) number) row.now result }
 {
     match row.last() {
         Some(last) if !is_until(last, number) => {
@@ -128,7 +133,7 @@ pub fn count_until(row: &[SidedLink], number: u8) -> usize
     }
 }
 
-/// Returns the link with its side at the node.
+/// Returns the link with the side of the node on which it lies.
 pub fn sided_link_of(link: &Link, n: ResNo) -> SidedLink
     ensures { result ≡ sided_link_at n link.now }
 {

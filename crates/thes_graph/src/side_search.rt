@@ -1,13 +1,13 @@
-//! A breadth-first search that reads the links at one side of each node, and can pause after each node.
+//! A breadth-first search that reads the links on one side of each node, and can pause after each node.
 ghost use Rattle.std.specs.Prelude.{◌≡◌, ◌≢◌, ◌+◌, ◌-◌, ◌≤◌, ◌<◌, ◌^◌, ◌∷◌, [], ℕ, true, false, List, Contains, OnOk, IfOk, MatchBool, length, sum_by, get_or, slice_get, option_and_then};
 ghost use Rattle.thes_base.specs.declared.data.Link.{Link};
-ghost use Rattle.thes_base.specs.Links.{HeldIn};
+ghost use Rattle.thes_base.specs.Links.{Holds};
 ghost use Rattle.thes_graph.specs.declared.edit.LinkEdit.TheVariants.{NoEdit, AfterMerge};
 ghost use Rattle.thes_graph.specs.Reading.{HaveTwoEnds, IsRow};
 ghost use Rattle.thes_graph.specs.Side.{IsOneSided, IsPart, side_in};
 ghost use Rattle.thes_graph.specs.Steps.{Steps};
 ghost use Rattle.thes_graph.specs.LinkEdit.{HeldAfter, IsValidEdit, CoversAt, IsNoEdit};
-ghost use Rattle.thes_graph.specs.SideSearch.{link_after, step_after_edit, LeadsWithin, LeadsFrom, IsSearchResult, CoversSide, one_on_side, weight, IsHierarchy, IsSideSearch, IsAdvanceResult};
+ghost use Rattle.thes_graph.specs.SideSearch.{link_after, step_after_edit, LeadsWithin, LeadsFrom, IsSearchResult, CoversSide, one_on_side, link_visits, IsHierarchy, IsSideSearch, IsAdvanceResult};
 
 use crate::edit::{LinkEdit, merge};
 use crate::links::Links;
@@ -18,7 +18,7 @@ use std::alloc::{AllocError, Global};
 use thes_base::data::Link;
 use thes_base::number::ResNo;
 
-/// A breadth-first search: the nodes met, and the number of them that are read.
+/// A breadth-first search: the nodes met so far, and the number of them whose links were read.
 #[derive(Drop)]
 pub struct SideSearch {
     pub nodes: Nodes,
@@ -36,7 +36,8 @@ fn edited_link(edit: &LinkEdit, link: &Link) -> Option<Link>
     }
 }
 
-// Reads the i-th link at the node `at`, and returns the node that it leads to from `x` after the edit.
+// Reads the i-th link at the node `at`, and returns the node to which it leads from `x` in the relation after the edit,
+// if any.
 fn step_at_place<L: Links>(
     links: &mut L,
     edit: &LinkEdit,
@@ -45,11 +46,9 @@ fn step_at_place<L: Links>(
     x: ResNo,
     i: usize,
 ) -> Option<ResNo>
-    ensures held { L.held links.new ≡ L.held links.old }
-    ensures outside { L.outside links.new ≡ L.outside links.old }
-    ensures rows { L.links_of links.new ≡ L.links_of links.old }
+    ensures net { L.net links.new ≡ L.net links.old }
     ensures step_after_edit { result ≡ option_and_then (step_after_edit edit.now relation x)
-        (slice_get (L.links_of links.old at) i) }
+        (slice_get (L.links_of (L.net links.old) at) i) }
     ensures count { L.count links.new ≤ L.count links.old + 1 }
 {
     let link = links.link_at(at, i)?;
@@ -57,7 +56,7 @@ fn step_at_place<L: Links>(
     step(relation, &after, x)
 }
 
-// Appends the node, unless it is a goal. Returns whether it is one.
+// Appends the node, if there is one, to those met, unless it is a goal. Returns whether it is one.
 fn take(nodes: &mut Nodes, next: Option<ResNo>, goals: &Nodes) -> Result<bool, AllocError>
     ensures { IfOk result
         (λ found. IsSearchResult found nodes.old nodes.new goals.now (λ y. next ≡ Some y)) }
@@ -72,8 +71,8 @@ fn take(nodes: &mut Nodes, next: Option<ResNo>, goals: &Nodes) -> Result<bool, A
     Ok(false)
 }
 
-// Appends the nodes that this range of the links at `at` leads to from `x`, up to the first goal. Returns whether
-// there is one.
+// Appends the nodes to which this range of the links at `at` leads from `x` in the relation after the edit, up to the
+// first goal. Returns whether there is a goal.
 fn follow_part<L: Links>(
     links: &mut L,
     nodes: &mut Nodes,
@@ -84,11 +83,9 @@ fn follow_part<L: Links>(
     x: ResNo,
     goals: &Nodes,
 ) -> Result<bool, AllocError>
-    ensures held { L.held links.new ≡ L.held links.old }
-    ensures outside { L.outside links.new ≡ L.outside links.old }
-    ensures rows { L.links_of links.new ≡ L.links_of links.old }
+    ensures net { L.net links.new ≡ L.net links.old }
     ensures finds { IfOk result (λ found. IsSearchResult found nodes.old nodes.new goals.now
-        (LeadsWithin edit.now relation x (L.links_of links.old at) part.from part.to)) }
+        (LeadsWithin edit.now relation x (L.links_of (L.net links.old) at) part.from part.to)) }
     ensures count { L.count links.new ≤ L.count links.old + (part.to - part.from) }
 {
     for i in part.from..part.to {
@@ -100,8 +97,8 @@ fn follow_part<L: Links>(
     Ok(false)
 }
 
-// Appends the nodes that the links at `at`, at the side of the relation, lead to from `x`, up to the first goal.
-// Returns whether there is one.
+// Appends the nodes to which the links at `at`, on the side of the relation, lead from `x` after the edit, up to the
+// first goal. Returns whether there is a goal.
 fn follow<L: Links>(
     links: &mut L,
     nodes: &mut Nodes,
@@ -111,14 +108,12 @@ fn follow<L: Links>(
     x: ResNo,
     goals: &Nodes,
 ) -> Result<bool, AllocError>
-    ensures held { L.held links.new ≡ L.held links.old }
-    ensures outside { L.outside links.new ≡ L.outside links.old }
-    ensures rows { L.links_of links.new ≡ L.links_of links.old }
-    ensures two_ends { OnOk result (HaveTwoEnds (HeldIn (L.held links.old))) }
+    ensures net { L.net links.new ≡ L.net links.old }
+    ensures two_ends { OnOk result (HaveTwoEnds (Holds (L.net links.old).links)) }
     ensures finds { IfOk result (λ found. IsSearchResult found nodes.old nodes.new goals.now
-        (LeadsFrom edit.now (L.held links.old) relation at x)) }
+        (LeadsFrom edit.now (L.net links.old).links relation at x)) }
     ensures count { OnOk result
-        ((ns : List Link) → CoversSide (L.held links.old) at (side_in relation) ns
+        ((ns : List Link) → CoversSide (L.net links.old).links at (side_in relation) ns
         → L.count links.new ≤ L.count links.old + sum_by (one_on_side at (side_in relation)) ns) }
 {
     let part = links.part(at, side_for(relation));
@@ -126,7 +121,8 @@ fn follow<L: Links>(
     Ok(found)
 }
 
-// Follows the links at the source and at the target of a merge, for what the target leads to after it.
+// Appends the nodes to which the target of a merge leads in the relation after it, by the links held at the source and
+// at the target, up to the first goal. Returns whether there is a goal.
 fn follow_merged<L: Links>(
     links: &mut L,
     nodes: &mut Nodes,
@@ -139,15 +135,13 @@ fn follow_merged<L: Links>(
     requires merge { edit.now ≡ AfterMerge source target }
     requires ends { source ≢ target }
     requires walked { IsOneSided relation }
-    ensures held { L.held links.new ≡ L.held links.old }
-    ensures outside { L.outside links.new ≡ L.outside links.old }
-    ensures rows { L.links_of links.new ≡ L.links_of links.old }
+    ensures net { L.net links.new ≡ L.net links.old }
     ensures finds { IfOk result (λ found. IsSearchResult found nodes.old nodes.new goals.now
-        (Steps relation (HeldAfter (AfterMerge source target) (L.held links.old)) target)) }
+        (Steps relation (HeldAfter (AfterMerge source target) (L.net links.old).links) target)) }
     ensures count { OnOk result
-        ((ns : List Link) → CoversAt (AfterMerge source target) (L.held links.old) target ns
+        ((ns : List Link) → CoversAt (AfterMerge source target) (L.net links.old).links target ns
         → L.count links.new ≤ L.count links.old
-        + sum_by (weight (AfterMerge source target) target (side_in relation)) ns) }
+        + sum_by (link_visits (AfterMerge source target) target (side_in relation)) ns) }
 {
     if follow(links, nodes, edit, relation, target, target, goals)? {
         return Ok(true);
@@ -156,7 +150,8 @@ fn follow_merged<L: Links>(
     Ok(found)
 }
 
-/// Appends the nodes that `x` leads to after the edit, up to the first goal. Returns whether there is one.
+/// Appends the nodes to which `x` leads in the relation after the edit, up to the first goal, and returns whether there
+/// is a goal.
 pub fn follow_after_edit<L: Links>(
     links: &mut L,
     nodes: &mut Nodes,
@@ -167,16 +162,14 @@ pub fn follow_after_edit<L: Links>(
 ) -> Result<bool, AllocError>
     requires fit { IsValidEdit edit.now }
     requires walked { IsOneSided relation }
-    ensures held { L.held links.new ≡ L.held links.old }
-    ensures outside { L.outside links.new ≡ L.outside links.old }
-    ensures rows { L.links_of links.new ≡ L.links_of links.old }
+    ensures net { L.net links.new ≡ L.net links.old }
     ensures two_ends { OnOk result
-        (IsNoEdit edit.now → HaveTwoEnds (HeldIn (L.held links.old))) }
+        (IsNoEdit edit.now → HaveTwoEnds (Holds (L.net links.old).links)) }
     ensures finds { IfOk result (λ found. IsSearchResult found nodes.old nodes.new goals.now
-        (Steps relation (HeldAfter edit.now (L.held links.old)) x)) }
-    ensures count { OnOk result ((ns : List Link) → CoversAt edit.now (L.held links.old) x ns
+        (Steps relation (HeldAfter edit.now (L.net links.old).links) x)) }
+    ensures count { OnOk result ((ns : List Link) → CoversAt edit.now (L.net links.old).links x ns
         → L.count links.new
-        ≤ L.count links.old + sum_by (weight edit.now x (side_in relation)) ns) }
+        ≤ L.count links.old + sum_by (link_visits edit.now x (side_in relation)) ns) }
 {
     match edit {
         LinkEdit::NoEdit => {
@@ -205,7 +198,7 @@ pub fn follow_after_edit<L: Links>(
 }
 
 impl SideSearch {
-    /// Starts a search at the node, which is unread.
+    /// Starts a search at the node, which is met but not yet read.
     pub fn start(alloc: Global, start: ResNo) -> Result<SideSearch, AllocError>
         ensures nodes { IfOk result (λ side_search. side_search.nodes ≡ start ∷ []) }
         ensures unread { IfOk result (λ side_search. side_search.next ≡ 0) }
@@ -214,7 +207,7 @@ impl SideSearch {
         Ok(SideSearch { nodes, next: 0 })
     }
 
-    /// Checks whether all nodes met are read.
+    /// Checks whether the links of all nodes met were read, so that the search is at its end.
     pub fn is_done(&self) -> bool
         ensures done { MatchBool result (length self.now.nodes ≤ self.now.next)
             (self.now.next < length self.now.nodes) }
@@ -223,7 +216,8 @@ impl SideSearch {
         self.nodes.as_slice().len() <= self.next
     }
 
-    /// Reads the next node, and returns whether it leads to a goal.
+    /// Reads the links that lead from the next node in the relation after the edit, appends the nodes to which they
+    /// lead, up to the first goal, and returns whether there is a goal.
     pub fn advance<L: Links>(
         &mut self,
         links: &mut L,
@@ -234,15 +228,13 @@ impl SideSearch {
         requires fit { IsValidEdit edit.now }
         requires walked { IsHierarchy relation }
         requires more { self.old.next < length self.old.nodes }
-        ensures held { L.held links.new ≡ L.held links.old }
-        ensures outside { L.outside links.new ≡ L.outside links.old }
-        ensures rows { L.links_of links.new ≡ L.links_of links.old }
+        ensures net { L.net links.new ≡ L.net links.old }
         ensures two_ends { OnOk result
-            (IsNoEdit edit.now → HaveTwoEnds (HeldIn (L.held links.old))) }
+            (IsNoEdit edit.now → HaveTwoEnds (Holds (L.net links.old).links)) }
         ensures next { OnOk result (self.new.next ≡ self.old.next + 1) }
-        ensures goes { IfOk result (λ found. (start read : ℕ)
-            → IsSideSearch edit.now (L.held links.old) relation goals.now start self.old read
-            → IsAdvanceResult edit.now (L.held links.old) relation goals.now start self.new
+        ensures advances { IfOk result (λ found. (start read : ℕ)
+            → IsSideSearch edit.now (L.net links.old).links relation goals.now start self.old read
+            → IsAdvanceResult edit.now (L.net links.old).links relation goals.now start self.new
             (read + (L.count links.new - L.count links.old)) found) }
     {
         let x = self.nodes.as_slice()[self.next];
@@ -251,19 +243,20 @@ impl SideSearch {
         Ok(found)
     }
 
-    /// Returns the range of the next node's held links that lead further in the relation.
+    /// Returns the range of the next node's held links on the side of the relation, without reading them.
     pub fn next_part<L: Links>(&self, links: &L, relation: Relation) -> Part
         requires more { self.now.next < length self.now.nodes }
-        ensures two_ends { HaveTwoEnds (HeldIn (L.held links.now)) }
+        ensures two_ends { HaveTwoEnds (Holds (L.net links.now).links) }
         ensures listed { let x = get_or self.now.nodes self.now.next 0 in
-            IsRow (L.held links.now) x (L.links_of links.now x) }
+            IsRow (L.net links.now).links x (L.links_of (L.net links.now) x) }
         ensures part { let x = get_or self.now.nodes self.now.next 0 in
-            IsPart (L.links_of links.now x) x (side_in relation) result }
+            IsPart (L.links_of (L.net links.now) x) x (side_in relation) result }
     {
         links.part(self.nodes.as_slice()[self.next], side_for(relation))
     }
 
-    /// Reads this range of the next node's held links, and returns whether it leads to a goal.
+    /// Reads this range of the next node's held links, appends the nodes to which they lead, up to the first goal, and
+    /// returns whether there is a goal.
     pub fn advance_at<L: Links>(
         &mut self,
         links: &mut L,
@@ -273,19 +266,17 @@ impl SideSearch {
     ) -> Result<bool, AllocError>
         requires walked { IsHierarchy relation }
         requires more { self.old.next < length self.old.nodes }
-        requires two_ends { HaveTwoEnds (HeldIn (L.held links.old)) }
+        requires two_ends { HaveTwoEnds (Holds (L.net links.old).links) }
         requires listed { let x = get_or self.old.nodes self.old.next 0 in
-            IsRow (L.held links.old) x (L.links_of links.old x) }
+            IsRow (L.net links.old).links x (L.links_of (L.net links.old) x) }
         requires part { let x = get_or self.old.nodes self.old.next 0 in
-            IsPart (L.links_of links.old x) x (side_in relation) part }
-        ensures held { L.held links.new ≡ L.held links.old }
-        ensures outside { L.outside links.new ≡ L.outside links.old }
-        ensures rows { L.links_of links.new ≡ L.links_of links.old }
+            IsPart (L.links_of (L.net links.old) x) x (side_in relation) part }
+        ensures net { L.net links.new ≡ L.net links.old }
         ensures next { OnOk result (self.new.next ≡ self.old.next + 1) }
         ensures count { L.count links.new ≤ L.count links.old + (part.to - part.from) }
-        ensures goes { IfOk result (λ found. (start read : ℕ)
-            → IsSideSearch NoEdit (L.held links.old) relation goals.now start self.old read
-            → IsAdvanceResult NoEdit (L.held links.old) relation goals.now start self.new
+        ensures advances { IfOk result (λ found. (start read : ℕ)
+            → IsSideSearch NoEdit (L.net links.old).links relation goals.now start self.old read
+            → IsAdvanceResult NoEdit (L.net links.old).links relation goals.now start self.new
             (read + (part.to - part.from)) found) }
     {
         let x = self.nodes.as_slice()[self.next];
@@ -295,7 +286,7 @@ impl SideSearch {
         Ok(found)
     }
 
-    /// Reads node after node, until all are read or one leads to a goal. Returns whether one does.
+    /// Advances node after node, until all are read or one leads to a goal, and returns whether one does.
     pub fn finish<L: Links>(
         &mut self,
         links: &mut L,
@@ -305,14 +296,12 @@ impl SideSearch {
     ) -> Result<bool, AllocError>
         requires fit { IsValidEdit edit.now }
         requires walked { IsHierarchy relation }
-        ensures held { L.held links.new ≡ L.held links.old }
-        ensures outside { L.outside links.new ≡ L.outside links.old }
-        ensures rows { L.links_of links.new ≡ L.links_of links.old }
+        ensures net { L.net links.new ≡ L.net links.old }
         ensures done { IfOk result
             (λ found. found ≡ false → length self.new.nodes ≤ self.new.next) }
-        ensures goes { IfOk result (λ found. (start read : ℕ)
-            → IsSideSearch edit.now (L.held links.old) relation goals.now start self.old read
-            → IsAdvanceResult edit.now (L.held links.old) relation goals.now start self.new
+        ensures advances { IfOk result (λ found. (start read : ℕ)
+            → IsSideSearch edit.now (L.net links.old).links relation goals.now start self.old read
+            → IsAdvanceResult edit.now (L.net links.old).links relation goals.now start self.new
             (read + (L.count links.new - L.count links.old)) found) }
     {
         'reading: while !self.is_done() {

@@ -1,16 +1,16 @@
-//! Checks a link up from a low node to a high one by two searches that alternate, up from the high node and down from
-//! the low one. The search that ends first has all nodes of its side; the other one is finished if a related link
-//! leads from there.
+//! Checks a link from a low node up to a high one by two searches that take turns, up from the high node and down from
+//! the low one. The search that ends first has met all nodes of its side; the other one is finished only if a related
+//! link may lead from one of these nodes.
 ghost use Rattle.std.specs.Prelude.{◌≡◌, ◌+◌, ◌-◌, ◌*◌, ◌≤◌, ◌<◌, ℕ, true, false, List, Contains, OnOk, IfOk, MatchBool, length};
 ghost use Rattle.thes_base.specs.declared.data.Link.{Link};
-ghost use Rattle.thes_base.specs.Links.{HeldIn};
+ghost use Rattle.thes_base.specs.Links.{Holds};
 ghost use Rattle.thes_graph.specs.declared.relation.Relation.TheVariants.{Related};
 ghost use Rattle.thes_graph.specs.declared.side.Side.TheVariants.{Sideways};
 ghost use Rattle.thes_graph.specs.Reading.{HaveTwoEnds};
 ghost use Rattle.thes_graph.specs.Side.{IsOneSided};
 ghost use Rattle.thes_graph.specs.Steps.{Steps, Reaches};
 ghost use Rattle.thes_graph.specs.LinkEdit.{HeldAfter, IsValidEdit, CoversAt, IsNoEdit};
-ghost use Rattle.thes_graph.specs.SideSearch.{read_cost, IsHierarchy, IsSideSearch, AreAlternating, HaveMet, AreTied, IsSecondResult, IsBrokenBetween, CoversBetween};
+ghost use Rattle.thes_graph.specs.SideSearch.{read_cost, IsHierarchy, IsSideSearch, AreAlternating, HasEitherFoundGoal, AreTied, IsSecondResult, IsBrokenBetween, CoversBetween};
 
 use crate::edit::LinkEdit;
 use crate::ends::is_end_after;
@@ -22,8 +22,9 @@ use std::alloc::{AllocError, Global};
 use thes_base::fault::Refusal;
 use thes_base::number::ResNo;
 
-// Advances the search that would then have read less, and returns whether it found a goal. A search has read about as
-// much as it has met, so none reads the many links of a broad node while the other has few.
+// Advances the search that will have read less after its next node, and returns whether it found a goal. What a search
+// has read is estimated by the nodes that it has met, so that neither reads a node's many links while the other has
+// few.
 fn advance_in_turn<L: Links>(
     links: &mut L,
     edit: &LinkEdit,
@@ -35,19 +36,18 @@ fn advance_in_turn<L: Links>(
     requires fit { IsValidEdit edit.now }
     requires up { up.old.next < length up.old.nodes }
     requires down { down.old.next < length down.old.nodes }
-    ensures held { L.held links.new ≡ L.held links.old }
-    ensures outside { L.outside links.new ≡ L.outside links.old }
-    ensures rows { L.links_of links.new ≡ L.links_of links.old }
+    ensures net { L.net links.new ≡ L.net links.old }
     ensures two_ends { OnOk result
-        (IsNoEdit edit.now → HaveTwoEnds (HeldIn (L.held links.old))) }
+        (IsNoEdit edit.now → HaveTwoEnds (Holds (L.net links.old).links)) }
     ensures next { OnOk result (up.new.next + down.new.next ≡ up.old.next + down.old.next + 1) }
-    ensures goes { IfOk result (λ found. (low high from : ℕ)
-        → AreAlternating edit.now (L.held links.old) lows.now highs.now low high up.old down.old
-        from (L.count links.old)
+    ensures advances { IfOk result (λ found. (low high from : ℕ)
+        → AreAlternating edit.now (L.net links.old).links lows.now highs.now low high up.old
+        down.old from (L.count links.old)
         → MatchBool found
-        (HaveMet edit.now (L.held links.old) lows.now highs.now low high from (L.count links.new))
-        (AreAlternating edit.now (L.held links.old) lows.now highs.now low high up.new down.new from
-        (L.count links.new))) }
+        (HasEitherFoundGoal edit.now (L.net links.old).links lows.now highs.now low high from
+        (L.count links.new))
+        (AreAlternating edit.now (L.net links.old).links lows.now highs.now low high up.new
+        down.new from (L.count links.new))) }
 {
     let up_part = up.next_part(links, Relation::Broader);
     let down_part = down.next_part(links, Relation::Narrower);
@@ -61,7 +61,8 @@ fn advance_in_turn<L: Links>(
     Ok(found)
 }
 
-// Advances the searches alternately until one is done or has found a goal. Returns whether a goal was found.
+// Advances the two searches, each time the one that will have read less, until one is done or has found a goal, and
+// returns whether a goal was found.
 fn search_in_turns<L: Links>(
     links: &mut L,
     edit: &LinkEdit,
@@ -72,21 +73,20 @@ fn search_in_turns<L: Links>(
 ) -> Result<bool, AllocError>
     requires fit { IsValidEdit edit.now }
     requires new { (up.old.next ≡ 0) × (down.old.next ≡ 0) }
-    ensures held { L.held links.new ≡ L.held links.old }
-    ensures outside { L.outside links.new ≡ L.outside links.old }
-    ensures rows { L.links_of links.new ≡ L.links_of links.old }
+    ensures net { L.net links.new ≡ L.net links.old }
     ensures two_ends { OnOk result (IsNoEdit edit.now → 0 < up.new.next + down.new.next
-        → HaveTwoEnds (HeldIn (L.held links.old))) }
+        → HaveTwoEnds (Holds (L.net links.old).links)) }
     ensures turns { IfOk result (λ found. found ≡ true → 0 < up.new.next + down.new.next) }
     ensures done { IfOk result (λ found. found ≡ false → up.new.next < length up.new.nodes
         → length down.new.nodes ≤ down.new.next) }
-    ensures goes { IfOk result (λ found. (low high from : ℕ)
-        → AreAlternating edit.now (L.held links.old) lows.now highs.now low high up.old down.old
-        from (L.count links.old)
+    ensures advances { IfOk result (λ found. (low high from : ℕ)
+        → AreAlternating edit.now (L.net links.old).links lows.now highs.now low high up.old
+        down.old from (L.count links.old)
         → MatchBool found
-        (HaveMet edit.now (L.held links.old) lows.now highs.now low high from (L.count links.new))
-        (AreAlternating edit.now (L.held links.old) lows.now highs.now low high up.new down.new from
-        (L.count links.new))) }
+        (HasEitherFoundGoal edit.now (L.net links.old).links lows.now highs.now low high from
+        (L.count links.new))
+        (AreAlternating edit.now (L.net links.old).links lows.now highs.now low high up.new
+        down.new from (L.count links.new))) }
 {
     'turns: while !up.is_done() && !down.is_done() {
         if advance_in_turn(links, edit, up, down, lows, highs)? {
@@ -96,10 +96,11 @@ fn search_in_turns<L: Links>(
     Ok(false)
 }
 
-// Returns true if certainly no related link leads from any of the nodes after the edit. Reads no link.
+// Returns true if certainly no related link leads from any of the nodes after the edit, without reading a link; false
+// decides nothing.
 fn have_none<L: Links>(links: &L, edit: &LinkEdit, xs: &Nodes) -> bool
     ensures { result ≡ true → (x y : ℕ) → Contains xs.now x
-        → Steps Related (HeldAfter edit.now (L.held links.now)) x y → ⊥ }
+        → Steps Related (HeldAfter edit.now (L.net links.now).links) x y → ⊥ }
 {
     for x in xs.as_slice() {
         if !is_end_after(links, edit, *x, Relation::Related) {
@@ -109,7 +110,7 @@ fn have_none<L: Links>(links: &L, edit: &LinkEdit, xs: &Nodes) -> bool
     true
 }
 
-// Checks whether a related link leads from one of `xs` to one of `ys` after the edit.
+// Checks whether a related link joins one of `xs` to one of `ys` after the edit.
 fn are_tied<L: Links>(
     alloc: Global,
     links: &mut L,
@@ -118,14 +119,12 @@ fn are_tied<L: Links>(
     ys: &Nodes,
 ) -> Result<bool, AllocError>
     requires { IsValidEdit edit.now }
-    ensures held { L.held links.new ≡ L.held links.old }
-    ensures outside { L.outside links.new ≡ L.outside links.old }
-    ensures rows { L.links_of links.new ≡ L.links_of links.old }
+    ensures net { L.net links.new ≡ L.net links.old }
     ensures tied { IfOk result
-        (λ found. MatchBool found (AreTied edit.now (L.held links.old) xs.now ys.now)
-        (AreTied edit.now (L.held links.old) xs.now ys.now → ⊥)) }
+        (λ found. MatchBool found (AreTied edit.now (L.net links.old).links xs.now ys.now)
+        (AreTied edit.now (L.net links.old).links xs.now ys.now → ⊥)) }
     ensures count { OnOk result ((ns : List Link)
-        → ((n : ℕ) → Contains xs.now n → CoversAt edit.now (L.held links.old) n ns)
+        → ((n : ℕ) → Contains xs.now n → CoversAt edit.now (L.net links.old).links n ns)
         → L.count links.new ≤ L.count links.old + read_cost edit.now Sideways xs.now ns) }
 {
     let mut met = Nodes::none(alloc);
@@ -137,8 +136,8 @@ fn are_tied<L: Links>(
     Ok(false)
 }
 
-// Finishes the other search where the first has met all of its nodes, and returns which of Cycle and S27 would be
-// broken, if either.
+// Returns which of Cycle and S27 would be broken, given `ended`, all nodes that the first search could reach. Finishes
+// the other search only if a related link may lead from one of them.
 fn check_second_search<L: Links>(
     alloc: Global,
     links: &mut L,
@@ -150,17 +149,16 @@ fn check_second_search<L: Links>(
 ) -> Result<Option<Refusal>, AllocError>
     requires fit { IsValidEdit edit.now }
     requires walked { IsHierarchy relation }
-    ensures held { L.held links.new ≡ L.held links.old }
-    ensures outside { L.outside links.new ≡ L.outside links.old }
-    ensures rows { L.links_of links.new ≡ L.links_of links.old }
+    ensures net { L.net links.new ≡ L.net links.old }
     ensures rest { IfOk result (λ answer. (start read : ℕ)
-        → IsSideSearch edit.now (L.held links.old) relation goals.now start other.old read
-        → IsSecondResult edit.now (L.held links.old) relation goals.now ended.now start answer) }
+        → IsSideSearch edit.now (L.net links.old).links relation goals.now start other.old read
+        → IsSecondResult edit.now (L.net links.old).links relation goals.now ended.now start
+        answer) }
     ensures count { OnOk result ((start read : ℕ) (ns : List Link)
-        → IsSideSearch edit.now (L.held links.old) relation goals.now start other.old read
-        → ((n : ℕ) → Reaches (Steps relation (HeldAfter edit.now (L.held links.old))) start n
-        → CoversAt edit.now (L.held links.old) n ns)
-        → ((n : ℕ) → Contains ended.now n → CoversAt edit.now (L.held links.old) n ns)
+        → IsSideSearch edit.now (L.net links.old).links relation goals.now start other.old read
+        → ((n : ℕ) → Reaches (Steps relation (HeldAfter edit.now (L.net links.old).links)) start n
+        → CoversAt edit.now (L.net links.old).links n ns)
+        → ((n : ℕ) → Contains ended.now n → CoversAt edit.now (L.net links.old).links n ns)
         → read + L.count links.new
         ≤ L.count links.old + 2 * length ns + read_cost edit.now Sideways ended.now ns) }
 {
@@ -176,8 +174,8 @@ fn check_second_search<L: Links>(
     Ok(None)
 }
 
-/// Returns which of Cycle and S27 a link up from the low node to the high one would break in the links after the edit,
-/// if either.
+/// Returns the first of Cycle and S27 that a link from the low node up to the high one would break, together with the
+/// links after the edit.
 pub fn check_upward_link<L: Links>(
     alloc: Global,
     links: &mut L,
@@ -186,15 +184,13 @@ pub fn check_upward_link<L: Links>(
     high: ResNo,
 ) -> Result<Option<Refusal>, AllocError>
     requires { IsValidEdit edit.now }
-    ensures held { L.held links.new ≡ L.held links.old }
-    ensures outside { L.outside links.new ≡ L.outside links.old }
-    ensures rows { L.links_of links.new ≡ L.links_of links.old }
+    ensures net { L.net links.new ≡ L.net links.old }
     ensures two_ends { OnOk result
-        (IsNoEdit edit.now → HaveTwoEnds (HeldIn (L.held links.old))) }
+        (IsNoEdit edit.now → HaveTwoEnds (Holds (L.net links.old).links)) }
     ensures broken { IfOk result
-        (IsBrokenBetween (HeldAfter edit.now (L.held links.old)) low high) }
+        (IsBrokenBetween (HeldAfter edit.now (L.net links.old).links) low high) }
     ensures count { OnOk result
-        ((ns : List Link) → CoversBetween edit.now (L.held links.old) low high ns
+        ((ns : List Link) → CoversBetween edit.now (L.net links.old).links low high ns
         → L.count links.new ≤ L.count links.old + 4 * length ns) }
 {
     let lows = Nodes::singleton(alloc, low)?;

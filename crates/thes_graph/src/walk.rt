@@ -1,11 +1,12 @@
-//! Collects the nodes that a relation reaches from a start, and the links there.
-ghost use Rattle.std.specs.Prelude.{◌≡◌, ◌≢◌, ◌+◌, ◌*◌, ◌≤◌, ℕ, List, Contains, OnOk, IfOk, MatchBool, length, sum_by};
+//! Collects the nodes reachable from a start node in a relation, with the links there.
+ghost use Rattle.std.specs.Prelude.{◌≡◌, ◌≢◌, ◌↔◌, ◌+◌, ◌*◌, ◌≤◌, ℕ, List, Contains, OnOk, IfOk, MatchBool, length, sum_by};
+ghost use Rattle.std.specs.List.{filter_map};
 ghost use Rattle.thes_base.specs.declared.data.Link.{Link};
-ghost use Rattle.thes_base.specs.Links.{HeldIn};
+ghost use Rattle.thes_base.specs.Links.{Holds};
 ghost use Rattle.thes_graph.specs.declared.edit.LinkEdit.TheVariants.{AfterMerge};
 ghost use Rattle.thes_graph.specs.Reading.{HaveTwoEnds, IsRow};
-ghost use Rattle.thes_graph.specs.Steps.{Steps, GrowsBy, Ties};
-ghost use Rattle.thes_graph.specs.LinkEdit.{HeldAfter, touches, IsReadOf, CoversAt, row_after_edit, IsValidEdit, IsNoEdit};
+ghost use Rattle.thes_graph.specs.Steps.{Steps, GrowsBy, Ties, step_along};
+ghost use Rattle.thes_graph.specs.LinkEdit.{HeldAfter, ends_at_node, IsReadOf, CoversAt, row_after_edit, IsValidEdit, IsNoEdit};
 ghost use Rattle.thes_graph.specs.Local.{IsReachableSet};
 
 use crate::edit::{LinkEdit, links_after_edit};
@@ -16,7 +17,7 @@ use std::alloc::{AllocError, Global};
 use thes_base::data::{Direction, Link};
 use thes_base::number::ResNo;
 
-// Appends the nodes that the links lead to from `x`.
+// Appends the nodes to which the links lead from `x` in the relation, unless they are there.
 fn meet_steps(
     nodes: &mut Nodes,
     links: &[Link],
@@ -34,13 +35,11 @@ fn meet_steps(
     Ok(())
 }
 
-/// Reads all links at the node.
+/// Reads all links at the node, in as many visits as it has links.
 pub fn fetch<L: Links>(alloc: Global, links: &mut L, node: ResNo) -> Result<Vec<Link>, AllocError>
-    ensures held { L.held links.new ≡ L.held links.old }
-    ensures outside { L.outside links.new ≡ L.outside links.old }
-    ensures rows { L.links_of links.new ≡ L.links_of links.old }
-    ensures two_ends { OnOk result (HaveTwoEnds (HeldIn (L.held links.old))) }
-    ensures listed { IfOk result (λ row. IsRow (L.held links.old) node row.items) }
+    ensures net { L.net links.new ≡ L.net links.old }
+    ensures two_ends { OnOk result (HaveTwoEnds (Holds (L.net links.old).links)) }
+    ensures listed { IfOk result (λ row. IsRow (L.net links.old).links node row.items) }
     ensures count { IfOk result (λ row. L.count links.new ≤ L.count links.old + length row.items) }
 {
     let mut row = Vec::new(alloc);
@@ -53,7 +52,43 @@ pub fn fetch<L: Links>(alloc: Global, links: &mut L, node: ResNo) -> Result<Vec<
     Ok(row)
 }
 
-// Reads the held links that have an end at the node after the edit.
+// Returns the nodes to which these links lead from `n` in the relation, with duplicates.
+fn nodes_along(
+    alloc: Global,
+    links: &[Link],
+    relation: Relation,
+    n: ResNo,
+) -> Result<Vec<ResNo>, AllocError>
+    ensures { IfOk result
+        (λ next. next.items ≡ filter_map (λ l. step_along relation l n) links.now) }
+{
+    let mut next = Vec::new(alloc);
+    for link in links {
+        match step(relation, link, n) {
+            Some(y) => next.push(y)?,
+            None => {}
+        }
+    }
+    Ok(next)
+}
+
+/// Returns the nodes to which the held links lead from `n` in the relation, perhaps with duplicates.
+pub fn next_nodes<L: Links>(
+    alloc: Global,
+    links: &mut L,
+    relation: Relation,
+    n: ResNo,
+) -> Result<Vec<ResNo>, AllocError>
+    ensures net { L.net links.new ≡ L.net links.old }
+    ensures next { IfOk result (λ next. (y : ℕ)
+        → Contains next.items y ↔ Steps relation (Holds (L.net links.old).links) n y) }
+{
+    let row = fetch(alloc, links, n)?;
+    let next = nodes_along(alloc, &row, relation, n)?;
+    Ok(next)
+}
+
+// Reads the held links that will have an end at the node after the edit, as they are before it.
 fn read<L: Links>(
     alloc: Global,
     links: &mut L,
@@ -61,14 +96,13 @@ fn read<L: Links>(
     node: ResNo,
 ) -> Result<Vec<Link>, AllocError>
     requires { IsValidEdit edit.now }
-    ensures held { L.held links.new ≡ L.held links.old }
-    ensures outside { L.outside links.new ≡ L.outside links.old }
-    ensures rows { L.links_of links.new ≡ L.links_of links.old }
+    ensures net { L.net links.new ≡ L.net links.old }
     ensures two_ends { OnOk result
-        (IsNoEdit edit.now → HaveTwoEnds (HeldIn (L.held links.old))) }
-    ensures read { IfOk result (λ row. IsReadOf edit.now (L.held links.old) node row.items) }
-    ensures count { OnOk result ((ns : List Link) → CoversAt edit.now (L.held links.old) node ns
-        → L.count links.new ≤ L.count links.old + sum_by (touches edit.now node) ns) }
+        (IsNoEdit edit.now → HaveTwoEnds (Holds (L.net links.old).links)) }
+    ensures read { IfOk result (λ row. IsReadOf edit.now (L.net links.old).links node row.items) }
+    ensures count { OnOk result ((ns : List Link)
+        → CoversAt edit.now (L.net links.old).links node ns
+        → L.count links.new ≤ L.count links.old + sum_by (ends_at_node edit.now node) ns) }
 {
     match edit {
         LinkEdit::NoEdit => {
@@ -86,7 +120,8 @@ fn read<L: Links>(
     }
 }
 
-// Reads the held links that have an end at the node after the merge: none at the source, those of both at the target.
+// Reads the held links that will have an end at the node after the merge: none at the source, and at the target those
+// of both.
 fn read_merged<L: Links>(
     alloc: Global,
     links: &mut L,
@@ -95,14 +130,12 @@ fn read_merged<L: Links>(
     node: ResNo,
 ) -> Result<Vec<Link>, AllocError>
     requires { source ≢ target }
-    ensures held { L.held links.new ≡ L.held links.old }
-    ensures outside { L.outside links.new ≡ L.outside links.old }
-    ensures rows { L.links_of links.new ≡ L.links_of links.old }
+    ensures net { L.net links.new ≡ L.net links.old }
     ensures read { IfOk result
-        (λ row. IsReadOf (AfterMerge source target) (L.held links.old) node row.items) }
+        (λ row. IsReadOf (AfterMerge source target) (L.net links.old).links node row.items) }
     ensures count { OnOk result ((ns : List Link) → CoversAt (AfterMerge source target)
-        (L.held links.old) node ns → L.count links.new
-        ≤ L.count links.old + sum_by (touches (AfterMerge source target) node) ns) }
+        (L.net links.old).links node ns → L.count links.new
+        ≤ L.count links.old + sum_by (ends_at_node (AfterMerge source target) node) ns) }
 {
     if node == source {
         return Ok(Vec::new(alloc));
@@ -117,14 +150,14 @@ fn read_merged<L: Links>(
     Ok(row)
 }
 
-/// The nodes that a relation reaches from a start, and the links at these nodes.
+/// The nodes reachable from a start node in a relation, and the links with an end at one of them.
 #[derive(Drop)]
 pub struct ReachableSet {
     pub nodes: Nodes,
     pub links: Vec<Link>,
 }
 
-/// Collects the nodes reachable from `start` after the edit, including itself, and their links.
+/// Collects the nodes reachable from `start` in the relation after the edit, `start` included, and their links.
 pub fn gather<L: Links>(
     alloc: Global,
     links: &mut L,
@@ -133,15 +166,13 @@ pub fn gather<L: Links>(
     relation: Relation,
 ) -> Result<ReachableSet, AllocError>
     requires { IsValidEdit edit.now }
-    ensures held { L.held links.new ≡ L.held links.old }
-    ensures outside { L.outside links.new ≡ L.outside links.old }
-    ensures rows { L.links_of links.new ≡ L.links_of links.old }
+    ensures net { L.net links.new ≡ L.net links.old }
     ensures two_ends { OnOk result
-        (IsNoEdit edit.now → HaveTwoEnds (HeldIn (L.held links.old))) }
+        (IsNoEdit edit.now → HaveTwoEnds (Holds (L.net links.old).links)) }
     ensures gathered { IfOk result (λ got. IsReachableSet (HeldAfter edit.now
-        (L.held links.old)) relation start got.nodes got.links.items) }
+        (L.net links.old).links) relation start got.nodes got.links.items) }
     ensures count { IfOk result (λ got. (ns : List Link) → ((n : ℕ) → Contains got.nodes n
-        → CoversAt edit.now (L.held links.old) n ns)
+        → CoversAt edit.now (L.net links.old).links n ns)
         → L.count links.new ≤ L.count links.old + 2 * length ns) }
 {
     let mut nodes = Nodes::singleton(alloc, start)?;
@@ -162,7 +193,7 @@ pub fn gather<L: Links>(
     })
 }
 
-// Checks whether the link leads from one of `xs` to one of `ys`.
+// Checks whether the link leads from one of `xs` to one of `ys` in the relation.
 fn ties(relation: Relation, link: &Link, xs: &Nodes, ys: &Nodes) -> bool
     ensures { MatchBool result (Ties relation link.now xs.now ys.now)
         (Ties relation link.now xs.now ys.now → ⊥) }
@@ -177,8 +208,8 @@ fn ties(relation: Relation, link: &Link, xs: &Nodes, ys: &Nodes) -> bool
     }
 }
 
-/// Checks whether some link leads from one of `xs` to one of `ys`.
-pub fn some_ties(relation: Relation, links: &[Link], xs: &Nodes, ys: &Nodes) -> bool
+/// Checks whether some link of the list leads from one of `xs` to one of `ys` in the relation.
+pub fn has_link_between(relation: Relation, links: &[Link], xs: &Nodes, ys: &Nodes) -> bool
     ensures { MatchBool result ((l : Link) × Contains links.now l × Ties relation l xs.now ys.now)
         ((l : Link) → Contains links.now l → Ties relation l xs.now ys.now → ⊥) }
 {

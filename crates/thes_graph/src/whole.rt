@@ -1,69 +1,56 @@
-//! The check of all links: Cycle by one search from each node, S27 for each related link, S46 once for each class of
-//! exact matches.
-ghost use Rattle.std.specs.Prelude.{◌≡◌, ℕ, true, Contains, Ok, IfOk, OnOk, MatchBool};
+//! The check of all links: Cycle by one search of all nodes, S27 for the related concepts in blocks, S46 once for each
+//! class of exact matches.
+ghost use Rattle.std.specs.Prelude.{◌≡◌, ℕ, true, false, Contains, Ok, IfOk, OnOk, MatchBool};
 ghost use Rattle.thes_base.specs.declared.data.Link.{Link};
-ghost use Rattle.thes_base.specs.Links.{HeldIn, NoCycle, S27, S46, IsFirstBroken};
+ghost use Rattle.thes_base.specs.Links.{Holds, NoCycle, S46, IsFirstBroken};
 ghost use Rattle.thes_graph.specs.Reading.{HaveTwoEnds};
 ghost use Rattle.thes_graph.specs.Steps.{GrowsBy};
-ghost use Rattle.thes_graph.specs.Local.{NoS46At};
-ghost use Rattle.thes_graph.specs.Whole.{AreAll, HasDirection, IsSomeCycle, IsSomeS27, IsSomeS46};
+ghost use Rattle.thes_graph.specs.Local.{KeepsS46At};
+ghost use Rattle.thes_graph.specs.Whole.{AreAll, HasDirection, HasAllEnds, HasCycle, BreaksS46};
+ghost use Rattle.thes_graph.specs.CycleSearch.{IsUpwardOrder};
 
 use crate::edit::LinkEdit;
 use crate::find_cycle::find_cycle;
 use crate::links::Links;
 use crate::nodes::Nodes;
-use crate::paired_search::has_end_above;
-use crate::relation::{Relation, direction};
-use crate::walk::{gather, some_ties};
+use crate::relation::{Relation, has_direction};
+use crate::s27::breaks_s27;
+use crate::walk::{gather, has_link_between};
 use std::alloc::{AllocError, Global};
-use thes_base::data::{Direction, Link};
+use thes_base::data::Link;
 use thes_base::fault::Refusal;
 use thes_base::number::ResNo;
 
-// Checks whether a chain of broader links leads from some node back to it.
-fn has_cycle<L: Links>(alloc: Global, links: &mut L, all: &[Link]) -> Result<bool, AllocError>
-    requires { AreAll (L.held links.old) all.now }
-    ensures held { L.held links.new ≡ L.held links.old }
-    ensures cycle { IfOk result (λ found. MatchBool found (IsSomeCycle (HeldIn (L.held links.old)))
-        (NoCycle (HeldIn (L.held links.old)))) }
+// Checks whether a chain of broader links leads from some node back to itself. If none does, `order` has the ends of
+// all links afterwards, each node after all nodes broader than it.
+fn has_cycle<L: Links>(
+    alloc: Global,
+    links: &mut L,
+    all: &[Link],
+    order: &mut Nodes,
+) -> Result<bool, AllocError>
+    requires all { AreAll (L.net links.old).links all.now }
+    requires order { IsUpwardOrder (Holds (L.net links.old).links) order.old }
+    ensures net { L.net links.new ≡ L.net links.old }
+    ensures cycle { IfOk result (λ found. MatchBool found (HasCycle (Holds (L.net links.old).links))
+        (NoCycle (Holds (L.net links.old).links))) }
+    ensures order { IfOk result
+        (λ found. found ≡ false → IsUpwardOrder (Holds (L.net links.old).links) order.new) }
+    ensures ends { IfOk result
+        (λ found. found ≡ false → HasAllEnds (Holds (L.net links.old).links) order.new) }
 {
-    let mut done = Nodes::none(alloc);
     for link in all {
-        if !done.has(link.a) && find_cycle(alloc, links, link.a, &mut done)? {
+        if find_cycle(alloc, links, link.a, order)? {
+            return Ok(true);
+        }
+        if find_cycle(alloc, links, link.b, order)? {
             return Ok(true);
         }
     }
     Ok(false)
 }
 
-// Checks whether the link leads in some direction in the relation.
-fn has_direction(relation: Relation, link: &Link) -> bool
-    ensures { MatchBool result (HasDirection relation link.now)
-        (HasDirection relation link.now → ⊥) }
-{
-    match direction(relation, link.kind) {
-        Direction::Never => false,
-        _ => true,
-    }
-}
-
-// Checks whether of two related concepts one is above the other (SKOS S27).
-fn breaks_s27<L: Links>(alloc: Global, links: &mut L, all: &[Link]) -> Result<bool, AllocError>
-    requires all { AreAll (L.held links.old) all.now }
-    requires two_ends { HaveTwoEnds (HeldIn (L.held links.old)) }
-    ensures held { L.held links.new ≡ L.held links.old }
-    ensures s27 { IfOk result (λ found. MatchBool found (IsSomeS27 (HeldIn (L.held links.old))) (S27
-        (HeldIn (L.held links.old)))) }
-{
-    for link in all {
-        if has_direction(Relation::Related, link) && has_end_above(alloc, links, link)? {
-            return Ok(true);
-        }
-    }
-    Ok(false)
-}
-
-// Appends these nodes to those that are done.
+// Appends these nodes to those that are done, unless they are there.
 fn add_done(done: &mut Nodes, nodes: &[ResNo]) -> Result<(), AllocError>
     ensures { OnOk result (GrowsBy done.old done.new (Contains nodes.now)) }
 {
@@ -73,25 +60,26 @@ fn add_done(done: &mut Nodes, nodes: &[ResNo]) -> Result<(), AllocError>
     Ok(())
 }
 
-// Checks whether two members of the node's class of exact matches are broader or related matches. If not, the class is
-// done.
+// Checks whether two members of the node's class of exact matches are also broader or related matches. If not, appends
+// all members of the class to `done`.
 fn breaks_s46_at<L: Links>(
     alloc: Global,
     links: &mut L,
     n: ResNo,
     done: &mut Nodes,
 ) -> Result<bool, AllocError>
-    requires done { (m : ℕ) → Contains done.old m → NoS46At (HeldIn (L.held links.old)) m }
-    requires two_ends { HaveTwoEnds (HeldIn (L.held links.old)) }
-    ensures held { L.held links.new ≡ L.held links.old }
+    requires done { (m : ℕ) → Contains done.old m → KeepsS46At (Holds (L.net links.old).links) m }
+    requires two_ends { HaveTwoEnds (Holds (L.net links.old).links) }
+    ensures net { L.net links.new ≡ L.net links.old }
     ensures found { IfOk result
-        (λ found. MatchBool found (IsSomeS46 (HeldIn (L.held links.old))) (Contains done.new n)) }
+        (λ found. MatchBool found (BreaksS46 (Holds (L.net links.old).links))
+        (Contains done.new n)) }
     ensures extends { OnOk result ((m : ℕ) → Contains done.old m → Contains done.new m) }
     ensures done { OnOk result
-        ((m : ℕ) → Contains done.new m → NoS46At (HeldIn (L.held links.old)) m) }
+        ((m : ℕ) → Contains done.new m → KeepsS46At (Holds (L.net links.old).links) m) }
 {
     let same = gather(alloc, links, &LinkEdit::NoEdit, n, Relation::Exact)?;
-    if some_ties(Relation::Apart, &same.links, &same.nodes, &same.nodes) {
+    if has_link_between(Relation::Apart, &same.links, &same.nodes, &same.nodes) {
         return Ok(true);
     }
     add_done(done, same.nodes.as_slice())?;
@@ -100,11 +88,11 @@ fn breaks_s46_at<L: Links>(
 
 // Checks whether two exact matches are also broader or related matches (SKOS S46).
 fn breaks_s46<L: Links>(alloc: Global, links: &mut L, all: &[Link]) -> Result<bool, AllocError>
-    requires all { AreAll (L.held links.old) all.now }
-    requires two_ends { HaveTwoEnds (HeldIn (L.held links.old)) }
-    ensures held { L.held links.new ≡ L.held links.old }
-    ensures s46 { IfOk result (λ found. MatchBool found (IsSomeS46 (HeldIn (L.held links.old))) (S46
-        (HeldIn (L.held links.old)))) }
+    requires all { AreAll (L.net links.old).links all.now }
+    requires two_ends { HaveTwoEnds (Holds (L.net links.old).links) }
+    ensures net { L.net links.new ≡ L.net links.old }
+    ensures s46 { IfOk result (λ found. MatchBool found (BreaksS46 (Holds (L.net links.old).links))
+        (S46 (Holds (L.net links.old).links))) }
 {
     let mut done = Nodes::none(alloc);
     for link in all {
@@ -118,21 +106,22 @@ fn breaks_s46<L: Links>(alloc: Global, links: &mut L, all: &[Link]) -> Result<bo
     Ok(false)
 }
 
-/// Returns the first rule that the links break. The list `all` has exactly these links.
-pub fn check_all<L: Links>(
+/// Returns the first of Cycle, S27 and S46 that the links break. The list `all` has exactly these links.
+pub fn check_listed_links<L: Links>(
     alloc: Global,
     links: &mut L,
     all: &[Link],
 ) -> Result<Option<Refusal>, AllocError>
-    requires all { AreAll (L.held links.old) all.now }
-    requires two_ends { HaveTwoEnds (HeldIn (L.held links.old)) }
-    ensures held { L.held links.new ≡ L.held links.old }
-    ensures first { IfOk result (IsFirstBroken (HeldIn (L.held links.old))) }
+    requires all { AreAll (L.net links.old).links all.now }
+    requires two_ends { HaveTwoEnds (Holds (L.net links.old).links) }
+    ensures net { L.net links.new ≡ L.net links.old }
+    ensures first { IfOk result (IsFirstBroken (Holds (L.net links.old).links)) }
 {
-    if has_cycle(alloc, links, all)? {
+    let mut order = Nodes::none(alloc);
+    if has_cycle(alloc, links, all, &mut order)? {
         return Ok(Some(Refusal::Cycle));
     }
-    if breaks_s27(alloc, links, all)? {
+    if breaks_s27(alloc, links, all, &order)? {
         return Ok(Some(Refusal::S27));
     }
     if breaks_s46(alloc, links, all)? {

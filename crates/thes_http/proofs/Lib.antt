@@ -1,3 +1,4 @@
 mod ServeLemmas
 mod WriteLemmas
 mod ServerLemmas
+pub mod AnswerLemmas

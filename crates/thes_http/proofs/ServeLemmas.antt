@@ -1,4 +1,4 @@
--- Proves the response to a connection from what was read of its head and body.
+-- Proves the response to a connection from the head and the body that it read.
 use Rattle.std.proofs.Common.{◌≡◌, ◌∙◌, sym, ap, subst, refl, inl, inr, ℕ, ◌≤◌, List, ◌++◌, length, take, drop}
 use Rattle.std.proofs.Common.{append_assoc, Option, Result, Ok, Err, arith}
 use Rattle.std.proofs.lemmas.List.{length-take, take-append-drop, drop-append-le}
@@ -13,10 +13,10 @@ use Rattle.thes_http_request.specs.Heads.{head_limit, HasHead, IsBadHead}
 use Rattle.thes_http_request.specs.Inbox.{ConsumesSome, ReadsBody, CutsBody, HeadOutcome}
 use Rattle.thes_http_request.specs.HeadRequests.{HeadRequest}
 use Rattle.thes_http.specs.Responses.{problem_response, fault_response}
-use Rattle.thes_http.specs.Serving.{ServiceEffects, PlaceEffectOrFailure}
+use Rattle.thes_http.specs.Serving.{ServiceEffects, EndpointEffectOrFailure}
 use Rattle.thes_http.specs.Connection.{IsConnectionAnswer, IsCutOff}
 
--- A head at the beginning stays one when more bytes follow.
+-- A head at the beginning of bytes remains one when more bytes follow.
 pub has_more : (bytes : List ℕ) (h : RequestHead) (rest more : List ℕ) → HasHead bytes h rest
     → HasHead (bytes ++ more) h (rest ++ more)
 has_more bytes h rest more has = record {
@@ -39,7 +39,7 @@ pub answer_memory_more : {S : Type 0} (d : ServiceEffects S) (known mid left : O
 answer_memory_more d known mid left old bytes t k = answer_memory d known left old (bytes ++ k.more)
     (Consumes-trans known mid left bytes k.more t k.taken)
 
--- The bytes ask for what their prefix asks for.
+-- Bytes have the outcome of a prefix with a complete head.
 pub head_outcome_all : (bytes : List ℕ) (len : ℕ) (outcome : Result HeadRequest Problem) → len
     ≤ length (take head_limit bytes) → HeadOutcome (take head_limit bytes) (drop len (take head_limit bytes)) outcome
     → HeadOutcome bytes (drop len bytes) outcome
@@ -75,11 +75,11 @@ pub answer_problem : {S : Type 0} (d : ServiceEffects S) (known left : Option (L
 answer_problem d known left old bytes rest p t a =
     record { bytes = bytes; taken = t; answers = inr (inl (a.head, rest, a.has, rw a.wants (refl, refl))) }
 
--- The body is complete, and the request is carried out.
+-- A head with its complete body is answered by the effect of its endpoint.
 pub answer_done : {S : Type 0} (d : ServiceEffects S) (known mid left : Option (List ℕ)) (old new : S)
     (bytes rest body : List ℕ) (w : HeadRequest) (r : Response)
     → Consumes known mid bytes → HeadOutcome bytes rest (Ok w) → ReadsBody mid left rest w.body body
-    → PlaceEffectOrFailure d old r new w.place w.number w.query body → IsConnectionAnswer d known left old r new
+    → EndpointEffectOrFailure d old r new w.endpoint w.number w.query body → IsConnectionAnswer d known left old r new
 answer_done d known mid left old new bytes rest body w r t a b does =
     let taken = Consumes-trans known mid left bytes b.more t b.taken in
     elim does [
@@ -106,18 +106,19 @@ cut_body known mid left bytes rest w t a c = record {
   cut = inr (a.head, rest ++ c.more, w, has_more bytes a.head rest c.more a.has, a.wants, c.short);
 }
 
--- The same, in the terms of the program's contracts.
+-- The response is also that of the buffers that the program reads: a prefix of the input, and the
+-- body.
 pub answer_all : {S : Type 0} (d : ServiceEffects S) (known mid left : Option (List ℕ)) (old new : S)
     (bytes front start body text : List ℕ) (len : ℕ) (w : HeadRequest) (r : Response)
     → Consumes known mid bytes → front ≡ take head_limit bytes → len ≤ length (take head_limit bytes)
     → HeadOutcome front (drop len front) (Ok w) → start ≡ drop len bytes → text ≡ body
-    → ReadsBody mid left start w.body body → PlaceEffectOrFailure d old r new w.place w.number w.query text
+    → ReadsBody mid left start w.body body → EndpointEffectOrFailure d old r new w.endpoint w.number w.query text
     → IsConnectionAnswer d known left old r new
 answer_all d known mid left old new bytes front start body text len w r t e l a s is b does =
     answer_done d known mid left old new bytes (drop len bytes) body w r t
     (head_outcome_front bytes front len (Ok w) e l a)
     (subst (λ (x : List ℕ). ReadsBody mid left x w.body body) s b)
-    (subst (λ (x : List ℕ). PlaceEffectOrFailure d old r new w.place w.number w.query x) is does)
+    (subst (λ (x : List ℕ). EndpointEffectOrFailure d old r new w.endpoint w.number w.query x) is does)
 
 pub cut_all : (known mid left : Option (List ℕ)) (bytes front start : List ℕ) (len : ℕ) (w : HeadRequest)
     → Consumes known mid bytes → front ≡ take head_limit bytes → len ≤ length (take head_limit bytes)

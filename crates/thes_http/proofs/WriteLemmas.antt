@@ -23,7 +23,7 @@ pub err_after : {A E : Type 0} (r : Result A E) (a b c : Option (List ℕ)) (xs 
 err_after (Ok x) a b c xs ys f s = tt
 err_after (Err e) a b c xs ys f s = appends_front_then a b c xs ys f s
 
--- The parts of a head in sequence are its lines.
+-- The parts of a head, appended one by one, are its lines.
 pub head_parts : (first type media end length count close allow : List ℕ)
     → (((((([] ++ first) ++ type) ++ media) ++ (end ++ length)) ++ count) ++ ((end ++ close) ++ end)) ++ allow ++ end
     ≡ (first ++ (((type ++ media) ++ end) ++ ((length ++ count) ++ end) ++ (close ++ end)) ++ allow) ++ ([] ++ end)

@@ -1,37 +1,37 @@
--- One connection: the bytes consumed, the response, and the bytes written.
+-- The outcome of one connection: the bytes consumed, the response, and the bytes written.
 use Rattle.std.specs.Prelude.{ℕ, ◌≡◌, List, Option}
 use Rattle.std.specs.Io.KnownBytes.{Consumes, IsAtEnd}
 use Rattle.thes_base.specs.Pipe.{unread_bytes}
-use Rattle.thes_exchange.specs.Script.{Session}
+use Rattle.thes_requests.specs.Script.{Session}
 use Rattle.thes_http.specs.declared.response.Status.{Status}
 use Rattle.thes_http.specs.declared.response.Response.{Response}
 use Rattle.thes_http.specs.Responses.{WritesPrefix, WritesResponse}
 use Rattle.thes_http.specs.Serving.{ServiceEffects, Answers, IsCutRequest}
 
--- The bytes consumed are answered with this response.
+-- The service answers the bytes consumed with this response.
 pub record IsConnectionAnswer {S : Type 0} (d : ServiceEffects S) (known left : Option (List ℕ))
     (old : S) (response : Response) (new : S) : Type 0 where
   pub bytes : List ℕ
   pub taken : Consumes known left bytes
   pub answers : Answers d old response new bytes
 
--- The input ended inside a request.
+-- The input ended inside a request, after these bytes.
 pub record IsCutOff (known left : Option (List ℕ)) : Type 0 where
   pub bytes : List ℕ
   pub taken : Consumes known left bytes
   pub at_end : IsAtEnd left
   pub cut : IsCutRequest bytes
 
--- A connection, with its reader, writer and service before and after.
+-- One connection, with its reader, writer and service before and after.
 module _ {R W S : Type 0} (remaining : R → Option (List ℕ)) (contents : W → Option (List ℕ))
     (d : ServiceEffects S) (old new : Session R W S) where
-  -- The bytes consumed are answered with this response.
+  -- The service answers the bytes consumed with this response.
   abbrev pub IsAnsweredBy : Response → Type 0
   IsAnsweredBy response =
       IsConnectionAnswer d (unread_bytes remaining old.reader) (unread_bytes remaining new.reader) old.handler
       response new.handler
 
-  -- The response was written completely, with this status.
+  -- The response was written completely, and has this status.
   pub record IsAnsweredWith (status : Status) : Type 0 where
     pub response : Response
     pub answer : IsAnsweredBy response
@@ -44,6 +44,6 @@ module _ {R W S : Type 0} (remaining : R → Option (List ℕ)) (contents : W �
     pub answer : IsAnsweredBy response
     pub text : WritesPrefix contents response old.writer new.writer
 
--- Nothing was done or written.
+-- Nothing was performed or written.
 abbrev pub IsUntouched : {R W S : Type 0} → Session R W S → Session R W S → Type 0
 IsUntouched old new = (new.handler ≡ old.handler) × (new.writer ≡ old.writer)

@@ -2,3 +2,5 @@ pub mod Responses
 pub mod Serving
 pub mod Connection
 pub mod Server
+pub mod Laws
+pub mod Deadlines

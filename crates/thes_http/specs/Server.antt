@@ -1,21 +1,21 @@
--- Connections, one after another.
+-- The exchanges of a server's connections, one after another.
 use Rattle.std.specs.Prelude.{ℕ, ◌≡◌, ◌≤◌, List, [], ◌∷◌, length}
 use Rattle.thes_http.specs.declared.response.Response.{Response}
 use Rattle.thes_http.specs.Serving.{ServiceEffects, Answers}
 
--- One request and its response: the bytes consumed and the response to them.
+-- An exchange of one connection: the bytes consumed, and the response to them.
 pub record Exchange : Type 0 where
   pub bytes : List ℕ
   pub response : Response
 
--- The exchanges, listed with the latest first, lead from the one state of a service to the other,
--- and nothing else was done.
+-- The exchanges, the latest first, take the service from the one state to the other, and nothing
+-- else changes it.
 abbrev pub AreAnswered : {S : Type 0} → ServiceEffects S → S → List Exchange → S → Type 0
 AreAnswered d old [] new = new ≡ old
 AreAnswered {S} d old (e ∷ before) new =
     (mid : S) × AreAnswered d old before mid × Answers d mid e.response new e.bytes
 
--- At most `most` connections lead from the one state of a service to the other.
+-- At most `most` exchanges take the service from the one state to the other.
 pub record LeadsBy {S : Type 0} (d : ServiceEffects S) (most : ℕ) (old new : S) : Type 0 where
   pub exchanges : List Exchange
   pub few : length exchanges ≤ most

@@ -9,15 +9,15 @@ use Rattle.thes_base.specs.declared.fault.FormFault.{FormFault}
 use Rattle.thes_base.specs.declared.fault.FormFault.TheVariants.{BadShape, BadNumber, BadTag}
 use Rattle.thes_base.specs.declared.request.Command.{Command}
 use Rattle.thes_base.specs.declared.request.Answer.{Answer}
-use Rattle.thes_exchange.specs.Serving.{Performing, Showing}
-use Rattle.thes_exchange.specs.Readings.{ReadsAs}
-use Rattle.thes_exchange.specs.Requests.{request_of}
-use Rattle.thes_exchange.specs.declared.handler.QueryAnswer.{QueryAnswer}
-use Rattle.thes_exchange.specs.declared.request.Query.{Query}
-use Rattle.thes_exchange.specs.declared.request.Query.TheVariants as asks
-use Rattle.thes_exchange.specs.declared.request.Request.TheVariants.{Do, Get}
-use Rattle.thes_http_request.specs.declared.place.Place.{Place}
-use Rattle.thes_http_request.specs.declared.place.Place.TheVariants as place
+use Rattle.thes_requests.specs.Serving.{CommandBehaviour, QueryBehaviour}
+use Rattle.thes_requests.specs.Readings.{ReadsAs}
+use Rattle.thes_requests.specs.Requests.{request_of}
+use Rattle.thes_requests.specs.declared.handler.QueryAnswer.{QueryAnswer}
+use Rattle.thes_requests.specs.declared.request.Query.{Query}
+use Rattle.thes_requests.specs.declared.request.Query.TheVariants as asks
+use Rattle.thes_requests.specs.declared.request.Request.TheVariants.{Do, Get}
+use Rattle.thes_http_request.specs.declared.endpoint.Endpoint.{Endpoint}
+use Rattle.thes_http_request.specs.declared.endpoint.Endpoint.TheVariants as endpoint
 use Rattle.thes_http_request.specs.declared.problem.Problem.{Problem}
 use Rattle.thes_http_request.specs.declared.problem.Problem.TheVariants.{BadHead, BadQuery}
 use Rattle.thes_http.specs.declared.response.Response.{Response}
@@ -31,33 +31,34 @@ use Rattle.thes_http_request.specs.Queries.{DisplayQuery, display_query_of}
 use Rattle.thes_http.specs.Responses.{problem_response, form_response, fault_response, command_response}
 use Rattle.thes_http.specs.Responses.{query_response, import_response, export_response, display_response}
 
--- The behaviour of a service for imports.
-abbrev pub Importing : Type 0 → Type 1
-Importing S = S → List ℕ → Result ImportAnswer Fault → S → Type 0
+-- The behaviour of a service for imports: the state before, the file, the answer, and the state
+-- after.
+abbrev pub ImportBehaviour : Type 0 → Type 1
+ImportBehaviour S = S → List ℕ → Result ImportAnswer Fault → S → Type 0
 
--- The behaviour of a service for exports.
-abbrev pub Exporting : Type 0 → Type 1
-Exporting S = S → Result (List ℕ) Fault → S → Type 0
+-- The behaviour of a service for exports: the state before, the answer, and the state after.
+abbrev pub ExportBehaviour : Type 0 → Type 1
+ExportBehaviour S = S → Result (List ℕ) Fault → S → Type 0
 
--- The behaviour of a service for displays.
-abbrev pub Displaying : Type 0 → Type 1
-Displaying S = S → Display → ℕ → List ℕ → Result DisplayAnswer Fault → S → Type 0
+-- The behaviour of a service for displays: the state before, the kind of display, the scheme, the
+-- language tag, the answer, and the state after.
+abbrev pub DisplayBehaviour : Type 0 → Type 1
+DisplayBehaviour S = S → Display → ℕ → List ℕ → Result DisplayAnswer Fault → S → Type 0
 
--- The behaviour of a service: each relation has the state before, the arguments, the answer, and
--- the state after.
+-- The behaviour of a service: a relation for each kind of request.
 pub record ServiceEffects (S : Type 0) : Type 1 where
-  pub performs : Performing S
-  pub shows : Showing S
-  pub imports : Importing S
-  pub exports : Exporting S
-  pub displays : Displaying S
+  pub performs : CommandBehaviour S
+  pub shows : QueryBehaviour S
+  pub imports : ImportBehaviour S
+  pub exports : ExportBehaviour S
+  pub displays : DisplayBehaviour S
 
--- Makes the behaviour of a service from its relations.
-abbrev pub effects : {S : Type 0} → Performing S → Showing S → Importing S → Exporting S
-    → Displaying S → ServiceEffects S
+-- The behaviour of a service, from its relations.
+abbrev pub effects : {S : Type 0} → CommandBehaviour S → QueryBehaviour S → ImportBehaviour S → ExportBehaviour S
+    → DisplayBehaviour S → ServiceEffects S
 effects p s i e d = record { performs = p; shows = s; imports = i; exports = e; displays = d }
 
--- The text is no numeral of a valid number.
+-- The text isn't the numeral of a resource's or posting's number.
 abbrev pub IsNoNumeral : List ℕ → Type 0
 IsNoNumeral text = (n : ℕ) → IsNumber n → IsNumeral text n → ⊥
 
@@ -66,12 +67,11 @@ module _ {S : Type 0} (d : ServiceEffects S) (old : S) (r : Response) (new : S) 
   abbrev pub RespondsUnchanged : Response → Type 0
   RespondsUnchanged response = (r ≡ response) × (new ≡ old)
 
-  -- The effect, or memory ran out before there was any.
+  -- The effect, or, if memory ran out before it, an unchanged state and the response to that fault.
   abbrev pub OrOutOfMemory : Type 0 → Type 0
   OrOutOfMemory Effect = Effect ⊎ RespondsUnchanged (fault_response OutOfMemory)
 
-  -- The effect of a body with a request: of its command, or none if it is a query or isn't a
-  -- request.
+  -- The effect of the body of a request: that of its command, or none for a query or a form fault.
   abbrev pub CommandEffect : List ℕ → Type 0
   CommandEffect body =
       ((command : Command) × (answer : Result Answer Fault)
@@ -80,31 +80,33 @@ module _ {S : Type 0} (d : ServiceEffects S) (old : S) (r : Response) (new : S) 
       ⊎ (((query : Query) × ReadsAs (request_of body) (Ok (Get query)) × RespondsUnchanged (form_response BadShape))
       ⊎ ((f : FormFault) × ReadsAs (request_of body) (Err f) × RespondsUnchanged (form_response f)))
 
-  -- The effect of importing a posting file.
+  -- The effect of importing a posting file, and its response.
   abbrev pub ImportEffect : List ℕ → Type 0
   ImportEffect file =
       (answer : Result ImportAnswer Fault) × d.imports old file answer new × (r ≡ import_response answer)
 
-  -- The effect of an export.
+  -- The effect of an export, and its response.
   abbrev pub ExportEffect : Type 0
   ExportEffect = (answer : Result (List ℕ) Fault) × d.exports old answer new × (r ≡ export_response answer)
 
-  -- The effect of a query.
+  -- The effect of a query, and its response.
   abbrev pub QueryEffect : Query → Type 0
   QueryEffect query =
       (answer : Result QueryAnswer Fault) × d.shows old query answer new × (r ≡ query_response answer)
 
-  -- The effect with the number that the text spells, or `BadNumber`.
+  -- The effect for the number that the text is the numeral of; `BadNumber`, and no effect, if there
+  -- is none.
   abbrev pub WithNumber : List ℕ → (ℕ → Type 0) → Type 0
   WithNumber text Next =
       (IsNoNumeral text × RespondsUnchanged (form_response BadNumber))
       ⊎ ((n : ℕ) × IsNumber n × IsNumeral text n × Next n)
 
-  -- The effect of a query with the number in the path.
+  -- The effect of a query for the number in the path.
   abbrev pub NumberQueryEffect : (ℕ → Query) → List ℕ → Type 0
   NumberQueryEffect query text = WithNumber text (λ n. QueryEffect (query n))
 
-  -- The effect of a display in a language, whose tag is converted to lower case.
+  -- The effect of a display in a language, whose tag is converted to lower case; `BadTag`, and no
+  -- effect, if it isn't a tag.
   abbrev pub DisplayEffect : Display → ℕ → List ℕ → Type 0
   DisplayEffect which scheme lang =
       ((¬ IsTag lang) × RespondsUnchanged (form_response BadTag))
@@ -112,34 +114,37 @@ module _ {S : Type 0} (d : ServiceEffects S) (old : S) (r : Response) (new : S) 
       × d.displays old which scheme (map to_ascii_lowercase lang) answer new
       × (r ≡ display_response answer))
 
-  -- The effect of a display, of which the scheme is checked before the language.
+  -- The effect of a display with this query string; the scheme is checked before the language.
   abbrev pub DisplayQueryEffect : Display → Option DisplayQuery → Type 0
   DisplayQueryEffect which None = RespondsUnchanged (problem_response BadQuery)
   DisplayQueryEffect which (Some asked) = WithNumber asked.scheme (λ n. DisplayEffect which n asked.lang)
 
-  -- The effect of a request for each place.
-  abbrev pub PlaceEffect : Place → List ℕ → List ℕ → List ℕ → Type 0
-  PlaceEffect place.Requests number query body = CommandEffect body
-  PlaceEffect place.Import number query body = ImportEffect body
-  PlaceEffect place.Totals number query body = QueryEffect asks.Totals
-  PlaceEffect place.Concept number query body = NumberQueryEffect asks.Concept number
-  PlaceEffect place.Postings number query body = NumberQueryEffect asks.Postings number
-  PlaceEffect place.Posting number query body = NumberQueryEffect asks.Posting number
-  PlaceEffect place.Export number query body = ExportEffect
-  PlaceEffect place.Alphabetical number query body = DisplayQueryEffect display.Alphabetical (display_query_of query)
-  PlaceEffect place.Hierarchical number query body = DisplayQueryEffect display.Hierarchical (display_query_of query)
+  -- The effect of a request for each endpoint, and its response.
+  abbrev pub EndpointEffect : Endpoint → List ℕ → List ℕ → List ℕ → Type 0
+  EndpointEffect endpoint.Requests number query body = CommandEffect body
+  EndpointEffect endpoint.Import number query body = ImportEffect body
+  EndpointEffect endpoint.Totals number query body = QueryEffect asks.Totals
+  EndpointEffect endpoint.Concept number query body = NumberQueryEffect asks.Concept number
+  EndpointEffect endpoint.Postings number query body = NumberQueryEffect asks.Postings number
+  EndpointEffect endpoint.Posting number query body = NumberQueryEffect asks.Posting number
+  EndpointEffect endpoint.Export number query body = ExportEffect
+  EndpointEffect endpoint.Alphabetical number query body = DisplayQueryEffect display.Alphabetical
+      (display_query_of query)
+  EndpointEffect endpoint.Hierarchical number query body = DisplayQueryEffect display.Hierarchical
+      (display_query_of query)
 
-  -- The effect of a request for a place, or memory ran out before there was any.
-  abbrev pub PlaceEffectOrFailure : Place → List ℕ → List ℕ → List ℕ → Type 0
-  PlaceEffectOrFailure place number query body = OrOutOfMemory (PlaceEffect place number query body)
+  -- The effect of a request for an endpoint, or none if memory ran out before.
+  abbrev pub EndpointEffectOrFailure : Endpoint → List ℕ → List ℕ → List ℕ → Type 0
+  EndpointEffectOrFailure endpoint number query body = OrOutOfMemory (EndpointEffect endpoint number query body)
 
-  -- The effect of a request, given the checks of its head: a problem, or that of its complete body.
+  -- The effect of a request with a complete body; if there is a problem with its head, the response to that, and no
+  -- effect.
   abbrev pub AnswersHead : Result HeadRequest Problem → List ℕ → Type 0
   AnswersHead (Err problem) rest = RespondsUnchanged (problem_response problem)
-  AnswersHead (Ok w) rest = (w.body ≤ length rest) × PlaceEffect w.place w.number w.query (take w.body rest)
+  AnswersHead (Ok w) rest = (w.body ≤ length rest) × EndpointEffect w.endpoint w.number w.query (take w.body rest)
 
-  -- The effect of bytes and the response to them: a bad head, a head with its body, or out of
-  -- memory, which may replace any response.
+  -- The effect of bytes, and the response to them: that of a bad head, of a head with its body, or
+  -- of running out of memory, which may replace any other.
   abbrev pub Answers : List ℕ → Type 0
   Answers bytes =
       (IsBadHead bytes × RespondsUnchanged (problem_response BadHead))
@@ -147,7 +152,7 @@ module _ {S : Type 0} (d : ServiceEffects S) (old : S) (r : Response) (new : S) 
       × AnswersHead (head_request_of (parts_of h)) rest)
       ⊎ RespondsUnchanged (fault_response OutOfMemory))
 
--- The bytes end within the head, or within the body.
+-- The bytes end inside the head, or inside the body.
 abbrev pub IsCutRequest : List ℕ → Type 0
 IsCutRequest bytes =
     IsCutHead bytes

@@ -1,6 +1,6 @@
-//! Carries out a request.
+//! Performing the request of a head, with its body.
 ghost use Rattle.std.specs.Prelude.{◌≡◌, if◌then◌else◌, true};
-ghost use Rattle.thes_http.specs.Serving.{effects, CommandEffect, QueryEffect, NumberQueryEffect, DisplayEffect, DisplayQueryEffect, OrOutOfMemory, PlaceEffectOrFailure};
+ghost use Rattle.thes_http.specs.Serving.{effects, CommandEffect, QueryEffect, NumberQueryEffect, DisplayEffect, DisplayQueryEffect, OrOutOfMemory, EndpointEffectOrFailure};
 ghost use Rattle.thes_http_request.specs.Queries.{display_query_of};
 
 use crate::response::Response;
@@ -9,13 +9,13 @@ use std::alloc::Global;
 use thes_base::fault::{Fault, FormFault, ReadStop};
 use thes_base::number::{PostNo, ResNo};
 use thes_base::text::Tag;
-use thes_exchange::request::{Memory, Query, Request, read_request};
+use thes_http_request::endpoint::Endpoint;
 use thes_http_request::head_request::HeadRequest;
-use thes_http_request::place::Place;
 use thes_http_request::problem::Problem;
 use thes_http_request::query::read_query;
+use thes_requests::request::{Query, Request, RequestScratch, read_request};
 
-/// Carries out what a request asks for, and returns the response.
+/// Performs the request of a head with this body, and returns the response.
 pub fn act<S: Service>(
     alloc: Global,
     service: &mut S,
@@ -23,24 +23,24 @@ pub fn act<S: Service>(
     body: &[u8],
 ) -> Response
     requires { S.is_open service.old ≡ true }
-    ensures { PlaceEffectOrFailure (effects S.performs S.shows S.imports S.exports S.displays)
+    ensures { EndpointEffectOrFailure (effects S.performs S.shows S.imports S.exports S.displays)
         service.old result service.new
-        want.entry.place want.entry.number.now want.entry.query.now body.now }
+        want.entry.endpoint want.entry.number.now want.entry.query.now body.now }
 {
-    match want.place {
-        Place::Requests => perform(alloc, service, body),
-        Place::Import => Response::for_import(service.import(alloc, body)),
-        Place::Totals => show(alloc, service, Query::Totals),
-        Place::Concept => show_resource(alloc, service, want.number, false),
-        Place::Postings => show_resource(alloc, service, want.number, true),
-        Place::Posting => show_posting(alloc, service, want.number),
-        Place::Export => Response::for_export(service.export(alloc)),
-        Place::Alphabetical => display(alloc, service, Display::Alphabetical, want.query),
-        Place::Hierarchical => display(alloc, service, Display::Hierarchical, want.query),
+    match want.endpoint {
+        Endpoint::Requests => perform(alloc, service, body),
+        Endpoint::Import => Response::for_import(service.import(alloc, body)),
+        Endpoint::Totals => show(alloc, service, Query::Totals),
+        Endpoint::Concept => show_resource(alloc, service, want.number, false),
+        Endpoint::Postings => show_resource(alloc, service, want.number, true),
+        Endpoint::Posting => show_posting(alloc, service, want.number),
+        Endpoint::Export => Response::for_export(service.export(alloc)),
+        Endpoint::Alphabetical => display(alloc, service, Display::Alphabetical, want.query),
+        Endpoint::Hierarchical => display(alloc, service, Display::Hierarchical, want.query),
     }
 }
 
-// Carries out the command in a body; a query there is `BadShape`.
+// Performs the command in a body; a query in a body is `BadShape`.
 fn perform<S: Service>(alloc: Global, service: &mut S, body: &[u8]) -> Response
     requires { S.is_open service.old ≡ true }
     ensures { OrOutOfMemory (effects S.performs S.shows S.imports S.exports S.displays)
@@ -48,7 +48,7 @@ fn perform<S: Service>(alloc: Global, service: &mut S, body: &[u8]) -> Response
         (CommandEffect (effects S.performs S.shows S.imports S.exports S.displays)
         service.old result service.new body.now) }
 {
-    match read_request(&mut Memory::new(alloc), body) {
+    match read_request(&mut RequestScratch::new(alloc), body) {
         Ok(Request::Do(command)) => Response::for_command(service.perform(&command)),
         Ok(Request::Get(_)) => Response::form(FormFault::BadShape),
         Err(ReadStop::Form(fault)) => Response::form(fault),
@@ -56,7 +56,7 @@ fn perform<S: Service>(alloc: Global, service: &mut S, body: &[u8]) -> Response
     }
 }
 
-// Answers a query.
+// Answers a query by the service, and returns the response.
 fn show<S: Service>(alloc: Global, service: &mut S, query: Query) -> Response
     requires { S.is_open service.old ≡ true }
     ensures { QueryEffect (effects S.performs S.shows S.imports S.exports S.displays)
@@ -65,7 +65,7 @@ fn show<S: Service>(alloc: Global, service: &mut S, query: Query) -> Response
     Response::for_query(service.show(alloc, &query))
 }
 
-// Answers the query for a concept or for its postings.
+// Answers the query for a concept or, if `postings`, for its postings, by the number in the path.
 fn show_resource<S: Service>(
     alloc: Global,
     service: &mut S,
@@ -91,7 +91,7 @@ fn show_resource<S: Service>(
     }
 }
 
-// Answers the query for a posting.
+// Answers the query for a posting by the number in the path.
 fn show_posting<S: Service>(alloc: Global, service: &mut S, number: &str) -> Response
     requires { S.is_open service.old ≡ true }
     ensures { NumberQueryEffect (effects S.performs S.shows S.imports S.exports S.displays)
@@ -103,7 +103,8 @@ fn show_posting<S: Service>(alloc: Global, service: &mut S, number: &str) -> Res
     }
 }
 
-// Returns a display of a scheme, named by the query string.
+// Displays the scheme in the language that the query string names; the form of the scheme's number
+// is checked before that of the tag.
 fn display<S: Service>(alloc: Global, service: &mut S, which: Display, query: &str) -> Response
     requires { S.is_open service.old ≡ true }
     ensures { OrOutOfMemory (effects S.performs S.shows S.imports S.exports S.displays)
@@ -122,7 +123,7 @@ fn display<S: Service>(alloc: Global, service: &mut S, which: Display, query: &s
     }
 }
 
-// Returns a display of a scheme in a language.
+// Displays a scheme in the language of a tag, which is converted to lower case.
 fn display_in<S: Service>(
     alloc: Global,
     service: &mut S,

@@ -1,11 +1,11 @@
-//! The text of a response's head.
+//! The head of a response, built without allocation.
 ghost use Rattle.std.specs.Prelude.{◌≡◌, ◌+◌, ◌≤◌, ◌++◌, [], length, decimal};
 
 use arrayvec::ArrayString;
 use itoa::Buffer;
 use std::marker::Model;
 
-/// The head of a response, of at most 256 bytes, held in place: it allocates nothing.
+/// The head of a response, of at most 256 bytes on the stack, so that a response can be written without allocation.
 #[derive(Drop)]
 pub struct HeadText {
     text: ArrayString<256>,
@@ -29,7 +29,7 @@ impl HeadText {
         }
     }
 
-    /// Appends a text.
+    /// Appends a text, after which the head must have at most 256 bytes.
     pub fn push(&mut self, text: &str)
         requires { length self.old + length text.now ≤ 256 }
         ensures text { self.new ≡ self.old ++ text.now }
@@ -38,7 +38,7 @@ impl HeadText {
         self.text.push_str(text);
     }
 
-    /// Appends a number in decimal, at most twenty digits.
+    /// Appends a number in decimal, at most twenty digits, to a head of at most 200 bytes.
     pub fn push_number(&mut self, number: u64)
         requires { length self.old ≤ 200 }
         ensures text { self.new ≡ self.old ++ decimal number }

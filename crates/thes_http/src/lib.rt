@@ -1,9 +1,10 @@
-//! Serves connections: reads a request of HTTP/1.0 or HTTP/1.1, carries it out, and writes the
-//! response.
+//! An HTTP/1.0 and HTTP/1.1 server: it reads a request from each connection, performs it, and writes the response.
 #![tactic(auto)]
 
 mod act;
+mod deadline;
 mod head_text;
+pub mod laws;
 mod response;
 pub mod serve;
 pub mod server;

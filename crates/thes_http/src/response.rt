@@ -1,7 +1,7 @@
-//! Responses and their bytes.
+//! Responses: a status, a media type and a body; and their bytes.
 ghost use Rattle.std.specs.Prelude.{◌≡◌, ◌≤◌, ◌↔◌, true, false, length, OnOk, OnErr, IsErrOf};
 ghost use Rattle.thes_base.specs.Pipe.{failed_of, denied_of, PaysCalls};
-ghost use Rattle.thes_http.specs.Responses.{status_code, status_line, media_type, problem_text, problem_status, allow_text, body_text, head_text, WritesPrefix, WritesResponse, reply_response, page_response, problem_response, form_response, fault_response, command_response, query_response, import_response, export_response, display_response};
+ghost use Rattle.thes_http.specs.Responses.{status_code, status_line, media_type, problem_text, problem_status, allow_line, allow_text, body_text, head_text, WritesPrefix, WritesResponse, reply_response, page_response, problem_response, form_response, fault_response, command_response, query_response, import_response, export_response, display_response};
 
 use crate::head_text::HeadText;
 use crate::service::{DisplayAnswer, ImportAnswer, Page};
@@ -11,12 +11,12 @@ use std::io::Write;
 use thes_base::fault::{Fault, FormFault};
 use thes_base::pipe::{Budget, Pipe, Stop};
 use thes_base::request::Answer;
-use thes_exchange::answer::{Reply, reply_line};
-use thes_exchange::handler::{QueryAnswer, ViewLine};
-use thes_http_request::place::Method;
+use thes_http_request::endpoint::Endpoint;
 use thes_http_request::problem::Problem;
+use thes_requests::answer::{Reply, reply_line};
+use thes_requests::handler::{QueryAnswer, ViewLine};
 
-/// The status of a response.
+/// The status of a response: one of nine codes of HTTP.
 #[derive(Clone, Copy, Debug, PartialEq, Eq)]
 pub enum Status {
     Fine,
@@ -31,7 +31,7 @@ pub enum Status {
 }
 
 impl Status {
-    /// Returns the status code.
+    /// Returns the status code (RFC 9110, section 15).
     pub fn code(self) -> StatusCode
         ensures { result ≡ status_code self }
     {
@@ -48,7 +48,7 @@ impl Status {
         }
     }
 
-    // Returns the status line.
+    // Returns the status line, with its line end.
     fn line(self) -> &'static str
         ensures text { result.now ≡ status_line self }
         ensures short { length result.now ≤ 40 }
@@ -67,31 +67,31 @@ impl Status {
     }
 }
 
-/// The media type of a body.
+/// The media type of a body, as in `Content-Type`.
 #[derive(Clone, Copy, Debug, PartialEq, Eq)]
-pub enum Media {
+pub enum MediaType {
     Json,
     Csv,
     NTriples,
     Plain,
 }
 
-impl Media {
-    // Returns the name of the media type.
+impl MediaType {
+    // Returns the name of the media type, as in `Content-Type`.
     fn name(self) -> &'static str
         ensures text { result.now ≡ media_type self }
         ensures short { length result.now ≤ 30 }
     {
         match self {
-            Media::Json => "application/json",
-            Media::Csv => "text/csv; charset=utf-8",
-            Media::NTriples => "application/n-triples",
-            Media::Plain => "text/plain; charset=utf-8",
+            MediaType::Json => "application/json",
+            MediaType::Csv => "text/csv; charset=utf-8",
+            MediaType::NTriples => "application/n-triples",
+            MediaType::Plain => "text/plain; charset=utf-8",
         }
     }
 }
 
-// Returns the body for a problem.
+// Returns the body for a problem: `{"bad":"NAME"}` and a line feed.
 fn problem_line(problem: Problem) -> &'static str
     ensures { result.now ≡ problem_text problem }
 {
@@ -106,7 +106,7 @@ fn problem_line(problem: Problem) -> &'static str
     }
 }
 
-// Returns the status for a problem.
+// Returns the status for a problem, such as 405 for a method that the path doesn't allow.
 fn problem_status(problem: Problem) -> Status
     ensures { result ≡ problem_status problem }
 {
@@ -120,6 +120,17 @@ fn problem_status(problem: Problem) -> Status
     }
 }
 
+// Returns the `Allow` line of an endpoint.
+fn allow_line(endpoint: Endpoint) -> &'static str
+    ensures text { result.now ≡ allow_line endpoint }
+    ensures short { length result.now ≤ 20 }
+{
+    match endpoint {
+        Endpoint::Requests | Endpoint::Import => "Allow: POST\r\n",
+        _ => "Allow: GET\r\n",
+    }
+}
+
 /// The body of a response.
 #[derive(Drop)]
 pub enum Body {
@@ -130,14 +141,13 @@ pub enum Body {
 }
 
 impl Body {
-    // Returns the `Allow` line for `BadMethod`, else an empty text.
+    // Returns the `Allow` line for `BadMethod` (RFC 9110, section 15.5.6), and else an empty text.
     fn allow(&self) -> &'static str
         ensures text { result.now ≡ allow_text self.now }
         ensures short { length result.now ≤ 20 }
     {
         match self {
-            Body::Problem(Problem::BadMethod(Method::Get)) => "Allow: GET\r\n",
-            Body::Problem(Problem::BadMethod(Method::Post)) => "Allow: POST\r\n",
+            Body::Problem(Problem::BadMethod(endpoint)) => allow_line(*endpoint),
             _ => "",
         }
     }
@@ -147,48 +157,48 @@ impl Body {
 #[derive(Drop)]
 pub struct Response {
     pub status: Status,
-    pub media: Media,
+    pub media: MediaType,
     pub body: Body,
 }
 
 impl Response {
-    /// Returns the response to a problem.
+    /// Returns the response to a request with a problem.
     pub fn problem(problem: Problem) -> Response
         ensures { result ≡ problem_response problem }
     {
         Response {
             status: problem_status(problem),
-            media: Media::Json,
+            media: MediaType::Json,
             body: Body::Problem(problem),
         }
     }
 
-    // Returns a response with a line of JSON.
+    // Returns a response whose body is a line of JSON.
     fn reply_response(status: Status, reply: Reply) -> Response
         ensures { result ≡ reply_response status reply }
     {
         Response {
             status,
-            media: Media::Json,
+            media: MediaType::Json,
             body: Body::Reply(reply),
         }
     }
 
-    /// Returns the response to a form fault.
+    /// Returns the response to a form fault: 400.
     pub fn form(fault: FormFault) -> Response
         ensures { result ≡ form_response fault }
     {
         Response::reply_response(Status::BadRequest, Reply::Bad(fault))
     }
 
-    /// Returns the response to a fault.
+    /// Returns the response to a fault: 503.
     pub fn fault(fault: Fault) -> Response
         ensures { result ≡ fault_response fault }
     {
         Response::reply_response(Status::ServiceUnavailable, Reply::Fault(fault))
     }
 
-    /// Returns the response to a command that was accepted or refused.
+    /// Returns the response to a command: 200 for an answer, 409 for a refusal, or 503 for a fault.
     pub fn for_command(answer: Result<Answer, Fault>) -> Response
         ensures { result ≡ command_response answer }
     {
@@ -202,14 +212,15 @@ impl Response {
         }
     }
 
-    /// Returns the response to a query.
+    /// Returns the response to a query: 200 with the view, 404 with the refusal, or 503 for a
+    /// fault.
     pub fn for_query(viewed: Result<QueryAnswer, Fault>) -> Response
         ensures { result ≡ query_response viewed }
     {
         match viewed {
             Ok(QueryAnswer::Line(line)) => Response {
                 status: Status::Fine,
-                media: Media::Json,
+                media: MediaType::Json,
                 body: Body::View(line),
             },
             Ok(QueryAnswer::No(refusal)) => Response::reply_response(
@@ -220,8 +231,8 @@ impl Response {
         }
     }
 
-    // Returns a response with a page.
-    fn page(media: Media, page: Page) -> Response
+    // Returns a response with a page of this media type: 200.
+    fn page(media: MediaType, page: Page) -> Response
         ensures { result ≡ page_response media page }
     {
         Response {
@@ -231,33 +242,35 @@ impl Response {
         }
     }
 
-    /// Returns the response to an import.
+    /// Returns the response to an import: 200 with the outcomes as CSV, 400 for a malformed file,
+    /// or 503 for a fault.
     pub fn for_import(imported: Result<ImportAnswer, Fault>) -> Response
         ensures { result ≡ import_response imported }
     {
         match imported {
-            Ok(ImportAnswer::Outcomes(page)) => Response::page(Media::Csv, page),
+            Ok(ImportAnswer::Outcomes(page)) => Response::page(MediaType::Csv, page),
             Ok(ImportAnswer::Malformed) => Response::form(FormFault::BadShape),
             Err(fault) => Response::fault(fault),
         }
     }
 
-    /// Returns the response to an export.
+    /// Returns the response to an export: 200 with N-Triples, or 503 for a fault.
     pub fn for_export(exported: Result<Page, Fault>) -> Response
         ensures { result ≡ export_response exported }
     {
         match exported {
-            Ok(page) => Response::page(Media::NTriples, page),
+            Ok(page) => Response::page(MediaType::NTriples, page),
             Err(fault) => Response::fault(fault),
         }
     }
 
-    /// Returns the response to a request for a display.
+    /// Returns the response to a request for a display: 200 with plain text, 404 with the refusal,
+    /// or 503 for a fault.
     pub fn for_display(displayed: Result<DisplayAnswer, Fault>) -> Response
         ensures { result ≡ display_response displayed }
     {
         match displayed {
-            Ok(DisplayAnswer::Lines(page)) => Response::page(Media::Plain, page),
+            Ok(DisplayAnswer::Lines(page)) => Response::page(MediaType::Plain, page),
             Ok(DisplayAnswer::No(refusal)) => Response::reply_response(
                 Status::NotFound,
                 Reply::Answer(Answer::No(refusal)),
@@ -266,7 +279,7 @@ impl Response {
         }
     }
 
-    // Returns the head, for a body of `count` bytes.
+    // Returns the head for a body of `count` bytes, with the empty line at its end.
     #[tactic(auto, unfolding(crate::specs::Responses::head_text))]
     fn head(&self, count: u64) -> HeadText
         requires { count ≡ length (body_text self.now.body) }
@@ -284,7 +297,7 @@ impl Response {
         head
     }
 
-    // Writes the head and the body, with one call if both fit into 512 bytes.
+    // Writes the head and the body, by one call of the writer if both fit into 512 bytes.
     fn write_with<W: Write>(
         &self,
         writer: &mut Pipe<W>,

@@ -1,8 +1,8 @@
-//! Serves one connection.
+//! Serving one connection.
 ghost use Rattle.std.specs.Prelude.{◌≡◌, ◌≤◌, ◌⊎◌, true, ℕ, List, length, drop, Ok, Err, IfOk, IfErr, OnOk, OnErr, IsErrOf};
 ghost use Rattle.std.specs.Io.KnownBytes.{Consumes, IsAtEnd};
 ghost use Rattle.thes_base.specs.Pipe.{failed_of, ended_of, denied_of, IsFresh, PaysCalls, KeepsSharedCallLimit, unread_bytes, written_bytes};
-ghost use Rattle.thes_exchange.specs.Script.{session};
+ghost use Rattle.thes_requests.specs.Script.{session};
 ghost use Rattle.thes_http_request.specs.Inbox.{HasStopped};
 ghost use Rattle.thes_http.specs.Connection.{IsConnectionAnswer, IsCutOff, IsAnsweredWith, IsAnsweredInPart, IsUntouched};
 ghost use Rattle.thes_http.specs.Serving.{effects};
@@ -16,26 +16,28 @@ use std::io::{Read, Write};
 use thes_base::fault::Fault;
 use thes_base::pipe::{Budget, Pipe};
 use thes_http_request::body::{BodyStop, read_body};
+use thes_http_request::endpoint::Routes;
 use thes_http_request::head_request::read_head_request;
 use thes_http_request::inbox::{HeadStop, Inbox, InputFault};
 use thes_http_request::problem::Problem;
 
-/// How a connection ended.
+/// The outcome of a connection, after which it is closed.
 #[derive(Clone, Copy, Debug, PartialEq, Eq)]
 pub enum ConnectionEnd {
     /// The response was written, with this status.
     Answered(Status),
-    /// The input ended before the request did, and nothing was done or written.
+    /// The input ended inside the request, and nothing was performed or written.
     Cut,
-    /// The reader failed, or was denied a read, and nothing was done or written.
+    /// The reader failed, or was denied a read, and nothing was performed or written.
     ReadFault,
     /// The writer failed, or was denied a write, within the response.
     WriteFault,
 }
 
-// Reads the request, carries it out, and returns the response.
+// Reads the request, performs it, and returns the response; problems, form faults and faults are responses as well.
 fn answer<R: Read, S: Service>(
     alloc: Global,
+    routes: Option<&Routes>,
     reader: &mut Pipe<R>,
     budget: &mut Budget,
     service: &mut S,
@@ -53,7 +55,7 @@ fn answer<R: Read, S: Service>(
     ensures kept { OnErr result (service.new ≡ service.old) }
     ensures paid { PaysCalls reader.old reader.new budget.old budget.new }
 {
-    let Ok(mut inbox) = Inbox::new(alloc) else {
+    let (Some(routes), Ok(mut inbox)) = (routes, Inbox::new(alloc)) else {
         return Ok(Response::fault(Fault::OutOfMemory));
     };
     let mut headers = [EMPTY_HEADER_SPAN; 64];
@@ -62,7 +64,7 @@ fn answer<R: Read, S: Service>(
         Err(HeadStop::Bad) => return Ok(Response::problem(Problem::BadHead)),
         Err(HeadStop::InputFault(gone)) => return Err(gone),
     };
-    let want = match read_head_request(inbox.head_bytes(), spans, &headers) {
+    let want = match read_head_request(alloc, routes, inbox.head_bytes(), spans, &headers) {
         Ok(want) => want,
         Err(problem) => return Ok(Response::problem(problem)),
     };
@@ -75,10 +77,51 @@ fn answer<R: Read, S: Service>(
     }
 }
 
+// Reads one request by these routes, carries it out, and writes the response. Without routes memory has run out.
+pub(crate) fn serve_routed<R: Read, W: Write, S: Service>(
+    alloc: Global,
+    routes: Option<&Routes>,
+    reader: &mut Pipe<R>,
+    writer: &mut Pipe<W>,
+    service: &mut S,
+) -> ConnectionEnd
+    requires reader { IsFresh reader.old }
+    requires writer { IsFresh writer.old }
+    requires open { S.is_open service.old ≡ true }
+    ensures answered { (status : _) → result ≡ ConnectionEnd.Answered status →
+        IsAnsweredWith R.remaining W.contents
+        (effects S.performs S.shows S.imports S.exports S.displays)
+        (session reader.old writer.old service.old)
+        (session reader.new writer.new service.new) status }
+    ensures cut { result ≡ ConnectionEnd.Cut →
+        IsCutOff (unread_bytes R.remaining reader.old) (unread_bytes R.remaining reader.new)
+        × (ended_of reader.new ≡ true)
+        × IsUntouched (session reader.old writer.old service.old)
+        (session reader.new writer.new service.new) }
+    ensures read_fault { result ≡ ConnectionEnd.ReadFault → HasStopped reader.new
+        × IsUntouched (session reader.old writer.old service.old)
+        (session reader.new writer.new service.new) }
+    ensures write_fault { result ≡ ConnectionEnd.WriteFault → HasStopped writer.new
+        × IsAnsweredInPart R.remaining W.contents
+        (effects S.performs S.shows S.imports S.exports S.displays)
+        (session reader.old writer.old service.old) (session reader.new writer.new service.new) }
+    ensures calls { KeepsSharedCallLimit reader.old reader.new writer.old writer.new }
+{
+    let mut budget = Budget::new();
+    let response = match answer(alloc, routes, reader, &mut budget, service) {
+        Ok(response) => response,
+        Err(InputFault::Cut) => return ConnectionEnd::Cut,
+        Err(InputFault::ReadFault) => return ConnectionEnd::ReadFault,
+    };
+    match response.write(writer, &mut budget) {
+        Ok(()) => ConnectionEnd::Answered(response.status),
+        Err(_) => ConnectionEnd::WriteFault,
+    }
+}
+
 /// Reads one request, carries it out, and writes the response.
 ///
-/// `ReadFault` and `WriteFault` are returned only if the device failed, or was denied a read or a
-/// write.
+/// `ReadFault` and `WriteFault` are returned only if the device failed, or was denied a read or a write.
 pub fn serve_one<R: Read, W: Write, S: Service>(
     alloc: Global,
     reader: &mut Pipe<R>,
@@ -107,14 +150,6 @@ pub fn serve_one<R: Read, W: Write, S: Service>(
         (session reader.old writer.old service.old) (session reader.new writer.new service.new) }
     ensures calls { KeepsSharedCallLimit reader.old reader.new writer.old writer.new }
 {
-    let mut budget = Budget::new();
-    let response = match answer(alloc, reader, &mut budget, service) {
-        Ok(response) => response,
-        Err(InputFault::Cut) => return ConnectionEnd::Cut,
-        Err(InputFault::ReadFault) => return ConnectionEnd::ReadFault,
-    };
-    match response.write(writer, &mut budget) {
-        Ok(()) => ConnectionEnd::Answered(response.status),
-        Err(_) => ConnectionEnd::WriteFault,
-    }
+    let routes = Routes::new(alloc).ok();
+    serve_routed(alloc, routes.as_ref(), reader, writer, service)
 }

@@ -1,33 +1,53 @@
-//! Serves connections, one after another.
+//! A server of connections, one after another.
 ghost use Rattle.std.specs.Prelude.{◌≡◌, true, OnOk};
 ghost use Rattle.thes_http.specs.Server.{LeadsBy};
 ghost use Rattle.thes_http.specs.Serving.{effects};
 
-use crate::serve::{ConnectionEnd, serve_one};
+use crate::deadline::TimedStream;
+use crate::serve::{ConnectionEnd, serve_routed};
 use crate::service::Service;
 use std::alloc::Global;
 use std::io;
 use std::io::{ErrorKind, Read, Write};
 use std::net::{Net, OpenListener, OpenStream, Shutdown};
-use std::time::Duration;
+use std::rt::Clock;
+use std::time::{Duration, Instant};
 use thes_base::pipe::Pipe;
+use thes_http_request::endpoint::Routes;
 
-// The greatest number of reads, of 16 KiB each, of what a client still sends after the response.
+// The greatest number of reads of 16 KiB each, by which input after the response is discarded.
 const READS: u32 = 32_768;
 
-// The greatest number of such reads that time out, after 4 ms each.
+// The greatest number of these reads that time out, after 4 ms each.
 const WAITS: u32 = 256;
 
-// Shuts down the sending side, and discards what the client still sends, so that it gets the
+// The greatest time for all of these reads, in seconds.
+const SEE_OFF: u64 = 2;
+
+// Returns whether the time for discarding input has passed, or the clock fails.
+fn is_over<C: Clock>(clock: &C, start: Instant) -> bool {
+    match start.elapsed(clock) {
+        Ok(passed) => passed.as_secs() >= SEE_OFF,
+        Err(_) => true,
+    }
+}
+
+// Shuts down the sending side, and discards what the client still sends, for two seconds at most, so that it gets the
 // response before the connection closes.
-fn drain_input<T: Read + OpenStream + Drop>(mut stream: T) {
+fn drain_input<C: Clock, T: Read + OpenStream + Drop>(clock: &C, mut stream: T) {
     let wait = Some(Duration::from_millis(4));
     if stream.shutdown(Shutdown::Write).is_err() || stream.set_read_timeout(wait).is_err() {
         return;
     }
+    let Ok(start) = Instant::now(clock) else {
+        return;
+    };
     let mut buffer = [0u8; 16_384];
     let mut waits = 0;
     for _ in 0..READS {
+        if is_over(clock, start) {
+            return;
+        }
         match stream.read(&mut buffer) {
             Ok(0) => return,
             Ok(_) => {}
@@ -37,7 +57,7 @@ fn drain_input<T: Read + OpenStream + Drop>(mut stream: T) {
     }
 }
 
-// Returns whether a read timed out or was interrupted, and may be repeated.
+// Returns whether a read timed out or was interrupted, so that it may be repeated.
 fn has_waited(error: &io::Error) -> bool {
     matches!(
         error.kind(),
@@ -45,18 +65,12 @@ fn has_waited(error: &io::Error) -> bool {
     )
 }
 
-// Clones the stream for reading, with read and write time-outs of 30 seconds: a client that is idle
-// can't block others for ever.
-fn clone_stream<T: OpenStream>(stream: &T) -> io::Result<T> {
-    let wait = Some(Duration::from_secs(30));
-    stream.set_read_timeout(wait)?;
-    stream.set_write_timeout(wait)?;
-    stream.try_clone()
-}
-
-// Serves one connection.
-fn serve_stream<T: Read + Write + OpenStream + Drop, S: Service>(
+// Serves one connection, or closes it if its stream can't be cloned. Reads and writes fail once the
+// client exceeds its time.
+fn serve_stream<C: Clock, T: Read + Write + OpenStream + Drop, S: Service>(
     alloc: Global,
+    routes: &Routes,
+    clock: &C,
     stream: T,
     service: &mut S,
 )
@@ -64,18 +78,18 @@ fn serve_stream<T: Read + Write + OpenStream + Drop, S: Service>(
     ensures { LeadsBy (effects S.performs S.shows S.imports S.exports S.displays) 1
         service.old service.new }
 {
-    let Ok(input) = clone_stream(&stream) else {
+    let Ok(input) = stream.try_clone() else {
         return;
     };
-    let mut reader = Pipe::new(input);
-    let mut writer = Pipe::new(stream);
-    match serve_one(alloc, &mut reader, &mut writer, service) {
-        ConnectionEnd::Answered(_) => drain_input(reader.into_device()),
+    let mut reader = Pipe::new(TimedStream::new(input, clock));
+    let mut writer = Pipe::new(TimedStream::new(stream, clock));
+    match serve_routed(alloc, Some(routes), &mut reader, &mut writer, service) {
+        ConnectionEnd::Answered(_) => drain_input(clock, reader.into_device().into_stream()),
         ConnectionEnd::WriteFault | ConnectionEnd::Cut | ConnectionEnd::ReadFault => {}
     }
 }
 
-// Returns the next connection, or `None` if its client closed it before it was accepted.
+// Accepts the next connection, or returns `None` if its client closed it before.
 fn next_stream<N: Net>(
     listener: &N::Listener,
 ) -> io::Result<Option<<N::Listener as OpenListener>::Stream>> {
@@ -86,13 +100,16 @@ fn next_stream<N: Net>(
     }
 }
 
-/// Serves `count` connections, one after another.
+/// Serves `count` connections, one after another; one that its client closed before it was accepted
+/// counts as well. A client has 30 seconds to send its request and 30 to read the response, by the
+/// clock, and one more second for each 100,000 bytes.
 ///
-/// A client that closes its connection early loses only its own response. An error is that of
-/// accepting a connection, or `OutOfMemory` if that has closed the service: `Ok` means that the
-/// service is open.
-pub fn serve<N: Net, S: Service>(
+/// A client that closes its connection early loses only its own response. An error is that of accepting a connection,
+/// or `OutOfMemory` if memory for the routes ran out before the first connection, or if running out of memory has closed
+/// the service: `Ok` means that the service is open.
+pub fn serve<N: Net + Clock, S: Service>(
     alloc: Global,
+    clock: &N,
     listener: &N::Listener,
     count: u32,
     service: &mut S,
@@ -102,11 +119,14 @@ pub fn serve<N: Net, S: Service>(
         service.old service.new }
     ensures open { OnOk result (S.is_open service.new ≡ true) }
 {
+    let Ok(routes) = Routes::new(alloc) else {
+        return Err(io::Error::from(ErrorKind::OutOfMemory));
+    };
     for _ in 0..count {
         let Some(stream) = next_stream::<N>(listener)? else {
             continue;
         };
-        serve_stream(alloc, stream, service);
+        serve_stream(alloc, &routes, clock, stream, service);
         if !service.is_open() {
             return Err(io::Error::from(ErrorKind::OutOfMemory));
         }

@@ -1,4 +1,4 @@
-//! The trait of whatever serves HTTP requests.
+//! The trait of a service for HTTP requests.
 ghost use Rattle.std.specs.Prelude.{◌≡◌, true, ℕ, List, Result};
 ghost use Rattle.thes_base.specs.declared.fault.Fault.{Fault};
 ghost use Rattle.thes_http.specs.declared.service.ImportAnswer.{ImportAnswer};
@@ -10,9 +10,9 @@ use std::marker::Model;
 use thes_base::fault::{Fault, Refusal};
 use thes_base::number::ResNo;
 use thes_base::text::Tag;
-use thes_exchange::handler::RequestHandler;
+use thes_requests::handler::RequestHandler;
 
-/// A text of many lines.
+/// The text of a response with many lines.
 #[derive(Drop)]
 pub struct Page {
     bytes: Vec<u8>,
@@ -27,14 +27,14 @@ impl Model for Page {
 }
 
 impl Page {
-    /// Takes the bytes of a page.
+    /// Wraps the bytes of a text, each line of which has its line feed.
     pub fn new(bytes: Vec<u8>) -> Page
         ensures { result ≡ bytes.items }
     {
         Page { bytes }
     }
 
-    /// Returns the bytes of the page.
+    /// Returns the bytes of the text.
     pub fn as_bytes(&self) -> &[u8]
         ensures { result.now ≡ self.now }
     {
@@ -42,23 +42,23 @@ impl Page {
     }
 }
 
-/// The answer to a posting file.
+/// The answer to a request to import a posting file.
 #[derive(Drop)]
 pub enum ImportAnswer {
-    /// The outcome of each row.
+    /// The outcomes of the rows, as CSV.
     Outcomes(Page),
-    /// It isn't a posting file, and none of it was performed.
+    /// The file isn't a posting file, and nothing was performed.
     Malformed,
 }
 
-/// A display of a scheme.
+/// The kind of a display: alphabetical or hierarchical.
 #[derive(Clone, Copy, Debug, PartialEq, Eq)]
 pub enum Display {
     Alphabetical,
     Hierarchical,
 }
 
-/// The answer to a request for a display.
+/// The answer to a request for a display: its lines, or the refusal of the scheme's number.
 #[derive(Drop)]
 pub enum DisplayAnswer {
     Lines(Page),
@@ -73,7 +73,7 @@ pub trait Service: RequestHandler {
 
     ghost displays: { Self → Display → ℕ → List ℕ → Result DisplayAnswer Fault → Self → Type 0 };
 
-    /// Imports a posting file, and returns the outcome of each row.
+    /// Imports a posting file, and returns the outcomes of its rows.
     fn import(&mut self, alloc: Global, file: &[u8]) -> Result<ImportAnswer, Fault>
         requires { Self.is_open self.old ≡ true }
         ensures { imports self.old file.now result self.new };
@@ -83,7 +83,7 @@ pub trait Service: RequestHandler {
         requires { Self.is_open self.old ≡ true }
         ensures { exports self.old result self.new };
 
-    /// Displays a scheme in a language.
+    /// Displays a scheme in the language of this tag.
     fn display(
         &mut self,
         alloc: Global,

@@ -1,4 +1,4 @@
--- Proves how empty lines before a request line are skipped, and that a method ends them.
+-- Proves that empty lines before a request line are skipped, up to its method.
 use Rattle.std.proofs.Common.{◌≡◌, ◌∙◌, sym, ap, subst, refl, ℕ, ◌+◌, ◌<◌, ◌==◌, ◌&&◌, Bool, true, false, cond, List}
 use Rattle.std.proofs.Common.{[], ◌∷◌, ◌++◌, length, take, drop, arith, rules, length-append}
 use Rattle.std.specs.List.{list_all, position_or_len, before_first, after_first}
@@ -45,7 +45,7 @@ blank_return [] h k = refl
 blank_return (b ∷ []) h k = search (rules, k)
 blank_return (a ∷ b ∷ bytes) h k = first_false (a == 10) _ _ h ∙ second_true (a == 13) (b == 10) _ _ k
 
--- Nothing else is skipped.
+-- Bytes that begin with neither line end are left as they are.
 pub blank_end : (bytes : List ℕ) → bytes_eq (take 1 bytes) (10 ∷ []) ≡ false → bytes_eq (take 2 bytes) (13 ∷ 10 ∷ [])
     ≡ false → without_blank_lines bytes ≡ bytes
 unfolding without_blank_lines
@@ -53,7 +53,7 @@ blank_end [] h k = refl
 blank_end (b ∷ []) h k = first_false (b == 10) [] (b ∷ []) h
 blank_end (a ∷ b ∷ bytes) h k = first_false (a == 10) _ _ h ∙ second_false (a == 13) (b == 10) _ _ k
 
--- Empty lines, and then a line.
+-- Empty lines are skipped, whatever line follows.
 
 skip_line_feed : (bytes : List ℕ) → without_blank_lines (10 ∷ bytes) ≡ without_blank_lines bytes
 unfolding without_blank_lines
@@ -106,7 +106,7 @@ token_stays (b ∷ method) bytes t =
     line_stays b (method ++ bytes) (differs_from_other b 10 line_feed_none is (b == 10) refl)
     (differs_from_other b 13 return_none is (b == 13) refl)
 
--- A method, a space and a target.
+-- A line of a method, a space and a target has its first space after the method.
 
 module _ (method target : List ℕ) (t : IsToken method) where
   abbrev line : List ℕ

@@ -12,7 +12,7 @@ pub record BodySoFar (old new : Option (List ℕ)) (start : List ℕ) (count : �
   pub taken : Consumes old new more
   pub body_is : body ≡ take count (start ++ more)
 
--- A body shorter than asked for is everything that has arrived.
+-- A body shorter than announced is all that has arrived.
 short_is : (all body : List ℕ) (count : ℕ) → body ≡ take count all → length body < count → (length all < count)
     × (body ≡ all)
 short_is all body count e l =
@@ -39,12 +39,12 @@ pub consumes_some_then : (old mid new : Option (List ℕ)) (start : List ℕ) (c
 consumes_some_then old mid new start count body s t =
     record { more = s.more ++ t.more; taken = Consumes-trans old mid new s.more t.more s.taken t.taken }
 
--- Only the capacity of the buffer changed.
+-- A buffer with the same bytes, in any capacity, is the same body.
 pub body_so_far_same : (old new : Option (List ℕ)) (start : List ℕ) (count : ℕ) (body body' : List ℕ)
     → BodySoFar old new start count body → body' ≡ body → BodySoFar old new start count body'
 body_so_far_same old new start count body body' s e = record { more = s.more; taken = s.taken; body_is = e ∙ s.body_is }
 
--- More bytes arrived within the same capacity.
+-- The bound on the capacity stays true when more bytes arrive within it.
 pub capacity_stays_bounded : (count came came' room room' : ℕ) → HasBoundedCapacity count came room → room' ≡ room
     → came ≤ came' → HasBoundedCapacity count came' room'
 capacity_stays_bounded count came came' room room' g e l = (omega (arith, e, g.0), omega (arith, e, g.1, l))

@@ -21,7 +21,7 @@ module _ {X Y : Type 0} (p : Y → Bool) (f : X → Y) where
   any_step true t n l ih h = refl
   any_step false t n l ih h = ih (omega (arith, h))
 
-  -- An element that passes is found.
+  -- If the search finds an element, some element passes.
   pub any_found : (xs : List X) → position_or_len (λ x. p (f x)) xs < length xs → list_any p (map f xs) ≡ true
   any_found [] h = absurd (omega (arith, h))
   any_found (x ∷ xs) h = any_step (p (f x)) (list_any p (map f xs)) (position_or_len (λ x. p (f x)) xs) (length xs)
@@ -31,7 +31,7 @@ module _ {X Y : Type 0} (p : Y → Bool) (f : X → Y) where
   none_step true t n l ih h = absurd (omega (arith, h))
   none_step false t n l ih h = ih (omega (arith, h))
 
-  -- No element passes if the search finds none.
+  -- If the search finds no element, none passes.
   pub any_none : (xs : List X) → position_or_len (λ x. p (f x)) xs ≡ length xs → list_any p (map f xs) ≡ false
   any_none [] h = refl
   any_none (x ∷ xs) h = none_step (p (f x)) (list_any p (map f xs)) (position_or_len (λ x. p (f x)) xs) (length xs)
@@ -47,7 +47,7 @@ module _ {Y : Type 0} (p : Y → Bool) where
   filter_none [] h = refl
   filter_none (y ∷ ys) h = skip_step (p y) y (list_any p ys) (filter p ys) h (filter_none ys)
 
--- A default for fields beyond the last one.
+-- The spans read beyond the last field.
 abbrev pub no_spans : HeaderSpan
 no_spans = record { name = record { start = 0; end = 0 }; value = record { start = 0; end = 0 } }
 
@@ -57,7 +57,7 @@ after_one n = omega arith
 one_more : (n : ℕ) → suc n ≡ 1 + n
 one_more n = omega arith
 
--- The values of the fields with a name, by the index of the first one.
+-- The values of the fields with a name are counted from the first such field.
 module _ {X Y : Type 0} (p : Y → Bool) (f : X → Y) (g : Y → List ℕ) where
   pub no_value : (xs : List X) → position_or_len (λ x. p (f x)) xs ≡ length xs → map g (filter p (map f xs)) ≡ []
   no_value xs h = ap (map g) (filter_none p (map f xs) (any_none p f xs h))
@@ -87,7 +87,7 @@ module _ {X Y : Type 0} (p : Y → Bool) (f : X → Y) (g : Y → List ℕ) wher
   one_value (x ∷ xs) d l h = value_step (p (f x)) x xs (position_or_len (λ x. p (f x)) xs) d (one_value xs d)
       (omega (arith, l)) h
 
-  -- A second value is a problem.
+  -- Two fields with a name are a problem.
   second_step : (b t : Bool) (y : Y) (ys : List Y) (a : List ℕ) (limit : ℕ)
       → (t ≡ true → length_in limit (a ∷ map g ys) ≡ Err BadHead) → (b || t) ≡ true
       → length_in limit (a ∷ map g (cond b (y ∷ ys) ys)) ≡ Err BadHead
@@ -114,8 +114,6 @@ module _ {X Y : Type 0} (p : Y → Bool) (f : X → Y) (g : Y → List ℕ) wher
   many_values [] limit l h = absurd (omega (arith, l))
   many_values (x ∷ xs) limit l h = values_step (p (f x)) x xs (position_or_len (λ x. p (f x)) xs) limit
       (many_values xs limit) (omega (arith, l)) h
-
--- Digits.
 
 digits_parts : (c : ℕ) (cs : List ℕ) → (is_ascii_digit c && list_all is_ascii_digit cs) ≡ true → IsInRange 48 57 c
     × (list_all is_ascii_digit cs ≡ true)
@@ -156,7 +154,7 @@ pub length_long : (limit : ℕ) (text : List ℕ) → is_length text ≡ true �
 unfolding length_of
 length_long limit text h l = rw (h, lt-leb (digits_value 10 text) limit l) refl
 
--- The condition under which `parse` accepts a text of one or more digits.
+-- The condition under which `parse` accepts the digits of a text.
 abbrev IsParsed : List ℕ → Type 0
 IsParsed digits = IsNumeral 10 (without_leading_plus digits) × (digits_value 10 (without_leading_plus digits) < 2 ^ 32)
 
@@ -183,7 +181,7 @@ module _ (limit : ℕ) (text digits : List ℕ) (h : is_length text ≡ true) (s
   pub length_unread : ¬ (IsParsed digits) → limit < 2 ^ 32 → length_of limit text ≡ Err TooLong
   length_unread unread l = let k = not_small unread in length_long limit text h (omega (arith, k, l))
 
--- Fields, by the index of the first one with a name.
+-- The first field with a name determines the length.
 module _ {X : Type 0} (name : List ℕ) (f : X → List ℕ × List ℕ) (xs : List X) where
   abbrev first : ℕ
   first = position_or_len (λ x. is_named name (f x)) xs

@@ -50,7 +50,7 @@ bad_either front bytes e (inl long) h = bad_before front bytes e long h
 bad_either front bytes e (inr short) h =
     bad_at bytes (subst (λ (t : List ℕ). IsNoHead t ⊎ HasTooManyLines t) (e ∙ take_all head_limit bytes short) h)
 
--- A prefix that begins no head makes all the bytes a bad head.
+-- A prefix that begins no head makes all of the bytes a bad head.
 pub bad_front : (front bytes : List ℕ) → front ≡ take head_limit bytes → IsNoHead front ⊎ HasTooManyLines front
     → IsBadHead bytes
 bad_front front bytes e h = bad_either front bytes e (cases_lt head_limit (length bytes)) h
@@ -64,9 +64,7 @@ cut_front front bytes bytes' e same l h =
           h;
     })
 
--- Incomplete or bad.
-
--- Bytes that end within a target pass the test for that.
+-- Bytes that end within a target pass the test for it.
 pub ends_in_target_holds : (bytes : List ℕ) → EndsInTarget bytes → ends_in_target bytes ≡ true
 ends_in_target_holds bytes (blank, method, target, token, uri, is) =
     let line : without_blank_lines bytes ≡ method ++ (32 ∷ target) =
@@ -74,7 +72,7 @@ ends_in_target_holds bytes (blank, method, target, token, uri, is) =
     ∙ (skip_blank blank (method ++ (32 ∷ target)) ∙ token_stays method (32 ∷ target) token) in
     ap is_open_target line ∙ open_target method target token uri
 
--- Too many fields are too many complete lines.
+-- A head with too many fields has too many complete lines.
 pub many_fields_many_lines : (bytes : List ℕ) → RequestExceeds fields_limit bytes → fields_limit + 1 < whole_lines bytes
 many_fields_many_lines bytes (front, rest, is, h, reads, many) =
     let same : whole_lines bytes ≡ whole_lines (front ++ rest) = ap whole_lines is in

@@ -1,4 +1,4 @@
--- Proves that what is read from the spans of a head is what the head asks for.
+-- Proves that the parts read from the spans of a head have the outcome of the head.
 use Rattle.std.proofs.Common.{◌≡◌, ◌∙◌, sym, ap, refl, ℕ, ◌≤◌, List, length, take, drop, map, Result, Ok, Err, IfOk}
 use Rattle.std.proofs.Common.{arith}
 use Rattle.httparse.specs.Spans.{header_bytes, span_bytes}
@@ -9,7 +9,7 @@ use Rattle.thes_http_request.specs.Heads.{head_limit, Parts, parts_of}
 use Rattle.thes_http_request.specs.Inbox.{IsHeadAt, HeadOutcome}
 use Rattle.thes_http_request.specs.HeadRequests.{HeadRequest, head_request_of}
 
--- The parts of a head, read from spans.
+-- The parts of a head, read from its spans.
 abbrev pub parts_at : List ℕ → List HeaderSpan → RequestSpans → Parts
 parts_at bytes headers spans = record {
   method = span_bytes bytes spans.method;
@@ -17,7 +17,7 @@ parts_at bytes headers spans = record {
   fields = map (header_bytes bytes) (take spans.headers headers);
 }
 
--- The parts read from the spans are those of the head, so they ask for the same.
+-- The parts read from the spans are those of the head, so their checks have the same outcome.
 head_outcome_from : (bytes : List ℕ) (headers : List HeaderSpan) (spans : RequestSpans) (p : Parts)
     (outcome : Result HeadRequest Problem)
     → IsHeadAt bytes headers spans → length bytes ≤ head_limit → p ≡ parts_at bytes headers spans → head_request_of p

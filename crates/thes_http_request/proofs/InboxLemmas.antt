@@ -17,7 +17,7 @@ splice xs new post f n e k =
     subst (λ (k : ℕ). take (k + n) (xs ++ (new ++ post)) ≡ xs ++ take n new) e (take-append-add xs (new ++ post) n
     ∙ ap (λ t. xs ++ t) (take-append-le n new post k))
 
--- The part of the buffer from `f` on was overwritten.
+-- Overwriting the buffer from `f` on appends to the bytes before `f`.
 pub buffer_after_read : (items d new post old : List ℕ) (f n : ℕ) → d ≡ items → take f items ≡ old → f ≤ length d → n
     ≤ length new → take (f + n) (take f d ++ (new ++ post)) ≡ old ++ take n new
 buffer_after_read items d new post old f n same is h k =
@@ -29,7 +29,7 @@ take_within m len xs h k =
     sym (take-append-le m (take len xs) (drop len xs) (omega (arith, is, h, k)))
     ∙ ap (λ t. take m t) (take-append-drop len xs)
 
--- The same in a buffer whose length stays the same.
+-- A read into the rest of a buffer of fixed length appends the bytes read to those before.
 pub buffer_after_read_within : (items d new post tail old : List ℕ) (f n len : ℕ) → d ≡ items → take f items ≡ old → f
     ≤ length d → n ≤ length new → f + n ≤ len
     → take (f + n) (take len ((take f d ++ (new ++ post)) ++ tail)) ≡ old ++ take n new

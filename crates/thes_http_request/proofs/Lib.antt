@@ -1,10 +1,12 @@
-mod HeadLemmas
+pub mod HeadLemmas
+pub mod HeadLawLemmas
 pub mod InboxLemmas
 mod BodyLemmas
 mod HeadRequestLemmas
 mod QueryLemmas
 mod HeadOutcomeLemmas
 mod FieldLemmas
-mod PlaceLemmas
+mod MatchLemmas
+mod RouteLemmas
 mod BlankLemmas
 mod LineLemmas

@@ -1,11 +1,15 @@
 -- Proves that a head has at least one complete line for each field and one for the request line.
-use Rattle.std.proofs.Common.{◌≡◌, ◌∙◌, ap, refl, ℕ, ◌+◌, ◌≤◌, cond, List, [], ◌∷◌, ◌++◌, length, append-nil}
+use Rattle.std.proofs.Common.{◌≡◌, ◌∙◌, sym, ap, subst, refl, ℕ, zero, suc, ◌+◌, ◌≤◌, ◌==◌, ◌&&◌, Bool, true, false}
+use Rattle.std.proofs.Common.{cond, List, [], ◌∷◌, ◌++◌, length, append-nil, All}
 use Rattle.std.proofs.Common.{append_assoc, arith}
 use Rattle.std.specs.List.{flat_map, count_by}
 use Rattle.std.proofs.lemmas.List.{append_cancel_right}
 use Rattle.std.proofs.lemmas.List.Sums.{sum_by-append, sum_by-cons}
+use Rattle.std.proofs.lemmas.List.Elements.{All-head, All-tail}
+use Rattle.std.proofs.lemmas.Bool.{both_ways, eqb-true}
 use Rattle.httparse.specs.Grammar.{LineEnd, crlf, lf, print_end, print_blank, print_version, Field, print_field}
-use Rattle.httparse.specs.Grammar.{RequestHead, print_request, ReadsRequest}
+use Rattle.httparse.specs.Grammar.{IsField, RequestHead, IsRequestHead, print_request, ReadsRequest, AllPass}
+use Rattle.httparse.specs.Grammar.{is_token_byte, is_uri_byte, is_value_byte}
 use Rattle.thes_http_request.specs.Heads.{without_blank_lines, is_line_feed, whole_lines}
 use Rattle.thes_http_request.proofs.BlankLemmas.{skip_blank, token_stays}
 
@@ -37,7 +41,7 @@ each_field (f ∷ fs) =
     omega (arith, a, b, c)
 
 -- The end of the last line without its line feed.
-before_feed : LineEnd → List ℕ
+unfoldable pub before_feed : LineEnd → List ℕ
 before_feed crlf = 13 ∷ []
 before_feed lf = []
 
@@ -47,12 +51,12 @@ last_feed crlf = refl
 last_feed lf = refl
 
 -- A head from its target on, without its last line feed.
-after_method : RequestHead → List ℕ
+unfoldable pub after_method : RequestHead → List ℕ
 after_method h =
     32 ∷ (h.target ++ 32
     ∷ (print_version h.minor ++ (print_end h.line_end ++ (flat_map print_field h.fields ++ before_feed h.last))))
 
--- The number of lines after the method is greater than the number of fields.
+-- The lines after the method outnumber the fields.
 many_lines : (h : RequestHead) → length h.fields + 1 ≤ lines_in (after_method h)
 unfolding after_method
 many_lines h =
@@ -74,13 +78,13 @@ regroup : (blank method target version line fields last : List ℕ)
     ≡ (blank ++ (method ++ 32 ∷ (target ++ 32 ∷ (version ++ (line ++ (fields ++ last)))))) ++ 10 ∷ []
 regroup blank method target version line fields last = simp append_assoc refl
 
-to_feed : (h : RequestHead) → print_request h ≡ (print_blank h.blank ++ (h.method ++ after_method h)) ++ 10 ∷ []
+pub to_feed : (h : RequestHead) → print_request h ≡ (print_blank h.blank ++ (h.method ++ after_method h)) ++ 10 ∷ []
 unfolding print_request after_method
 to_feed h = rw (last_feed h.last) (regroup (print_blank h.blank) h.method h.target (print_version h.minor)
     (print_end h.line_end) (flat_map print_field h.fields) (before_feed h.last))
 
-front_is : (front : List ℕ) (h : RequestHead) → front ++ 10 ∷ [] ≡ print_request h ++ [] → front ≡ print_blank h.blank
-    ++ (h.method ++ after_method h)
+pub front_is : (front : List ℕ) (h : RequestHead) → front ++ 10 ∷ [] ≡ print_request h ++ []
+    → front ≡ print_blank h.blank ++ (h.method ++ after_method h)
 front_is front h e = append_cancel_right front (print_blank h.blank ++ (h.method ++ after_method h)) (10 ∷ [])
     (e ∙ (append-nil (print_request h) ∙ to_feed h))
 
@@ -102,3 +106,111 @@ fields_lines front rest h r =
     let b = lines_both (after_method h) rest in
     let c = many_lines h in
     omega (arith, same, a, b, c)
+
+-- Upper bounds.
+
+no_feeds : (test : ℕ → Bool) → test 10 ≡ false → (bytes : List ℕ) → AllPass test bytes → lines_in bytes ≡ 0
+no_feeds test none [] all = refl
+no_feeds test none (b ∷ bytes) all =
+    by (b == 10) refl (no_feeds test none bytes (All-tail (λ k. test k ≡ true) b bytes all))
+  where
+    by : (u : Bool) → (b == 10) ≡ u → lines_in bytes ≡ 0 → lines_in (b ∷ bytes) ≡ 0
+    by true e rest =
+        let same : b ≡ 10 = eqb-true b 10 e in
+        absurd (both_ways (test 10) none (subst (λ k. test k ≡ true) same (All-head (λ k. test k ≡ true) b bytes all)))
+    by false e rest =
+        let one = sum_by-cons (λ x. cond (is_line_feed x) 1 0) b bytes in
+        let zero : cond {A = ℕ} (is_line_feed b) 1 0 ≡ 0 = rw e refl in
+        omega (arith, one, zero, rest)
+
+token_feeds : (bytes : List ℕ) → AllPass is_token_byte bytes → lines_in bytes ≡ 0
+unfolding is_token_byte
+token_feeds bytes all = no_feeds is_token_byte refl bytes all
+
+end_feeds : (e : LineEnd) → lines_in (print_end e) ≡ 1
+end_feeds crlf = refl
+end_feeds lf = refl
+
+field_feeds : (f : Field) → IsField f → lines_in (print_field f) ≡ 1
+field_feeds f is =
+    let a = lines_both (f.name ++ 58 ∷ f.raw) (print_end f.end) in
+    let b = lines_both f.name (58 ∷ f.raw) in
+    let c = token_feeds f.name is.name.1 in
+    let d = no_feeds is_value_byte refl f.raw is.raw in
+    let e = end_feeds f.end in
+    let g = sum_by-cons (λ x. cond (is_line_feed x) 1 0) 58 f.raw in
+    omega (arith, a, b, c, d, e, g)
+
+all_feeds : (fs : List Field) → All IsField fs → lines_in (flat_map print_field fs) ≡ length fs
+all_feeds [] all = refl
+all_feeds (f ∷ fs) all =
+    let a = lines_both (print_field f) (flat_map print_field fs) in
+    let b = field_feeds f (All-head IsField f fs all) in
+    let c = all_feeds fs (All-tail IsField f fs all) in
+    omega (arith, a, b, c)
+
+last_feeds : (e : LineEnd) → lines_in (before_feed e) ≡ 0
+unfolding before_feed
+last_feeds crlf = refl
+last_feeds lf = refl
+
+version_feeds : (minor : ℕ) → minor ≤ 1 → lines_in (print_version minor) ≡ 0
+version_feeds zero l = refl
+version_feeds (suc zero) l = refl
+version_feeds (suc (suc minor)) l = absurd (omega (arith, l))
+
+-- The number of lines after the method, without the last line feed, is the number of fields and one.
+few_lines : (h : RequestHead) → IsRequestHead h → lines_in (after_method h) ≡ length h.fields + 1
+unfolding after_method
+few_lines h is =
+    let last = flat_map print_field h.fields ++ before_feed h.last in
+    let line = print_end h.line_end ++ last in
+    let version = print_version h.minor ++ line in
+    let a = sum_by-cons (λ x. cond (is_line_feed x) 1 0) 32 (h.target ++ 32 ∷ version) in
+    let b = lines_both h.target (32 ∷ version) in
+    let c = sum_by-cons (λ x. cond (is_line_feed x) 1 0) 32 version in
+    let d = lines_both (print_version h.minor) line in
+    let e = lines_both (print_end h.line_end) last in
+    let f = end_feeds h.line_end in
+    let g = lines_both (flat_map print_field h.fields) (before_feed h.last) in
+    let i = all_feeds h.fields is.fields in
+    let j = last_feeds h.last in
+    let k = version_feeds h.minor is.minor in
+    let l = no_feeds is_uri_byte refl h.target is.target.1 in
+    omega (arith, a, b, c, d, e, f, g, i, j, k, l)
+
+-- A prefix has no more complete lines.
+lines_of_prefix : (xs ys : List ℕ) → whole_lines xs ≤ whole_lines (xs ++ ys)
+unfolding without_blank_lines
+lines_of_prefix [] ys = omega arith
+lines_of_prefix (b ∷ []) ys = by (b == 10) refl
+  where
+    by : (u : Bool) → (b == 10) ≡ u → lines_in (cond u [] (b ∷ [])) ≤ whole_lines (b ∷ ys)
+    by true e = omega arith
+    by false e =
+        let one = sum_by-cons (λ x. cond (is_line_feed x) 1 0) b [] in
+        let none : lines_in (b ∷ []) ≡ 0 = one ∙ rw e refl in omega (arith, none)
+lines_of_prefix (a ∷ b ∷ bytes) ys =
+    by (a == 10) ((a == 13) && (b == 10)) (lines_of_prefix (b ∷ bytes) ys) (lines_of_prefix bytes ys)
+  where
+    by : (u v : Bool) → whole_lines (b ∷ bytes) ≤ whole_lines (b ∷ (bytes ++ ys))
+        → whole_lines bytes ≤ whole_lines (bytes ++ ys)
+        → lines_in (cond u (without_blank_lines (b ∷ bytes)) (cond v (without_blank_lines bytes) (a ∷ b ∷ bytes)))
+        ≤ lines_in (cond u (without_blank_lines (b ∷ (bytes ++ ys)))
+        (cond v (without_blank_lines (bytes ++ ys)) (a ∷ b ∷ (bytes ++ ys))))
+    by true v i j = i
+    by false true i j = j
+    by false false i j = let c = lines_both (a ∷ b ∷ bytes) ys in omega (arith, c)
+
+-- Bytes that end before a head's last line feed have at most as many complete lines as it has fields, and one.
+pub lines_before_end : (front : List ℕ) (rest : List ℕ) (h : RequestHead) → ReadsRequest (front ++ 10 ∷ []) h []
+    → (bytes more : List ℕ) → front ≡ bytes ++ more → whole_lines bytes ≤ length h.fields + 1
+lines_before_end front rest h r bytes more e =
+    let prefix = lines_of_prefix bytes more in
+    let whole : whole_lines (bytes ++ more) ≡ lines_in (h.method ++ (after_method h ++ [])) =
+    ap whole_lines (sym e ∙ sym (append-nil front)) ∙ ap lines_in (line_is front [] h r) in
+    let a = lines_both h.method (after_method h ++ []) in
+    let b = lines_both (after_method h) [] in
+    let c = few_lines h r.0 in
+    let d = token_feeds h.method r.0.method.1 in
+    omega (arith, prefix, whole, a, b, c, d)

@@ -1,4 +1,4 @@
--- Proves what the pairs of a query string give, decoded one by one.
+-- Proves the values in a query string of two pairs, decoded one by one.
 use Rattle.std.proofs.Common.{◌≡◌, ◌∙◌, refl, ℕ, List, [], ◌∷◌, map}
 use Rattle.form_urlencoded.specs.Form.{raw_pairs, DecodesTo}
 use Rattle.thes_http_request.specs.Queries.{display_query_of, display_query_in_pairs, decoded_pair}
@@ -8,7 +8,7 @@ pub display_query_with : (query : List ℕ) (ps : List (List ℕ × List ℕ)) �
 unfolding display_query_of
 display_query_with query ps e = rw e refl
 
--- Two pairs, decoded.
+-- The values in a query string of two pairs are those of the pairs, decoded.
 pub display_query_of_two : (query x x' y y' a a' b b' : List ℕ) → raw_pairs query ≡ (x, x') ∷ (y, y') ∷ []
     → DecodesTo x a → DecodesTo x' a' → DecodesTo y b → DecodesTo y' b'
     → display_query_of query ≡ display_query_in_pairs ((a, a') ∷ (b, b') ∷ [])

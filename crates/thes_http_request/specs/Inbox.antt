@@ -1,4 +1,4 @@
--- The bytes read from a connection.
+-- The bytes read from a connection, and the head at their beginning.
 use Rattle.std.specs.Prelude.{ℕ, ◌≡◌, ◌≤◌, ◌<◌, ◌⊎◌, ◌+◌, ◌*◌, ◌++◌, Bool, true, List, length, take, map, Option}
 use Rattle.std.specs.Prelude.{Result}
 use Rattle.std.specs.Char.{to_ascii_lowercase}
@@ -15,28 +15,28 @@ use Rattle.thes_http_request.specs.Heads.{HasHead, fields_limit, parts_of}
 use Rattle.thes_http_request.specs.Fields.{is_named}
 use Rattle.thes_http_request.specs.HeadRequests.{HeadRequest, head_request_of}
 
--- The bytes begin with a head, and the spans are those of its parts.
+-- The bytes begin with a head, whose parts are at these spans.
 pub record IsHeadAt (bytes : List ℕ) (headers : List HeaderSpan) (spans : RequestSpans) : Type 0 where
   pub head : RequestHead
   pub at : IsRequestAt bytes headers spans head
   pub within : IsRequestWithin bytes headers spans
   pub few : length head.fields ≤ fields_limit
 
--- Whether the spans of a field cover this name, ignoring case.
+-- Whether the spans of a field cover this name, in any case.
 abbrev pub spans_named : List ℕ → List ℕ → HeaderSpan → Bool
 spans_named name bytes header = is_named (map to_ascii_lowercase name) (header_bytes bytes header)
 
--- The index of the first field with this name, or the number of fields if there is none.
+-- The index of the first field with this name, or the number of fields if none has it.
 abbrev pub first_named : List ℕ → List ℕ → List HeaderSpan → ℕ
 first_named name bytes headers = position_or_len (spans_named name bytes) headers
 
--- The bytes begin with a head, which `rest` follows, and it asks for `outcome`.
+-- The bytes begin with a head, which `rest` follows, and the checks of that head have this outcome.
 pub record HeadOutcome (bytes rest : List ℕ) (outcome : Result HeadRequest Problem) : Type 0 where
   pub head : RequestHead
   pub has : HasHead bytes head rest
   pub wants : head_request_of (parts_of head) ≡ outcome
 
--- The reader or writer failed, or was denied a read or a write.
+-- The pipe has failed, or was denied a read or a write.
 abbrev pub HasStopped : {T : Type 0} → Pipe T → Type 0
 HasStopped p = (failed_of p ≡ true) ⊎ (denied_of p ≡ true)
 
@@ -44,18 +44,18 @@ HasStopped p = (failed_of p ≡ true) ⊎ (denied_of p ≡ true)
 abbrev pub HasEnded : {R : Type 0} → (R → Option (List ℕ)) → Pipe R → Type 0
 HasEnded remaining p = IsAtEnd (unread_bytes remaining p) × (ended_of p ≡ true)
 
--- Some bytes were consumed.
+-- Bytes were consumed, perhaps none.
 pub record ConsumesSome (old new : Option (List ℕ)) : Type 0 where
   pub more : List ℕ
   pub taken : Consumes old new more
 
--- Some bytes were consumed and appended to the buffer.
+-- Bytes were consumed, perhaps none, and appended to the buffer.
 pub record BufferGrowth (old new : Option (List ℕ)) (before after : List ℕ) : Type 0 where
   pub more : List ℕ
   pub taken : Consumes old new more
   pub all : after ≡ before ++ more
 
--- The whole body arrived: the first `count` bytes of `start` and the bytes consumed.
+-- The whole body arrived: it is the first `count` bytes of `start` and the bytes consumed.
 pub record ReadsBody (old new : Option (List ℕ))
     (start : List ℕ) (count : ℕ) (body : List ℕ) : Type 0 where
   pub more : List ℕ
@@ -63,14 +63,14 @@ pub record ReadsBody (old new : Option (List ℕ))
   pub whole : count ≤ length (start ++ more)
   pub body_is : body ≡ take count (start ++ more)
 
--- The input ended before the body did.
+-- The input ended before the whole body arrived.
 pub record CutsBody (old new : Option (List ℕ)) (start : List ℕ) (count : ℕ) : Type 0 where
   pub more : List ℕ
   pub taken : Consumes old new more
   pub short : length (start ++ more) < count
   pub at_end : IsAtEnd new
 
--- The capacity of the body's buffer is at most the length of the body, and at most 4,096 bytes and
--- twice what has arrived.
+-- The capacity of the body's buffer is at most the length announced, and at most twice the bytes
+-- that arrived plus 4,096.
 abbrev pub HasBoundedCapacity : ℕ → ℕ → ℕ → Type 0
 HasBoundedCapacity count came room = (room ≤ count) × (room ≤ 2 * came + 4096)

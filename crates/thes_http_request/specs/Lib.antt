@@ -1,5 +1,6 @@
 pub mod Heads
-pub mod Places
+pub mod Endpoints
+pub mod Routes
 pub mod Fields
 pub mod HeadRequests
 pub mod Queries

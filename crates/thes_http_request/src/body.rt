@@ -1,4 +1,4 @@
-//! Reads the body of an HTTP request.
+//! Reading the body of an HTTP request.
 ghost use Rattle.std.specs.Prelude.{◌≡◌, ◌≤◌, ◌<◌, ◌+◌, ◌++◌, [], length, true, false, vec_len, vec_capacity, IfOk, OnOk, IsErrOf};
 ghost use Rattle.thes_base.specs.Pipe.{ended_of, IsFresh, PaysCalls, unread_bytes};
 ghost use Rattle.thes_http_request.specs.Inbox.{ReadsBody, CutsBody, ConsumesSome, BufferGrowth, HasBoundedCapacity, HasStopped, HasEnded};
@@ -8,13 +8,16 @@ use std::alloc::AllocError;
 use std::io::Read;
 use thes_base::pipe::{Budget, Pipe};
 
-/// Why there is no body.
+/// The reason why a body wasn't read.
 #[derive(Clone, Copy, Debug, PartialEq, Eq)]
 pub enum BodyStop {
+    /// The input ended or failed inside the body.
     InputFault(InputFault),
+    /// Memory for the body ran out.
     OutOfMemory,
 }
 
+/// Running out of memory becomes `OutOfMemory`.
 impl From<AllocError> for BodyStop {
     ghost use Rattle.thes_http_request.specs.declared.body.BodyStop.TheVariants.{OutOfMemory};
 
@@ -25,6 +28,7 @@ impl From<AllocError> for BodyStop {
     }
 }
 
+/// A fault of the input becomes `InputFault` with that fault.
 impl From<InputFault> for BodyStop {
     ghost use Rattle.thes_http_request.specs.declared.body.BodyStop.TheVariants as stop;
 
@@ -35,8 +39,8 @@ impl From<InputFault> for BodyStop {
     }
 }
 
-// Reserves room for at least one more byte, if there is none: at most the length so far and 4,096
-// bytes.
+// Reserves capacity for at least one more byte, if there is none: for as many more as the body has,
+// plus 4,096, but at most `count` in all.
 fn make_room(body: &mut Vec<u8>, count: usize) -> Result<(), AllocError>
     requires short { vec_len body.old < count }
     requires room { HasBoundedCapacity count (vec_len body.old) (vec_capacity body.old) }
@@ -52,7 +56,7 @@ fn make_room(body: &mut Vec<u8>, count: usize) -> Result<(), AllocError>
     body.reserve_exact(len.saturating_add(4096).min(count - len))
 }
 
-// Appends bytes for which there is room.
+// Appends bytes within the capacity.
 fn add(body: &mut Vec<u8>, bytes: &[u8])
     requires { vec_len body.old + length bytes.now ≤ vec_capacity body.old }
     ensures items { body.new.items ≡ body.old.items ++ bytes.now }
@@ -100,9 +104,9 @@ fn read_more<R: Read>(
     }
 }
 
-/// Reads a body of `count` bytes into an empty buffer, beginning with those that `start` has.
+/// Reads a body of `count` bytes into an empty buffer; its first bytes are those of `start`.
 ///
-/// The buffer grows with the bytes that arrive, whatever length was announced, and also if the body
+/// The buffer grows with the bytes that arrive, not with the length announced, even if the body
 /// ends early.
 pub fn read_body<R: Read>(
     reader: &mut Pipe<R>,

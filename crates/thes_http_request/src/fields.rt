@@ -1,4 +1,4 @@
-//! Looks up header fields.
+//! Look-ups of header fields, and the length of the body (RFC 9110, sections 5 and 8.6).
 ghost use Rattle.std.specs.Prelude.{◌≡◌, ◌<◌, ℕ, List, length, map, All, MatchOption};
 ghost use Rattle.std.specs.Char.{to_ascii_lowercase, is_ascii_digit};
 ghost use Rattle.std.specs.List.{list_all};
@@ -9,7 +9,7 @@ ghost use Rattle.thes_http_request.specs.Inbox.{spans_named, first_named};
 use crate::problem::Problem;
 use httparse::spans::HeaderSpan;
 
-/// Returns whether there is a field with this name, ignoring case.
+/// Returns whether some field has this name, in any case.
 pub fn has_field(bytes: &[u8], headers: &[HeaderSpan], name: &[u8]) -> bool
     requires { All (IsHeaderWithin (length bytes.now)) headers.now }
     ensures { result ≡ has_field (map to_ascii_lowercase name.now)
@@ -18,7 +18,8 @@ pub fn has_field(bytes: &[u8], headers: &[HeaderSpan], name: &[u8]) -> bool
     find_field(bytes, headers, name).is_some()
 }
 
-/// Returns the length of the body in bytes, or 0 if `limit` is `None`: then no body is read.
+/// Returns the length of the body in bytes: that of `Content-Length` if it is within the limit, or
+/// 0 if `limit` is `None`, since then no body is read.
 pub fn body_length(bytes: &[u8], headers: &[HeaderSpan], limit: Option<u32>) -> Result<u32, Problem>
     requires { All (IsHeaderWithin (length bytes.now)) headers.now }
     ensures { result ≡ body_length limit (map (header_bytes bytes.now) headers.now) }
@@ -29,7 +30,8 @@ pub fn body_length(bytes: &[u8], headers: &[HeaderSpan], limit: Option<u32>) -> 
     }
 }
 
-// Returns the length in the one field with this name.
+// Returns the length in the only field with this name; `NoLength` if there is none, and `BadHead`
+// if there are several.
 fn length_named(
     bytes: &[u8],
     headers: &[HeaderSpan],
@@ -49,7 +51,7 @@ fn length_named(
     length_of(headers[at].value.of(bytes), limit)
 }
 
-// Returns the index of the first field with this name, ignoring case.
+// Returns the index of the first field with this name, in any case.
 fn find_field(bytes: &[u8], headers: &[HeaderSpan], name: &[u8]) -> Option<usize>
     requires { All (IsHeaderWithin (length bytes.now)) headers.now }
     ensures { MatchOption result (first_named name.now bytes.now headers.now ≡ length headers.now)
@@ -63,7 +65,7 @@ fn find_field(bytes: &[u8], headers: &[HeaderSpan], name: &[u8]) -> Option<usize
     None
 }
 
-// Returns whether the field has this name, ignoring case.
+// Returns whether the field has this name, in any case.
 fn is_named(bytes: &[u8], header: HeaderSpan, name: &[u8]) -> bool
     requires { IsHeaderWithin (length bytes.now) header }
     ensures { result ≡ spans_named name.now bytes.now header }
@@ -71,7 +73,7 @@ fn is_named(bytes: &[u8], header: HeaderSpan, name: &[u8]) -> bool
     header.name.of(bytes).eq_ignore_ascii_case(name)
 }
 
-// Parses a length, which must not exceed the limit.
+// Parses a length in decimal; `BadHead` if it isn't one, and `TooLong` if it exceeds the limit.
 fn length_of(text: &[u8], limit: u32) -> Result<u32, Problem>
     ensures { result ≡ length_of limit text.now }
 {
@@ -87,14 +89,14 @@ fn length_of(text: &[u8], limit: u32) -> Result<u32, Problem>
     }
 }
 
-// Returns whether a value is one or more digits.
+// Returns whether a value consists of one or more decimal digits.
 fn is_length(text: &[u8]) -> bool
     ensures { result ≡ is_length text.now }
 {
     !text.is_empty() && all_digits(text)
 }
 
-// Returns whether each byte is a digit.
+// Returns whether each byte is an ASCII digit.
 fn all_digits(text: &[u8]) -> bool
     ensures { result ≡ list_all is_ascii_digit text.now }
 {

@@ -1,4 +1,4 @@
-//! Decides whether bytes begin with the head of an HTTP request.
+//! Deciding whether bytes begin with the head of an HTTP request.
 ghost use Rattle.std.specs.Prelude.{◌≡◌, ◌⊎◌, true, false, length, MatchOption};
 ghost use Rattle.std.specs.List.{list_any, list_all, before_first, after_first};
 ghost use Rattle.httparse.specs.Grammar.{is_uri_byte};
@@ -8,21 +8,22 @@ ghost use Rattle.thes_http_request.specs.Inbox.{IsHeadAt};
 use httparse::spans::{HeaderSpan, RequestSpans, parse_request};
 use httparse::{Error, Status, is_token, is_uri_token};
 
-// The request line and 64 header lines.
+// The greatest number of lines in a head: the request line and 64 header lines.
 const LINES_LIMIT: usize = 65;
 
-/// The verdict on the bytes so far.
+/// The verdict on the bytes read so far.
 #[derive(Clone, Copy, Drop)]
 pub enum Head {
-    /// They begin with a head, which has these parts.
+    /// The bytes begin with a head, whose parts are at these spans.
     Whole(RequestSpans),
     /// There is no head yet, but more bytes may complete one.
     More,
-    /// No head can follow, or it has too many lines.
+    /// The bytes can't begin a head, whatever bytes follow, or they have too many lines.
     Bad,
 }
 
-/// Returns whether the bytes begin with a head, may become one, or can't.
+/// Decides whether bytes begin with a head, may become one, or can't; if they do, `headers` has the
+/// spans of its fields.
 pub fn head_of(bytes: &[u8], headers: &mut [HeaderSpan]) -> Head
     requires { length headers.old ≡ 64 }
     ensures whole { (spans : _) → result ≡ Head.Whole spans → IsHeadAt bytes.now headers.new spans }
@@ -42,7 +43,7 @@ pub fn head_of(bytes: &[u8], headers: &mut [HeaderSpan]) -> Head
     }
 }
 
-// Skips the empty lines before a request line.
+// Skips the empty lines before a request line (RFC 9112, section 2.2).
 fn without_blank_lines(bytes: &[u8]) -> &[u8]
     ensures { result.now ≡ without_blank_lines bytes.now }
 {
@@ -58,7 +59,7 @@ fn without_blank_lines(bytes: &[u8]) -> &[u8]
     }
 }
 
-// Returns the number of complete lines, the request line included.
+// Returns the number of complete lines after the leading empty ones, the request line included.
 fn whole_lines(bytes: &[u8]) -> usize
     ensures { result ≡ whole_lines bytes.now }
 {
@@ -72,7 +73,8 @@ fn whole_lines(bytes: &[u8]) -> usize
     lines
 }
 
-// Returns whether the bytes end within the target of a request line.
+// Returns whether the bytes end within the target of a request line: after a method, a space, and
+// bytes of a target.
 fn ends_in_target(bytes: &[u8]) -> bool
     ensures { result ≡ ends_in_target bytes.now }
 {
@@ -82,7 +84,7 @@ fn ends_in_target(bytes: &[u8]) -> bool
     }
 }
 
-// Splits a line at its first space.
+// Splits a line at its first space, if it has one.
 fn split_at_space(line: &[u8]) -> Option<(&[u8], &[u8])>
     ensures { MatchOption result (list_any is_space line.now ≡ false)
         (λ parts. (list_any is_space line.now ≡ true)
@@ -93,7 +95,7 @@ fn split_at_space(line: &[u8]) -> Option<(&[u8], &[u8])>
     Some((&line[..at], &line[at + 1..]))
 }
 
-// Returns whether each byte may be part of a target.
+// Returns whether each byte is allowed in a target.
 fn is_target(bytes: &[u8]) -> bool
     ensures { result ≡ list_all is_uri_byte bytes.now }
 {

@@ -1,30 +1,33 @@
-//! What the head of an HTTP request asks for.
+//! The request in the head of an HTTP message.
 ghost use Rattle.std.specs.Prelude.{◌≡◌, ◌≤◌, ℕ, List, length, map, take, drop, All, IfOk, IsErrOf, Ok, Err};
 ghost use Rattle.httparse.specs.Spans.{IsHeaderWithin, header_bytes};
 ghost use Rattle.thes_http_request.specs.Heads.{head_limit};
 ghost use Rattle.thes_http_request.specs.Inbox.{IsHeadAt, HeadOutcome};
-ghost use Rattle.thes_http_request.specs.Places.{path_of, query_of};
+ghost use Rattle.thes_http_request.specs.Endpoints.{path_of, query_of};
 ghost use Rattle.thes_http_request.specs.HeadRequests.{head_request_of};
 
+use crate::endpoint::{Endpoint, Routes};
 use crate::fields::{body_length, has_field};
-use crate::place::{Place, find_place};
 use crate::problem::Problem;
 use httparse::spans::{HeaderSpan, RequestSpans};
+use std::alloc::Global;
 
-/// What a head asks for: a place, the number and the query string in its target, and the length of
-/// its body.
+/// The request in a head: an endpoint, the number and the query string in its target, and the
+/// length of its body.
 #[derive(Clone, Copy, Drop)]
 pub struct HeadRequest<'a> {
-    pub place: Place,
-    /// The text of the number in the path.
+    pub endpoint: Endpoint,
+    /// The text in the path where a number is expected, or an empty text.
     pub number: &'a str,
     pub query: &'a str,
     /// The length of the body in bytes.
     pub body: u32,
 }
 
-/// Returns what a head asks for, or the first problem with it.
+/// Returns the request in a head, or the first problem with it.
 pub fn read_head_request<'a>(
+    alloc: Global,
+    routes: &Routes,
     head: &'a [u8],
     spans: RequestSpans,
     headers: &[HeaderSpan],
@@ -33,7 +36,7 @@ pub fn read_head_request<'a>(
     requires short { length head.now ≤ head_limit }
     ensures ok { IfOk result (λ w. HeadOutcome head.now (drop spans.len head.now)
         (Ok (record {
-          place = w.place;
+          endpoint = w.endpoint;
           number = w.number.now;
           query = w.query.now;
           body = w.body;
@@ -45,6 +48,8 @@ pub fn read_head_request<'a>(
         return Err(Problem::BadHead);
     };
     request_of_parts(
+        alloc,
+        routes,
         spans.method.of(head),
         target,
         head,
@@ -52,8 +57,11 @@ pub fn read_head_request<'a>(
     )
 }
 
-// Returns what a head with these parts asks for, or the first problem with it.
+// Checks the parts of a head in order: transfer coding, path, method, and length of the body;
+// returns the request, or the first problem.
 fn request_of_parts<'a>(
+    alloc: Global,
+    routes: &Routes,
     method: &[u8],
     target: &'a str,
     bytes: &[u8],
@@ -66,7 +74,7 @@ fn request_of_parts<'a>(
       fields = map (header_bytes bytes.now) headers.now;
     })
         ≡ Ok (record {
-          place = w.place;
+          endpoint = w.endpoint;
           number = w.number.now;
           query = w.query.now;
           body = w.body;
@@ -82,16 +90,15 @@ fn request_of_parts<'a>(
         return Err(Problem::TransferCoding);
     }
     let (path, query) = split_target(target);
-    let Some(found) = find_place(path) else {
+    let Some(found) = routes.find(path) else {
         return Err(Problem::NoSuchPath);
     };
-    let verb = found.place.method();
-    if method != verb.as_str().as_bytes() {
-        return Err(Problem::BadMethod(verb));
+    if !found.endpoint.has_method(alloc, method) {
+        return Err(Problem::BadMethod(found.endpoint));
     }
-    match body_length(bytes, headers, found.place.body_limit()) {
+    match body_length(bytes, headers, found.endpoint.body_limit()) {
         Ok(body) => Ok(HeadRequest {
-            place: found.place,
+            endpoint: found.endpoint,
             number: found.number,
             query,
             body,
@@ -100,7 +107,7 @@ fn request_of_parts<'a>(
     }
 }
 
-// Splits a target into its path and its query string.
+// Splits a target at its first question mark into its path and its query string.
 fn split_target(target: &str) -> (&str, &str)
     ensures path { result.0.now ≡ path_of target.now }
     ensures query { result.1.now ≡ query_of target.now }

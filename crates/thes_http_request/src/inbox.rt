@@ -1,4 +1,4 @@
-//! Reads the head of an HTTP request.
+//! Reading the head of an HTTP request.
 ghost use Rattle.std.specs.Prelude.{◌≡◌, ◌≤◌, ◌<◌, [], length, take, drop, true, false, IfOk, OnErr, IsErrOf};
 ghost use Rattle.std.specs.Io.KnownBytes.{Consumes};
 ghost use Rattle.thes_base.specs.Pipe.{IsFresh, PaysCalls, unread_bytes};
@@ -29,26 +29,28 @@ impl Model for Inbox {
     ghost invariant = { λ f. (f.filled ≤ 8193) × (vec_len f.buffer ≡ 8193) };
 }
 
-/// Why there is no request.
+/// The reason why the input gave no whole request.
 #[derive(Clone, Copy, Debug, PartialEq, Eq)]
 pub enum InputFault {
-    /// The input ended too early.
+    /// The input ended inside the request.
     Cut,
     /// The reader failed, or was denied a read.
     ReadFault,
 }
 
-/// Why there is no head.
+/// The reason why no head was read.
 #[derive(Clone, Copy, Debug, PartialEq, Eq)]
 pub enum HeadStop {
+    /// The head is malformed or too long.
     Bad,
+    /// The input ended or failed inside the head.
     InputFault(InputFault),
 }
 
 const HEAD_LIMIT: usize = 8192;
 
 impl Inbox {
-    /// Allocates an empty inbox.
+    /// Allocates an empty inbox with room for the longest head and one byte.
     pub fn new(alloc: Global) -> Result<Inbox, AllocError>
         ensures { IfOk result (λ inbox. inbox ≡ []) }
     {
@@ -56,14 +58,15 @@ impl Inbox {
         Ok(Inbox { buffer, filled: 0 })
     }
 
-    /// Returns the bytes read so far.
+    /// Returns the bytes read so far, which may go beyond the head.
     pub fn bytes(&self) -> &[u8]
         ensures { result.now ≡ self.now }
     {
         &self.buffer[..self.filled]
     }
 
-    /// Returns the bytes after the first `count`.
+    /// Returns the bytes after the first `count`: the start of the body, if `count` is the length
+    /// of the head.
     pub fn bytes_after(&self, count: usize) -> &[u8]
         requires { count ≤ length self.now }
         ensures { result.now ≡ drop count self.now }
@@ -83,7 +86,7 @@ impl Inbox {
         }
     }
 
-    // Returns whether there are more bytes than a head may have.
+    // Returns whether the inbox has more bytes than a head may have.
     fn is_full(&self) -> bool
         ensures full { result ≡ true → head_limit < length self.now }
         ensures short { result ≡ false → length self.now ≤ head_limit }
@@ -91,7 +94,7 @@ impl Inbox {
         self.filled > HEAD_LIMIT
     }
 
-    // Reads once, and returns whether any byte came.
+    // Reads once, appends the bytes read, and returns whether there were any.
     fn fill<R: Read>(
         &mut self,
         reader: &mut Pipe<R>,
@@ -119,7 +122,8 @@ impl Inbox {
         }
     }
 
-    /// Reads until the bytes begin with a head, or can't, or the input ends.
+    /// Reads until the bytes begin with a head, and puts the spans of its fields into `headers`.
+    /// Stops if the bytes can't begin with a head within the limits, or the input ends or fails.
     pub fn read_head<R: Read>(
         &mut self,
         reader: &mut Pipe<R>,

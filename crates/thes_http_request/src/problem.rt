@@ -1,21 +1,22 @@
 //! Problems with an HTTP request, before its body is read as a request.
-use crate::place::Method;
+use crate::endpoint::Endpoint;
 
-/// Why a request is rejected.
+/// The reason why a request is rejected from its head or target.
 #[derive(Clone, Copy, Debug, PartialEq, Eq)]
 pub enum Problem {
-    /// There is no head within the limits, or the length of the body isn't a number.
+    /// The head is malformed or exceeds the limits, or has several lengths of the body, or one that
+    /// isn't a number.
     BadHead,
-    /// There is a transfer coding; none is supported.
+    /// The head has a transfer coding; none is supported.
     TransferCoding,
-    /// The path names no place.
+    /// The path isn't that of any endpoint.
     NoSuchPath,
-    /// The path has this method, not the one in the request.
-    BadMethod(Method),
+    /// The path names this endpoint, which has another method than the request.
+    BadMethod(Endpoint),
     /// The length of the body is missing.
     NoLength,
-    /// The body is longer than the path allows.
+    /// The body is longer than the endpoint allows.
     TooLong,
-    /// The query isn't exactly a scheme and a language.
+    /// The query string isn't exactly a scheme and a language.
     BadQuery,
 }

@@ -1,4 +1,4 @@
-//! The query string of a display.
+//! The query string of a request for a display.
 ghost use Rattle.std.specs.Prelude.{◌≡◌, ◌∷◌, [], ℕ, List, Some, None, IfOk, MatchOption, codes, map};
 ghost use Rattle.std.specs.Cow.{cow_str_bytes};
 ghost use Rattle.thes_http_request.specs.Queries.{display_query_of, display_query_in_pairs};
@@ -7,14 +7,17 @@ use form_urlencoded::parse;
 use std::alloc::{AllocError, Global};
 use std::borrow::CowStr;
 
-/// The values of a display's query string: the texts of a scheme's number and of a language tag.
+/// The values in a display's query string, decoded: a scheme's number as a text, and a language
+/// tag.
 #[derive(Drop)]
 pub struct DisplayQuery<'a> {
     pub scheme: CowStr<'a>,
     pub lang: CowStr<'a>,
 }
 
-/// Parses the query string of a display: `scheme` and `lang`, once each, in any order.
+/// Parses the query string of a display: `scheme` and `lang`, exactly once each, in either order,
+/// with percent-encoding and `+` decoded. None if it has other names, or a name is missing or
+/// repeated.
 pub fn read_query(alloc: Global, query: &str) -> Result<Option<DisplayQuery<'_>>, AllocError>
     ensures { IfOk result (λ asked. MatchOption asked (display_query_of query.now ≡ None)
         (λ a. display_query_of query.now
@@ -33,7 +36,7 @@ pub fn read_query(alloc: Global, query: &str) -> Result<Option<DisplayQuery<'_>>
     Ok(display_query_in(first?, second?))
 }
 
-// Returns the two values, if the names are `scheme` and `lang`.
+// Returns the values of the two pairs, if their names are `scheme` and `lang`.
 fn display_query_in<'a>(
     first: (CowStr<'a>, CowStr<'a>),
     second: (CowStr<'a>, CowStr<'a>),

@@ -9,7 +9,7 @@ use Rattle.thes_base.specs.declared.request.Command.{Command}
 use Rattle.thes_base.specs.declared.request.Command.TheVariants as request
 use Rattle.thes_base.specs.Changes.{histories_after_withdrawal, is_listed, new_history, next_number}
 use Rattle.thes_base.specs.Machine.{Run, Step, next_state}
-use Rattle.thes_base.specs.Postings.{move_count, history_after_move, histories_after_moves, is_assigned_to}
+use Rattle.thes_base.specs.Postings.{move_count, histories_after_moves, is_assigned_to}
 use Rattle.thes_base.specs.Postings.{history_after_withdrawal}
 use Rattle.thes_base.specs.Refusals.{Setting}
 use Rattle.thes_base.specs.Resources.{entry_at, replacements, set_entry_at}
@@ -17,7 +17,7 @@ use Rattle.thes_base.specs.State.{State}
 use Rattle.thes_base.proofs.MoveLemmas.{IsAfterMoveAt, slice_forward}
 use Rattle.thes_base.proofs.NumberedLemmas.{numbered_bound, push_old, set_other, set_same}
 
--- The same posting, perhaps moved or withdrawn.
+-- The two histories are of the same posting, which may have been moved or withdrawn in between.
 pub record IsSame (g h : History) : Type 0 where
   pub number : h.number ≡ g.number
   pub key : h.key ≡ g.key
@@ -39,7 +39,7 @@ same_then f g h a b = record {
       b.first ∙ a.first;
 }
 
--- The list has the same posting with this number.
+-- The list has, at this number, the same posting.
 abbrev pub Stays : ℕ → History → List History → Type 0
 Stays n g hs = (h : History) × (entry_at hs n ≡ Some h) × IsSame g h
 

@@ -1,4 +1,4 @@
--- Proves that a posting file that is imported again changes nothing.
+-- Proves that a posting file that is imported twice changes nothing the second time.
 use Rattle.std.proofs.Common.{◌≡◌, ◌⊎◌, ◌∙◌, ◌+◌, ◌≤◌, ◌++◌, ◌∷◌, [], ℕ, zero, suc, List, None, Some, max, inl, inr}
 use Rattle.std.proofs.Common.{refl, sym, ap, subst, length, append_assoc, append-nil, length-append, arith}
 use Rattle.std.specs.Prelude.{slice_get}
@@ -13,7 +13,7 @@ use Rattle.thes_base.specs.declared.request.Answer.TheVariants as reply
 use Rattle.thes_base.specs.declared.request.Command.{Command}
 use Rattle.thes_base.specs.declared.request.Command.TheVariants as request
 use Rattle.thes_base.specs.Changes.{new_history, state_after_post}
-use Rattle.thes_base.specs.Legal.{LegalPostings}
+use Rattle.thes_base.specs.Legal.{AreLegalPostings}
 use Rattle.thes_base.specs.Machine.{Run, Step, refusal_rule_of}
 use Rattle.thes_base.specs.Postings.{path_end, move_count}
 use Rattle.thes_base.specs.Refusals.{IsOfKey, Setting}
@@ -67,8 +67,6 @@ key_stays : (key : List ℕ) (s t : State) (h : History) → IsLater s t → IsO
 key_stays key s t h a k = subst (λ (w : State). IsOfKey key w.histories h) (sym a.is)
     (numbered_more s.histories a.more h.number h k.0, k.1)
 
--- Posts.
-
 -- The posting with this key has this number, record and first concept.
 record HasPosting (key rec : List ℕ) (concept n : ℕ) (s : State) : Type 0 where
   h : History
@@ -108,9 +106,7 @@ step_later setting key rec concept s t a (inl known) = later_same s t known.1
 step_later setting key rec concept s t a (inr (new, inl refused)) = later_same s t refused.3
 step_later setting key rec concept s t a (inr (new, inr consumes)) = posted_later key rec concept s t consumes.2
 
--- An answer with a number is repeated with the same number.
-
--- After a post that was accepted the state has a posting with its key, number, record and first concept.
+-- After a post was accepted, the state has a posting with its key, number, record and first concept.
 accepted_has : (setting : Setting) (key rec : List ℕ) (concept n : ℕ) (s mid : State) (a : Answer)
     → (a ≡ reply.Number n) ⊎ (a ≡ reply.Again n) → Step setting s (request.Post key rec concept) a mid
     → HasPosting key rec concept n mid
@@ -145,7 +141,7 @@ accepted_has setting key rec concept n s mid a (inr e) (inr (new, inr consumes))
     sym e ∙ consumes.1 in cc)
 
 -- A key has only one posting.
-one_of_key : (s : State) → LegalPostings s.resources s.histories → (key : List ℕ) (g h : History)
+one_of_key : (s : State) → AreLegalPostings s.resources s.histories → (key : List ℕ) (g h : History)
     → IsOfKey key s.histories g → IsOfKey key s.histories h → g ≡ h
 one_of_key s legal key g h a b =
     let same : g.number ≡ h.number = legal.keys g.number h.number g h a.0 b.0 (a.1 ∙ sym b.1) in
@@ -153,7 +149,7 @@ one_of_key s legal key g h a b =
     cc
 
 has_again : (setting : Setting) (key rec : List ℕ) (concept n : ℕ) (t u : State) (b : Answer)
-    → LegalPostings t.resources t.histories → HasPosting key rec concept n t
+    → AreLegalPostings t.resources t.histories → HasPosting key rec concept n t
     → Step setting t (request.Post key rec concept) b u → (b ≡ reply.Again n) × (u ≡ t)
 has_again setting key rec concept n t u b legal p (inl ((h, of_key, inl again), same)) = (
   again.2 ∙ ap (λ (g : History). reply.Again g.number) (one_of_key t legal key h p.h of_key p.of_key)
@@ -165,11 +161,11 @@ has_again setting key rec concept n t u b legal p (inl ((h, of_key, inr reused),
     absurd (reused.0 (ap (λ (g : History). g.rec) is ∙ p.rec_is, ap (λ (g : History). g.first) is ∙ p.first_is))
 has_again setting key rec concept n t u b legal p (inr (new, judged)) = absurd (new p.h p.of_key)
 
--- The same with any requests between.
+-- A posting sent again after any requests is answered with its number.
 pub answers_again : (setting : Setting) (s mid t u : State) (key rec : List ℕ) (concept n : ℕ) (a b : Answer)
     (commands : List Command) (answers : List Answer) → (a ≡ reply.Number n) ⊎ (a ≡ reply.Again n)
     → Step setting s (request.Post key rec concept) a mid → Run setting mid commands answers t
-    → LegalPostings t.resources t.histories → Step setting t (request.Post key rec concept) b u → (b ≡ reply.Again n)
+    → AreLegalPostings t.resources t.histories → Step setting t (request.Post key rec concept) b u → (b ≡ reply.Again n)
     × (u ≡ t)
 answers_again setting s mid t u key rec concept n a b commands answers row_outcome first run legal second =
     let p = accepted_has setting key rec concept n s mid a row_outcome first in
@@ -183,8 +179,6 @@ answers_again setting s mid t u key rec concept n a b commands answers row_outco
       number_is = r.2.number ∙ p.number_is;
     }) second
 
--- A post that was refused isn't accepted later.
-
 some_none : (r : Refusal) → Some r ≡ None → ⊥
 some_none r e = cc
 
@@ -194,7 +188,7 @@ fits_before limit m n w le h = omega arith
 fits_same : (limit n : ℕ) → n ≤ max limit n
 fits_same limit n = omega arith
 
--- A post that is within the limits of the later state was within them before.
+-- A post that is within the limits of a later state is within those of an earlier one.
 within_before : (setting : Setting) (key rec : List ℕ) (concept : ℕ) (s t : State) → IsLater s t
     → IsWithinLimits setting.limits t (state_after_post key rec concept t) → IsWithinLimits setting.limits s
     (state_after_post key rec concept s)
@@ -210,7 +204,7 @@ within_before setting key rec concept s t a w =
     let fits : length t.histories + 1 ≤ max setting.limits.postings (length t.histories) =
     subst (λ n. n ≤ max setting.limits.postings (length t.histories)) after w.postings in
     let less : length s.histories ≤ length t.histories = omega (arith, long) in
-    let counted : move_count t.histories ≡ move_count s.histories + move_count a.more =
+    let counts_are : move_count t.histories ≡ move_count s.histories + move_count a.more =
     ap (λ (x : State). move_count x.histories) a.is ∙ sum_by-append (λ (h : History). length h.moves) s.histories
     a.more in
     let moved : move_count (state_after_post key rec concept t).histories ≡ move_count t.histories + length way =
@@ -220,7 +214,7 @@ within_before setting key rec concept s t a w =
     count_posted key rec concept way s.histories in
     let few : move_count t.histories + length way ≤ max setting.limits.moves (move_count t.histories) =
     subst (λ n. n ≤ max setting.limits.moves (move_count t.histories)) moved w.moves in
-    let fewer : move_count s.histories ≤ move_count t.histories = omega (arith, counted) in
+    let fewer : move_count s.histories ≤ move_count t.histories = omega (arith, counts_are) in
     record {
       resources = fits_same _ _;
       labels = fits_same _ _;
@@ -239,8 +233,8 @@ accepted_before setting key rec concept s t a passes r not_yet =
     let exists = passed_unless passes in
     let is_concept = passed_unless exists.1 in
     let is_live = passed_unless is_concept.1 in
-    let within = passed_unless is_live.1 in
-    go exists.0 is_concept.0 is_live.0 (within_before setting key rec concept s t a within.0) not_yet
+    let is_short = passed_unless is_live.1 in
+    go exists.0 is_concept.0 is_live.0 (within_before setting key rec concept s t a is_short.0) not_yet
   where
     rs : t.resources ≡ s.resources
     rs = ap (λ (w : State). w.resources) a.is
@@ -255,7 +249,7 @@ accepted_before setting key rec concept s t a passes r not_yet =
     go e k l w (inr (_, inr (_, inr (_, inl b)))) = b.0 w
     go e k l w (inr (_, inr (_, inr (_, inr (_, b))))) = some_none r b
 
--- A post that was refused is answered later, also without a change.
+-- A post that was refused changes nothing when it is sent again.
 refused_again : (setting : Setting) (key rec : List ℕ) (concept : ℕ) (s mid t u : State) (a b : Answer) (r : Refusal)
     → a ≡ reply.No r → Step setting s (request.Post key rec concept) a mid → IsLater mid t
     → Step setting t (request.Post key rec concept) b u → ChangesNothing b × (u ≡ t)
@@ -274,7 +268,7 @@ refused_again setting key rec concept s mid t u a b r e (inr (fresh, inr posts))
     absurd (let bad : reply.No r ≡ reply.Number (length (state_after_post key rec concept s).histories) =
     sym e ∙ posts.1 in cc)
 
--- The answers that a post never has.
+-- A post is answered only with a number, a repetition or a refusal.
 not_answered : (setting : Setting) (key rec : List ℕ) (concept : ℕ) (s t : State) (a : Answer)
     → Step setting s (request.Post key rec concept) a t → ((n : ℕ) → ¬ (a ≡ reply.Number n))
     → ((n : ℕ) → ¬ (a ≡ reply.Again n)) → ((r : Refusal) → ¬ (a ≡ reply.No r)) → ⊥
@@ -285,7 +279,7 @@ not_answered setting key rec concept s t a (inr (new, inr consumes)) x y z =
     x (length (state_after_post key rec concept s).histories) consumes.1
 
 post_again : (setting : Setting) (key rec : List ℕ) (concept : ℕ) (s mid t u : State) (a b : Answer)
-    → LegalPostings t.resources t.histories → Step setting s (request.Post key rec concept) a mid → IsLater mid t
+    → AreLegalPostings t.resources t.histories → Step setting s (request.Post key rec concept) a mid → IsLater mid t
     → Step setting t (request.Post key rec concept) b u → IsAnswerAgain a b × (u ≡ t)
 post_again setting key rec concept s mid t u (reply.Number n) b legal first later second =
     has_again setting key rec concept n t u b legal
@@ -304,8 +298,6 @@ post_again setting key rec concept s mid t u (reply.Moved k) b legal first later
 post_again setting key rec concept s mid t u (reply.Parted m k) b legal first later second =
     absurd (not_answered setting key rec concept s mid (reply.Parted m k) first (λ n e. cc) (λ n e. cc) (λ r e. cc))
 
--- Runs over the rows of a file.
-
 rows_later : (setting : Setting) (s t : State) (rows : List CsvRow) (os : List Outcome) → AllZip IsOutcome rows os
     → Run setting s (posts_of rows) (answers_of os) t → IsLater s t
 rows_later setting s t [] [] each run = later_same s t run
@@ -320,7 +312,7 @@ rows_later setting s t (row.Bad f ∷ rows) (outcome.Bad g ∷ os) each run = ro
 
 -- A second run over the same rows changes nothing and repeats the answers, row by row.
 rows_again : (setting : Setting) (s t u : State) (rows : List CsvRow) (os qs : List Outcome)
-    → LegalPostings t.resources t.histories → AllZip IsOutcome rows os → AllZip IsOutcome rows qs
+    → AreLegalPostings t.resources t.histories → AllZip IsOutcome rows os → AllZip IsOutcome rows qs
     → Run setting s (posts_of rows) (answers_of os) t → Run setting t (posts_of rows) (answers_of qs) u
     → AllZip IsAgain os qs × (u ≡ t)
 rows_again setting s t u [] [] [] legal x y first second = (tt, second)
@@ -346,8 +338,6 @@ rows_again setting s t u (row.Bad f ∷ rows) (outcome.Bad g ∷ os) (outcome.Ba
     let rest = rows_again setting s t u rows os qs legal x.1 y.1 first second in
     ((y.0 ∙ sym x.0, rest.0), rest.1)
 
--- Tables.
-
 changes_nothing : (a b : Answer) → IsAnswerAgain a b → ChangesNothing b
 changes_nothing (reply.Number n) b e = subst ChangesNothing (sym e) tt
 changes_nothing (reply.Again n) b e = subst ChangesNothing (sym e) tt
@@ -369,10 +359,10 @@ pub imports_again : (limits : Limits) (old mid new : Raw) (rows : List CsvRow) (
     → AllZip IsOutcome rows os → PerformsRows limits old rows os mid → AllZip IsOutcome rows qs
     → PerformsRows limits mid rows qs new → AllZip IsAgain os qs × (new ≡ mid)
 imports_again limits old mid new rows os qs each x again y =
-    let one = state_is_unique mid y.goes_on.base x.goes_on.base y.goes_on.before x.goes_on.after
+    let one = state_is_unique mid y.goes_on.base x.goes_on.base y.goes_on.state_before x.goes_on.state_after
     y.goes_on.tables_before x.goes_on.shows in
     let run = subst (λ (p : List ℕ × State). Run (setting_of p.0 limits) p.1 (posts_of rows) (answers_of qs)
-    y.goes_on.after) (λ i. (one.0 i, one.1 i)) y.goes_on.run in
-    let all = rows_again (setting_of x.goes_on.base limits) x.goes_on.before x.goes_on.after y.goes_on.after rows os
-    qs x.goes_on.shows.legal.postings each again x.goes_on.run run in
+    y.goes_on.state_after) (λ i. (one.0 i, one.1 i)) y.goes_on.run in
+    let all = rows_again (setting_of x.goes_on.base limits) x.goes_on.state_before x.goes_on.state_after
+    y.goes_on.state_after rows os qs x.goes_on.shows.legal.postings each again x.goes_on.run run in
     (all.0, y.same (change_nothing os qs all.0))

@@ -1,67 +1,62 @@
--- The import of a posting file from a reader, with the outcomes written to a writer.
-use Rattle.std.specs.Prelude.{◌≡◌, ◌⊎◌, ℕ, true, false, List, [], Option, Result, Ok, Err}
+-- The import of a posting file from a reader, with the outcomes written to a writer, block by block.
+use Rattle.std.specs.Prelude.{◌≡◌, ◌⊎◌, ◌≤◌, ◌++◌, ℕ, true, false, List, [], take, length, Option, Result, Ok, Err}
+use Rattle.std.specs.Prelude.{IfErr}
 use Rattle.std.specs.Io.KnownBytes.{Appends}
 use Rattle.thes_base.specs.Pipe.{AppendsPrefix, denied_of, failed_of, written_bytes}
+use Rattle.thes_base.specs.declared.fault.Fault.{Fault as OfficeFault}
+use Rattle.thes_base.specs.declared.fault.Fault.TheVariants.{OutOfMemory}
 use Rattle.thes_base.specs.declared.fault.PipeFault.{PipeFault}
 use Rattle.thes_base.specs.declared.fault.PipeFault.TheVariants.{Write, TooLong, Fault}
 use Rattle.thes_base.specs.declared.pipe.Pipe.{Pipe}
 use Rattle.thes_tables.specs.Cells.{Raw}
 use Rattle.thes_office.specs.Office.{FaultBehaviour, OfficeView}
-use Rattle.thes_import.specs.Imports.{Imports, fault_in}
-use Rattle.thes_import.specs.Outcomes.{no_counts}
-use Rattle.thes_import.specs.WholeInput.{IsUnread, IsWhole}
+use Rattle.thes_import.specs.Imports.{PerformsWith}
+use Rattle.thes_import.specs.Outcomes.{counts_of, no_counts, outcomes_text}
+use Rattle.thes_import.specs.PostingFile.{HasNoHeader, IsPostingFile}
+use Rattle.thes_import.specs.WholeInput.{IsInputFault, IsWhole}
+use Rattle.thes_import.specs.declared.csv_row.CsvRow.{CsvRow}
 use Rattle.thes_import.specs.declared.import.ImportEnd.{ImportEnd}
 use Rattle.thes_import.specs.declared.import.ImportEnd.TheVariants as ended
 use Rattle.thes_import.specs.declared.import.ImportStop.{ImportStop}
-use Rattle.thes_import.specs.declared.postings.ImportHalt.{ImportHalt}
-use Rattle.thes_import.specs.declared.postings.FileImport.{FileImport}
-use Rattle.thes_import.specs.declared.postings.FileImport.TheVariants.{Rows, Malformed}
+use Rattle.thes_import.specs.declared.outcome.Outcome.{Outcome}
 use Rattle.thes_import.specs.declared.report.Counts.{Counts}
 
--- The most bytes of a file.
+-- The greatest size of a file, in bytes: 16 MiB.
 abbrev pub file_limit : ℕ
 file_limit = 16777216
 
--- The report of an import; empty for a file without a header.
-abbrev pub report_text : Result FileImport ImportHalt → List ℕ
-report_text (Ok (Rows report)) = report.text.items
-report_text (Ok Malformed) = []
-report_text (Err halted) = halted.report.text.items
-
--- The counts of the rows that were performed.
-abbrev pub report_counts : Result FileImport ImportHalt → Counts
-report_counts (Ok (Rows report)) = report.counts
-report_counts (Ok Malformed) = no_counts
-report_counts (Err halted) = halted.report.counts
-
-abbrev pub IsImportEnd : Result FileImport ImportHalt → ImportEnd → Type 0
-IsImportEnd (Ok (Rows report)) e = e ≡ ended.Rows report.counts
-IsImportEnd (Ok Malformed) e = e ≡ ended.Malformed
-IsImportEnd (Err halted) e = ⊥
+-- The most rows of a block.
+abbrev pub block_limit : ℕ
+block_limit = 1000
 
 module _ {W : Type 0} (contents : W → Option (List ℕ)) (old new : Pipe W) where
+  -- The whole text was written.
+  pub record WritesWhole (text : List ℕ) : Type 0 where
+    pub appends_text : Appends (written_bytes contents old) (written_bytes contents new) text
+    pub not_failed : failed_of new ≡ false
+
+  -- The device failed, or a write was denied.
+  abbrev pub IsWriterFault : PipeFault → Type 0
+  IsWriterFault Write = failed_of new ≡ true
+  IsWriterFault TooLong = (failed_of new ≡ false) × (denied_of new ≡ true)
+  IsWriterFault fault = ⊥
+
   -- A prefix of the text was written: the device failed, or a write was denied.
   abbrev pub IsReportCut : List ℕ → PipeFault → Type 0
-  IsReportCut text Write = AppendsPrefix (written_bytes contents old) (written_bytes contents new) text
-      × (failed_of new ≡ true)
-  IsReportCut text TooLong = AppendsPrefix (written_bytes contents old) (written_bytes contents new) text
-      × (failed_of new ≡ false) × (denied_of new ≡ true)
-  IsReportCut text fault = ⊥
+  IsReportCut text fault =
+      AppendsPrefix (written_bytes contents old) (written_bytes contents new) text × IsWriterFault fault
 
-  -- The whole report was written and the office's fault is the cause; or only a prefix was written.
-  abbrev pub IsStopCause : Result FileImport ImportHalt → PipeFault → Type 0
-  IsStopCause file_import (Fault fault) =
-      Appends (written_bytes contents old) (written_bytes contents new) (report_text file_import)
-      × (failed_of new ≡ false) × (fault_in file_import ≡ Err fault)
-  IsStopCause file_import fault = IsReportCut (report_text file_import) fault
-
-  -- The report was written, and the result is the end of the import or the cause of its stop.
-  abbrev pub WritesReport : Result FileImport ImportHalt → Result ImportEnd ImportStop → Type 0
-  WritesReport file_import (Ok e) = IsImportEnd file_import e
-      × Appends (written_bytes contents old) (written_bytes contents new) (report_text file_import)
-      × (failed_of new ≡ false)
-  WritesReport file_import (Err stopped) = (stopped.counts ≡ report_counts file_import) × IsStopCause file_import
-      stopped.fault
+  -- A prefix of the text of these outcomes was written. Only outcomes of the last block may be missing, unless none was
+  -- to be written yet.
+  pub record WritesPartOf (outcomes : List Outcome) : Type 0 where
+    pub outcomes_written : List Outcome
+    pub outcomes_lost : List Outcome
+    pub all : outcomes ≡ outcomes_written ++ outcomes_lost
+    pub few : length outcomes_lost ≤ block_limit
+    pub count : ℕ
+    pub least : (outcomes ≡ []) ⊎ (length (outcomes_text outcomes_written) ≤ count)
+    pub is_short : count ≤ length (outcomes_text outcomes)
+    pub prefix : Appends (written_bytes contents old) (written_bytes contents new) (take count (outcomes_text outcomes))
 
 -- The reader, the writer and the office of an import.
 pub record ImportStreams (R W K : Type 0) : Type 0 where
@@ -69,26 +64,80 @@ pub record ImportStreams (R W K : Type 0) : Type 0 where
   pub writer : Pipe W
   pub office : OfficeView K
 
+-- The streams and the office of an import, from its parts.
 abbrev pub import_streams : {R W K : Type 0} → Pipe R → Pipe W → OfficeView K → ImportStreams R W K
 import_streams reader writer office = record { reader = reader; writer = writer; office = office }
 
+module _ {W K : Type 0} (contents : W → Option (List ℕ)) (tables : K → Raw) (is_up : K → Type 0) (failed : K → ℕ)
+    (old new : Pipe W) (before after : OfficeView K) where
+  -- These first rows of the file were performed, with these outcomes.
+  pub record PerformsFirst (file : List ℕ) (outcomes : List Outcome) (others : List CsvRow)
+      (result : Result (Unit {0}) OfficeFault) : Type 0 where
+    pub rows : List CsvRow
+    pub is_file : IsPostingFile file (rows ++ others)
+    pub performs : PerformsWith tables is_up before rows outcomes after
+    pub fault_behaviour : FaultBehaviour tables is_up failed before after result
+
+  -- A fault of the office ended the import before some row, and the outcomes of the rows before it were written.
+  pub record StopsAtRow (file : List ℕ) (outcomes : List Outcome) (fault : OfficeFault) : Type 0 where
+    pub others : List CsvRow
+    pub some : 1 ≤ length others
+    pub first : PerformsFirst file outcomes others (Err fault)
+    pub writes : WritesWhole contents old new (outcomes_text outcomes)
+
+  -- The writer ended the import after some block, whose outcomes weren't written whole; if a fault of the office ended
+  -- that block, a row was left.
+  pub record StopsAtWrite (file : List ℕ) (outcomes : List Outcome) (fault : PipeFault) : Type 0 where
+    pub others : List CsvRow
+    pub result : Result (Unit {0}) OfficeFault
+    pub some : IfErr result (λ f. 1 ≤ length others)
+    pub first : PerformsFirst file outcomes others result
+    pub cause : IsWriterFault contents old new fault
+    pub writes : WritesPartOf contents old new outcomes
+
+  -- A fault of the office or the writer ended the import, after these outcomes.
+  abbrev pub StopsAfterRows : List ℕ → List Outcome → PipeFault → Type 0
+  StopsAfterRows file outcomes (Fault fault) = StopsAtRow file outcomes fault
+  StopsAfterRows file outcomes fault = StopsAtWrite file outcomes fault
+
+  -- Memory ran out before anything was performed or written.
+  pub record StopsAtOnce (stopped : ImportStop) : Type 0 where
+    pub cause : stopped.fault ≡ Fault OutOfMemory
+    pub counts : stopped.counts ≡ no_counts
+    pub keeps_tables : after ≡ before
+    pub unwritten : new ≡ old
+
+  -- All rows were performed, and all outcomes were written.
+  pub record ImportsRows (file : List ℕ) (counts : Counts) : Type 0 where
+    pub outcomes : List Outcome
+    pub first : PerformsFirst file outcomes [] (let x : Result (Unit {0}) OfficeFault = Ok tt in x)
+    pub counts_are : counts ≡ counts_of outcomes
+    pub writes : WritesWhole contents old new (outcomes_text outcomes)
+
+  -- The import of a file whose bytes were read.
+  abbrev pub ImportsBytes : List ℕ → Result ImportEnd ImportStop → Type 0
+  ImportsBytes file (Ok (ended.Rows counts)) = ImportsRows file counts
+  ImportsBytes file (Ok ended.Malformed) = HasNoHeader file × (after ≡ before) × (new ≡ old)
+  ImportsBytes file (Err stopped) =
+      StopsAtOnce stopped
+      ⊎ ((outcomes : List Outcome) × (stopped.counts ≡ counts_of outcomes) × StopsAfterRows file outcomes stopped.fault)
+
 module _ {R W K : Type 0} (remaining : R → Option (List ℕ)) (contents : W → Option (List ℕ))
     (tables : K → Raw) (is_up : K → Type 0) (failed : K → ℕ) (old new : ImportStreams R W K) where
-  -- The whole file was read and performed, and the report was written.
+  -- The whole file was read, and its import ended or a fault halted it; the outcomes were written, a prefix if the
+  -- writer failed, or nothing if there is no header or memory ran out before the first row.
   pub record ImportsFile (result : Result ImportEnd ImportStop) : Type 0 where
     pub file : List ℕ
     pub whole : IsWhole remaining file_limit old.reader new.reader file
-    pub file_import : Result FileImport ImportHalt
-    pub goes : FaultBehaviour tables is_up failed old.office new.office (fault_in file_import)
-    pub imports : Imports tables is_up old.office file file_import new.office
-    pub writes : WritesReport contents old.writer new.writer file_import result
+    pub imports : ImportsBytes contents tables is_up failed old.writer new.writer old.office new.office file result
 
-  -- The file wasn't read to its end, and nothing was performed or written.
+  -- The file wasn't read to its end, so nothing was performed or written.
   pub record ReadsNone (stopped : ImportStop) : Type 0 where
-    pub cause : IsUnread remaining file_limit old.reader new.reader stopped.fault
+    pub cause : IsInputFault remaining file_limit old.reader new.reader stopped.fault
     pub counts : stopped.counts ≡ no_counts
     pub office : new.office ≡ old.office
     pub writer : new.writer ≡ old.writer
 
+  -- The import stopped while it read the file, or after it had read all of it.
   abbrev pub StopsImport : ImportStop → Type 0
   StopsImport stopped = ReadsNone stopped ⊎ ImportsFile (Err stopped)

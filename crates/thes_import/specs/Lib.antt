@@ -1,4 +1,6 @@
 pub mod PostingFile
+pub mod RecordReading
+pub mod RowReading
 pub mod Outcomes
 pub mod Imports
 pub mod RepeatedImport

@@ -1,4 +1,4 @@
-//! Rows of a posting file.
+//! Rows of a posting file, read from its records.
 ghost use Rattle.std.specs.Prelude.{◌≡◌, ◌<◌, IfOk, IsUtf8, MatchOption, Some, length, slice_get};
 ghost use Rattle.csv.specs.Records.{fields_of};
 ghost use Rattle.thes_base.specs.Forms.{IsKey, IsRecordName};
@@ -12,14 +12,14 @@ use thes_base::fault::{FormFault, ReadStop};
 use thes_base::number::ResNo;
 use thes_base::text::{Key, RecordName};
 
-/// A row: a posting, or the fault of a record that isn't one.
+/// A row of a posting file: a posting, or the fault of a record that isn't one.
 #[derive(Debug, Drop)]
 pub enum CsvRow {
     Post(Key, RecordName, ResNo),
     Bad(FormFault),
 }
 
-// Returns the field as text, if it is UTF-8.
+// Returns the field as a text, if it is UTF-8.
 fn text_of(bytes: &[u8]) -> Option<&str>
     ensures { MatchOption result (¬ IsUtf8 bytes.now)
         (λ text. (text.now ≡ bytes.now) × IsUtf8 bytes.now) }
@@ -27,9 +27,10 @@ fn text_of(bytes: &[u8]) -> Option<&str>
     str::from_utf8(bytes).ok()
 }
 
-// Reads a field as a key.
+// Reads a field as a sender's key, or returns `BadKey`.
 fn read_key(alloc: Global, bytes: &[u8]) -> Result<Key, ReadStop>
-    ensures { IsReadResult (IsField IsKey bytes.now) FormFault.BadKey (λ key. key ≡ bytes.now) result }
+    ensures { IsReadResult (IsField IsKey bytes.now) FormFault.BadKey (λ key. key ≡ bytes.now)
+        result }
 {
     match text_of(bytes) {
         Some(text) => Key::read(alloc, text),
@@ -37,7 +38,7 @@ fn read_key(alloc: Global, bytes: &[u8]) -> Result<Key, ReadStop>
     }
 }
 
-// Reads a field as a record's name.
+// Reads a field as the name of a record, or returns `BadRecord`.
 fn read_record(alloc: Global, bytes: &[u8]) -> Result<RecordName, ReadStop>
     ensures { IsReadResult (IsField IsRecordName bytes.now) FormFault.BadRecord
         (λ rec. rec ≡ bytes.now) result }
@@ -48,7 +49,7 @@ fn read_record(alloc: Global, bytes: &[u8]) -> Result<RecordName, ReadStop>
     }
 }
 
-// Reads a field as a number.
+// Reads a field as the number of a concept in decimal, or returns `BadNumber`.
 fn read_number(bytes: &[u8]) -> Result<ResNo, FormFault>
     ensures { ReadsField bytes.now result }
 {
@@ -58,7 +59,7 @@ fn read_number(bytes: &[u8]) -> Result<ResNo, FormFault>
     }
 }
 
-// Returns the field with this index.
+// Returns the field with this index, counted from 0.
 pub(crate) fn field(entry: &ByteRecord, i: usize) -> &[u8]
     requires { i < length (fields_of entry.now) }
     ensures { slice_get (fields_of entry.now) i ≡ Some result.now }
@@ -66,7 +67,7 @@ pub(crate) fn field(entry: &ByteRecord, i: usize) -> &[u8]
     entry.get(i).unwrap()
 }
 
-// Reads three fields as a row.
+// Reads three fields as a posting; the fault of a row is that of its first malformed field.
 fn read_fields(alloc: Global, key: &[u8], name: &[u8], concept: &[u8]) -> Result<CsvRow, AllocError>
     ensures { IfOk result (IsPostingRow key.now name.now concept.now) }
 {
@@ -86,7 +87,7 @@ fn read_fields(alloc: Global, key: &[u8], name: &[u8], concept: &[u8]) -> Result
     }
 }
 
-/// Reads a record as a row.
+/// Reads a record as a row; a record with more or fewer than three fields is `BadShape`.
 pub fn read_row(alloc: Global, entry: &ByteRecord) -> Result<CsvRow, AllocError>
     ensures { IfOk result (IsCsvRow (fields_of entry.now)) }
 {

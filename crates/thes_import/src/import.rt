@@ -1,96 +1,127 @@
 //! Imports a posting file from a reader, and writes the outcomes to a writer.
-ghost use Rattle.std.specs.Prelude.{◌≡◌, false, IfErr, IfOk, OnOk};
-ghost use Rattle.std.specs.Io.KnownBytes.{Appends};
-ghost use Rattle.thes_base.specs.Pipe.{IsFresh, KeepsSharedCallLimit, PaysCalls, failed_of, written_bytes};
-ghost use Rattle.thes_import.specs.ImportEngine.{ImportsFile, IsReportCut, StopsImport, WritesReport, import_streams};
+ghost use Rattle.std.specs.Prelude.{◌≡◌, [], IfErr, OnOk};
+ghost use Rattle.thes_base.specs.Pipe.{IsFresh, KeepsSharedCallLimit, PaysCalls};
+ghost use Rattle.thes_import.specs.ImportEngine.{ImportsBytes, ImportsFile, IsReportCut, StopsImport, WritesWhole, import_streams};
 ghost use Rattle.thes_import.specs.Outcomes.{no_counts};
 
-use crate::postings::{FileImport, ImportHalt, import_postings};
-use crate::report::Counts;
+use crate::perform::import_block;
+use crate::reading::open_rows;
+use crate::report::{Counts, Report};
 use crate::whole_input::read_whole;
 use std::alloc::Global;
 use std::io::{Read, Write};
-use thes_base::fault::PipeFault;
+use thes_base::fault::{Fault, PipeFault, ReadStop};
 use thes_base::pipe::{Budget, Pipe};
 use thes_office::Office;
 use thes_store::keeper::Keeper;
 
-/// The end of an import.
+/// The end of an import that no fault stopped.
 #[derive(Clone, Copy, Debug, PartialEq, Eq)]
 pub enum ImportEnd {
-    /// All rows were performed.
+    /// All rows were performed; their outcomes have these counts.
     Rows(Counts),
     /// The file has no header, and nothing was performed.
     Malformed,
 }
 
-/// A stop within an import: the counted rows were performed, and no other.
+/// A fault that stopped an import; exactly the rows counted were performed.
 #[derive(Clone, Copy, Debug, PartialEq, Eq)]
 pub struct ImportStop {
     pub fault: PipeFault,
     pub counts: Counts,
 }
 
+impl ImportStop {
+    // Makes the stop before the first row.
+    fn at_start(fault: PipeFault) -> ImportStop
+        ensures fault { result.fault ≡ fault }
+        ensures counts { result.counts ≡ no_counts }
+    {
+        ImportStop {
+            fault,
+            counts: Counts::new(),
+        }
+    }
+}
+
 // The most bytes of a file.
 const FILE_LIMIT: usize = 16_777_216;
 
-// Writes a text.
-fn write_text<W: Write>(
-    writer: &mut Pipe<W>,
-    budget: &mut Budget,
-    text: &[u8],
-) -> Result<(), PipeFault>
-    requires { IsFresh writer.old }
-    ensures ok { OnOk result
-        (Appends (written_bytes W.contents writer.old) (written_bytes W.contents writer.new) text.now) }
-    ensures not_failed { OnOk result (failed_of writer.new ≡ false) }
-    ensures err { IfErr result (IsReportCut W.contents writer.old writer.new text.now) }
-    ensures paid { PaysCalls writer.old writer.new budget.old budget.new }
-{
-    match writer.write_all(budget, text) {
-        Ok(()) => Ok(()),
-        Err(stop) => Err(stop.writer_fault()),
-    }
-}
-
-// Writes the report, and returns how the import ended.
+// Writes the text of a report and removes it.
 fn write_report<W: Write>(
     writer: &mut Pipe<W>,
     budget: &mut Budget,
-    imported: Result<FileImport, ImportHalt>,
-) -> Result<ImportEnd, ImportStop>
+    report: &mut Report,
+) -> Result<(), ImportStop>
     requires { IsFresh writer.old }
-    ensures writes { WritesReport W.contents writer.old writer.new imported result }
+    ensures ok { OnOk result
+        (WritesWhole W.contents writer.old writer.new report.old.text.items) }
+    ensures fresh { OnOk result (IsFresh writer.new) }
+    ensures cleared { OnOk result (report.new.text.items ≡ []) }
+    ensures err { IfErr result (λ stopped. (stopped.counts ≡ report.old.counts)
+        × IsReportCut W.contents writer.old writer.new report.old.text.items stopped.fault) }
+    ensures counts { report.new.counts ≡ report.old.counts }
     ensures paid { PaysCalls writer.old writer.new budget.old budget.new }
 {
-    match imported {
-        Ok(FileImport::Rows(report)) => match write_text(writer, budget, &report.text) {
-            Ok(()) => Ok(ImportEnd::Rows(report.counts)),
-            Err(fault) => Err(ImportStop {
-                fault,
-                counts: report.counts,
-            }),
-        },
-        Ok(FileImport::Malformed) => Ok(ImportEnd::Malformed),
-        Err(ImportHalt { fault, report }) => match write_text(writer, budget, &report.text) {
-            Ok(()) => Err(ImportStop {
-                fault: PipeFault::Fault(fault),
-                counts: report.counts,
-            }),
-            Err(fault) => Err(ImportStop {
-                fault,
-                counts: report.counts,
-            }),
-        },
+    let counts = report.counts;
+    match writer.write_all(budget, &report.text) {
+        Ok(()) => {
+            report.clear();
+            Ok(())
+        }
+        Err(stop) => Err(ImportStop {
+            fault: stop.writer_fault(),
+            counts,
+        }),
     }
 }
 
-/// Reads a posting file to its end, performs its postings in order, and writes the outcome of each row.
+// Performs the rows of a file, and writes the outcomes of each block before the next is read.
+fn import_bytes<W: Write, K: Keeper>(
+    alloc: Global,
+    file: &[u8],
+    writer: &mut Pipe<W>,
+    budget: &mut Budget,
+    office: &mut Office<K>,
+) -> Result<ImportEnd, ImportStop>
+    requires { IsFresh writer.old }
+    ensures imports { ImportsBytes W.contents K.rows K.is_up K.failed writer.old writer.new
+        office.old office.new file.now result }
+    ensures paid { PaysCalls writer.old writer.new budget.old budget.new }
+{
+    // No effect; states that the tables show a state for the proof.
+    let _ = office.is_stale();
+    let mut reader = match open_rows(alloc, file) {
+        Ok(reader) => reader,
+        Err(ReadStop::Form(_)) => return Ok(ImportEnd::Malformed),
+        Err(ReadStop::OutOfMemory) => return Err(ImportStop::at_start(PipeFault::Fault(
+            Fault::OutOfMemory,
+        ))),
+    };
+    let Ok(mut report) = Report::new(alloc) else {
+        return Err(ImportStop::at_start(PipeFault::Fault(Fault::OutOfMemory)));
+    };
+    write_report(writer, budget, &mut report)?;
+    while reader.unread > 0 {
+        let done = import_block(alloc, office, &mut reader, &mut report);
+        write_report(writer, budget, &mut report)?;
+        if let Err(fault) = done {
+            return Err(ImportStop {
+                fault: PipeFault::Fault(fault),
+                counts: report.counts,
+            });
+        }
+    }
+    Ok(ImportEnd::Rows(report.counts))
+}
+
+/// Reads a posting file to its end, performs its postings in order, and writes the outcome of each row. The outcomes of
+/// a block of 1,000 rows are written before the next block is performed.
 ///
-/// A file has at most 16,777,216 bytes. Where it is longer, can't be read, or has no header, nothing is performed or
-/// written. Where a fault of the office ends the import before the last row, the outcomes of the rows performed are
-/// written. Only where the writer fails may a prefix of them be written. All reads and writes together are at most
-/// 100,000,000.
+/// A file has at most 16,777,216 bytes. If it is longer, can't be read, or has no header, or if
+/// memory to read it runs out, nothing is performed or written. If a fault of the office halts the
+/// import, the outcomes of the rows performed are written. If the writer fails, a prefix of the
+/// outcomes may have been written. All reads and writes together are at most 100,000,000.
 pub fn import<R: Read, W: Write, K: Keeper>(
     alloc: Global,
     reader: &mut Pipe<R>,
@@ -109,13 +140,7 @@ pub fn import<R: Read, W: Write, K: Keeper>(
 {
     let mut budget = Budget::new();
     match read_whole(alloc, reader, &mut budget, FILE_LIMIT) {
-        Ok(file) => {
-            let imported = import_postings(alloc, &file, office);
-            write_report(writer, &mut budget, imported)
-        }
-        Err(fault) => Err(ImportStop {
-            fault,
-            counts: Counts::new(),
-        }),
+        Ok(file) => import_bytes(alloc, &file, writer, &mut budget, office),
+        Err(fault) => Err(ImportStop::at_start(fault)),
     }
 }

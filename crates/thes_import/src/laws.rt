@@ -1,13 +1,15 @@
-//! Laws of imports as they are defined, whatever code runs them.
+//! Laws of an import, whatever code performs it.
 ghost use Rattle.thes_import.specs.RepeatedImport.{AnswersAgain, ImportsAgain};
 
-/// States that importing a file again, with no other request between, changes no table: accepted rows are answered with
-/// their postings' numbers again, refused rows change nothing, and other rows have the same faults.
+/// No effect; states for the proof that importing a file again, with no other request between, changes no table:
+/// accepted rows are answered with the same postings' numbers, refused rows change nothing, and other rows have the
+/// same faults.
 pub fn imports_again()
     ensures { ImportsAgain }
 {}
 
-/// States that an accepted posting is answered with its number again, whatever requests come between.
+/// No effect; states for the proof that an accepted posting that is sent again is answered with its number, whatever
+/// requests come between.
 pub fn answers_again()
     ensures { AnswersAgain }
 {}

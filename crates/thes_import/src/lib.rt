@@ -1,4 +1,4 @@
-//! Posting files: reads their rows, and imports them into an office.
+//! Posting files: reading their rows, and importing them into an office.
 #![tactic(auto)]
 
 pub mod csv_row;

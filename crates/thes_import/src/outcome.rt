@@ -1,22 +1,25 @@
 //! The outcome of a row, as a line.
-ghost use Rattle.std.specs.Prelude.{◌≡◌, ◌≤◌, ◌+◌, ◌++◌, length, vec_capacity, vec_len};
-ghost use Rattle.thes_import.specs.Outcomes.{outcome_line, outcome_number, outcome_word};
+ghost use Rattle.std.specs.Prelude.{◌≡◌, ◌≤◌, ◌+◌, ◌++◌, [], ◌∷◌, List, Option, IfNone, IfSome, length};
+ghost use Rattle.std.specs.Prelude.{vec_capacity, vec_len};
+ghost use Rattle.thes_base.specs.declared.fault.FormFault.{FormFault};
+ghost use Rattle.thes_import.specs.Outcomes.{outcome_line, outcome_number, outcome_word, outcomes_of};
 
 use itoa::Buffer;
 use thes_base::fault::FormFault;
 use thes_base::request::Answer;
 
-/// The outcome of a row of a posting file.
+/// The outcome of a row: the office's answer, or the row's own form fault.
 #[derive(Clone, Copy, Debug, PartialEq, Eq)]
 pub enum Outcome {
-    /// The answer to a row that is a posting.
+    /// The office's answer to a row that is a posting.
     Reply(Answer),
     /// The fault of a row that isn't a posting.
     Bad(FormFault),
 }
 
 impl Outcome {
-    // Returns the keyword of the outcome; it is empty for answers that no posting has.
+    // Returns the keyword of the outcome: `new`, `again`, or the name of the refusal or of the form fault; it is empty
+    // for the answers that no posting has.
     fn word(self) -> &'static str
         ensures word { result.now ≡ outcome_word self }
         ensures short { length result.now ≤ 16 }
@@ -30,7 +33,7 @@ impl Outcome {
         }
     }
 
-    // Returns the number of the posting that the row made or repeats.
+    // Returns the number of the posting that the row added or repeats; None for any other row.
     fn number(self) -> Option<u32>
         ensures { result ≡ outcome_number self }
     {
@@ -40,10 +43,12 @@ impl Outcome {
         }
     }
 
-    /// Appends the line of the outcome without allocating.
+    /// Appends the line of the outcome: row number, keyword and posting's number; allocates nothing.
     pub(crate) fn push_line(self, row: usize, text: &mut Vec<u8>)
         requires { vec_len text.old + LINE_LIMIT ≤ vec_capacity text.old }
-        ensures { text.new.items ≡ text.old.items ++ outcome_line row self }
+        ensures items { text.new.items ≡ text.old.items ++ outcome_line row self }
+        ensures len { vec_len text.new ≤ vec_len text.old + LINE_LIMIT }
+        ensures room { vec_capacity text.old ≤ vec_capacity text.new }
     {
         push_text(text, Buffer::new().format(row));
         push_text(text, ",");
@@ -56,10 +61,31 @@ impl Outcome {
     }
 }
 
+// Returns the outcome of the next row and the answers left, unless the row is a posting without an answer.
+pub(crate) fn next_outcome(
+    fault: Option<FormFault>,
+    answers: &[Answer],
+) -> Option<(Outcome, &[Answer])>
+    ensures none { IfNone result ((faults : List (Option FormFault))
+        → outcomes_of (fault ∷ faults) answers.now ≡ []) }
+    ensures some { IfSome result (λ next. (faults : List (Option FormFault))
+        → outcomes_of (fault ∷ faults) answers.now ≡ next.0 ∷ outcomes_of faults next.1.now) }
+{
+    match fault {
+        Some(fault) => Some((Outcome::Bad(fault), answers)),
+        None => {
+            if answers.is_empty() {
+                return None;
+            }
+            Some((Outcome::Reply(answers[0]), &answers[1..]))
+        }
+    }
+}
+
 /// The most bytes of a line.
 pub(crate) const LINE_LIMIT: usize = 64;
 
-// Appends a text without allocating.
+// Appends a text for which there is capacity; allocates nothing.
 fn push_text(text: &mut Vec<u8>, more: &str)
     requires { vec_len text.old + length more.now ≤ vec_capacity text.old }
     ensures items { text.new.items ≡ text.old.items ++ more.now }

@@ -1,14 +1,29 @@
-//! Reads a posting file as rows.
-ghost use Rattle.std.specs.Prelude.{◌≡◌, ◌↔◌, ◌<◌, [], ◌∷◌, IsTrue, IfErr, IfOk, MatchBool, drop, length, map};
-ghost use Rattle.std.specs.List.{AllZip};
+//! Reads the rows of a posting file, block by block.
+ghost use Rattle.std.specs.Prelude.{◌≡◌, ◌↔◌, ◌<◌, ◌≤◌, ◌+◌, ◌++◌, [], ◌∷◌, IsTrue, IfErr, IfOk, OnOk, List, ℕ, length};
 ghost use Rattle.csv.specs.Records.{fields_of};
-ghost use Rattle.thes_import.specs.PostingFile.{BeginsWithHeader, IsNoFile, IsPostingFile, IsCsvRow, header};
+ghost use Rattle.thes_import.specs.PostingFile.{IsCsvRow, IsFileReadStop, IsPostingFile, header};
+ghost use Rattle.thes_import.specs.RecordReading.{TakesHeader};
+ghost use Rattle.thes_import.specs.RowReading.{HasReadRows};
+ghost use Rattle.thes_import.specs.declared.csv_row.CsvRow.{CsvRow};
 
 use crate::csv_row::{CsvRow, field, read_row};
-use crate::records::records_of;
-use csv::ByteRecord;
+use crate::records::{next_record, open_records};
+use csv::{ByteRecord, Reader};
 use std::alloc::{AllocError, Global};
 use thes_base::fault::{FormFault, ReadStop};
+
+/// The most rows of a block.
+pub const BLOCK_ROWS: usize = 1_000;
+
+/// A reader of the rows of a posting file.
+#[derive(Drop)]
+pub struct RowReader<'a> {
+    records: Reader<&'a [u8]>,
+    // The last record.
+    record: ByteRecord,
+    /// The number of rows that are left to read.
+    pub unread: usize,
+}
 
 // Returns whether the field is this text.
 fn is_text(field: &[u8], text: &[u8]) -> bool
@@ -33,7 +48,7 @@ fn has_fields(entry: &ByteRecord, first: &[u8], second: &[u8], third: &[u8]) -> 
     is_text(field(entry, 2), third)
 }
 
-// Returns whether the record is the header.
+// Returns whether the record is the header `key,record,concept`.
 #[tactic(auto, unfolding(crate::specs::PostingFile::header))]
 fn is_header(entry: &ByteRecord) -> bool
     ensures { IsTrue result ↔ (fields_of entry.now ≡ header) }
@@ -46,50 +61,95 @@ fn is_header(entry: &ByteRecord) -> bool
     )
 }
 
-// Returns whether the first record is the header.
-fn begins_with_header(records: &[ByteRecord]) -> bool
-    ensures { MatchBool result (BeginsWithHeader (map fields_of records.now))
-        (¬ BeginsWithHeader (map fields_of records.now)) }
+// Reads the first record, and returns whether it is the header.
+fn read_header(records: &mut Reader<&[u8]>, record: &mut ByteRecord) -> Result<bool, AllocError>
+    ensures { IfOk result (TakesHeader records.old records.new) }
 {
-    if records.is_empty() {
-        return false;
+    if !next_record(records, record)? {
+        return Ok(false);
     }
-    is_header(&records[0])
+    Ok(is_header(record))
 }
 
-// Reads each record as a row.
-fn read_rows(alloc: Global, records: &[ByteRecord]) -> Result<Vec<CsvRow>, AllocError>
-    ensures { IfOk result (λ rows. AllZip IsCsvRow (map fields_of records.now) rows.items) }
+// Reads a record as a row and gives the row up.
+fn try_row(alloc: Global, entry: &ByteRecord) -> Result<(), AllocError>
+    ensures { OnOk result ((row : CsvRow) × IsCsvRow (fields_of entry.now) row) }
 {
-    let mut rows = Vec::new(alloc);
-    for record in records {
-        let row = read_row(alloc, record)?;
-        rows.push(row)?;
-    }
-    Ok(rows)
+    drop(read_row(alloc, entry)?);
+    Ok(())
 }
 
-// Returns the records after the first.
-fn after_header(records: &[ByteRecord]) -> &[ByteRecord]
-    requires { 0 < length records.now }
-    ensures { result.now ≡ drop 1 records.now }
+// Counts the rows of a posting file, and reads each of them once.
+fn count_rows(alloc: Global, bytes: &[u8]) -> Result<usize, ReadStop>
+    ensures count { IfOk result (λ count. (rows : List CsvRow) × IsPostingFile bytes.now rows
+        × (length rows ≡ count)) }
+    ensures fault { IfErr result (IsFileReadStop bytes.now) }
 {
-    &records[1..]
-}
-
-/// Reads the rows of a posting file, or returns the fault of one without a header.
-pub fn read_postings(alloc: Global, bytes: &[u8]) -> Result<Vec<CsvRow>, ReadStop>
-    ensures rows { IfOk result (λ rows. IsPostingFile bytes.now rows.items) }
-    ensures fault { IfErr result (IsNoFile bytes.now) }
-{
-    let records = match records_of(alloc, bytes) {
-        Ok(records) => records,
-        Err(_) => return Err(ReadStop::OutOfMemory),
-    };
-    let all = records.as_slice();
-    if !begins_with_header(all) {
+    let mut records = open_records(alloc, bytes);
+    let mut record = ByteRecord::new(alloc);
+    if !read_header(&mut records, &mut record)? {
         return Err(ReadStop::Form(FormFault::BadShape));
     }
-    let rows = read_rows(alloc, after_header(all))?;
+    let mut count = 0;
+    while next_record(&mut records, &mut record)? {
+        try_row(alloc, &record)?;
+        count += 1;
+    }
+    Ok(count)
+}
+
+/// Opens a posting file for reading its rows, or returns the fault of one without a header. All rows are read once
+/// before, and counted.
+pub fn open_rows(alloc: Global, bytes: &[u8]) -> Result<RowReader<'_>, ReadStop>
+    ensures rows { IfOk result (λ reader. (rows : List CsvRow)
+        × HasReadRows bytes.now rows [] reader) }
+    ensures fault { IfErr result (IsFileReadStop bytes.now) }
+{
+    let unread = count_rows(alloc, bytes)?;
+    let mut records = open_records(alloc, bytes);
+    let mut record = ByteRecord::new(alloc);
+    if !read_header(&mut records, &mut record)? {
+        return Err(ReadStop::Form(FormFault::BadShape));
+    }
+    Ok(RowReader {
+        records,
+        record,
+        unread,
+    })
+}
+
+// Reads the next row.
+fn next_row(alloc: Global, reader: &mut RowReader<'_>) -> Result<CsvRow, AllocError>
+    requires { 0 < reader.old.unread }
+    ensures reads { IfOk result (λ row. (bytes : List ℕ) (rows first : List CsvRow)
+        → HasReadRows bytes rows first reader.old
+        → HasReadRows bytes rows (first ++ row ∷ []) reader.new) }
+    ensures unread { IfOk result (λ row. reader.new.unread + 1 ≡ reader.old.unread) }
+{
+    match next_record(&mut reader.records, &mut reader.record) {
+        Ok(true) => {
+            let row = read_row(alloc, &reader.record)?;
+            reader.unread -= 1;
+            Ok(row)
+        }
+        Ok(false) | Err(_) => Err(AllocError),
+    }
+}
+
+/// Reads the rows of the next block: up to 1,000, and at least one if any is left.
+pub fn read_block(alloc: Global, reader: &mut RowReader<'_>) -> Result<Vec<CsvRow>, AllocError>
+    ensures reads { IfOk result (λ block. (bytes : List ℕ) (rows first : List CsvRow)
+        → HasReadRows bytes rows first reader.old
+        → HasReadRows bytes rows (first ++ block.items) reader.new) }
+    ensures unread { IfOk result
+        (λ block. reader.new.unread + length block.items ≡ reader.old.unread) }
+    ensures some { IfOk result (λ block. 0 < reader.old.unread → 0 < length block.items) }
+    ensures few { IfOk result (λ block. length block.items ≤ 1000) }
+{
+    let mut rows = Vec::new(alloc);
+    while reader.unread > 0 && rows.len() < BLOCK_ROWS {
+        let row = next_row(alloc, reader)?;
+        rows.push(row)?;
+    }
     Ok(rows)
 }

@@ -1,26 +1,30 @@
-//! Reads a posting file as records.
-ghost use Rattle.std.specs.Prelude.{◌≡◌, IfOk, IfErr, map};
-ghost use Rattle.csv.specs.Reading.{AreRecords, default_config, strip_bom};
+//! Reads the records of a posting file, one after another.
+ghost use Rattle.std.specs.Prelude.{[], IfOk};
 ghost use Rattle.csv.specs.Records.{fields_of};
-ghost use Rattle.csv.specs.declared.parser.State.TheVariants as state;
+ghost use Rattle.thes_import.specs.RecordReading.{HasReadTo, TakesRecord};
 
-use csv::{ByteRecord, Error, ReaderBuilder};
-use std::alloc::Global;
+use csv::{ByteRecord, Reader, ReaderBuilder};
+use std::alloc::{AllocError, Global};
 
-/// Reads every record of a text, with any number of fields.
-pub(crate) fn records_of(alloc: Global, bytes: &[u8]) -> Result<Vec<ByteRecord>, Error>
-    ensures { let are_records = AreRecords default_config state.StartRecord (strip_bom bytes.now) in
-        IfOk result (λ records. are_records (map fields_of records.items)) }
+/// Opens a text for reading its records, with any number of fields.
+pub(crate) fn open_records(alloc: Global, bytes: &[u8]) -> Reader<&[u8]>
+    ensures { HasReadTo bytes.now [] result }
 {
-    let reader = ReaderBuilder::new()
+    ReaderBuilder::new()
         .has_headers(false)
         .flexible(true)
-        .from_reader(alloc, bytes);
-    let mut records = Vec::new(alloc);
-    for record in reader.into_byte_records() {
-        if records.push(record?).is_err() {
-            return Err(Error::out_of_memory());
-        }
-    }
-    Ok(records)
+        .from_reader(alloc, bytes)
+}
+
+/// Reads the next record. Returns false at the end of the text.
+pub(crate) fn next_record(
+    records: &mut Reader<&[u8]>,
+    entry: &mut ByteRecord,
+) -> Result<bool, AllocError>
+    ensures { IfOk result (TakesRecord records.old records.new (fields_of entry.new)) }
+{
+    let Some(found) = records.read_byte_record(entry).ok() else {
+        return Err(AllocError);
+    };
+    Ok(found)
 }

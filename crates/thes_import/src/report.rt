@@ -1,25 +1,28 @@
 //! Reports of an import: the outcome of each row, in order.
-ghost use Rattle.std.specs.Prelude.{◌≡◌, ◌≤◌, ◌<◌, ◌+◌, ◌^◌, ◌++◌, [], ◌∷◌, List, IfOk, OnOk, vec_len, vec_capacity};
-ghost use Rattle.thes_import.specs.Outcomes.{IsBlankReport, ReportsOutcomes, counts_of, no_counts, row_count};
+ghost use Rattle.std.specs.Prelude.{◌≡◌, ◌≤◌, ◌<◌, ◌+◌, ◌*◌, ◌^◌, ◌++◌, [], ◌∷◌, List, IfOk, OnOk, length};
+ghost use Rattle.std.specs.Prelude.{vec_len, vec_capacity};
+ghost use Rattle.thes_import.specs.Outcomes.{AddsOutcomes, IsBlankReport, ReportsOutcomes, counts_of, no_counts};
+ghost use Rattle.thes_import.specs.Outcomes.{outcomes_of, row_count};
 ghost use Rattle.thes_import.specs.declared.outcome.Outcome.{Outcome};
 
-use crate::outcome::{LINE_LIMIT, Outcome};
+use crate::outcome::{LINE_LIMIT, Outcome, next_outcome};
 use std::alloc::{AllocError, Global};
+use thes_base::fault::FormFault;
 use thes_base::request::Answer;
 
-/// The numbers of rows by outcome.
+/// The numbers of rows performed, by outcome.
 #[derive(Clone, Copy, Debug, PartialEq, Eq)]
 pub struct Counts {
-    /// Rows that made a posting.
+    /// Rows that added a posting.
     pub posted: usize,
-    /// Rows that repeat a posting.
+    /// Rows that repeat a posting: the same key, record and first concept.
     pub again: usize,
-    /// Rows that were refused or aren't postings.
+    /// Rows that were refused, or that aren't postings.
     pub refused: usize,
 }
 
 impl Counts {
-    // Makes the counts of no rows.
+    // Returns the counts of no rows, all 0.
     pub(crate) fn new() -> Counts
         ensures { result ≡ no_counts }
     {
@@ -30,7 +33,7 @@ impl Counts {
         }
     }
 
-    /// Returns the number of rows.
+    /// Returns the number of all rows counted.
     pub fn rows(self) -> usize
         requires { row_count self < 2 ^ 64 }
         ensures { result ≡ row_count self }
@@ -38,11 +41,12 @@ impl Counts {
         self.posted + self.again + self.refused
     }
 
-    // Counts a row by its outcome.
+    // Counts one row by its outcome.
     fn add(&mut self, outcome: Outcome)
         requires { row_count self.old + 1 < 2 ^ 64 }
-        ensures { (outcomes : List Outcome) → self.old ≡ counts_of outcomes
+        ensures counts { (outcomes : List Outcome) → self.old ≡ counts_of outcomes
             → self.new ≡ counts_of (outcomes ++ outcome ∷ []) }
+        ensures count { row_count self.new ≡ row_count self.old + 1 }
     {
         match outcome {
             Outcome::Reply(Answer::Number(_)) => self.posted += 1,
@@ -52,16 +56,17 @@ impl Counts {
     }
 }
 
-/// The outcomes of rows as text, and their counts.
+/// The outcomes of rows as lines of text, and their counts.
 #[derive(Debug, Drop)]
 pub struct Report {
-    /// A heading and a line for each row; empty where memory ran out before the first row.
+    /// The lines of the rows since the last `clear`, after the heading if it hasn't been cleared; empty if memory to
+    /// read the rows, or for the heading, ran out.
     pub text: Vec<u8>,
     pub counts: Counts,
 }
 
 impl Report {
-    /// Makes an empty report, without a heading.
+    /// Returns an empty report, which needs no memory.
     pub(crate) fn blank(alloc: Global) -> Report
         ensures { IsBlankReport result }
     {
@@ -71,7 +76,7 @@ impl Report {
         }
     }
 
-    /// Makes the report of no rows, which has only the heading.
+    /// Returns the report of no rows, which has only the heading.
     pub(crate) fn new(alloc: Global) -> Result<Report, AllocError>
         ensures { IfOk result (ReportsOutcomes []) }
     {
@@ -82,24 +87,52 @@ impl Report {
         })
     }
 
-    /// Reserves memory for a line.
-    pub(crate) fn make_room(&mut self) -> Result<(), AllocError>
+    /// Reserves memory for some lines.
+    pub(crate) fn make_room(&mut self, lines: usize) -> Result<(), AllocError>
+        requires { lines ≤ 1000 }
         ensures text { self.new.text.items ≡ self.old.text.items }
         ensures counts { self.new.counts ≡ self.old.counts }
         ensures room { OnOk result
-            (vec_len self.new.text + LINE_LIMIT ≤ vec_capacity self.new.text) }
+            (vec_len self.new.text + LINE_LIMIT * lines ≤ vec_capacity self.new.text) }
     {
-        self.text.try_reserve(LINE_LIMIT)
+        self.text.try_reserve(LINE_LIMIT * lines)
     }
 
-    /// Appends the line of a row without allocating.
-    pub(crate) fn push(&mut self, outcome: Outcome)
+    // Appends the line of a row without allocating.
+    fn push(&mut self, outcome: Outcome)
         requires room { vec_len self.old.text + LINE_LIMIT ≤ vec_capacity self.old.text }
         requires fits { row_count self.old.counts + 1 < 2 ^ 64 }
-        ensures { (outcomes : List Outcome) → ReportsOutcomes outcomes self.old
-            → ReportsOutcomes (outcomes ++ outcome ∷ []) self.new }
+        ensures adds { AddsOutcomes (outcome ∷ []) self.old self.new }
+        ensures count { row_count self.new.counts ≡ row_count self.old.counts + 1 }
+        ensures len { vec_len self.new.text ≤ vec_len self.old.text + LINE_LIMIT }
+        ensures capacity { vec_capacity self.old.text ≤ vec_capacity self.new.text }
     {
         outcome.push_line(self.counts.rows() + 1, &mut self.text);
         self.counts.add(outcome);
+    }
+
+    /// Appends the lines of rows, up to the first posting without an answer, without allocating.
+    pub(crate) fn push_outcomes(&mut self, faults: &[Option<FormFault>], answers: &[Answer])
+        requires room { vec_len self.old.text + LINE_LIMIT * length faults.now ≤ vec_capacity
+            self.old.text }
+        requires fits { row_count self.old.counts + length faults.now < 2 ^ 64 }
+        ensures { AddsOutcomes (outcomes_of faults.now answers.now) self.old self.new }
+    {
+        let mut unread = answers;
+        for fault in faults {
+            let Some((outcome, rest)) = next_outcome(*fault, unread) else {
+                return;
+            };
+            self.push(outcome);
+            unread = rest;
+        }
+    }
+
+    /// Removes the lines and the heading, and keeps the counts.
+    pub(crate) fn clear(&mut self)
+        ensures text { self.new.text.items ≡ [] }
+        ensures counts { self.new.counts ≡ self.old.counts }
+    {
+        self.text.clear();
     }
 }

@@ -1,15 +1,16 @@
-//! Reads an input to its end.
+//! Reading an input to its end.
 ghost use Rattle.std.specs.Prelude.{◌≡◌, ◌≤◌, ◌<◌, length, true, false, IfOk, IfErr};
 ghost use Rattle.thes_base.specs.Pipe.{IsFresh, PaysCalls};
 ghost use Rattle.thes_base.specs.declared.pipe.Pipe.{Pipe};
-ghost use Rattle.thes_import.specs.WholeInput.{HasRead, IsUnread, IsWhole};
+ghost use Rattle.thes_import.specs.WholeInput.{HasReadBytes, IsInputFault, IsWhole};
 
 use std::alloc::Global;
 use std::io::Read;
 use thes_base::fault::PipeFault;
 use thes_base::pipe::{Budget, Pipe};
 
-// Reads into the chunk and appends the bytes read. Returns `false` at the end of the input.
+// Reads into the chunk, and appends the bytes read; returns `false` at the end of the input. Bytes
+// that would exceed the limit are `TooLong`, and are not appended.
 fn read_more<R: Read>(
     reader: &mut Pipe<R>,
     budget: &mut Budget,
@@ -22,14 +23,14 @@ fn read_more<R: Read>(
     requires in_limit { length bytes.old.items ≤ limit }
     ensures fresh { IfOk result (λ more. more ≡ true → IsFresh reader.new) }
     ensures more { IfOk result (λ more. more ≡ true → (start : Pipe R)
-        → HasRead R.remaining limit start reader.old bytes.old.items
-        → HasRead R.remaining limit start reader.new bytes.new.items) }
+        → HasReadBytes R.remaining limit start reader.old bytes.old.items
+        → HasReadBytes R.remaining limit start reader.new bytes.new.items) }
     ensures end { IfOk result (λ more. more ≡ false → (start : Pipe R)
-        → HasRead R.remaining limit start reader.old bytes.old.items
+        → HasReadBytes R.remaining limit start reader.old bytes.old.items
         → IsWhole R.remaining limit start reader.new bytes.new.items) }
     ensures err { IfErr result (λ fault. (start : Pipe R)
-        → HasRead R.remaining limit start reader.old bytes.old.items
-        → IsUnread R.remaining limit start reader.new fault) }
+        → HasReadBytes R.remaining limit start reader.old bytes.old.items
+        → IsInputFault R.remaining limit start reader.new fault) }
     ensures paid { PaysCalls reader.old reader.new budget.old budget.new }
     ensures call_paid { IfOk result (λ more. budget.new < budget.old) }
 {
@@ -44,7 +45,7 @@ fn read_more<R: Read>(
     Ok(count > 0)
 }
 
-/// Reads an input to its end. Stops with `TooLong` where it has more bytes than the limit, or a read is denied.
+/// Reads an input to its end. `TooLong` means that the input exceeds the limit, or that a read was denied.
 pub(crate) fn read_whole<R: Read>(
     alloc: Global,
     reader: &mut Pipe<R>,
@@ -54,7 +55,7 @@ pub(crate) fn read_whole<R: Read>(
     requires { IsFresh reader.old }
     ensures ok { IfOk result
         (λ bytes. IsWhole R.remaining limit reader.old reader.new bytes.items) }
-    ensures err { IfErr result (IsUnread R.remaining limit reader.old reader.new) }
+    ensures err { IfErr result (IsInputFault R.remaining limit reader.old reader.new) }
     ensures paid { PaysCalls reader.old reader.new budget.old budget.new }
 {
     let mut bytes = Vec::new(alloc);

@@ -35,8 +35,6 @@ module _ {A : Type 0} (c : A → A → Ordering) where
         λ x q. is.complete x (from x q);
   }
 
-  -- Each of the lists.
-
   pub listings_same : (P Q : ℕ → A → Type 0) (old new : Lists A) → HaveSameValues old new
       → ((n : ℕ) (x : A) → P n x → Q n x) → ((n : ℕ) (x : A) → Q n x → P n x) → AreListings c P old
       → AreListings c Q new
@@ -79,7 +77,7 @@ module _ {A : Type 0} (c : A → A → Ordering) (o : IsTotalOrder c) (exact : I
     ];
   }
 
-  -- A removed value isn't in the list.
+  -- A value listed after a removal isn't the removed one.
   pub remove_apart : (ks : List A) (x m : A) → IsStrictlySortedBy c ks → Has (remove_key (is_at (c x)) ks) m → m ≢ x
   remove_apart [] x m sorted has = absurd has
   remove_apart (y ∷ ys) x m sorted has = go (is_eq (c x y)) refl has (remove_apart ys x m (sorted_tail c y ys sorted))
@@ -117,7 +115,7 @@ module _ {A : Type 0} (c : A → A → Ordering) (o : IsTotalOrder c) (exact : I
         (remove_keeps xs x m p.1 (Has-from xs m (is.complete m p.0)));
   }
 
-  -- One of the lists after an insertion and after a removal.
+  -- Assumes that one list changes by an insertion or a removal.
   module _ (P Q : ℕ → A → Type 0) (old new : Lists A) (n : ℕ) (x : A) (are : AreListings c P old) where
     pub listings_insert : ChangesOnlyAt old new n (insert_key c (listed_at old n) x) → Q n x
         → ((m : ℕ) (y : A) → P m y → Q m y) → ((m : ℕ) (y : A) → Q m y → P m y ⊎ ((m ≡ n) × (y ≡ x)))

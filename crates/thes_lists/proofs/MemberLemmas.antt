@@ -1,9 +1,9 @@
--- Membership in a list by recursion is equivalent to `Contains`.
+-- Membership in a list, defined by recursion, is equivalent to `Contains`.
 use Rattle.std.proofs.Common.{◌≡◌, ◌⊎◌, inl, inr, zero, suc, List, [], ◌∷◌, Contains, refl, subst, arith}
 use Rattle.std.specs.List.{AllByRecursion}
 
 module _ {A : Type 0} where
-  -- The list has the value.
+  -- The list has the value, by recursion.
   abbrev pub Has : List A → A → Type 0
   Has [] x = ⊥
   Has (k ∷ ks) x = (k ≡ x) ⊎ Has ks x

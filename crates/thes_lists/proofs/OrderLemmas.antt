@@ -1,4 +1,4 @@
--- Rising lists after an insertion and a removal, and the place where a binary search ends.
+-- Rising lists after an insertion and a removal, and the place at which a binary search ends.
 use Rattle.std.proofs.Common.{◌≡◌, ◌+◌, ◌<◌, ◌≤◌, ◌⊎◌, inl, inr, ℕ, zero, suc, List, [], ◌∷◌, Bool, true, false, cond}
 use Rattle.std.proofs.Common.{length, get_or, Ordering, Less, Equal, Greater, refl, sym, ap, subst, ◌∙◌, arith}
 use Rattle.std.specs.List.{HoldsAt, insert, remove}
@@ -51,7 +51,7 @@ module _ {A : Type 0} (c : A → A → Ordering) where
       go Greater (inl same) later = inl same
       go Greater (inr has) later = inr (later has)
 
-  -- The members after a removal are old ones.
+  -- The members after a removal were members before.
   pub remove_had : (ks : List A) (test : A → Bool) (m : A) → Has (remove_key test ks) m → Has ks m
   remove_had [] test m has = absurd has
   remove_had (y ∷ ys) test m has = go (test y) has (remove_had ys test m)
@@ -69,7 +69,7 @@ module _ {A : Type 0} (c : A → A → Ordering) (o : IsTotalOrder c) where
   pub never_below_itself : (x : A) → c x x ≡ Less → ⊥
   never_below_itself x e = let tied = tied_itself o x in cc
 
-  -- A rising list still rises after an insertion.
+  -- A rising list rises after an insertion.
   pub insert_sorted : (ks : List A) (x : A) → IsStrictlySortedBy c ks → IsStrictlySortedBy c (insert_key c ks x)
   insert_sorted [] x sorted = sorted_cons c x [] (λ y none. absurd none) (sorted_none c)
   insert_sorted (y ∷ ys) x sorted = go (c x y) refl (insert_sorted ys x (sorted_tail c y ys sorted))
@@ -96,8 +96,6 @@ module _ {A : Type 0} (c : A → A → Ordering) (o : IsTotalOrder c) where
       go true rest = sorted_tail c y ys sorted
       go false rest = sorted_cons c y (remove_key test ys)
           (λ z has. above_head c y ys z sorted (remove_had c ys test z has)) rest
-
-  -- Where a binary search ends.
 
   pub sorted_by_index : (ks : List A) (x : A) → IsStrictlySortedBy c ks
       → IsNonDecreasingBy (λ y. ordering_index (c y x)) ks
@@ -129,7 +127,7 @@ module _ {A : Type 0} (c : A → A → Ordering) (o : IsTotalOrder c) where
       ∙ sym (ap (λ r. match_ordering r (x ∷ y ∷ ys) (y ∷ ys) (y ∷ insert_key c ys x))
       (turn y x Less (is.0 0 y (omega arith) (omega arith))))
 
-  -- The values before a value are below all that compare equal to it.
+  -- A value before another one in a rising list is below all that compare equal to the other.
   before_found : (y : A) (ys : List A) (i : ℕ) (x : A) → i < length ys → IsStrictlySortedBy c (y ∷ ys)
       → HoldsAt (λ z. c z x ≡ Equal) ys i → c x y ≡ Greater
   before_found y ys i x within sorted is =

@@ -9,7 +9,7 @@ use Rattle.thes_base.specs.Listing.{IsListing}
 use Rattle.thes_lists.specs.declared.lists.Lists.{Lists}
 
 module _ {A : Type 0} where
-  -- The values of the number.
+  -- The values listed under the number, none if it has no list.
   abbrev pub listed_at : Lists A → Number → List A
   listed_at lists n = option_map_or (λ v. v.items) (slice_get lists.lists.items n) []
 
@@ -21,24 +21,24 @@ module _ {A : Type 0} where
   abbrev pub HasSpare : Lists A → Number → Type 0
   HasSpare lists n = IsSomeAnd (slice_get lists.lists.items n) (λ v. vec_len v < vec_capacity v)
 
-  -- Each number has the same values.
+  -- Both indexes have the same values under each number.
   abbrev pub HaveSameValues : Lists A → Lists A → Type 0
   HaveSameValues old new = (n : Number) → listed_at new n ≡ listed_at old n
 
-  -- Each list with room for one more value still has it.
+  -- Each list with room for one more value keeps that room.
   abbrev pub KeepsSpare : Lists A → Lists A → Type 0
   KeepsSpare old new = (n : Number) → HasSpare old n → HasSpare new n
 
-  -- Only the values of number n have changed, to `values`.
+  -- The values under number n are now `values`, and those under other numbers are unchanged.
   pub record ChangesOnlyAt (old new : Lists A) (n : Number) (values : List A) : Type 0 where
     pub here : listed_at new n ≡ values
     pub others : (m : Number) → m ≢ n → listed_at new m ≡ listed_at old m
 
   module _ (cmp : A → A → Ordering) where
-    -- The values of each number rise.
+    -- The values under each number are strictly increasing.
     abbrev pub AreAllRising : Lists A → Type 0
     AreAllRising lists = (n : Number) → IsStrictlySortedBy cmp (listed_at lists n)
 
-    -- The values of each number are exactly those with the number's property, in order.
+    -- The values under each number are exactly those with the number's property, in ascending order.
     abbrev pub AreListings : (Number → A → Type 0) → Lists A → Type 0
     AreListings P lists = (n : Number) → IsListing cmp (P n) (listed_at lists n)

@@ -1,4 +1,4 @@
-//! Sorted lists, one for each number.
+//! Sorted lists of values, one for each number of a resource.
 #![tactic(auto)]
 
 mod lists;

@@ -1,4 +1,4 @@
-//! Sorted lists, one for each number.
+//! Sorted lists of values, one for each number of a resource.
 ghost use Rattle.std.specs.Prelude.{◌≡◌, ◌≢◌, ◌<◌, ℕ, [], true, IfOk, OnOk};
 ghost use Rattle.std.specs.List.Sorted.{IsStrictlySortedBy};
 ghost use Rattle.std.specs.BTreeMap.{is_at};
@@ -10,9 +10,9 @@ ghost use Rattle.thes_lists.specs.Lists.{listed_at, HasList, HasSpare, HaveSameV
 use std::alloc::{AllocError, Global};
 use thes_base::number::ResNo;
 
-/// A sorted list of values for each number. Room for a value is reserved first, so that an
-/// insertion can't fail. The lists are indexed by number, so that memory grows with the greatest
-/// number that has a list; resources are numbered without gaps.
+/// A sorted list of values for each number of a resource. Room for a value is reserved before its
+/// insertion, which then can't fail. Memory grows with the greatest number that has a list, since
+/// the lists are indexed by number.
 #[derive(Drop)]
 pub struct Lists<T> {
     alloc: Global,
@@ -20,7 +20,7 @@ pub struct Lists<T> {
 }
 
 impl<T: Ord + Drop> Lists<T> {
-    /// Creates empty lists.
+    /// Creates an index without lists; it allocates nothing.
     pub fn new(alloc: Global) -> Lists<T>
         ensures { (n : ℕ) → listed_at result n ≡ [] }
     {
@@ -30,7 +30,7 @@ impl<T: Ord + Drop> Lists<T> {
         }
     }
 
-    /// Returns the values of a number.
+    /// Returns the values listed under a number, in ascending order; none if it has no list.
     pub fn at(&self, n: ResNo) -> &[T]
         ensures { result.now ≡ listed_at self.now n }
     {
@@ -40,7 +40,8 @@ impl<T: Ord + Drop> Lists<T> {
         }
     }
 
-    // Creates an empty list for a number that has none.
+    // Creates empty lists for the numbers up to `n` that have none; if memory runs out, perhaps
+    // only some of them.
     fn create_list(&mut self, n: ResNo) -> Result<(), AllocError>
         ensures same { HaveSameValues self.old self.new }
         ensures rooms { KeepsSpare self.old self.new }
@@ -52,7 +53,7 @@ impl<T: Ord + Drop> Lists<T> {
         Ok(())
     }
 
-    /// Reserves room for one more value.
+    /// Reserves room for one more value under the number, so that `insert` can't fail.
     pub fn make_room(&mut self, n: ResNo) -> Result<(), AllocError>
         ensures same { HaveSameValues self.old self.new }
         ensures rooms { KeepsSpare self.old self.new }
@@ -66,7 +67,8 @@ impl<T: Ord + Drop> Lists<T> {
         Ok(())
     }
 
-    // Reserves room for one more value in the list of a number, and returns whether it has a list.
+    // Reserves room for one more value under the number if it has a list, and returns whether it
+    // has one.
     fn reserve_in(&mut self, n: ResNo) -> Result<bool, AllocError>
         ensures same { HaveSameValues self.old self.new }
         ensures rooms { KeepsSpare self.old self.new }
@@ -82,11 +84,12 @@ impl<T: Ord + Drop> Lists<T> {
         }
     }
 
-    /// Inserts a value in order, unless an equal one is there.
+    /// Inserts a value under the number, at its place in the order, unless an equal value is there.
     pub fn insert(&mut self, n: ResNo, x: T)
         requires room { HasSpare self.old n }
         requires rises { IsStrictlySortedBy T.cmp (listed_at self.old n) }
-        ensures list { ChangesOnlyAt self.old self.new n (insert_key T.cmp (listed_at self.old n) x) }
+        ensures list { ChangesOnlyAt self.old self.new n
+            (insert_key T.cmp (listed_at self.old n) x) }
         ensures rooms { (m : ℕ) → m ≢ n → HasSpare self.old m → HasSpare self.new m }
     {
         match self.lists.get_mut(n.get() as usize) {
@@ -95,7 +98,7 @@ impl<T: Ord + Drop> Lists<T> {
         }
     }
 
-    /// Removes the value that is equal to `x`, if there is one.
+    /// Removes the value equal to `x` from the number's list, if there is one.
     pub fn remove(&mut self, n: ResNo, x: &T)
         requires { IsStrictlySortedBy T.cmp (listed_at self.old n) }
         ensures { ChangesOnlyAt self.old self.new n
@@ -108,7 +111,7 @@ impl<T: Ord + Drop> Lists<T> {
     }
 }
 
-// Inserts a value in order into a list with room for it, unless an equal one is there.
+// Inserts a value at its place in the order, unless an equal value is there. Doesn't allocate.
 fn insert_in<T: Ord + Drop>(list: &mut Vec<T>, x: T)
     requires room { vec_len list.old < vec_capacity list.old }
     requires rises { IsStrictlySortedBy T.cmp list.old.items }
@@ -122,7 +125,7 @@ fn insert_in<T: Ord + Drop>(list: &mut Vec<T>, x: T)
     }
 }
 
-// Removes the value that is equal to `x`, if there is one.
+// Removes the value equal to `x`, if there is one.
 fn remove_from<T: Ord + Drop>(list: &mut Vec<T>, x: &T)
     requires { IsStrictlySortedBy T.cmp list.old.items }
     ensures { list.new.items ≡ remove_key (is_at (T.cmp x.now)) list.old.items }

@@ -1,4 +1,4 @@
--- Proves that the checks of the tables link and hier, row by row and as a whole, are their rules.
+-- The checks of the tables link and hier, row by row and at their end, are their rules.
 use Rattle.std.proofs.Common.{◌≡◌, ◌≢◌, ◌⊎◌, ◌≤◌, ℕ, ◌+◌, length, List, [], ◌∷◌, ◌++◌, map, refl, sym, ap, ◌∙◌, subst}
 use Rattle.std.proofs.Common.{inl, inr, arith, Bool, true, false, append_assoc}
 use Rattle.std.proofs.lemmas.List.{append-nil, map-append}
@@ -14,12 +14,12 @@ use Rattle.thes_base.specs.declared.data.Link.{Link}
 use Rattle.thes_base.specs.declared.fault.Refusal.{Refusal}
 use Rattle.thes_base.specs.declared.fault.Refusal.TheVariants as no
 use Rattle.thes_base.specs.Resources.{entry_at, is_outside, is_outside_kind}
-use Rattle.thes_base.specs.Links.{Links, HeldIn, link_cmp, normal_form, NoCycle, S27, S46, IsFirstBroken}
+use Rattle.thes_base.specs.Links.{Links, Holds, link_cmp, normal_form, NoCycle, S27, S46, IsFirstBroken}
 use Rattle.thes_base.specs.Legal.{IsLegalLink}
 use Rattle.thes_base.proofs.LinkSetLemmas.{links_total, links_exact}
 use Rattle.thes_base.proofs.SetMemberLemmas.{inserted_cases, inserted_new, inserted_kept}
 use Rattle.thes_base.proofs.NumberedLemmas.{numbered_bound}
-use Rattle.thes_graph.specs.Net.{Net, is_marked}
+use Rattle.thes_graph.specs.GraphView.{GraphView, is_marked, MarksOutside}
 use Rattle.thes_tables.specs.declared.rows.HierRow.{HierRow}
 use Rattle.thes_tables.specs.Tables.{hier_link, hier_type}
 use Rattle.thes_tables.proofs.RowSetLemmas.{once_push}
@@ -27,12 +27,10 @@ use Rattle.thes_load_rules.specs.Rules.{LinkRule, HierRule, links_of}
 use Rattle.thes_load_rules.proofs.LinkTableLemmas.{held_cases, link_held, hier_held, link_lists, hier_lists}
 use Rattle.thes_load_rows.specs.Forms.{HasLinkForm}
 use Rattle.thes_load_rows.specs.RowsSoFar.{TakeResult}
-use Rattle.thes_load_rows.specs.LinksSoFar.{IsFitLink, AreMarked, MarksFirst, IsAdded, HasLinks}
+use Rattle.thes_load_rows.specs.LinksSoFar.{IsFitLink, MarksFirst, AddLinkResult, HasLinks}
 use Rattle.thes_load_rows.proofs.NextRowLemmas.{in_next, each_push, once_twice}
 
--- The check of one link.
-
-module _ (rs : List Resource) (graph : Net) (l : Link) (marked : AreMarked rs graph) where
+module _ (rs : List Resource) (graph : GraphView) (l : Link) (marked : MarksOutside rs graph) where
   same_norm : normal_form (is_marked graph) l ≡ normal_form (is_outside rs) l
   same_norm = ap (λ (f : ℕ → Bool). normal_form f l) (λ i n. marked n i)
 
@@ -49,8 +47,6 @@ module _ (rs : List Resource) (graph : Net) (l : Link) (marked : AreMarked rs gr
 pub fit_of : (rs : List Resource) (l : Link) → IsLegalLink rs l → IsFitLink rs l
 fit_of rs l legal = record { ends = legal.ends; live = legal.live; two = legal.two; schemes = legal.schemes }
 
--- The marks of outside concepts.
-
 outside_at : (rs : List Resource) → is_outside rs 0 ≡ false
 outside_at rs = refl
 
@@ -62,7 +58,7 @@ marks_none rs = record {
       absurd (cc);
 }
 
-module _ (rs : List Resource) (i : ℕ) (graph : Net) (has : MarksFirst rs i graph) where
+module _ (rs : List Resource) (i : ℕ) (graph : GraphView) (has : MarksFirst rs i graph) where
   pub marks_skip : is_outside rs (i + 1) ≡ false → MarksFirst rs (i + 1) graph
   marks_skip inside = record {
     links = has.links;
@@ -75,7 +71,7 @@ module _ (rs : List Resource) (i : ℕ) (graph : Net) (has : MarksFirst rs i gra
       either n le e (inl at) = let g = ap (is_outside rs) at in absurd (cc)
       either n le e (inr differ) = has.complete n (omega (arith, le, differ)) e
 
-  -- The marks after one more outside concept is marked.
+  -- The marks are right after a further outside concept is marked.
   pub marks_more : is_outside rs (i + 1) ≡ true → MarksFirst rs (i + 1)
       (record graph { outside = insert graph.outside (i + 1) })
   marks_more outside = record {
@@ -102,7 +98,7 @@ outside_bound rs n e = go (entry_at rs n) refl e
     go None at f = absurd (cc)
     go (Some r) at f = (numbered_bound rs n r at).1
 
-pub marked_all : (rs : List Resource) (i : ℕ) (graph : Net) → length rs ≤ i → MarksFirst rs i graph
+pub marked_all : (rs : List Resource) (i : ℕ) (graph : GraphView) → length rs ≤ i → MarksFirst rs i graph
     → HasLinks rs graph [] []
 marked_all rs i graph all has = record {
   rule = record { once = tt; kinds = λ l h. absurd h; each = λ l h. absurd h };
@@ -113,35 +109,31 @@ marked_all rs i graph all has = record {
       has.complete n (omega (arith, b, all)) e);
 }
 
--- A row of table link.
-
 link_push : (K : List Link) (l : Link) → links_of (K ++ l ∷ []) [] ≡ insert (links_of K []) l
 link_push K l =
     ap (λ (ks : List Link). from_list {R = link_cmp} ks) (append-nil (K ++ l ∷ [])) ∙ from_list_push links_total
     links_exact K l
     ∙ ap (λ (ks : List Link). insert (from_list {R = link_cmp} ks) l) (sym (append-nil K))
 
-module _ (rs : List Resource) (old new : Net) (K : List Link) (l : Link) (has : HasLinks rs old K []) where
-  -- The row is kept, or no rows that begin so meet the rule.
-  pub link_step : (good : Bool) → HasLinkForm l → IsAdded rs old new l good
+module _ (rs : List Resource) (old new : GraphView) (K : List Link) (l : Link) (has : HasLinks rs old K []) where
+  -- The link of the row is added, or no rows that begin with these and it meet the rule.
+  pub link_step : (good : Bool) → HasLinkForm l → AddLinkResult rs old new l good
       → TakeResult (λ more. HasLinks rs new more []) (LinkRule rs) K l good
   link_step true form (legal, free, is) = record {
     rule = record {
-      once = once_push K l (λ there. free (subst (λ (s : Links). HeldIn s l) (sym has.are) (link_held K [] l there)))
+      once = once_push K l (λ there. free (subst (λ (s : Links). Holds s l) (sym has.are) (link_held K [] l there)))
           has.rule.once;
       kinds = each_push (λ (x : Link). hier_type x.kind ≡ None) K l has.rule.kinds form.0;
       each = each_push (IsLegalLink rs) K l has.rule.each legal;
     };
     once = tt;
     each = λ row h. absurd h;
-    are = ap (λ (g : Net). g.links) is ∙ ap (λ (s : Links). insert s l) has.are ∙ sym (link_push K l);
-    marked = subst (AreMarked rs) (sym is) has.marked;
+    are = ap (λ (g : GraphView). g.links) is ∙ ap (λ (s : Links). insert s l) has.are ∙ sym (link_push K l);
+    marked = subst (MarksOutside rs) (sym is) has.marked;
   }
   link_step false form there = λ more rule.
-      let held = subst (λ (s : Links). HeldIn s l) has.are (there (rule.each l (in_next K l more))) in
+      let held = subst (λ (s : Links). Holds s l) has.are (there (rule.each l (in_next K l more))) in
       once_twice K l more ((link_lists K [] has.rule.kinds has.rule.once).complete l (held, form.0)) rule.once
-
--- A row of table hier.
 
 hier_push : (K : List Link) (H : List HierRow) (row : HierRow) → links_of K (H ++ row ∷ [])
     ≡ insert (links_of K H) (hier_link row)
@@ -150,30 +142,29 @@ hier_push K H row =
     ∙ ap (λ (ks : List Link). from_list {R = link_cmp} ks) (sym (append_assoc K (map hier_link H) (hier_link row ∷ [])))
     ∙ from_list_push links_total links_exact (K ++ map hier_link H) (hier_link row)
 
-module _ (rs : List Resource) (old new : Net) (K : List Link) (H : List HierRow) (row : HierRow)
+module _ (rs : List Resource) (old new : GraphView) (K : List Link) (H : List HierRow) (row : HierRow)
     (has : HasLinks rs old K H) where
-  -- The row is kept, or no rows that begin so meet the rule.
-  pub hier_step : (good : Bool) → IsAdded rs old new (hier_link row) good → TakeResult (HasLinks rs new K)
+  -- The link of the row is added, or no rows that begin with these and it meet the rule.
+  pub hier_step : (good : Bool) → AddLinkResult rs old new (hier_link row) good → TakeResult (HasLinks rs new K)
       (HierRule rs K) H row good
   hier_step true (legal, free, is) = record {
     rule = has.rule;
     once = once_push H row
-        (λ there. free (subst (λ (s : Links). HeldIn s (hier_link row)) (sym has.are) (hier_held K H row there)))
+        (λ there. free (subst (λ (s : Links). Holds s (hier_link row)) (sym has.are) (hier_held K H row there)))
         has.once;
     each = each_push (λ (x : HierRow). IsLegalLink rs (hier_link x)) H row has.each legal;
-    are = ap (λ (g : Net). g.links) is ∙ ap (λ (s : Links). insert s (hier_link row)) has.are ∙ sym (hier_push K H row);
-    marked = subst (AreMarked rs) (sym is) has.marked;
+    are = ap (λ (g : GraphView). g.links) is ∙ ap (λ (s : Links). insert s (hier_link row)) has.are
+        ∙ sym (hier_push K H row);
+    marked = subst (MarksOutside rs) (sym is) has.marked;
   }
   hier_step false there = λ more rule.
       let legal = rule.legal.each (hier_link row) (hier_held K (H ++ row ∷ more) row (in_next H row more)) in
-      let held = subst (λ (s : Links). HeldIn s (hier_link row)) has.are (there legal) in
+      let held = subst (λ (s : Links). Holds s (hier_link row)) has.are (there legal) in
       once_twice H row more ((hier_lists K H has.rule.kinds has.once).complete row held) rule.once
 
--- The check of all links together.
-
-module _ (rs : List Resource) (graph : Net) (K : List Link) (H : List HierRow) (has : HasLinks rs graph K H) where
-  -- If no rule is broken by the graph, the rows meet the rule of table hier.
-  pub rule_whole : IsFirstBroken (HeldIn graph.links) None → HierRule rs K H
+module _ (rs : List Resource) (graph : GraphView) (K : List Link) (H : List HierRow) (has : HasLinks rs graph K H) where
+  -- If the links of the graph break no rule, the rows meet the rule of table hier.
+  pub rule_whole : IsFirstBroken (Holds graph.links) None → HierRule rs K H
   rule_whole whole = record {
     once = has.once;
     legal = record {
@@ -181,9 +172,9 @@ module _ (rs : List Resource) (graph : Net) (K : List Link) (H : List HierRow) (
         | inl plain ↦ has.rule.each l plain
         | inr typed ↦ subst (IsLegalLink rs) (sym typed.2) (has.each typed.0 typed.1)
       ];
-      no_cycle = subst (λ (s : Links). NoCycle (HeldIn s)) has.are whole.0;
-      s27 = subst (λ (s : Links). S27 (HeldIn s)) has.are whole.1;
-      s46 = subst (λ (s : Links). S46 (HeldIn s)) has.are whole.2;
+      no_cycle = subst (λ (s : Links). NoCycle (Holds s)) has.are whole.0;
+      s27 = subst (λ (s : Links). S27 (Holds s)) has.are whole.1;
+      s46 = subst (λ (s : Links). S46 (Holds s)) has.are whole.2;
     };
   }
 
@@ -194,9 +185,9 @@ module _ (rs : List Resource) (graph : Net) (K : List Link) (H : List HierRow) (
   contradicts_broken Held no.S46 first a b c = c.none first.2.0 first.2.1 first.2.2 first.2.3
   contradicts_broken Held _ first a b c = absurd first
 
-  pub rule_broken : (r : Refusal) → IsFirstBroken (HeldIn graph.links) (Some r) → HierRule rs K H → ⊥
+  pub rule_broken : (r : Refusal) → IsFirstBroken (Holds graph.links) (Some r) → HierRule rs K H → ⊥
   rule_broken r first rule =
       let back = sym has.are in
-      contradicts_broken (HeldIn graph.links) r first (subst (λ (s : Links). NoCycle (HeldIn s)) back
-      rule.legal.no_cycle) (subst (λ (s : Links). S27 (HeldIn s)) back rule.legal.s27)
-      (subst (λ (s : Links). S46 (HeldIn s)) back rule.legal.s46)
+      contradicts_broken (Holds graph.links) r first (subst (λ (s : Links). NoCycle (Holds s)) back
+      rule.legal.no_cycle) (subst (λ (s : Links). S27 (Holds s)) back rule.legal.s27)
+      (subst (λ (s : Links). S46 (Holds s)) back rule.legal.s46)

@@ -1,4 +1,4 @@
--- Proves what each stage knows after the report that a table can't be queried.
+-- Each stage is right after the report that a table can't be queried.
 use Rattle.std.proofs.Common.{◌≡◌, sym, ◌∙◌, inl, List, true, false, true≢false}
 use Rattle.std.specs.Prelude.{None, Some}
 use Rattle.thes_base.specs.declared.fault.Fault.TheVariants.{BadStore}
@@ -10,7 +10,7 @@ use Rattle.thes_load_rules.specs.Laws.{HasNoRows}
 use Rattle.thes_load_rules.proofs.VerdictByTableLemmas.{verdict_by_table}
 use Rattle.thes_load_rows.specs.declared.stage.Stage.{Stage}
 use Rattle.thes_load_rows.specs.declared.stage.Stage.TheVariants as stage
-use Rattle.thes_load_rows.specs.Progress.{Grows, Extends, HasRead, stage_table, is_stopped, raw_without_table}
+use Rattle.thes_load_rows.specs.Progress.{Grows, ExtendsTable, HasRead, stage_table, is_stopped, raw_without_table}
 use Rattle.thes_load_rows.proofs.ProgressLemmas.{meta_stays, resource_stays, outside_stays, label_stays, link_stays}
 use Rattle.thes_load_rows.proofs.ProgressLemmas.{hier_stays, posting_stays}
 use Rattle.thes_load_rows.proofs.StageRowLemmas.{meta_fault}
@@ -45,13 +45,11 @@ table_lost (stage.Move linked_vocab placed load) reads raw h more (e0, e1, e2, e
     (unqueried_none _ _ more.move none)
 table_lost (stage.Stopped fault at) reads raw h more extends = absurd (true≢false reads)
 
--- A stopped stage.
-
 none_grows : (rows queried : RawTable) → queried ≡ None → Grows rows queried
 none_grows None queried none = none
 none_grows (Some rows) queried none = inl none
 
-with_table : (at : Table) (raw more : Raw) → Extends at (raw_without_table at raw) more → Extends at raw more
+with_table : (at : Table) (raw more : Raw) → ExtendsTable at (raw_without_table at raw) more → ExtendsTable at raw more
 with_table table.Meta raw more none = none_grows raw.meta more.meta none
 with_table table.Resource raw more (e0, none) = (e0, none_grows raw.resource more.resource none)
 with_table table.Outside raw more (e0, e1, none) = (e0, e1, none_grows raw.outside more.outside none)

@@ -1,4 +1,4 @@
--- Proves that the checks of table move, row by row and as a whole, are its rule.
+-- The checks of table move, row by row and at its end, are its rule.
 use Rattle.std.proofs.Common.{◌≡◌, ◌≢◌, ◌<◌, ℕ, zero, suc, ◌-◌, ◌+◌, length, List, [], ◌∷◌, ◌++◌, map, refl, sym, ap}
 use Rattle.std.proofs.Common.{◌∙◌, subst, arith, inl, inr, false, eqb, eqb-true, length-append, lit<, ◌^◌}
 use Rattle.std.proofs.lemmas.Bool.{cases_Bool, eq-eqb, eqb-false}
@@ -21,10 +21,8 @@ use Rattle.thes_load_rules.specs.Rules.{AreInOrder, MoveRule, history_of}
 use Rattle.thes_load_rules.proofs.RowListLemmas.{in_numbered, numbered_in, numbered_some, numbered_unmap}
 use Rattle.thes_load_rules.proofs.MoveCountLemmas.{hit_is, miss_is, row_of_move, all_of_in}
 use Rattle.thes_load_rows.specs.Forms.{HasMoveForm}
-use Rattle.thes_load_rows.specs.RowsSoFar.{ArePlacesAfterMoves, AreSamePlaces, HasMoves, IsNextMove}
+use Rattle.thes_load_rows.specs.RowsSoFar.{ArePlacesAfterMoves, HasStoredPlaces, HasMoves, IsNextMove}
 use Rattle.thes_load_rows.proofs.NextRowLemmas.{numbered_next, in_next, each_push, order_push, few_push}
-
--- The moves of a posting, in a list with more rows.
 
 moves_append : (n : ℕ) (rows more : List MoveRow) → moves_of n (rows ++ more) ≡ moves_of n rows ++ moves_of n more
 moves_append n rows more = ap (map recorded_move) (filter-append (λ (row : MoveRow). row.posting == n) rows more)
@@ -40,7 +38,7 @@ moves_other : (n : ℕ) (rows : List MoveRow) (r : MoveRow) → eqb r.posting n 
 moves_other n rows r e = moves_append n rows (r ∷ []) ∙ ap (λ l. moves_of n rows ++ l) (miss_is n r [] e)
     ∙ append-nil (moves_of n rows)
 
--- The source of a move is where the moves before it lead.
+-- The source of a move is the concept to which the moves before it lead.
 follows_from : (above source_place : ℕ) (moves : List Move) (m : Move) (more : List Move) → AreConsecutiveMoves above
     source_place (moves ++ m ∷ more) → m.source ≡ place_after_moves source_place moves
 follows_from above source_place [] m more follows = follows.1
@@ -48,7 +46,7 @@ follows_from above source_place (x ∷ moves) m more follows = follows_from x.nu
 
 module _ (rs : List Resource) (ps : List PostingRow) (taken : ℕ) (places : List ℕ) (rows : List MoveRow)
     (has : HasMoves rs ps taken places rows) where
-  -- A row of a list that meets the rule meets it as the next one.
+  -- A row of a list that meets the rule may be the next one after the rows before it.
   pub next_of : (r : MoveRow) (more : List MoveRow) → MoveRule rs ps (rows ++ r ∷ more) → IsNextMove rs places taken r
   next_of r more all =
       let there = in_next rows r more in
@@ -73,7 +71,7 @@ module _ (rs : List Resource) (ps : List PostingRow) (taken : ℕ) (places : Lis
     known = let b = numbered_bound places r.posting r.source next.source_place in let f = has.place_is.fit in
         numbered_some ps r.posting b.0 (let q = b.1 in omega (arith, q, f))
 
-    -- The posting of the row is assigned where its source is.
+    -- The posting of the row is at the source after the moves before it.
     from_here : (n : ℕ) (p : PostingRow) → entry_at ps n ≡ Some p → r.posting ≡ p.number → r.source
         ≡ place_after_moves p.first (moves_of p.number rows)
     from_here n p e same = same_Some _ _ (sym next.source_place ∙ ap (entry_at places) (same ∙ has.order n p e)
@@ -101,7 +99,7 @@ module _ (rs : List Resource) (ps : List PostingRow) (taken : ℕ) (places : Lis
           (has.so_far.well_formed p h)
     ]
 
-    -- The places after the move.
+    -- The places are right after the move.
     places_more : ArePlacesAfterMoves ps (rows ++ r ∷ []) (set_entry_at places r.posting r.target)
     places_more = record { fit = length-set places (r.posting - 1) r.target ∙ has.place_is.fit; place_is = place_is }
       where
@@ -121,7 +119,7 @@ module _ (rs : List Resource) (ps : List PostingRow) (taken : ℕ) (places : Lis
               ∙ ap (λ l. Some (place_after_moves p.first l)) (sym (moves_other p.number rows r miss))
         ]
 
-    -- The move is kept, and meets the rule.
+    -- The move is added, and the rows with it meet the rule.
     pub move_taken : HasMoveForm r → HasMoves rs ps (taken + 1) (set_entry_at places r.posting r.target)
         (rows ++ r ∷ [])
     move_taken form = record {
@@ -139,10 +137,8 @@ module _ (rs : List Resource) (ps : List PostingRow) (taken : ℕ) (places : Lis
       place_is = places_more;
     }
 
-  -- The rule of the table as a whole holds exactly when the places are those of the rows of table posting.
-
   pub rule_of : (stored_places : List ℕ) → stored_places ≡ map (λ (p : PostingRow). p.place) ps
-      → AreSamePlaces places stored_places → MoveRule rs ps rows
+      → HasStoredPlaces places stored_places → MoveRule rs ps rows
   rule_of stored_places are same = record {
     few = has.so_far.few;
     numbers = has.so_far.numbers;
@@ -160,7 +156,7 @@ module _ (rs : List Resource) (ps : List PostingRow) (taken : ℕ) (places : Lis
           same_Some _ _ (sym (has.place_is.place_is (suc n) p e) ∙ same n p.place there)
 
   pub are_of : (stored_places : List ℕ) → stored_places ≡ map (λ (p : PostingRow). p.place) ps → MoveRule rs ps rows
-      → AreSamePlaces places stored_places
+      → HasStoredPlaces places stored_places
   are_of stored_places are rule = λ i y e.
       let r = numbered_unmap (λ (p : PostingRow). p.place) ps (suc i) y
       (ap (λ (l : List ℕ). entry_at l (suc i)) (sym are) ∙ e) in

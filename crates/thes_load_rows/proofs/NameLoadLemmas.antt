@@ -1,4 +1,4 @@
--- Proves that the checks of the tables outside and label, row by row and as a whole, are their rules.
+-- The checks of the tables outside and label, row by row and at their end, are their rules.
 use Rattle.std.proofs.Common.{◌≡◌, ◌<◌, ◌≤◌, ℕ, List, [], ◌∷◌, ◌++◌, refl, sym, ap, ◌∙◌, subst, arith, inl, inr, Bool}
 use Rattle.std.proofs.Common.{true, false, true≢false}
 use Rattle.std.proofs.lemmas.Map.Lookups.{exact_unsigned}
@@ -12,7 +12,7 @@ use Rattle.thes_base.specs.Texts.{IsLabelForm}
 use Rattle.thes_base.specs.Resources.{Iris}
 use Rattle.thes_base.specs.Labels.{Label, Labels}
 use Rattle.thes_base.proofs.LabelSetLemmas.{labels_total, labels_exact, inserted_cases}
-use Rattle.thes_tables.specs.Tables.{IsIn, Ascends}
+use Rattle.thes_tables.specs.Tables.{IsIn, IriNumbersAscend}
 use Rattle.thes_tables.proofs.RowSetLemmas.{append_left, absent_of_never, once_push}
 use Rattle.thes_load_rules.specs.Rules.{EachRow, OutsideRule, LabelRule, iris_of, labels_of}
 use Rattle.thes_load_rules.proofs.RowListLemmas.{iri_row, row_of, in_set}
@@ -22,23 +22,21 @@ use Rattle.thes_vocab.specs.Loading.{AreIrisSoFar, MayLoadIri, LoadIriResult, Ha
 use Rattle.thes_vocab.specs.Loading.{with_iri}
 use Rattle.thes_load_rows.specs.Forms.{HasOutsideForm, HasLabelForm}
 use Rattle.thes_load_rows.specs.RowsSoFar.{TakeResult}
-use Rattle.thes_load_rows.specs.NamesSoFar.{HasOutside, HasLabels, vocabulary_of}
+use Rattle.thes_load_rows.specs.NamesSoFar.{HasOutside, HasLabels, vocabulary_of_rows}
 use Rattle.thes_load_rows.proofs.NextRowLemmas.{in_next, each_push, once_twice}
 
 abbrev IriRow : Type 0
 IriRow = ℕ × List ℕ
 
--- Increasing numbers.
-
-ascends_push : (above : ℕ) (rows : List IriRow) (x : IriRow) → Ascends above rows → above < x.0
-    → EachRow (λ r. r.0 < x.0) rows → Ascends above (rows ++ x ∷ [])
+ascends_push : (above : ℕ) (rows : List IriRow) (x : IriRow) → IriNumbersAscend above rows → above < x.0
+    → EachRow (λ r. r.0 < x.0) rows → IriNumbersAscend above (rows ++ x ∷ [])
 ascends_push above [] x up lt below = (lt, tt)
 ascends_push above (r ∷ rows) x up lt below =
     (up.0, ascends_push r.0 rows x up.1 (below r (inl refl)) (λ y h. below y (inr h)))
 
--- The number of a row exceeds those before it.
-after_rows : (above : ℕ) (rows : List IriRow) (x : IriRow) (more : List IriRow) → Ascends above (rows ++ x ∷ more)
-    → (above < x.0) × EachRow (λ r. r.0 < x.0) rows
+-- In a list that rises by number, the number of a row exceeds all numbers before it.
+after_rows : (above : ℕ) (rows : List IriRow) (x : IriRow) (more : List IriRow)
+    → IriNumbersAscend above (rows ++ x ∷ more) → (above < x.0) × EachRow (λ r. r.0 < x.0) rows
 after_rows above [] x more up = (up.0, λ r h. absurd h)
 after_rows above (r ∷ rows) x more up =
     let rest = after_rows r.0 rows x more up.1 in (
@@ -49,7 +47,7 @@ after_rows above (r ∷ rows) x more up =
 module _ (base : List ℕ) (rs : List Resource) (old new : Vocabulary) (last : ℕ) (rows : List IriRow) (x : IriRow)
     (has : HasOutside base rs old last rows) where
   abbrev v : Vocabulary
-  v = vocabulary_of base rs rows []
+  v = vocabulary_of_rows base rs rows []
 
   -- A row whose number doesn't exceed the last one breaks the rule.
   pub not_above : x.0 ≤ last → (more : List IriRow) → OutsideRule base rs (rows ++ x ∷ more) → ⊥
@@ -60,7 +58,7 @@ module _ (base : List ℕ) (rs : List Resource) (old new : Vocabulary) (last : �
         | inr row ↦ (let b = after.1 row.0 row.1 in let e = row.2 in omega (arith, b, e, le))
       ]
 
-  -- The IRI of a row of a list that meets the rule fits the vocabulary.
+  -- The IRI of a row of a list that meets the rule may be loaded.
   fits_all : (more : List IriRow) → OutsideRule base rs (rows ++ x ∷ more) → MayLoadIri v x.0 x.1
   fits_all more rule =
       let after = after_rows 0 rows x more rule.ascends in
@@ -83,7 +81,7 @@ module _ (base : List ℕ) (rs : List Resource) (old new : Vocabulary) (last : �
       none None e below = e
       none (Some iri) e below = let lt = below (x.0, iri) (iri_row rows x.0 iri e) in absurd (omega (arith, lt))
 
-  -- The row is kept, or no rows that begin so meet the rule.
+  -- The IRI of the row is added, or no rows that begin with these and it meet the rule.
   pub outside_step : (good : Bool) → last < x.0 → HasOutsideForm x → LoadIriResult old new x.0 x.1 good
       → TakeResult (HasOutside base rs new x.0) (OutsideRule base rs) rows x good
   outside_step true up form (fits, is) =
@@ -105,7 +103,7 @@ module _ (base : List ℕ) (rs : List Resource) (old new : Vocabulary) (last : �
   outside_step false up form (none, is) =
       λ more rule. none (subst (λ (w : Vocabulary). MayLoadIri w x.0 x.1) (sym has.are) (fits_all more rule))
 
--- The rule of table outside as a whole.
+-- The check at the end of table outside is its rule.
 pub outside_whole : (base : List ℕ) (rs : List Resource) (v : Vocabulary) (last : ℕ) (rows : List IriRow)
     → HasOutside base rs v last rows → AreIrisSoFar v.base v.resources v.iris → HaveIris v → OutsideRule base rs rows
 outside_whole base rs v last rows has so_far all =
@@ -126,14 +124,12 @@ pub outside_has_all : (base : List ℕ) (rs : List Resource) (v : Vocabulary) (l
     → HasOutside base rs v last rows → OutsideRule base rs rows → HaveIris v
 outside_has_all base rs v last rows has rule = subst HaveIris (sym has.are) rule.legal.each
 
--- Table label.
-
 module _ (base : List ℕ) (rs : List Resource) (outside : List IriRow) (old new : Vocabulary) (rows : List Label)
     (l : Label) (has : HasLabels base rs outside old rows) where
   abbrev labels : Labels
   labels = labels_of rows
 
-  -- The labels of the rows so far are among those of more rows.
+  -- The labels of the rows read so far are among those of all rows.
   fewer : (more : List Label) (q : Label) → set.contains (set.insert labels l) q ≡ true
       → set.contains (labels_of (rows ++ l ∷ more)) q ≡ true
   fewer more q h = in_set labels_total labels_exact (rows ++ l ∷ more) q (elim (inserted_cases labels l q h) [
@@ -142,7 +138,7 @@ module _ (base : List ℕ) (rs : List Resource) (outside : List IriRow) (old new
   ])
 
   fits_label : (more : List Label) → LabelRule rs (rows ++ l ∷ more)
-      → MayLoadLabel (vocabulary_of base rs outside rows) l
+      → MayLoadLabel (vocabulary_of_rows base rs outside rows) l
   fits_label more rule = record {
     owner = rule.legal.owners l (in_set labels_total labels_exact (rows ++ l ∷ more) l (in_next rows l more));
     new = absent_of_never labels_total labels_exact labels l
@@ -155,7 +151,7 @@ module _ (base : List ℕ) (rs : List Resource) (outside : List IriRow) (old new
         (fewer more _ hm) (fewer more _ hn);
   }
 
-  -- The row is kept, or no rows that begin so meet the rule.
+  -- The label of the row is added, or no rows that begin with these and it meet the rule.
   pub label_step : (good : Bool) → HasLabelForm l → LoadLabelResult old new l good
       → TakeResult (HasLabels base rs outside new) (LabelRule rs) rows l good
   label_step true form (fits, is) =
@@ -165,7 +161,7 @@ module _ (base : List ℕ) (rs : List Resource) (outside : List IriRow) (old new
             has.once;
         forms = each_push (λ (x : Label). IsLabelForm x.kind x.tag x.text) rows l has.forms form.1;
         are = is ∙ ap (λ (w : Vocabulary). with_labels w (set.insert w.labels l)) has.are
-            ∙ ap (λ (ls : Labels). with_labels (vocabulary_of base rs outside rows) ls)
+            ∙ ap (λ (ls : Labels). with_labels (vocabulary_of_rows base rs outside rows) ls)
             (sym (set.from_list_push labels_total labels_exact rows l));
       }
   label_step false form (none, is) =

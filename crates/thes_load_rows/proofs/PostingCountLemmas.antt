@@ -1,4 +1,4 @@
--- Proves that the counts of rows of table posting are those of the histories.
+-- The counts of the rows of table posting are those of the histories.
 use Rattle.std.proofs.Common.{◌≡◌, ℕ, ◌+◌, length, List, [], ◌∷◌, ◌++◌, map, refl, sym, ap, ◌∙◌, inl, inr, arith}
 use Rattle.std.proofs.Common.{Bool, cond, not, ◌&&◌, eqb, length-append}
 use Rattle.std.specs.Prelude.{count_by}
@@ -13,14 +13,14 @@ use Rattle.thes_tables.specs.Tables.{is_assigned_row}
 use Rattle.thes_post.specs.PostingCounts.{PostingCounts, ArePostingCounts, CountsAfterTally}
 use Rattle.thes_load_rules.specs.Rules.{EachRow, PostingRule, MoveRule, history_of}
 use Rattle.thes_load_rules.proofs.LoadedStateLemmas.{row_count_of_moves}
-use Rattle.thes_load_rows.specs.PostingCounts.{AreSumsOf}
+use Rattle.thes_load_rows.specs.PostingCounts.{AreCountsOfRows}
 
 abbrev number_of : Bool → ℕ
 number_of b = cond b 1 0
 
--- The counts after one more row.
-pub sums_push : (rows : List PostingRow) (p : PostingRow) (old new : PostingCounts) → AreSumsOf rows old
-    → CountsAfterTally p.place p.withdrawn old new → AreSumsOf (rows ++ p ∷ []) new
+-- The counts are right after a further row.
+pub sums_push : (rows : List PostingRow) (p : PostingRow) (old new : PostingCounts) → AreCountsOfRows rows old
+    → CountsAfterTally p.place p.withdrawn old new → AreCountsOfRows (rows ++ p ∷ []) new
 sums_push rows p old new are told = record {
   standing = λ n. told.standing n ∙ ap (λ k. k + number_of (is_assigned_row n p)) (are.standing n)
       ∙ sym (sum_by_push (λ (x : PostingRow). number_of (is_assigned_row n x)) rows p);
@@ -30,8 +30,6 @@ sums_push rows p old new are told = record {
       ∙ sym (sum_by_push (λ (x : PostingRow). number_of x.withdrawn) rows p);
   moves = told.moves ∙ are.moves;
 }
-
--- Counting histories is counting their rows.
 
 same_count : (P : History → Bool) (Q : PostingRow → Bool) (history : PostingRow → History) (rows : List PostingRow)
     → EachRow (λ row. P (history row) ≡ Q row) rows → count_by P (map history rows) ≡ count_by Q rows
@@ -48,9 +46,9 @@ module _ (rs : List Resource) (postings : List PostingRow) (moves : List MoveRow
   abbrev hs : List History
   hs = map (history_of moves) postings
 
-  pub sums_of_histories : (sums : PostingCounts) (taken : ℕ) → AreSumsOf postings sums → length moves ≡ taken
-      → ArePostingCounts hs (record sums { moves = taken })
-  sums_of_histories sums taken are count = record {
+  pub sums_of_histories : (posting_counts : PostingCounts) (taken : ℕ) → AreCountsOfRows postings posting_counts
+      → length moves ≡ taken → ArePostingCounts hs (record posting_counts { moves = taken })
+  sums_of_histories posting_counts taken are count = record {
     standing = λ n. are.standing n ∙ sym (same_count (is_assigned_to n) (is_assigned_row n) (history_of moves)
         postings (λ row h. ap (λ k. not row.withdrawn && eqb k n) (all.places row h)));
     accepted = are.accepted ∙ sym (length-map postings (history_of moves));

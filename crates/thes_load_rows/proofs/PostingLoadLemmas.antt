@@ -1,4 +1,4 @@
--- Proves that the checks of table posting, row by row, are its rule.
+-- The checks of table posting, row by row, are its rule.
 use Rattle.std.proofs.Common.{subst, ◌≡◌, ◌⊎◌, ◌<◌, ◌^◌, lit<, ℕ, ◌+◌, length, List, [], ◌∷◌, ◌++◌, map, refl, sym}
 use Rattle.std.proofs.Common.{ap, ◌∙◌, arith, inl, inr, true, false, cond, ◌||◌}
 use Rattle.std.specs.Prelude.{Some}
@@ -20,7 +20,7 @@ use Rattle.thes_load_rules.proofs.RowListLemmas.{in_numbered, numbered_in}
 use Rattle.thes_graph.proofs.SetLemmas.{cond-or}
 use Rattle.thes_load_rows.specs.Forms.{HasPostingForm}
 use Rattle.thes_post.specs.PostingCounts.{PostingCounts, CountsAfterTally}
-use Rattle.thes_load_rows.specs.PostingCounts.{AreSumsOf}
+use Rattle.thes_load_rows.specs.PostingCounts.{AreCountsOfRows}
 use Rattle.thes_load_rows.specs.RowsSoFar.{has_key, HasPostings, IsNextPosting}
 use Rattle.thes_load_rows.proofs.PostingCountLemmas.{sums_push}
 use Rattle.thes_load_rows.proofs.NextRowLemmas.{numbered_next, in_next, numbered_still, each_push, order_push, few_push}
@@ -37,8 +37,8 @@ any_append q key [] = refl
 any_append q key (k ∷ keys) = ap (λ b. eq_by_cmp (slice_cmp nat_cmp) q k || b) (any_append q key keys)
     ∙ or_swap (eq_by_cmp (slice_cmp nat_cmp) q k) (eq_by_cmp (slice_cmp nat_cmp) q key) (has_key keys q)
 
-module _ (rs : List Resource) (keys : List (List ℕ)) (firsts stored_places : List ℕ) (sums : PostingCounts)
-    (rows : List PostingRow) (p : PostingRow) (has : HasPostings rs keys firsts stored_places sums rows) where
+module _ (rs : List Resource) (keys : List (List ℕ)) (firsts stored_places : List ℕ) (posting_counts : PostingCounts)
+    (rows : List PostingRow) (p : PostingRow) (has : HasPostings rs keys firsts stored_places posting_counts rows) where
   count : length firsts ≡ length rows
   count = ap length has.firsts_are ∙ length-map rows (λ (x : PostingRow). x.first)
 
@@ -63,7 +63,7 @@ module _ (rs : List Resource) (keys : List (List ℕ)) (firsts stored_places : L
       let b = (numbered_bound rows at.0 row.0 at.1).1 in
       omega (arith, same, b)
 
-  -- The key of a row is among the keys.
+  -- The key of a row is among the keys that the load has.
   row_held : (n : ℕ) (row : PostingRow) → entry_at rows n ≡ Some row → row.key ≡ p.key → has_key keys p.key ≡ true
   row_held n row e same = has.keys_are p.key ∙ ap (has_key (map key_of rows)) (sym same) ∙ any_in nat_list_cmp_total
       keys_exact row.key (map key_of rows) (map_in key_of row rows (numbered_in rows n row e))
@@ -79,10 +79,10 @@ module _ (rs : List Resource) (keys : List (List ℕ)) (firsts stored_places : L
       both (inr (at, is)) (inl b) = clash (has_key keys p.key) (row_held n y b (sym same ∙ ap key_of is)) free
       both (inr (at, is)) (inr (bt, js)) = at ∙ sym bt
 
-  -- What is known after a row that meets the rule is kept.
+  -- The load is right after a row that meets the rule is added.
   pub next_taken : (new : List (List ℕ)) → IsNextPosting rs (length firsts) p → HasPostingForm p → has_key keys p.key
       ≡ false → ((q : List ℕ) → has_key new q ≡ cond (eq_by_cmp (slice_cmp nat_cmp) p.key q) true (has_key keys q))
-      → (told : PostingCounts) → CountsAfterTally p.place p.withdrawn sums told
+      → (told : PostingCounts) → CountsAfterTally p.place p.withdrawn posting_counts told
       → HasPostings rs new (firsts ++ p.first ∷ []) (stored_places ++ p.place ∷ []) told (rows ++ p ∷ [])
   next_taken new next form free updates told is =
       let last : p.number ≡ length rows + 1 = next.number ∙ ap (λ k. k + 1) count in
@@ -106,19 +106,19 @@ module _ (rs : List Resource) (keys : List (List ℕ)) (firsts stored_places : L
             ∙ sym (map-append (λ (x : PostingRow). x.first) rows (p ∷ []));
         stored_places_are = ap (λ (l : List ℕ). l ++ p.place ∷ []) has.stored_places_are
             ∙ sym (map-append (λ (x : PostingRow). x.place) rows (p ∷ []));
-        sums_are = sums_push rows p sums told has.sums_are is;
+        posting_counts_are = sums_push rows p posting_counts told has.posting_counts_are is;
       }
 
--- What is known without rows.
-pub postings_none : (rs : List Resource) (keys : List (List ℕ)) (firsts stored_places : List ℕ) (sums : PostingCounts)
-    → keys ≡ [] → firsts ≡ [] → stored_places ≡ [] → sums ≡ record {
+-- The load is right without rows.
+pub postings_none : (rs : List Resource) (keys : List (List ℕ)) (firsts stored_places : List ℕ)
+    (posting_counts : PostingCounts) → keys ≡ [] → firsts ≡ [] → stored_places ≡ [] → posting_counts ≡ record {
       counts = [];
       accepted = 0;
       withdrawn = 0;
       moves =
           0;
-    } → HasPostings rs keys firsts stored_places sums []
-postings_none rs keys firsts stored_places sums no_keys no_firsts no_ats no_sums = record {
+    } → HasPostings rs keys firsts stored_places posting_counts []
+postings_none rs keys firsts stored_places posting_counts no_keys no_firsts no_ats no_sums = record {
   rule = record {
     few = (let z : 0 < 2 ^ 32 = lit< tt in z);
     numbers = λ n row e. let b = numbered_bound [] n row e in absurd (omega (arith, b));
@@ -130,8 +130,8 @@ postings_none rs keys firsts stored_places sums no_keys no_firsts no_ats no_sums
   keys_are = λ q. ap (λ (ks : List (List ℕ)). has_key ks q) no_keys;
   firsts_are = no_firsts;
   stored_places_are = no_ats;
-  sums_are =
-      subst (AreSumsOf []) (sym no_sums) (record {
+  posting_counts_are =
+      subst (AreCountsOfRows []) (sym no_sums) (record {
         standing = λ n. refl;
         accepted = refl;
         withdrawn = refl;

@@ -1,4 +1,4 @@
--- Proves that rules met stay met as rows come, and what a kept or a faulty row means at each stage.
+-- Rules that are met stay met as rows come, and each stage is right after a row that is added or faulty.
 use Rattle.std.proofs.Common.{◌≡◌, List, [], ◌∷◌, ◌++◌, map, sym, ap, ◌∙◌, subst, inl, inr, true}
 use Rattle.std.specs.Prelude.{Some, option_map}
 use Rattle.std.proofs.lemmas.Option.{same_Some}
@@ -25,15 +25,13 @@ use Rattle.thes_load_rows.specs.NamesSoFar.{HasOutside, HasLabels}
 use Rattle.thes_load_rows.specs.LinksSoFar.{HasLinks}
 use Rattle.thes_load_rows.specs.RowsSoFar.{HasPostings}
 
--- Rows that begin with a faulty row are faulty, whatever comes after it.
+-- Rows that begin with faulty rows are faulty, whatever follows.
 pub faulty_none : {A : Type 0} (cells_of : List A → List (List Cell)) (Rule : List A → Type 0)
     (begun : List (List Cell)) → IsFaulty cells_of Rule begun → (queried : RawTable) → Grows (Some begun) queried
     → HasNoRows cells_of Rule queried
 faulty_none cells_of Rule begun faulty queried (inl none) rows (is, rule) = let e = sym none ∙ is in absurd (cc)
 faulty_none cells_of Rule begun faulty queried (inr (more, e)) rows (is, rule) =
     faulty more rows (same_Some _ _ (sym is ∙ e)) rule
-
--- Tables that meet their rules still do so in rows that agree on them.
 
 pub meta_stays : (raw more : Raw) (t : Tables) → more.meta ≡ raw.meta → MetaPasses raw t → MetaPasses more t
 meta_stays raw more t e passes = subst (λ (q : RawTable). IsMeta q t.base) (sym e) passes
@@ -85,7 +83,7 @@ posting_stays raw more t e0 e1 e2 e3 e4 e5 e6 (a, b) = (
   subst (λ (q : RawTable). IsTable (map posting_cells) (PostingRule t.resource) q t.posting) (sym e6) b,
 )
 
--- A faulty row of table resource.
+-- A faulty row of table resource is the verdict on all rows.
 pub resource_fault : (raw : Raw) (t : Tables) (cells : List Cell) → MetaPasses raw t → raw.resource
     ≡ Some (resource_rows 1 t.resource) → IsFaulty (resource_rows 1) ResourceRule (resource_rows 1 t.resource ++ cells
     ∷ []) → HasRead (stage.Stopped (BadStore table.Resource) table.Resource) (raw_with_row table.Resource cells raw)
@@ -95,7 +93,7 @@ resource_fault raw t cells passes read faulty more (e0, grown) =
     (subst (λ (q : RawTable). Grows q more.resource)
     (ap (option_map (λ (rows : List (List Cell)). rows ++ cells ∷ [])) read) grown))
 
--- A faulty row of table outside.
+-- A faulty row of table outside is the verdict on all rows.
 pub outside_fault : (raw : Raw) (t : Tables) (cells : List Cell) → ResourcePasses raw t → raw.outside
     ≡ Some (map outside_cells t.outside) → IsFaulty (map outside_cells) (OutsideRule t.base t.resource)
     (map outside_cells t.outside ++ cells ∷ []) → HasRead (stage.Stopped (BadStore table.Outside) table.Outside)
@@ -107,7 +105,7 @@ outside_fault raw t cells passes read faulty more (e0, e1, grown) =
     (subst (λ (q : RawTable). Grows q more.outside)
     (ap (option_map (λ (rows : List (List Cell)). rows ++ cells ∷ [])) read) grown))
 
--- A faulty row of table label.
+-- A faulty row of table label is the verdict on all rows.
 pub label_fault : (raw : Raw) (t : Tables) (cells : List Cell) → OutsidePasses raw t → raw.label
     ≡ Some (map label_cells t.label) → IsFaulty (map label_cells) (LabelRule t.resource) (map label_cells t.label
     ++ cells ∷ []) → HasRead (stage.Stopped (BadStore table.Label) table.Label) (raw_with_row table.Label cells raw)
@@ -117,7 +115,7 @@ label_fault raw t cells passes read faulty more (e0, e1, e2, grown) =
     (subst (λ (q : RawTable). Grows q more.label)
     (ap (option_map (λ (rows : List (List Cell)). rows ++ cells ∷ [])) read) grown))
 
--- A faulty row of table link.
+-- A faulty row of table link is the verdict on all rows.
 pub link_fault : (raw : Raw) (t : Tables) (cells : List Cell) → LabelPasses raw t → raw.link
     ≡ Some (map link_cells t.link) → IsFaulty (map link_cells) (LinkRule t.resource) (map link_cells t.link ++ cells
     ∷ []) → HasRead (stage.Stopped (BadStore table.Link) table.Link) (raw_with_row table.Link cells raw)
@@ -127,7 +125,7 @@ link_fault raw t cells passes read faulty more (e0, e1, e2, e3, grown) =
     (subst (λ (q : RawTable). Grows q more.link)
     (ap (option_map (λ (rows : List (List Cell)). rows ++ cells ∷ [])) read) grown))
 
--- A faulty row of table hier.
+-- A faulty row of table hier is the verdict on all rows.
 pub hier_fault : (raw : Raw) (t : Tables) (cells : List Cell) → LinkPasses raw t → raw.hier
     ≡ Some (map hier_cells t.hier) → IsFaulty (map hier_cells) (HierRule t.resource t.link)
     (map hier_cells t.hier ++ cells ∷ []) → HasRead (stage.Stopped (BadStore table.Hier) table.Hier)
@@ -138,7 +136,7 @@ hier_fault raw t cells passes read faulty more (e0, e1, e2, e3, e4, grown) =
     (subst (λ (q : RawTable). Grows q more.hier)
     (ap (option_map (λ (rows : List (List Cell)). rows ++ cells ∷ [])) read) grown))
 
--- A faulty row of table posting.
+-- A faulty row of table posting is the verdict on all rows.
 pub posting_fault : (raw : Raw) (t : Tables) (cells : List Cell) → HierPasses raw t → raw.posting
     ≡ Some (map posting_cells t.posting) → IsFaulty (map posting_cells) (PostingRule t.resource)
     (map posting_cells t.posting ++ cells ∷ []) → HasRead (stage.Stopped (BadStore table.Posting) table.Posting)
@@ -150,7 +148,7 @@ posting_fault raw t cells passes read faulty more (e0, e1, e2, e3, e4, e5, grown
     (subst (λ (q : RawTable). Grows q more.posting)
     (ap (option_map (λ (rows : List (List Cell)). rows ++ cells ∷ [])) read) grown))
 
--- A faulty row of table move.
+-- A faulty row of table move is the verdict on all rows.
 pub move_fault : (raw : Raw) (t : Tables) (cells : List Cell) → PostingPasses raw t → raw.move
     ≡ Some (map move_cells t.move) → IsFaulty (map move_cells) (MoveRule t.resource t.posting)
     (map move_cells t.move ++ cells ∷ []) → HasRead (stage.Stopped (BadStore table.Move) table.Move)
@@ -162,7 +160,7 @@ move_fault raw t cells passes read faulty more (e0, e1, e2, e3, e4, e5, e6, grow
     (subst (λ (q : RawTable). Grows q more.move)
     (ap (option_map (λ (rows : List (List Cell)). rows ++ cells ∷ [])) read) grown))
 
--- A row of table outside that is kept.
+-- The stage is right after a row of table outside is added.
 pub outside_taken : (raw : Raw) (t : Tables) (cells : List Cell) (new : OutsideLoad) → ResourcePasses raw t
     → raw.outside ≡ Some (map outside_cells t.outside) → ReadResult (map outside_cells)
     (HasOutside t.base t.resource new.vocab new.last) (OutsideRule t.base t.resource) t.outside cells true
@@ -176,7 +174,7 @@ outside_taken raw t cells new passes read (x, e, has) after = (
   after,
 )
 
--- A row of table label that is kept.
+-- The stage is right after a row of table label is added.
 pub label_taken : (raw : Raw) (t : Tables) (cells : List Cell) (new : Vocabulary) → OutsidePasses raw t → raw.label
     ≡ Some (map label_cells t.label) → ReadResult (map label_cells) (HasLabels t.base t.resource t.outside new)
     (LabelRule t.resource) t.label cells true → NoneAfterLabel raw → HasRead (stage.Label new)
@@ -190,7 +188,7 @@ label_taken raw t cells new passes read (x, e, has) after = (
   after,
 )
 
--- A row of table link that is kept.
+-- The stage is right after a row of table link is added.
 pub link_taken : (raw : Raw) (t : Tables) (cells : List Cell) (new : LinkedVocab) → LabelPasses raw t
     → HasNames new.vocab t → raw.link ≡ Some (map link_cells t.link) → ReadResult (map link_cells)
     (λ rows. HasLinks t.resource new.links.graph rows []) (LinkRule t.resource) t.link cells true → NoneAfterLink raw
@@ -205,7 +203,7 @@ link_taken raw t cells new passes names read (x, e, has) after = (
   after,
 )
 
--- A row of table hier that is kept.
+-- The stage is right after a row of table hier is added.
 pub hier_taken : (raw : Raw) (t : Tables) (cells : List Cell) (new : LinkedVocab) → LinkPasses raw t
     → HasNames new.vocab t → raw.hier ≡ Some (map hier_cells t.hier) → ReadResult (map hier_cells)
     (HasLinks t.resource new.links.graph t.link) (HierRule t.resource t.link) t.hier cells true → NoneAfterHier raw
@@ -220,7 +218,7 @@ hier_taken raw t cells new passes names read (x, e, has) after = (
   after,
 )
 
--- A row of table posting that is kept.
+-- The stage is right after a row of table posting is added.
 pub posting_taken : (raw : Raw) (t : Tables) (cells : List Cell) (linked_vocab : LinkedVocab) (new : PostingLoad)
     → HierPasses raw t → HasNames linked_vocab.vocab t → HasLinks t.resource linked_vocab.links.graph t.link t.hier
     → raw.posting ≡ Some (map posting_cells t.posting) → ReadResult (map posting_cells)

@@ -1,4 +1,4 @@
--- Proves what a parsed row means for all typed rows with the same first cells.
+-- The result of parsing a row, for all typed rows whose cells begin with the same ones.
 use Rattle.std.proofs.Common.{◌≡◌, ◌≢◌, ℕ, ◌+◌, length, List, [], ◌∷◌, ◌++◌, map, refl, sym, ap, ◌∙◌, subst, arith}
 use Rattle.std.proofs.Common.{Bool, true, false}
 use Rattle.std.proofs.lemmas.List.{map-append}
@@ -12,14 +12,14 @@ use Rattle.thes_load_rules.specs.Rules.{ResourceRule}
 use Rattle.thes_load_rows.specs.declared.rows.ResourceRow.{ResourceRow}
 use Rattle.thes_load_rows.specs.Forms.{HasResourceForm}
 use Rattle.thes_load_rows.specs.CellSpelling.{row_cells}
-use Rattle.thes_load_rows.specs.ResourceChecks.{IsNextResource}
+use Rattle.thes_load_rows.specs.ResourceChecks.{AppendResourceResult}
 use Rattle.thes_load_rows.proofs.NextRowLemmas.{numbered_next}
 use Rattle.thes_load_rows.proofs.RowFormLemmas.{resource_form}
 use Rattle.thes_load_rows.specs.RowsSoFar.{TakeResult}
 use Rattle.thes_load_rows.specs.ReadResults.{ReadResult}
 
 module _ {A : Type 0} (f : A → List Cell) where
-  -- Typed rows whose cells continue those of others with these cells begin with a row of these cells.
+  -- Typed rows whose cells continue with a further row's cells have a row with these cells.
   pub goes_on : ((x y : A) → f x ≡ f y → x ≡ y) → (rows : List A) (cells : List Cell) (more : List (List Cell))
       (others : List A) → map f others ≡ (map f rows ++ cells ∷ []) ++ more
       → (y : A) × (rest : List A) × (others ≡ rows ++ y ∷ rest) × (cells ≡ f y)
@@ -31,7 +31,7 @@ module _ {A : Type 0} (f : A → List Cell) where
       (r.0, r.1, (λ i. one y x (head_one e) i ∷ r.2 i), r.3)
 
   module _ (one : (x y : A) → f x ≡ f y → x ≡ y) (Has Rule : List A → Type 0) (rows : List A) (cells : List Cell) where
-    -- Cells of a typed row.
+    -- If the cells are those of a typed row, the result of reading them is that of taking the row.
     pub reads_row : (x : A) → cells ≡ f x → (good : Bool) → TakeResult Has Rule rows x good → ReadResult (map f) Has
         Rule rows cells good
     reads_row x spelled true has =
@@ -41,14 +41,12 @@ module _ {A : Type 0} (f : A → List Cell) where
         let same = one r.0 x (sym r.3 ∙ spelled) in
         none r.1 (subst Rule (r.2 ∙ ap (λ (y : A). rows ++ y ∷ r.1) same) rule)
 
-    -- Cells of no typed row.
+    -- If the cells are those of no typed row of the form, no typed rows that begin so meet the rule.
     pub reads_none : (Form : A → Type 0) → ((x : A) → Form x → cells ≢ f x)
         → ((y : A) (rest : List A) → Rule (rows ++ y ∷ rest) → Form y) → ReadResult (map f) Has Rule rows cells false
     reads_none Form none form = λ more others e rule.
         let r = goes_on one rows cells more others e in
         none r.0 (form r.0 r.1 (subst Rule r.2 rule)) r.3
-
--- Rows of table resource, which are numbered.
 
 pub resources_push : (n : ℕ) (rs : List Resource) (r : Resource) → resource_rows n (rs ++ r ∷ []) ≡ resource_rows n rs
     ++ resource_cells (n + length rs) r ∷ []
@@ -77,7 +75,8 @@ resources_on n (x ∷ rs) cells more (y ∷ others) e =
 
 module _ (rs : List Resource) (cells : List Cell) where
   pub resource_read : (row : ResourceRow) → cells ≡ row_cells row → (new : List Resource) (good : Bool)
-      → IsNextResource rs new row good → ReadResult (resource_rows 1) (λ rows. rows ≡ new) ResourceRule rs cells good
+      → AppendResourceResult rs new row good → ReadResult (resource_rows 1) (λ rows. rows ≡ new) ResourceRule rs cells
+      good
   resource_read row spelled new true (number, is) = (
     row.resource,
     resources_push 1 rs row.resource ∙ ap (λ (c : List Cell). resource_rows 1 rs ++ c ∷ [])

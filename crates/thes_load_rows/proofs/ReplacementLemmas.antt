@@ -1,4 +1,4 @@
--- Proves that the checks of table resource are its rule: replacements are checked as links of a graph.
+-- The checks of table resource are its rule; replacements are checked as links of a graph.
 use Rattle.std.proofs.Common.{◌≡◌, ◌≢◌, ◌⊎◌, ◌<◌, ◌≤◌, ◌^◌, ℕ, zero, suc, ◌+◌, length, List, refl, sym, ap, ◌∙◌}
 use Rattle.std.proofs.Common.{subst, arith, inl, inr, true, false}
 use Rattle.std.proofs.lemmas.Option.{same_Some}
@@ -15,7 +15,7 @@ use Rattle.thes_base.specs.declared.fault.Refusal.{Refusal}
 use Rattle.thes_base.specs.declared.fault.Refusal.TheVariants as no
 use Rattle.thes_base.specs.Resources.{entry_at, IsScheme, IsReplacedBy, replacement_of, is_scheme_kind}
 use Rattle.thes_base.specs.Resources.{is_concept_kind, is_collection_kind, is_outside_kind}
-use Rattle.thes_base.specs.Links.{Links, HeldIn, link_cmp, IsBroader, IsAbove, LinkLeads, broader_direction, NoCycle}
+use Rattle.thes_base.specs.Links.{Links, Holds, link_cmp, IsNarrower, IsBelow, LinkLeads, broader_direction, NoCycle}
 use Rattle.thes_base.specs.Links.{IsFirstBroken}
 use Rattle.thes_base.specs.Legal.{IsLegalResource}
 use Rattle.thes_base.proofs.NumberedLemmas.{numbered_bound}
@@ -24,10 +24,11 @@ use Rattle.thes_base.proofs.SetMemberLemmas.{inserted_new, inserted_kept}
 use Rattle.thes_base.proofs.LegalResourceLemmas.{path_map}
 use Rattle.thes_base.proofs.ForwardingLemmas.{next_is, is_next}
 use Rattle.thes_load_rules.specs.Rules.{ResourceRule}
-use Rattle.thes_load_rows.specs.ResourceChecks.{SchemeFits, ReplacementFits, ResourceFits, EachResourceFits, AreApart}
+use Rattle.thes_load_rows.specs.ResourceChecks.{SchemeFits, ReplacementFits, ResourceFits, EachResourceFits}
+use Rattle.thes_load_rows.specs.ResourceChecks.{NoneReplacesItself}
 use Rattle.thes_load_rows.specs.ResourceChecks.{HasReturn, HasReplacements, is_cycle}
 
--- The check of a resource is that it is legal.
+-- The check of each resource accepts exactly legal resources.
 module _ (rs : List Resource) where
   scheme_some : (kind : ResourceKind) (o : Option ℕ) → SchemeFits rs kind o → (is_concept_kind kind ≡ true)
       ⊎ (is_collection_kind kind ≡ true) → (m : ℕ) × (o ≡ Some m) × IsScheme rs m
@@ -53,7 +54,7 @@ module _ (rs : List Resource) where
   legal_of n r fits = record {
     scheme = λ k. scheme_some r.kind r.scheme fits.0 k;
     no_scheme = λ k. scheme_none r.kind r.scheme fits.0 k;
-    dead = fits.1;
+    dead_is_concept = fits.1;
     replaced = λ m e. subst (ReplacementFits rs n r) e fits.2;
   }
 
@@ -73,7 +74,7 @@ module _ (rs : List Resource) where
   fits_of : (n : ℕ) (r : Resource) → IsLegalResource rs n r → ResourceFits rs n r
   fits_of n r legal = (
     fits_scheme r.kind r.scheme legal.scheme legal.no_scheme,
-    legal.dead,
+    legal.dead_is_concept,
     fits_replacement n r r.replaced legal.replaced,
   )
 
@@ -83,11 +84,9 @@ module _ (rs : List Resource) where
   pub fits_legal : ((n : ℕ) (r : Resource) → entry_at rs n ≡ Some r → IsLegalResource rs n r) → EachResourceFits rs
   fits_legal each n r e = fits_of n r (each n r e)
 
-  pub apart_of : EachResourceFits rs → AreApart rs
+  pub apart_of : EachResourceFits rs → NoneReplacesItself rs
   apart_of each n m e same = let is = next_is rs n m e in
       (subst (ReplacementFits rs n is.0) is.2 (each n is.0 is.1).2).1 (sym same)
-
-  -- Replacements as links of a graph.
 
   pub replacements_none : HasReplacements rs 0 empty
   replacements_none = record {
@@ -99,7 +98,7 @@ module _ (rs : List Resource) where
       none zero n le is = let e = is.1 in cc
       none (suc m) n le is = omega arith
 
-  -- The links after a resource without a replacement.
+  -- The links are right after a resource without a replacement.
   pub replacements_skip : (i : ℕ) (links : Links) → replacement_of rs (i + 1) ≡ None → HasReplacements rs i links
       → HasReplacements rs (i + 1) links
   replacements_skip i links none has = record {
@@ -108,13 +107,13 @@ module _ (rs : List Resource) where
   }
     where
       either : (m n : ℕ) → m ≤ i + 1 → IsReplacedBy rs m n → (m ≡ i + 1) ⊎ (m ≢ i + 1)
-          → HeldIn links (record { kind = Broader; a = m; b = n })
+          → Holds links (record { kind = Broader; a = m; b = n })
       either m n le is (inl same) =
           let f : None ≡ Some n = sym none ∙ ap (replacement_of rs) (sym same) ∙ is_next rs m n is in
           absurd (cc)
       either m n le is (inr differ) = has.complete m n (omega (arith, le, differ)) is
 
-  -- The links after a resource with a replacement.
+  -- The links are right after a resource with a replacement.
   pub replacements_more : (i by : ℕ) (links : Links) → replacement_of rs (i + 1) ≡ Some by
       → HasReplacements rs i links → HasReplacements rs (i + 1)
       (insert links (record { kind = Broader; a = i + 1; b = by }))
@@ -123,24 +122,24 @@ module _ (rs : List Resource) where
     complete = λ m n le is. either m n le is (cases_eq m (i + 1));
   }
     where
-      sound_at : (l : Link) → (l ≡ record { kind = Broader; a = i + 1; b = by }) ⊎ HeldIn links l → (l.kind ≡ Broader)
+      sound_at : (l : Link) → (l ≡ record { kind = Broader; a = i + 1; b = by }) ⊎ Holds links l → (l.kind ≡ Broader)
           × IsReplacedBy rs l.a l.b
       sound_at l (inl is) = subst (λ (x : Link). (x.kind ≡ Broader) × IsReplacedBy rs x.a x.b) (sym is)
           (refl, next_is rs (i + 1) by is_by)
       sound_at l (inr held) = has.sound l held
 
       either : (m n : ℕ) → m ≤ i + 1 → IsReplacedBy rs m n → (m ≡ i + 1) ⊎ (m ≢ i + 1)
-          → HeldIn (insert links (record { kind = Broader; a = i + 1; b = by }))
+          → Holds (insert links (record { kind = Broader; a = i + 1; b = by }))
           (record { kind = Broader; a = m; b = n })
       either m n le is (inl same) =
           let f : Some by ≡ Some n = sym is_by ∙ ap (replacement_of rs) (sym same) ∙ is_next rs m n is in
           let new = inserted_new links_total links_exact links (record { kind = Broader; a = i + 1; b = by }) in
-          subst (λ (p : ℕ × ℕ). HeldIn (insert links (record { kind = Broader; a = i + 1; b = by }))
+          subst (λ (p : ℕ × ℕ). Holds (insert links (record { kind = Broader; a = i + 1; b = by }))
           (record { kind = Broader; a = p.0; b = p.1 })) (λ j. (sym same j, same_Some _ _ f j)) new
       either m n le is (inr differ) = inserted_kept links_total links_exact links _ _
           (has.complete m n (omega (arith, le, differ)) is)
 
-  broader_replaced : (most : ℕ) (links : Links) → HasReplacements rs most links → (x y : ℕ) → IsBroader (HeldIn links)
+  broader_replaced : (most : ℕ) (links : Links) → HasReplacements rs most links → (x y : ℕ) → IsNarrower (Holds links)
       x y → IsReplacedBy rs x y
   broader_replaced most links has x y (l, held, leads) =
       let is = has.sound l held in
@@ -149,7 +148,7 @@ module _ (rs : List Resource) where
       subst (λ (p : ℕ × ℕ). IsReplacedBy rs p.0 p.1) (λ j. (forward.0 j, forward.1 j)) is.1
 
   replaced_broader : (links : Links) → HasReplacements rs (length rs) links → (x y : ℕ) → IsReplacedBy rs x y
-      → IsBroader (HeldIn links) x y
+      → IsNarrower (Holds links) x y
   replaced_broader links has x y is =
       (record { kind = Broader; a = x; b = y }, has.complete x y (numbered_bound rs x is.0 is.1).1 is, (refl, refl))
 
@@ -162,7 +161,7 @@ module _ (rs : List Resource) where
   no_cycle_of Held (Some _) differ f = absurd f
 
   cycle_of : (Held : Link → Type 0) (first : Option Refusal) → is_cycle first ≡ true → IsFirstBroken Held first
-      → (x : ℕ) × IsAbove Held x x
+      → (x : ℕ) × IsBelow Held x x
   cycle_of Held None is f = absurd (cc)
   cycle_of Held (Some no.Cycle) is f = f
   cycle_of Held (Some no.S27) is f = absurd (cc)
@@ -170,23 +169,23 @@ module _ (rs : List Resource) where
   cycle_of Held (Some _) is f = absurd f
 
   pub return_found : (links : Links) (first : Option Refusal) → HasReplacements rs (length rs) links
-      → IsFirstBroken (HeldIn links) first → is_cycle first ≡ true → HasReturn rs true
+      → IsFirstBroken (Holds links) first → is_cycle first ≡ true → HasReturn rs true
   return_found links first has broken is =
-      let chain = cycle_of (HeldIn links) first is broken in (
+      let chain = cycle_of (Holds links) first is broken in (
         chain.0,
         (
           chain.1.0,
-          path_map (IsBroader (HeldIn links)) (IsReplacedBy rs) (broader_replaced (length rs) links has)
+          path_map (IsNarrower (Holds links)) (IsReplacedBy rs) (broader_replaced (length rs) links has)
               chain.0 chain.1.0 chain.0 chain.1.1,
         ),
       )
 
   pub return_none : (links : Links) (first : Option Refusal) → HasReplacements rs (length rs) links
-      → IsFirstBroken (HeldIn links) first → is_cycle first ≡ false → HasReturn rs false
+      → IsFirstBroken (Holds links) first → is_cycle first ≡ false → HasReturn rs false
   return_none links first has broken differ n chain =
-      (no_cycle_of (HeldIn links) first differ broken).none n (
+      (no_cycle_of (Holds links) first differ broken).none n (
         chain.0,
-        path_map (IsReplacedBy rs) (IsBroader (HeldIn links)) (replaced_broader links has) n chain.0 n
+        path_map (IsReplacedBy rs) (IsNarrower (Holds links)) (replaced_broader links has) n chain.0 n
             chain.1,
       )
 

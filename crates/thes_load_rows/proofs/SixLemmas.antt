@@ -1,4 +1,4 @@
--- Proves that a list of length six is the list of its six elements.
+-- A list of length six is the list of its six elements.
 use Rattle.std.proofs.Common.{◌≡◌, ◌<◌, ◌≤◌, length, List, [], ◌∷◌, refl, arith}
 use lib.ListN.{get_or}
 

@@ -1,4 +1,4 @@
--- Proves what a stage knows after the end of each table, or that the end is a fault.
+-- Each stage is right after the end of a table, whether or not the table meets its rule.
 use Rattle.std.proofs.Common.{◌≡◌, ℕ, List, [], ◌∷◌, refl, sym, ap, ◌∙◌, subst, inr}
 use Rattle.std.specs.Prelude.{None, Some}
 use Rattle.std.proofs.lemmas.List.{append-nil}
@@ -26,15 +26,13 @@ use Rattle.thes_load_rows.specs.declared.linked_vocab.LinkedVocab.{LinkedVocab}
 use Rattle.thes_load_rows.specs.declared.postings.PlacedPostings.{PlacedPostings}
 use Rattle.thes_load_rows.specs.declared.postings.PostingLoad.{PostingLoad}
 use Rattle.thes_load_rows.specs.declared.moves.MoveLoad.{MoveLoad}
-use Rattle.thes_load_rows.specs.NamesSoFar.{HasOutside, vocabulary_of}
+use Rattle.thes_load_rows.specs.NamesSoFar.{HasOutside, vocabulary_of_rows}
 use Rattle.thes_load_rows.specs.LinksSoFar.{HasLinks}
 use Rattle.thes_load_rows.specs.RowsSoFar.{HasPostings, HasMoves}
 use Rattle.thes_load_rows.specs.PostingPlaces.{ArePlaced}
-use Rattle.thes_load_rows.specs.Progress.{Grows, Extends, Closes, next_table}
+use Rattle.thes_load_rows.specs.Progress.{Grows, ExtendsTable, Closes, next_table}
 use Rattle.thes_load_rows.proofs.ProgressLemmas.{meta_stays, resource_stays, outside_stays, link_stays}
 use Rattle.thes_load_rows.proofs.StageRowLemmas.{tables_with_base}
-
--- Table meta.
 
 pub meta_base : (base : List ℕ) (load : ResourceLoad) → load.resources.items ≡ []
     → Closes (stage.Meta (Some (Base base))) (stage.Resource base load)
@@ -50,8 +48,6 @@ meta_base base load none = (
   ),
 )
 
--- Table resource.
-
 pub resource_bad : (base : List ℕ) (load : ResourceLoad) → (ResourceRule load.resources.items → ⊥)
     → Closes (stage.Resource base load) (stage.Stopped (BadStore table.Resource) table.Outside)
 resource_bad base load broken = (
@@ -63,7 +59,7 @@ resource_bad base load broken = (
       rule)),
 )
 
--- After a table resource that meets its rule, no row of table outside has come.
+-- If table resource meets its rule, table outside begins without rows.
 pub resource_good : (base : List ℕ) (load : ResourceLoad) (new : OutsideLoad) → ResourceRule load.resources.items
     → HasOutside base load.resources.items new.vocab new.last [] → Closes (stage.Resource base load)
     (stage.Outside new)
@@ -79,8 +75,6 @@ resource_good base load new rule has = (
   ),
 )
 
--- Table outside.
-
 pub outside_bad : (load : OutsideLoad) → ((base : List ℕ) (rs : List Resource) (rows : List (ℕ × List ℕ))
     → HasOutside base rs load.vocab load.last rows → OutsideRule base rs rows → ⊥) → Closes (stage.Outside load)
     (stage.Stopped (BadStore table.Outside) table.Label)
@@ -93,7 +87,7 @@ outside_bad load broken = (
       (same_Some _ _ (sym is ∙ e2 ∙ read))) rule)),
 )
 
--- After a table outside that meets its rule, no row of table label has come.
+-- If table outside meets its rule, table label begins without rows.
 pub outside_good : (load : OutsideLoad) → ((base : List ℕ) (rs : List Resource) (rows : List (ℕ × List ℕ))
     → HasOutside base rs load.vocab load.last rows → OutsideRule base rs rows) → Closes (stage.Outside load)
     (stage.Label load.vocab)
@@ -107,8 +101,6 @@ outside_good load rule = (
     after.1,
   ),
 )
-
--- Table label.
 
 pub label_bad : (vocab : Vocabulary) → (EachHasPreferred vocab.resources vocab.labels → ⊥)
     → Closes (stage.Label vocab) (stage.Stopped (BadStore table.Label) table.Link)
@@ -131,7 +123,7 @@ label_without vocab broken = (
       absurd (broken (subst HaveIris (sym has.are) passes.1.1.legal.each)),
 )
 
--- After a table label that meets its rule, no row of table link has come.
+-- If table label meets its rule, table link begins without rows.
 pub label_good : (old : Vocabulary) (new : LinkedVocab) → AreLabelsSoFar old.resources old.labels
     → EachHasPreferred old.resources old.labels → new.vocab ≡ old → HasLinks new.vocab.resources new.links.graph [] []
     → Closes (stage.Label old) (stage.Link new)
@@ -150,7 +142,7 @@ label_good old new so_far named same links = (
           named = subst (λ (v : Vocabulary). EachHasPreferred v.resources v.labels) has.are named;
         };
       } in
-      let names : new.vocab ≡ vocabulary_of t.base t.resource t.outside t.label = same ∙ has.are in (
+      let names : new.vocab ≡ vocabulary_of_rows t.base t.resource t.outside t.label = same ∙ has.are in (
         record t { link = [] },
         (passes, (read, rule)),
         names,
@@ -160,8 +152,6 @@ label_good old new so_far named same links = (
         after.1,
       ),
 )
-
--- The tables link and hier.
 
 pub link_good : (linked_vocab : LinkedVocab) → Closes (stage.Link linked_vocab) (stage.Hier linked_vocab)
 link_good linked_vocab = (
@@ -192,8 +182,6 @@ hier_good linked_vocab new rule none = (
       (record t { posting = [] }, (passes, (read, rule t has)), names, has, after.0, none t.resource, after.1),
 )
 
--- Table posting.
-
 pub posting_good : (linked_vocab : LinkedVocab) (load : PostingLoad) (moves : MoveLoad) (placed : PlacedPostings)
     → ((rs : List Resource) (rows : List PostingRow) → HasPostings rs load.keys.keys load.firsts.items
     load.stored_places.items load.tally rows
@@ -206,13 +194,11 @@ posting_good linked_vocab load moves placed close = (
       (record t { move = [] }, (passes, (read, has.rule)), names, links, are, after, start),
 )
 
--- A stopped stage.
-
 pub same_grows : (raw queried : RawTable) → queried ≡ raw → Grows raw queried
 same_grows None queried e = e
 same_grows (Some rows) queried e = inr ([], e ∙ ap (λ (l : List (List Cell)). Some l) (sym (append-nil rows)))
 
-extends_earlier : (at : Table) (raw more : Raw) → Extends (next_table at) raw more → Extends at raw more
+extends_earlier : (at : Table) (raw more : Raw) → ExtendsTable (next_table at) raw more → ExtendsTable at raw more
 extends_earlier table.Meta raw more (e0, grows) = same_grows raw.meta more.meta e0
 extends_earlier table.Resource raw more (e0, e1, grows) = (e0, same_grows raw.resource more.resource e1)
 extends_earlier table.Outside raw more (e0, e1, e2, grows) = (e0, e1, same_grows raw.outside more.outside e2)

@@ -1,4 +1,4 @@
--- Proves what each stage knows after a row, which is kept or faulty.
+-- Each stage is right after a row, whether or not the row meets its table's rule.
 use Rattle.std.proofs.Common.{◌≡◌, ◌≢◌, ◌⊎◌, ◌<◌, ◌^◌, ℕ, length, List, [], ◌∷◌, ◌++◌, map, refl, sym, ap, ◌∙◌, subst}
 use Rattle.std.proofs.Common.{inl, inr, Bool, true, false, append_assoc}
 use Rattle.std.specs.Prelude.{None, Some, Err, option_map}
@@ -36,12 +36,10 @@ use Rattle.thes_load_rows.specs.Version.{SpellsMeta, version_cells}
 use Rattle.thes_load_rows.specs.NamesSoFar.{HasOutside, HasLabels}
 use Rattle.thes_load_rows.specs.LinksSoFar.{HasLinks}
 use Rattle.thes_load_rows.specs.RowsSoFar.{HasPostings, HasMoves}
-use Rattle.thes_load_rows.specs.Progress.{Grows, Extends, raw_with_row, HasNames, ReadsRow}
+use Rattle.thes_load_rows.specs.Progress.{Grows, ExtendsTable, raw_with_row, HasNames, ReadsRow}
 use Rattle.thes_load_rows.proofs.ProgressLemmas.{resource_fault, outside_fault, label_fault, link_fault, hier_fault}
 use Rattle.thes_load_rows.proofs.ProgressLemmas.{posting_fault, move_fault, outside_taken, label_taken, link_taken}
 use Rattle.thes_load_rows.proofs.ProgressLemmas.{hier_taken, posting_taken}
-
--- Table meta.
 
 abbrev pub tables_with_base : List ℕ → Tables
 tables_with_base base = record {
@@ -56,7 +54,7 @@ tables_with_base base = record {
   move = [];
 }
 
--- A row that isn't one of any version is the fault.
+-- A row of table meta that isn't one of any version makes the table faulty.
 pub meta_fault : (more : Raw)
     → ((version : ℕ) (base : Cell) → (2 < version) ⊎ (version ≡ 1) → more.meta ≢ Some (version_cells version base ∷ []))
     → ((base : List ℕ) → IsBase base → more.meta ≢ Some (meta_cells base ∷ []))
@@ -83,9 +81,7 @@ meta_unread cells spells raw (none, after) more grown =
     meta_fault more (λ version base which e. spells.0 version base which (grown_is cells _ more.meta grows e))
     (λ base form e. spells.1 base form (grown_is cells _ more.meta grows e))
 
--- The other tables.
-
--- A row of table resource.
+-- The stage is right after a row of table resource.
 pub resource_row : (base : List ℕ) (old new : ResourceLoad) (cells : List Cell) (good : Bool)
     → ReadResult (resource_rows 1) (λ rows. rows ≡ new.resources.items) ResourceRule old.resources.items cells good
     → ReadsRow (stage.Resource base old) (stage.Resource base new) cells good
@@ -226,7 +222,7 @@ module _ (linked_vocab : LinkedVocab) (rs : List Resource) (is : rs ≡ linked_v
       by false r = λ raw (t, passes, names, links, read, has, after). posting_fault raw t cells passes read
           (of_table false r t names has)
 
-  -- A row of table move.
+  -- The stage is right after a row of table move.
   pub move_row : (placed : PlacedPostings) (old new : MoveLoad) (good : Bool)
       → ((postings : List PostingRow) (rows : List MoveRow) → PostingRule rs postings → HasMoves rs postings old.taken
       old.places.items rows → ReadResult (map move_cells) (HasMoves rs postings new.taken new.places.items)
@@ -266,16 +262,14 @@ module _ (linked_vocab : LinkedVocab) (rs : List Resource) (is : rs ≡ linked_v
       by false r = λ raw (t, passes, names, links, are, read, has). move_fault raw t cells passes read
           (of_table false r t names passes.1.1 has)
 
--- A stopped stage.
-
 less_grown : (cells : List Cell) (rows queried : RawTable) → Grows (with_cells cells rows) queried → Grows rows queried
 less_grown cells None queried grows = grows
 less_grown cells (Some rows) queried (inl none) = inl none
 less_grown cells (Some rows) queried (inr (more, is)) =
     inr (cells ∷ more, is ∙ ap (λ (l : List (List Cell)). Some l) (append_assoc rows (cells ∷ []) more))
 
-without_row : (at : Table) (cells : List Cell) (raw more : Raw) → Extends at (raw_with_row at cells raw) more
-    → Extends at raw more
+without_row : (at : Table) (cells : List Cell) (raw more : Raw) → ExtendsTable at (raw_with_row at cells raw) more
+    → ExtendsTable at raw more
 without_row table.Meta cells raw more grows = less_grown cells raw.meta more.meta grows
 without_row table.Resource cells raw more (e0, grows) = (e0, less_grown cells raw.resource more.resource grows)
 without_row table.Outside cells raw more (e0, e1, grows) = (e0, e1, less_grown cells raw.outside more.outside grows)

@@ -1,9 +1,9 @@
--- Proves facts about the order of tables, and that rows extend themselves.
+-- The order of tables in a load; each list of rows extends itself.
 use Rattle.std.proofs.Common.{◌≡◌, ◌<◌, ◌≤◌, ◌+◌, ℕ, zero, suc, refl, sym, ap, ◌∙◌, arith}
 use Rattle.thes_base.specs.declared.fault.Table.{Table}
 use Rattle.thes_base.specs.declared.fault.Table.TheVariants as table
 use Rattle.thes_tables.specs.Cells.{Raw}
-use Rattle.thes_load_rows.specs.Progress.{table_no, next_table, Extends}
+use Rattle.thes_load_rows.specs.Progress.{table_no, next_table, ExtendsTable}
 use Rattle.thes_load_rows.proofs.StageCloseLemmas.{same_grows}
 
 abbrev table_at : ℕ → Table
@@ -49,7 +49,7 @@ last_no table.Hier = omega arith
 last_no table.Posting = omega arith
 last_no table.Move = omega arith
 
-pub same_extends : (at : Table) (raw : Raw) → Extends at raw raw
+pub same_extends : (at : Table) (raw : Raw) → ExtendsTable at raw raw
 same_extends table.Meta raw = same_grows raw.meta raw.meta refl
 same_extends table.Resource raw = (refl, same_grows raw.resource raw.resource refl)
 same_extends table.Outside raw = (refl, refl, same_grows raw.outside raw.outside refl)

@@ -1,4 +1,4 @@
--- The result of parsing cells.
+-- The results of parsing cells.
 use Rattle.std.specs.Prelude.{◌≡◌, ◌≢◌, List, ℕ, Option, None, Some}
 use Rattle.thes_base.specs.declared.data.LabelKind.{LabelKind}
 use Rattle.thes_base.specs.declared.data.LabelValue.{LabelValue}
@@ -9,12 +9,12 @@ use Rattle.thes_tables.specs.declared.cells.Cell.TheVariants.{Text}
 use Rattle.thes_tables.specs.Cells.{resource_cells}
 use Rattle.thes_load_rows.specs.declared.rows.ResourceRow.{ResourceRow}
 
--- The result has the form, and these are its cells; or nothing of the form has these cells.
+-- The result of parsing: a value of the form that has these cells, or None if no value of the form has them.
 abbrev pub Spells : {A C : Type 0} → (A → C) → (A → Type 0) → C → Option A → Type 0
 Spells cells_of Form cells (Some x) = Form x × (cells ≡ cells_of x)
 Spells {A} cells_of Form cells None = (x : A) → Form x → cells ≢ cells_of x
 
--- The result is the value of a label of this kind with this cell; or no such value has it.
+-- The result of parsing a label's text: a value of the kind that has this cell, or None if no value has it.
 abbrev pub SpellsValue : LabelKind → Cell → Option LabelValue → Type 0
 SpellsValue kind cell (Some v) = (label_value_kind v ≡ kind) × IsLabelText kind (label_value_text v)
     × (cell ≡ Text (label_value_text v))

@@ -1,4 +1,4 @@
--- The result of a load, after all rows.
+-- The result of a load at its end.
 use Rattle.std.specs.Prelude.{Result, Ok, Err}
 use Rattle.thes_base.specs.declared.fault.Fault.{Fault}
 use Rattle.thes_tables.specs.Tables.{Tables}
@@ -10,7 +10,7 @@ use Rattle.thes_load_rows.specs.declared.stage_steps.LoadedParts.{LoadedParts}
 use Rattle.thes_load_rows.specs.Progress.{HasNames}
 use Rattle.thes_load_rows.specs.LinksSoFar.{HasLinks}
 
--- The rows load, and the vocabulary, links and counts are those that they encode; or the fault is their verdict.
+-- The result of a load: the vocabulary, links and counts that the rows encode, or the fault that is their verdict.
 abbrev pub LoadResult : Raw → Result LoadedParts Fault → Type 0
 LoadResult raw (Ok parts) =
     (t : Tables) × HasVerdict raw (Ok t) × HasNames parts.linked_vocab.vocab t

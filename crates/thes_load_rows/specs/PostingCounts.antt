@@ -1,12 +1,12 @@
--- The counts of rows of table posting.
+-- The counts of the rows of table posting read so far.
 use Rattle.std.specs.Prelude.{◌≡◌, ℕ, List, length, count_by}
 use Rattle.thes_tables.specs.declared.rows.PostingRow.{PostingRow}
 use Rattle.thes_tables.specs.Tables.{is_assigned_row}
 use Rattle.thes_post.specs.PostingCounts.{PostingCounts, count_of}
 
--- The counts are those of the postings of these rows; moves aren't counted yet.
-pub record AreSumsOf (rows : List PostingRow) (sums : PostingCounts) : Type 0 where
-  pub standing : (concept : ℕ) → count_of sums concept ≡ count_by (is_assigned_row concept) rows
-  pub accepted : sums.accepted ≡ length rows
-  pub withdrawn : sums.withdrawn ≡ count_by (λ row. row.withdrawn) rows
-  pub moves : sums.moves ≡ 0
+-- The counts are those of the postings of these rows, with moves still uncounted.
+pub record AreCountsOfRows (rows : List PostingRow) (posting_counts : PostingCounts) : Type 0 where
+  pub standing : (concept : ℕ) → count_of posting_counts concept ≡ count_by (is_assigned_row concept) rows
+  pub accepted : posting_counts.accepted ≡ length rows
+  pub withdrawn : posting_counts.withdrawn ≡ count_by (λ row. row.withdrawn) rows
+  pub moves : posting_counts.moves ≡ 0

@@ -1,10 +1,10 @@
--- The places of the rows of table posting.
+-- The places that the rows of table posting state.
 use Rattle.std.specs.Prelude.{◌≡◌, List, map}
 use Rattle.thes_tables.specs.declared.rows.PostingRow.{PostingRow}
 use Rattle.thes_load_rows.specs.declared.postings.PlacedPostings.{PlacedPostings}
-use Rattle.thes_load_rows.specs.PostingCounts.{AreSumsOf}
+use Rattle.thes_load_rows.specs.PostingCounts.{AreCountsOfRows}
 
 -- The places and the counts are those of the rows.
 abbrev pub ArePlaced : PlacedPostings → List PostingRow → Type 0
 ArePlaced placed rows = (placed.stored_places.items ≡ map (λ (row : PostingRow). row.place) rows)
-    × AreSumsOf rows placed.tally
+    × AreCountsOfRows rows placed.tally

@@ -16,7 +16,7 @@ use Rattle.thes_load_rows.specs.declared.meta.MetaRow.{MetaRow}
 use Rattle.thes_load_rows.specs.declared.stage.Stage.{Stage}
 use Rattle.thes_load_rows.specs.declared.stage.Stage.TheVariants as stage
 use Rattle.thes_load_rows.specs.Version.{SpellsMeta}
-use Rattle.thes_load_rows.specs.NamesSoFar.{HasOutside, HasLabels, vocabulary_of}
+use Rattle.thes_load_rows.specs.NamesSoFar.{HasOutside, HasLabels, vocabulary_of_rows}
 use Rattle.thes_load_rows.specs.LinksSoFar.{HasLinks}
 use Rattle.thes_load_rows.specs.PostingPlaces.{ArePlaced}
 use Rattle.thes_load_rows.specs.RowsSoFar.{HasPostings, HasMoves}
@@ -32,11 +32,11 @@ table_no table.Hier = 5
 table_no table.Posting = 6
 table_no table.Move = 7
 
--- The table with one more row, if it can be queried.
+-- The table after one more row; None stays None.
 abbrev pub with_row : List Cell → RawTable → RawTable
 with_row cells raw = option_map (λ rows. rows ++ cells ∷ []) raw
 
--- The rows with one more row in a table.
+-- The rows after one more row in a table.
 abbrev pub raw_with_row : Table → List Cell → Raw → Raw
 raw_with_row table.Meta cells raw = record raw { meta = with_row cells raw.meta }
 raw_with_row table.Resource cells raw = record raw { resource = with_row cells raw.resource }
@@ -47,39 +47,38 @@ raw_with_row table.Hier cells raw = record raw { hier = with_row cells raw.hier 
 raw_with_row table.Posting cells raw = record raw { posting = with_row cells raw.posting }
 raw_with_row table.Move cells raw = record raw { move = with_row cells raw.move }
 
--- The second table begins with the rows of the first, or can't be queried.
+-- The second table begins with the rows of the first, or can't be queried; if the first can't be, the second can't be.
 abbrev pub Grows : RawTable → RawTable → Type 0
 Grows None queried = queried ≡ None
 Grows (Some rows) queried = (queried ≡ None) ⊎ ((more : List (List Cell)) × (queried ≡ Some (rows ++ more)))
 
--- The tables before this one are equal, this one may have more rows, and those after it are arbitrary.
-abbrev pub Extends : Table → Raw → Raw → Type 0
-Extends table.Meta raw more = Grows raw.meta more.meta
-Extends table.Resource raw more = (more.meta ≡ raw.meta) × Grows raw.resource more.resource
-Extends table.Outside raw more =
+-- The second rows extend the first at this table: the tables before it are equal, it may have more rows, and the tables
+-- after it are arbitrary.
+abbrev pub ExtendsTable : Table → Raw → Raw → Type 0
+ExtendsTable table.Meta raw more = Grows raw.meta more.meta
+ExtendsTable table.Resource raw more = (more.meta ≡ raw.meta) × Grows raw.resource more.resource
+ExtendsTable table.Outside raw more =
     (more.meta ≡ raw.meta) × (more.resource ≡ raw.resource) × Grows raw.outside more.outside
-Extends table.Label raw more =
+ExtendsTable table.Label raw more =
     (more.meta ≡ raw.meta) × (more.resource ≡ raw.resource) × (more.outside ≡ raw.outside) × Grows raw.label more.label
-Extends table.Link raw more =
+ExtendsTable table.Link raw more =
     (more.meta ≡ raw.meta) × (more.resource ≡ raw.resource) × (more.outside ≡ raw.outside) × (more.label ≡ raw.label)
     × Grows raw.link more.link
-Extends table.Hier raw more =
+ExtendsTable table.Hier raw more =
     (more.meta ≡ raw.meta) × (more.resource ≡ raw.resource) × (more.outside ≡ raw.outside) × (more.label ≡ raw.label)
     × (more.link ≡ raw.link) × Grows raw.hier more.hier
-Extends table.Posting raw more =
+ExtendsTable table.Posting raw more =
     (more.meta ≡ raw.meta) × (more.resource ≡ raw.resource) × (more.outside ≡ raw.outside) × (more.label ≡ raw.label)
     × (more.link ≡ raw.link) × (more.hier ≡ raw.hier) × Grows raw.posting more.posting
-Extends table.Move raw more =
+ExtendsTable table.Move raw more =
     (more.meta ≡ raw.meta) × (more.resource ≡ raw.resource) × (more.outside ≡ raw.outside) × (more.label ≡ raw.label)
     × (more.link ≡ raw.link) × (more.hier ≡ raw.hier) × (more.posting ≡ raw.posting) × Grows raw.move more.move
 
--- Tables without rows, after each table.
-
--- The table after posting has no rows.
+-- Table move, the one after posting, has no rows.
 abbrev pub NoneAfterPosting : Raw → Type 0
 NoneAfterPosting raw = raw.move ≡ Some []
 
--- The tables after hier have no rows.
+-- The tables after hier, posting and move, have no rows.
 abbrev pub NoneAfterHier : Raw → Type 0
 NoneAfterHier raw = (raw.posting ≡ Some []) × NoneAfterPosting raw
 
@@ -103,17 +102,17 @@ NoneAfterResource raw = (raw.outside ≡ Some []) × NoneAfterOutside raw
 abbrev pub NoneAfterMeta : Raw → Type 0
 NoneAfterMeta raw = (raw.resource ≡ Some []) × NoneAfterResource raw
 
--- Table meta has this row so far, or none.
+-- Table meta has this row, or no row yet.
 abbrev pub HasMeta : Option MetaRow → RawTable → Type 0
 HasMeta None raw = raw ≡ Some []
 HasMeta (Some row) raw = (cells : List Cell) × (raw ≡ Some (cells ∷ [])) × SpellsMeta cells (Some row)
 
--- The vocabulary has the names of these tables.
+-- The vocabulary has the resources, IRIs and labels of these tables.
 abbrev pub HasNames : Vocabulary → Tables → Type 0
-HasNames v t = v ≡ vocabulary_of t.base t.resource t.outside t.label
+HasNames v t = v ≡ vocabulary_of_rows t.base t.resource t.outside t.label
 
--- What a stage knows of the rows so far: the tables before the current one meet their rules, and what is kept is what
--- its rows encode; or it has stopped with a fault, which is the verdict whatever rows come.
+-- The stage is right for the rows read so far: the tables before the current one meet their rules, and the stage has
+-- what the rows of the current one encode; or it has stopped with a fault that is the verdict whatever rows come.
 abbrev pub HasRead : Stage → Raw → Type 0
 HasRead (stage.Meta row) raw = HasMeta row raw.meta × NoneAfterMeta raw
 HasRead (stage.Resource base load) raw =
@@ -142,9 +141,9 @@ HasRead (stage.Move linked_vocab placed load) raw =
     t.link t.hier
     × ArePlaced placed t.posting × (raw.move ≡ Some (map move_cells t.move))
     × HasMoves t.resource t.posting load.taken load.places.items t.move
-HasRead (stage.Stopped fault at) raw = (more : Raw) → Extends at raw more → HasVerdict more (Err fault)
+HasRead (stage.Stopped fault at) raw = (more : Raw) → ExtendsTable at raw more → HasVerdict more (Err fault)
 
--- The current table of a stage.
+-- The table whose rows the stage reads.
 abbrev pub stage_table : Stage → Table
 stage_table (stage.Meta row) = table.Meta
 stage_table (stage.Resource base load) = table.Resource
@@ -156,7 +155,7 @@ stage_table (stage.Posting linked_vocab load) = table.Posting
 stage_table (stage.Move linked_vocab placed load) = table.Move
 stage_table (stage.Stopped fault at) = at
 
--- Whether a stage has stopped with a fault.
+-- The test of whether a stage has stopped with a fault.
 abbrev pub is_stopped : Stage → Bool
 is_stopped (stage.Stopped fault at) = true
 is_stopped (stage.Meta row) = false
@@ -168,7 +167,8 @@ is_stopped (stage.Hier linked_vocab) = false
 is_stopped (stage.Posting linked_vocab load) = false
 is_stopped (stage.Move linked_vocab placed load) = false
 
--- The row of the current table is kept, or is faulty.
+-- The result of reading a row of the current table: true if it was added, false if it can't follow the rows read so far
+-- in a table that meets its rule.
 abbrev pub ReadsRow : Stage → Stage → List Cell → Bool → Type 0
 ReadsRow old new cells true =
     (stage_table new ≡ stage_table old)
@@ -188,15 +188,15 @@ next_table table.Hier = table.Posting
 next_table table.Posting = table.Move
 next_table table.Move = table.Move
 
--- The current table has all its rows, and the next one is current.
+-- The new stage is right after the end of the current table, and reads the next one.
 abbrev pub Closes : Stage → Stage → Type 0
 Closes old new = (stage_table new ≡ next_table (stage_table old)) × ((raw : Raw) → HasRead old raw → HasRead new raw)
 
--- The new stage knows what the old one did, and this table is current.
-abbrev pub Reaches : Stage → Stage → Table → Type 0
-Reaches old new table = (stage_table new ≡ table) × ((raw : Raw) → HasRead old raw → HasRead new raw)
+-- The new stage is right for the same rows as the old one, and reads this table.
+abbrev pub ReachesTable : Stage → Stage → Table → Type 0
+ReachesTable old new table = (stage_table new ≡ table) × ((raw : Raw) → HasRead old raw → HasRead new raw)
 
--- Tables that can be queried and have no rows.
+-- The tables without rows, all of which can be queried.
 abbrev pub empty_raw : Raw
 empty_raw =
     record {
@@ -210,7 +210,7 @@ empty_raw =
       move = Some [];
     }
 
--- The rows, but for a table that can't be queried.
+-- The rows, with this table as one that can't be queried.
 abbrev pub raw_without_table : Table → Raw → Raw
 raw_without_table table.Meta raw = record raw { meta = None }
 raw_without_table table.Resource raw = record raw { resource = None }
@@ -221,12 +221,12 @@ raw_without_table table.Hier raw = record raw { hier = None }
 raw_without_table table.Posting raw = record raw { posting = None }
 raw_without_table table.Move raw = record raw { move = None }
 
--- The new stage knows that this table can't be queried.
+-- The new stage is right if this table can't be queried, and reads it.
 abbrev pub HasUnqueried : Stage → Stage → Table → Type 0
 HasUnqueried old new table =
     (stage_table new ≡ table) × ((raw : Raw) → HasRead old raw → HasRead new (raw_without_table table raw))
 
--- The new stage knows one more row of this table.
+-- The new stage is right after one more row of this table, and reads it.
 abbrev pub HasRow : Stage → Stage → Table → List Cell → Type 0
 HasRow old new table cells =
     (stage_table new ≡ table) × ((raw : Raw) → HasRead old raw → HasRead new (raw_with_row table cells raw))

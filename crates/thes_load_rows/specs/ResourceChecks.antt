@@ -1,4 +1,4 @@
--- The checks of table resource, one resource after another.
+-- The checks of table resource, resource by resource.
 use Rattle.std.specs.Prelude.{◌≡◌, ◌≢◌, ◌≤◌, ◌+◌, ℕ, List, [], ◌∷◌, ◌++◌, length, Bool, true, false, Option, Some, None}
 use Rattle.thes_base.specs.declared.data.Resource.{Resource}
 use Rattle.thes_base.specs.declared.data.ResourceKind.{ResourceKind}
@@ -9,15 +9,15 @@ use Rattle.thes_base.specs.declared.fault.Refusal.{Refusal}
 use Rattle.thes_base.specs.declared.fault.Refusal.TheVariants as no
 use Rattle.thes_base.specs.Resources.{entry_at, IsScheme, IsConcept, IsReplacedBy, scheme_of, replacement_of}
 use Rattle.thes_base.specs.Resources.{is_concept_kind}
-use Rattle.thes_base.specs.Links.{Links, HeldIn, Chain}
+use Rattle.thes_base.specs.Links.{Links, Holds, Chain}
 use Rattle.thes_load_rows.specs.declared.rows.ResourceRow.{ResourceRow}
 
--- The row has the next number, and its resource is appended; or it has another number.
-abbrev pub IsNextResource : List Resource → List Resource → ResourceRow → Bool → Type 0
-IsNextResource old new row true = (row.number ≡ length old + 1) × (new ≡ old ++ row.resource ∷ [])
-IsNextResource old new row false = row.number ≢ length old + 1
+-- The result of appending a row: true if it has the next number and its resource was appended, false if it has another.
+abbrev pub AppendResourceResult : List Resource → List Resource → ResourceRow → Bool → Type 0
+AppendResourceResult old new row true = (row.number ≡ length old + 1) × (new ≡ old ++ row.resource ∷ [])
+AppendResourceResult old new row false = row.number ≢ length old + 1
 
--- Concepts and collections have a scheme, other resources none.
+-- The scheme is as the kind requires: a scheme's number for a concept or a collection, and None for other kinds.
 abbrev pub SchemeFits : List Resource → ResourceKind → Option ℕ → Type 0
 SchemeFits resources Scheme scheme = scheme ≡ None
 SchemeFits resources Outside scheme = scheme ≡ None
@@ -26,37 +26,38 @@ SchemeFits resources Concept (Some m) = IsScheme resources m
 SchemeFits resources Collection None = ⊥
 SchemeFits resources Collection (Some m) = IsScheme resources m
 
--- A replaced concept isn't live, and its replacement is another concept of the same scheme.
+-- The replacement is right: there is none, or the resource is dead and the replacement is another concept of its
+-- scheme.
 abbrev pub ReplacementFits : List Resource → ℕ → Resource → Option ℕ → Type 0
 ReplacementFits resources n r None = Unit {0}
 ReplacementFits resources n r (Some m) = (r.live ≡ false) × (m ≢ n) × IsConcept resources m
     × (scheme_of resources m ≡ r.scheme)
 
--- A resource has the scheme, the status and the replacement that its kind requires.
+-- The resource has a scheme, a status and a replacement as its kind requires.
 abbrev pub ResourceFits : List Resource → ℕ → Resource → Type 0
 ResourceFits resources n r = SchemeFits resources r.kind r.scheme
     × (r.live ≡ false → is_concept_kind r.kind ≡ true) × ReplacementFits resources n r r.replaced
 
--- Each resource does.
+-- Each resource has a scheme, a status and a replacement as its kind requires.
 abbrev pub EachResourceFits : List Resource → Type 0
 EachResourceFits resources = (n : ℕ) (r : Resource) → entry_at resources n ≡ Some r → ResourceFits resources n r
 
--- Whether the first broken rule is that links have no cycle.
+-- The test of whether the first broken rule is Cycle.
 abbrev pub is_cycle : Option Refusal → Bool
 is_cycle (Some no.Cycle) = true
 is_cycle _ = false
 
--- No resource replaces itself.
-abbrev pub AreApart : List Resource → Type 0
-AreApart resources = (n m : ℕ) → replacement_of resources n ≡ Some m → n ≢ m
+-- No resource has itself as its replacement.
+abbrev pub NoneReplacesItself : List Resource → Type 0
+NoneReplacesItself resources = (n m : ℕ) → replacement_of resources n ≡ Some m → n ≢ m
 
--- The flag says whether replacements have a cycle.
+-- The flag states whether replacements form a cycle.
 abbrev pub HasReturn : List Resource → Bool → Type 0
 HasReturn resources true = (n : ℕ) × Chain (IsReplacedBy resources) n n
 HasReturn resources false = (n : ℕ) → Chain (IsReplacedBy resources) n n → ⊥
 
--- The links are those from the first `most` resources to their replacements.
+-- The links are exactly the broader links from the first `most` resources to their replacements.
 pub record HasReplacements (resources : List Resource) (most : ℕ) (links : Links) : Type 0 where
-  pub sound : (l : Link) → HeldIn links l → (l.kind ≡ Broader) × IsReplacedBy resources l.a l.b
+  pub sound : (l : Link) → Holds links l → (l.kind ≡ Broader) × IsReplacedBy resources l.a l.b
   pub complete : (m n : ℕ) → m ≤ most → IsReplacedBy resources m n
-      → HeldIn links (record { kind = Broader; a = m; b = n })
+      → Holds links (record { kind = Broader; a = m; b = n })

@@ -1,4 +1,4 @@
--- What is known of the rows of a table so far, by what is kept of them in memory.
+-- The rows of a table read so far, and what a load has of them in memory.
 use Rattle.std.specs.Prelude.{◌≡◌, ◌≢◌, ◌<◌, ◌^◌, ◌+◌, ℕ, List, [], ◌∷◌, ◌++◌, Bool, true, false, cond, not, Some}
 use Rattle.std.specs.Prelude.{length, map, slice_get}
 use Rattle.std.specs.List.{list_any}
@@ -11,44 +11,41 @@ use Rattle.thes_tables.specs.declared.rows.PostingRow.{PostingRow}
 use Rattle.thes_tables.specs.declared.rows.MoveRow.{MoveRow}
 use Rattle.thes_post.specs.PostingCounts.{PostingCounts}
 use Rattle.thes_load_rules.specs.Rules.{EachRow, AreInOrder, PostingRule, history_of}
-use Rattle.thes_load_rows.specs.PostingCounts.{AreSumsOf}
+use Rattle.thes_load_rows.specs.PostingCounts.{AreCountsOfRows}
 
--- The next row is kept; or no rows that begin with these and it meet the rule.
+-- The result of adding a row: true if it was added, false if no rows that begin with these and it meet the rule.
 abbrev pub TakeResult : {A : Type 0} → (List A → Type 0) → (List A → Type 0) → List A → A → Bool → Type 0
 TakeResult Has Rule rows x true = Has (rows ++ x ∷ [])
 TakeResult {A} Has Rule rows x false = (more : List A) → Rule (rows ++ x ∷ more) → ⊥
 
--- Postings.
-
--- Whether the key is one of the keys.
+-- The test of whether the list has the key.
 abbrev pub has_key : List (List ℕ) → List ℕ → Bool
 has_key keys q = list_any (eq_by_cmp (slice_cmp nat_cmp) q) keys
 
--- The key is inserted, and the flag says whether it is new.
-abbrev pub KeyIsTaken : List (List ℕ) → List (List ℕ) → List ℕ → Bool → Type 0
-KeyIsTaken old new key fresh =
+-- The key was inserted, and the flag states whether it is new.
+abbrev pub KeyInsertResult : List (List ℕ) → List (List ℕ) → List ℕ → Bool → Type 0
+KeyInsertResult old new key fresh =
     (fresh ≡ not (has_key old key))
     × ((q : List ℕ) → has_key new q ≡ cond (eq_by_cmp (slice_cmp nat_cmp) key q) true (has_key old q))
 
--- The rows meet the rule, and the keys, first concepts, places and counts are theirs.
+-- The load has these rows of table posting, which meet the rule: the keys, first concepts, places and counts are
+-- theirs.
 pub record HasPostings (resources : List Resource) (keys : List (List ℕ)) (firsts stored_places : List ℕ)
-    (sums : PostingCounts) (rows : List PostingRow) : Type 0 where
+    (posting_counts : PostingCounts) (rows : List PostingRow) : Type 0 where
   pub rule : PostingRule resources rows
   pub keys_are : (q : List ℕ) → has_key keys q ≡ has_key (map (λ (row : PostingRow). row.key) rows) q
   pub firsts_are : firsts ≡ map (λ (row : PostingRow). row.first) rows
   pub stored_places_are : stored_places ≡ map (λ (row : PostingRow). row.place) rows
-  pub sums_are : AreSumsOf rows sums
+  pub posting_counts_are : AreCountsOfRows rows posting_counts
 
--- The row meets the rule as the next one, but for the uniqueness of its key.
+-- The row may be the next one of table posting if its key is new.
 pub record IsNextPosting (resources : List Resource) (taken : ℕ) (row : PostingRow) : Type 0 where
   pub number : row.number ≡ taken + 1
   pub first : IsConcept resources row.first
   pub place : IsConcept resources row.place
   pub live : row.withdrawn ≡ false → is_live_concept resources row.place ≡ true
 
--- Moves.
-
--- The rows meet the rule, but for the final places of the postings.
+-- The rows of table move meet the rule, except that postings may not yet be at their places.
 pub record MovesSoFar (resources : List Resource) (postings : List PostingRow) (rows : List MoveRow) : Type 0 where
   pub few : length rows < 2 ^ 32
   pub numbers : AreInOrder (λ (row : MoveRow). row.number) rows
@@ -56,14 +53,14 @@ pub record MovesSoFar (resources : List Resource) (postings : List PostingRow) (
   pub ends : EachRow (λ row. IsConcept resources row.target × (row.source ≢ row.target)) rows
   pub well_formed : EachRow (λ posting. IsWellFormed (history_of rows posting)) postings
 
--- The places are those after the moves so far.
+-- The places are those of the postings after these moves.
 pub record ArePlacesAfterMoves (postings : List PostingRow) (rows : List MoveRow) (places : List ℕ) : Type 0 where
   pub fit : length places ≡ length postings
   pub place_is :
       (n : ℕ) (p : PostingRow) → entry_at postings n ≡ Some p
       → entry_at places n ≡ Some (place (history_of rows p))
 
--- The rows meet the rule so far, their number is `taken`, and the places are those after them.
+-- The load has these rows of table move: their number is `taken`, and the places are those after them.
 pub record HasMoves (resources : List Resource) (postings : List PostingRow) (taken : ℕ)
     (places : List ℕ) (rows : List MoveRow) : Type 0 where
   pub order : AreInOrder (λ (posting : PostingRow). posting.number) postings
@@ -71,13 +68,14 @@ pub record HasMoves (resources : List Resource) (postings : List PostingRow) (ta
   pub count : length rows ≡ taken
   pub place_is : ArePlacesAfterMoves postings rows places
 
--- The row meets the rule as the next one, given the places before it.
+-- The row may be the next one of table move, given the places before it.
 pub record IsNextMove (resources : List Resource) (places : List ℕ) (taken : ℕ) (row : MoveRow) : Type 0 where
   pub number : row.number ≡ taken + 1
   pub source_place : entry_at places row.posting ≡ Some row.source
   pub two : row.source ≢ row.target
   pub target_concept : IsConcept resources row.target
 
--- The lists of places agree.
-abbrev pub AreSamePlaces : List ℕ → List ℕ → Type 0
-AreSamePlaces places stored_places = (i : ℕ) (y : ℕ) → slice_get stored_places i ≡ Some y → slice_get places i ≡ Some y
+-- The list of places has each stored place at the same index.
+abbrev pub HasStoredPlaces : List ℕ → List ℕ → Type 0
+HasStoredPlaces places stored_places = (i : ℕ) (y : ℕ) → slice_get stored_places i ≡ Some y
+    → slice_get places i ≡ Some y

@@ -1,4 +1,4 @@
--- The row of table meta, by version.
+-- The cells of the row of table meta, by version.
 use Rattle.std.specs.Prelude.{◌≡◌, ◌≢◌, ◌⊎◌, ◌<◌, ℕ, List, [], ◌∷◌, Option, None, Some}
 use Rattle.thes_base.specs.Forms.{IsBase}
 use Rattle.thes_tables.specs.declared.cells.Cell.{Cell}
@@ -6,11 +6,12 @@ use Rattle.thes_tables.specs.Cells.{number_cell, meta_cells}
 use Rattle.thes_load_rows.specs.declared.meta.MetaRow.{MetaRow}
 use Rattle.thes_load_rows.specs.declared.meta.MetaRow.TheVariants.{Newer, Older, Base}
 
--- The cells of a row of table meta of this version.
+-- The cells of a row of table meta that has this version.
 abbrev pub version_cells : ℕ → Cell → List Cell
 version_cells version base = number_cell 1 ∷ number_cell version ∷ base ∷ []
 
--- The cells are those of a newer version, of an older one, or of this one with this base; or they are none of these.
+-- The result of parsing a row of table meta: that of a newer version, of version 1, or of version 2 with this base; or
+-- None if the cells are those of no version.
 abbrev pub SpellsMeta : List Cell → Option MetaRow → Type 0
 SpellsMeta cells (Some Newer) = (version : ℕ) × (base : Cell) × (2 < version) × (cells ≡ version_cells version base)
 SpellsMeta cells (Some Older) = (base : Cell) × (cells ≡ version_cells 1 base)

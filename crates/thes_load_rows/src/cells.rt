@@ -1,4 +1,4 @@
-//! Parsers of single cells.
+//! Parsers of single cells, which return None for a cell of another form.
 ghost use Rattle.std.specs.Prelude.{◌≡◌, IfOk, None};
 ghost use Rattle.thes_base.specs.Forms.{IsNumber, HasStoredForm};
 ghost use Rattle.thes_base.specs.Labels.{label_kind_no};
@@ -18,7 +18,7 @@ use thes_base::text::Formed;
 use thes_tables::cells::Cell;
 use thes_tables::rows::HierType;
 
-/// Parses the number of a resource, a posting or a move: 1 to 2³² - 1.
+/// Parses the number of a resource, a posting or a move, from 1 to 2³² - 1.
 pub fn number_in(cell: &Cell) -> Option<u32>
     ensures { Spells number_cell IsNumber cell.now result }
 {
@@ -28,7 +28,7 @@ pub fn number_in(cell: &Cell) -> Option<u32>
     }
 }
 
-/// Parses the number of a resource, or null.
+/// Parses the number of a resource, or Null, for which it returns `Some(None)`.
 pub fn optional_in(cell: &Cell) -> Option<Option<ResNo>>
     ensures { Spells optional_cell IsNumberOrNone cell.now result }
 {
@@ -38,7 +38,7 @@ pub fn optional_in(cell: &Cell) -> Option<Option<ResNo>>
     }
 }
 
-/// Parses a flag: 0 or 1.
+/// Parses a flag, which is stored as 0 or 1.
 pub fn flag_in(cell: &Cell) -> Option<bool>
     ensures { Spells flag_cell (λ _. Unit {0}) cell.now result }
 {
@@ -49,7 +49,7 @@ pub fn flag_in(cell: &Cell) -> Option<bool>
     }
 }
 
-/// Parses the kind of a resource.
+/// Parses the kind of a resource, which is stored as a number from 1 to 4.
 pub fn resource_kind_in(cell: &Cell) -> Option<ResourceKind>
     ensures { Spells (λ kind. number_cell (resource_kind_no kind)) (λ _. Unit {0}) cell.now result }
 {
@@ -62,7 +62,7 @@ pub fn resource_kind_in(cell: &Cell) -> Option<ResourceKind>
     }
 }
 
-/// Parses the kind of a label.
+/// Parses the kind of a label, which is stored as a number from 1 to 4.
 pub fn label_kind_in(cell: &Cell) -> Option<LabelKind>
     ensures { Spells (λ kind. number_cell (label_kind_no kind)) (λ _. Unit {0}) cell.now result }
 {
@@ -75,7 +75,7 @@ pub fn label_kind_in(cell: &Cell) -> Option<LabelKind>
     }
 }
 
-/// Parses the kind of a link that isn't hierarchical.
+/// Parses the kind of a link that isn't hierarchical, which is stored as a number from 2 to 8.
 pub fn link_kind_in(cell: &Cell) -> Option<LinkKind>
     ensures { Spells (λ kind. number_cell (link_kind_no kind))
         (λ kind. hier_type kind ≡ None) cell.now result }
@@ -92,7 +92,7 @@ pub fn link_kind_in(cell: &Cell) -> Option<LinkKind>
     }
 }
 
-/// Parses the type of a hierarchical link.
+/// Parses the type of a hierarchical link, which is stored as a number from 0 to 3.
 pub fn hier_type_in(cell: &Cell) -> Option<HierType>
     ensures { Spells (λ typ. number_cell (hier_type_no typ)) (λ _. Unit {0}) cell.now result }
 {
@@ -105,7 +105,7 @@ pub fn hier_type_in(cell: &Cell) -> Option<HierType>
     }
 }
 
-/// Parses a text of the form `F`, which must be normalized already.
+/// Parses a text that has the form `F` and is in its stored spelling.
 pub fn text_in<F: Form>(alloc: Global, cell: &Cell) -> Result<Option<Formed<F>>, AllocError>
     ensures { IfOk result (Spells Text (HasStoredForm F.is_form F.LOWERED) cell.now) }
 {
@@ -125,7 +125,7 @@ pub fn text_in<F: Form>(alloc: Global, cell: &Cell) -> Result<Option<Formed<F>>,
     }
 }
 
-/// Parses the text of a label of this kind.
+/// Parses the text of a label of this kind, which for a scope note may be longer.
 pub fn value_in(
     alloc: Global,
     kind: LabelKind,

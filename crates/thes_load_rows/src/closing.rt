@@ -1,4 +1,4 @@
-//! The end of each table, after its last row.
+//! The checks of a table after its last row.
 ghost use Rattle.std.specs.Prelude.{IfOk};
 ghost use Rattle.thes_load_rows.specs.declared.stage.Stage.TheVariants as stage;
 ghost use Rattle.thes_load_rows.specs.Progress.{Closes};
@@ -14,7 +14,8 @@ use thes_base::fault::{Fault, Table};
 use thes_base::text::Base;
 use thes_vocab::VocabLoad;
 
-/// Checks that table meta has a row of this version, and begins table resource.
+/// Begins table resource if table meta has a row of the current version; stops with `OlderStore` or
+/// `NewerStore` for another version, and with `BadStore` without a row.
 pub fn close_meta(alloc: Global, row: Option<MetaRow>) -> Stage
     ensures { Closes (stage.Meta row) result }
 {
@@ -26,7 +27,8 @@ pub fn close_meta(alloc: Global, row: Option<MetaRow>) -> Stage
     }
 }
 
-/// Checks table resource as a whole, and begins table outside.
+/// Begins table outside if all rows of table resource together meet the table's rule; stops with
+/// `BadStore` otherwise.
 pub fn close_resource(alloc: Global, base: Base, load: ResourceLoad) -> Result<Stage, AllocError>
     ensures { IfOk result (Closes (stage.Resource base load)) }
 {
@@ -38,7 +40,7 @@ pub fn close_resource(alloc: Global, base: Base, load: ResourceLoad) -> Result<S
     }
 }
 
-/// Checks table outside as a whole, and begins table label.
+/// Begins table label if each outside concept has an IRI; stops with `BadStore` otherwise.
 pub fn close_outside(load: OutsideLoad) -> Stage
     ensures { Closes (stage.Outside load) result }
 {
@@ -49,7 +51,8 @@ pub fn close_outside(load: OutsideLoad) -> Stage
     }
 }
 
-/// Checks table label as a whole, and begins table link.
+/// Begins table link if each scheme, concept and collection has a preferred label; stops with
+/// `BadStore` otherwise.
 pub fn close_label(alloc: Global, vocab: VocabLoad) -> Result<Stage, AllocError>
     ensures { IfOk result (Closes (stage.Label vocab)) }
 {
@@ -68,7 +71,8 @@ pub fn close_label(alloc: Global, vocab: VocabLoad) -> Result<Stage, AllocError>
     }
 }
 
-/// Checks the links of both tables together, and begins table posting.
+/// Begins table posting if the links of the tables link and hier together meet Cycle, S27 and S46;
+/// stops with `BadStore` otherwise.
 pub fn close_hier(alloc: Global, linked_vocab: LinkedVocab) -> Result<Stage, AllocError>
     ensures { IfOk result (Closes (stage.Hier linked_vocab)) }
 {
@@ -79,7 +83,7 @@ pub fn close_hier(alloc: Global, linked_vocab: LinkedVocab) -> Result<Stage, All
     }
 }
 
-/// Begins table move, with each posting at its first concept.
+/// Begins table move, whose moves start at the first concepts of the postings.
 pub fn close_posting(linked_vocab: LinkedVocab, load: PostingLoad) -> Stage
     ensures { Closes (stage.Posting linked_vocab load) result }
 {

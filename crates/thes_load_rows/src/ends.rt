@@ -1,4 +1,4 @@
-//! Look-ups of resources by number, and the check of a link's ends.
+//! Look-ups of resources by number, and the check of the ends of a link.
 ghost use Rattle.std.specs.Prelude.{◌≡◌, ◌↔◌, IsTrue, option_copied};
 ghost use Rattle.thes_base.specs.Resources.{entry_at, IsConcept, is_live_concept, is_outside};
 ghost use Rattle.thes_load_rows.specs.LinksSoFar.{IsFitLink};
@@ -6,14 +6,14 @@ ghost use Rattle.thes_load_rows.specs.LinksSoFar.{IsFitLink};
 use thes_base::data::{Link, Resource, ResourceKind};
 use thes_base::number::ResNo;
 
-/// Returns the resource with this number, if there is one.
+/// Returns the resource with this number, at index `n - 1`.
 pub fn resource_at(resources: &[Resource], n: ResNo) -> Option<&Resource>
     ensures { option_copied result ≡ entry_at resources.now n }
 {
     resources.get(n.get() as usize - 1)
 }
 
-/// Returns whether the number is a concept's, live or not.
+/// Checks whether the number is that of a concept, live or dead.
 pub fn is_concept(resources: &[Resource], n: ResNo) -> bool
     ensures { IsTrue result ↔ IsConcept resources.now n }
 {
@@ -23,7 +23,7 @@ pub fn is_concept(resources: &[Resource], n: ResNo) -> bool
     }
 }
 
-/// Returns whether the number is a live concept's.
+/// Checks whether the number is that of a live concept.
 pub fn is_live(resources: &[Resource], n: ResNo) -> bool
     ensures { result ≡ is_live_concept resources.now n }
 {
@@ -33,7 +33,7 @@ pub fn is_live(resources: &[Resource], n: ResNo) -> bool
     }
 }
 
-/// Returns whether the number is an outside concept's.
+/// Checks whether the number is that of an outside concept.
 pub fn is_outside(resources: &[Resource], n: ResNo) -> bool
     ensures { result ≡ is_outside resources.now n }
 {
@@ -43,7 +43,8 @@ pub fn is_outside(resources: &[Resource], n: ResNo) -> bool
     }
 }
 
-/// Checks whether a link has the ends that its kind requires, in any order.
+/// Checks whether the ends of a link are two different live resources of the right kinds and
+/// schemes.
 pub fn is_fit(resources: &[Resource], link: &Link) -> bool
     ensures { IsTrue result ↔ IsFitLink resources.now link.now }
 {

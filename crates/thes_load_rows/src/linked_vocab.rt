@@ -1,27 +1,28 @@
-//! A vocabulary with the links of its resources.
+//! A loaded vocabulary, with the links loaded so far.
 ghost use Rattle.std.specs.Prelude.{◌≡◌, List, [], IfOk, map};
 ghost use Rattle.thes_base.specs.declared.data.Link.{Link};
 ghost use Rattle.thes_tables.specs.declared.rows.HierRow.{HierRow};
 ghost use Rattle.thes_tables.specs.Cells.{link_cells, hier_cells};
 ghost use Rattle.thes_load_rules.specs.Rules.{LinkRule, HierRule};
 ghost use Rattle.thes_load_rows.specs.ReadResults.{ReadResult};
-ghost use Rattle.thes_load_rows.specs.LinksSoFar.{AreMarked, HasLinks};
+ghost use Rattle.thes_graph.specs.GraphView.{MarksOutside};
+ghost use Rattle.thes_load_rows.specs.LinksSoFar.{HasLinks};
 
 use crate::links::LinkLoad;
 use std::alloc::{AllocError, Global};
 use thes_tables::cells::Cell;
 use thes_vocab::Vocab;
 
-/// A vocabulary, and the links of the rows so far.
+/// A loaded vocabulary, with the links of the rows read so far.
 #[derive(Drop)]
 pub struct LinkedVocab {
     pub vocab: Vocab,
     pub links: LinkLoad,
-    ghost marked: { AreMarked vocab.resources links.graph },
+    ghost marked: { MarksOutside vocab.resources links.graph },
 }
 
 impl LinkedVocab {
-    /// Returns the vocabulary without links.
+    /// Creates a load over a vocabulary, without links.
     pub fn new(alloc: Global, vocab: Vocab) -> Result<LinkedVocab, AllocError>
         ensures same { IfOk result (λ linked_vocab. linked_vocab.vocab ≡ vocab) }
         ensures none { IfOk result (λ linked_vocab.
@@ -31,7 +32,8 @@ impl LinkedVocab {
         Ok(LinkedVocab { vocab, links })
     }
 
-    /// Parses the next row of table link and adds it, or returns false if it is faulty.
+    /// Parses the next row of table link and adds its link; returns false if the row has another
+    /// form, is a duplicate, or its link isn't legal.
     pub fn read_link(&mut self, cells: &[Cell]) -> Result<bool, AllocError>
         ensures same { self.new.vocab ≡ self.old.vocab }
         ensures reads { let resources = self.old.vocab.resources in
@@ -43,7 +45,9 @@ impl LinkedVocab {
         self.links.read(self.vocab.resources(), cells)
     }
 
-    /// Parses the next row of table hier and adds it, or returns false if it is faulty.
+    /// Parses the next row of table hier and adds its link; returns false if the row has another
+    /// form, is a duplicate, or its link isn't legal. `LinkLoad::close` checks the links together
+    /// (Cycle, S27, S46).
     pub fn read_hier(&mut self, cells: &[Cell]) -> Result<bool, AllocError>
         ensures same { self.new.vocab ≡ self.old.vocab }
         ensures reads { let resources = self.old.vocab.resources in

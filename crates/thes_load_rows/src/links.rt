@@ -1,17 +1,17 @@
-//! The tables link and hier: their rows, and the rule of their links.
+//! The rows of the tables link and hier, and the check of their links.
 ghost use Rattle.std.specs.Prelude.{◌≡◌, ◌↔◌, ◌<◌, ◌^◌, [], List, IsTrue, IfOk, length, map};
 ghost use Rattle.thes_base.specs.declared.data.Resource.{Resource};
 ghost use Rattle.thes_base.specs.declared.data.Link.{Link};
 ghost use Rattle.thes_base.specs.Links.{normal_form};
 ghost use Rattle.thes_tables.specs.declared.rows.HierRow.{HierRow};
 ghost use Rattle.thes_tables.specs.Tables.{hier_kind, hier_link};
-ghost use Rattle.thes_graph.specs.Net.{is_marked};
+ghost use Rattle.thes_graph.specs.GraphView.{is_marked, MarksOutside};
 ghost use Rattle.thes_load_rules.specs.Rules.{LinkRule, HierRule};
 ghost use Rattle.thes_load_rows.specs.Forms.{HasLinkForm};
 ghost use Rattle.thes_tables.specs.Cells.{link_cells, hier_cells};
 ghost use Rattle.thes_load_rows.specs.ReadResults.{ReadResult};
 ghost use Rattle.thes_load_rows.specs.RowsSoFar.{TakeResult};
-ghost use Rattle.thes_load_rows.specs.LinksSoFar.{AreMarked, IsAdded, HasLinks};
+ghost use Rattle.thes_load_rows.specs.LinksSoFar.{AddLinkResult, HasLinks};
 
 use crate::ends::{is_fit, is_outside};
 use crate::rows::{hier_in, link_in};
@@ -23,14 +23,14 @@ use thes_graph::judge::normalize_ends;
 use thes_tables::cells::Cell;
 use thes_tables::rows::{HierRow, HierType};
 
-/// The links of the rows of the tables link and hier so far.
+/// The links of the rows of the tables link and hier that were read so far.
 #[derive(Drop)]
 pub struct LinkLoad {
     pub graph: Graph,
 }
 
 impl LinkLoad {
-    /// Returns a load without rows, which knows the outside concepts.
+    /// Creates a load without links, in whose graph the outside concepts are marked.
     pub fn new(alloc: Global, resources: &[Resource]) -> Result<LinkLoad, AllocError>
         requires { length resources.now < 2 ^ 32 }
         ensures { IfOk result (λ load. HasLinks resources.now load.graph [] []) }
@@ -45,7 +45,8 @@ impl LinkLoad {
         Ok(LinkLoad { graph })
     }
 
-    /// Adds the next row of table link, or returns false if it breaks the rule.
+    /// Adds the link of the next row of table link; returns false if it is a duplicate or isn't
+    /// legal.
     pub fn take(&mut self, resources: &[Resource], link: &Link) -> Result<bool, AllocError>
         requires { HasLinkForm link.now }
         ensures same { self.new.graph.outside ≡ self.old.graph.outside }
@@ -58,7 +59,8 @@ impl LinkLoad {
         Ok(good)
     }
 
-    /// Adds the next row of table hier, or returns false if it breaks the rule.
+    /// Adds the link of the next row of table hier; returns false if it is a duplicate or isn't
+    /// legal.
     pub fn take_hier(&mut self, resources: &[Resource], row: &HierRow) -> Result<bool, AllocError>
         ensures same { self.new.graph.outside ≡ self.old.graph.outside }
         ensures takes { IfOk result (λ good. (links : List Link) (rows : List HierRow)
@@ -70,7 +72,8 @@ impl LinkLoad {
         Ok(good)
     }
 
-    /// Parses the next row of table link and adds it, or returns false if it is faulty.
+    /// Parses the next row of table link and adds its link; returns false if the row has another
+    /// form, is a duplicate, or its link isn't legal.
     pub fn read(&mut self, resources: &[Resource], cells: &[Cell]) -> Result<bool, AllocError>
         requires { length resources.now < 2 ^ 32 }
         ensures same { self.new.graph.outside ≡ self.old.graph.outside }
@@ -88,7 +91,9 @@ impl LinkLoad {
         }
     }
 
-    /// Parses the next row of table hier and adds it, or returns false if it is faulty.
+    /// Parses the next row of table hier and adds its link; returns false if the row has another
+    /// form, is a duplicate, or its link isn't legal. `close` checks the links together (Cycle,
+    /// S27, S46).
     pub fn read_hier(&mut self, resources: &[Resource], cells: &[Cell]) -> Result<bool, AllocError>
         requires { length resources.now < 2 ^ 32 }
         ensures same { self.new.graph.outside ≡ self.old.graph.outside }
@@ -106,7 +111,7 @@ impl LinkLoad {
         }
     }
 
-    /// Checks whether the links of both tables together meet the rules.
+    /// Checks whether the links of both tables together meet the rules Cycle, S27 and S46.
     pub fn close(&self, alloc: Global) -> Result<bool, AllocError>
         ensures { IfOk result (λ good.
             (resources : List Resource) (links : List Link) (rows : List HierRow)
@@ -120,11 +125,11 @@ impl LinkLoad {
     }
 }
 
-// Adds a link that is legal and new, and returns whether it is.
+// Adds a link if it is legal and new, and returns whether it is.
 fn add_legal(graph: &mut Graph, resources: &[Resource], link: &Link) -> Result<bool, AllocError>
     ensures same { graph.new.outside ≡ graph.old.outside }
-    ensures adds { IfOk result (λ good. AreMarked resources.now graph.old
-        → IsAdded resources.now graph.old graph.new link.now good) }
+    ensures adds { IfOk result (λ good. MarksOutside resources.now graph.old
+        → AddLinkResult resources.now graph.old graph.new link.now good) }
 {
     if is_fit(resources, link) {
         if is_in_order(graph, link) {
@@ -142,7 +147,7 @@ fn add_legal(graph: &mut Graph, resources: &[Resource], link: &Link) -> Result<b
     }
 }
 
-// Whether the link has its ends in the normal order.
+// Checks whether the link is in normal form.
 fn is_in_order(graph: &Graph, link: &Link) -> bool
     ensures { IsTrue result ↔ (normal_form (is_marked graph.now) link.now ≡ link.now) }
 {
@@ -150,7 +155,7 @@ fn is_in_order(graph: &Graph, link: &Link) -> bool
     normalize_ends(link, outside) == *link
 }
 
-// The kind of link for a type of hierarchical relationship.
+// Returns the kind of link for a type of hierarchical relationship.
 fn kind_of(typ: HierType) -> LinkKind
     ensures { result ≡ hier_kind typ }
 {
@@ -162,7 +167,7 @@ fn kind_of(typ: HierType) -> LinkKind
     }
 }
 
-// The link that a row of table hier encodes.
+// Returns the link that a row of table hier encodes.
 fn link_of(row: &HierRow) -> Link
     ensures { result ≡ hier_link row.now }
 {

@@ -1,4 +1,4 @@
-//! Table meta, which has one row.
+//! The row of table meta, by its version.
 ghost use Rattle.std.specs.Prelude.{IfOk};
 ghost use Rattle.thes_load_rows.specs.Version.{SpellsMeta};
 
@@ -8,15 +8,18 @@ use thes_base::form::BaseForm;
 use thes_base::text::Base;
 use thes_tables::cells::Cell;
 
-/// A row of table meta: of a newer or an older version, or of this one, with the base.
+/// The row of table meta: of a newer version, of an older one, or of the current one with the base.
 #[derive(Debug, Drop)]
 pub enum MetaRow {
+    /// The row of a later version, which this program doesn't know.
     Newer,
+    /// The row of version 1, which must be migrated before use.
     Older,
+    /// The row of the current version, with the base.
     Base(Base),
 }
 
-/// Parses a row of table meta.
+/// Parses a row of table meta; returns None if its cells aren't those of any version.
 pub fn meta_in(alloc: Global, cells: &[Cell]) -> Result<Option<MetaRow>, AllocError>
     ensures { IfOk result (SpellsMeta cells.now) }
 {

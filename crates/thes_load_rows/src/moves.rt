@@ -1,4 +1,4 @@
-//! Table move: its rows, and its rule.
+//! The rows of table move, and the check that they lead postings to their places.
 ghost use Rattle.std.specs.Prelude.{◌≡◌, ◌<◌, ◌+◌, ◌↔◌, List, IsTrue, length, map, ◌^◌};
 ghost use Rattle.thes_base.specs.declared.data.Resource.{Resource};
 ghost use Rattle.thes_base.specs.Resources.{entry_at};
@@ -8,7 +8,7 @@ ghost use Rattle.thes_load_rules.specs.Rules.{PostingRule, MoveRule};
 ghost use Rattle.thes_load_rows.specs.Forms.{HasMoveForm};
 ghost use Rattle.thes_tables.specs.Cells.{move_cells};
 ghost use Rattle.thes_load_rows.specs.ReadResults.{ReadResult};
-ghost use Rattle.thes_load_rows.specs.RowsSoFar.{TakeResult, HasMoves, IsNextMove, AreSamePlaces};
+ghost use Rattle.thes_load_rows.specs.RowsSoFar.{TakeResult, HasMoves, IsNextMove, HasStoredPlaces};
 
 use crate::ends::is_concept;
 use crate::rows::move_in;
@@ -17,7 +17,7 @@ use thes_base::number::{PostNo, ResNo};
 use thes_tables::cells::Cell;
 use thes_tables::rows::MoveRow;
 
-/// What is kept of the rows of table move so far: their number, and the place of each posting after them.
+/// The number of rows of table move read so far, and the place of each posting after them.
 #[derive(Drop)]
 pub struct MoveLoad {
     pub places: Vec<ResNo>,
@@ -25,14 +25,15 @@ pub struct MoveLoad {
     ghost few: { taken < 2 ^ 32 },
 }
 
-// The place of a posting.
+// Returns the place of a posting after the moves so far; None if no posting has the number.
 fn place_at(places: &[ResNo], number: PostNo) -> Option<ResNo>
     ensures { result ≡ entry_at places.now number }
 {
     places.get(number.get() as usize - 1).copied()
 }
 
-// Whether a move meets the rule as the next one, given the places before it.
+// Checks whether a move may be the next one: it has the next number, starts at its posting's place,
+// and ends at another concept.
 fn is_next(places: &[ResNo], resources: &[Resource], taken: u64, step: &MoveRow) -> bool
     requires { taken < u64.MAX }
     ensures { IsTrue result ↔ IsNextMove resources.now places.now taken step.now }
@@ -43,7 +44,7 @@ fn is_next(places: &[ResNo], resources: &[Resource], taken: u64, step: &MoveRow)
         && is_concept(resources, step.target)
 }
 
-// Applies a move to the places, or returns false if it breaks the rule.
+// Applies a move to the places; changes nothing and returns false if it can't be the next move.
 fn follow(places: &mut [ResNo], resources: &[Resource], taken: u64, step: &MoveRow) -> bool
     requires room { taken < u64.MAX }
     requires form { HasMoveForm step.now }
@@ -61,7 +62,8 @@ fn follow(places: &mut [ResNo], resources: &[Resource], taken: u64, step: &MoveR
     }
 }
 
-// Applies a move to the places in a vector, as `follow` does.
+// Applies a move to the places in a vector; changes nothing and returns false if it can't be the
+// next move.
 fn follow_in(places: &mut Vec<ResNo>, resources: &[Resource], taken: u64, step: &MoveRow) -> bool
     requires room { taken < u64.MAX }
     requires form { HasMoveForm step.now }
@@ -75,7 +77,7 @@ fn follow_in(places: &mut Vec<ResNo>, resources: &[Resource], taken: u64, step: 
 }
 
 impl MoveLoad {
-    /// Applies the next row, or returns false if it breaks the rule.
+    /// Applies the next move; changes nothing and returns false if it can't be the next one.
     pub fn take(&mut self, resources: &[Resource], step: &MoveRow) -> bool
         requires { HasMoveForm step.now }
         ensures { (postings : List PostingRow) (rows : List MoveRow)
@@ -91,7 +93,8 @@ impl MoveLoad {
         }
     }
 
-    /// Parses the next row and applies it, or returns false if it is faulty.
+    /// Parses the next row and applies its move; returns false if the row can't follow the rows
+    /// read so far in a table that meets its rule.
     pub fn read(&mut self, resources: &[Resource], cells: &[Cell]) -> bool
         requires { length resources.now < 2 ^ 32 }
         ensures { (postings : List PostingRow) (rows : List MoveRow)
@@ -107,20 +110,21 @@ impl MoveLoad {
         }
     }
 
-    /// Checks whether the moves lead to the places `stored_places` of the rows of table posting.
+    /// Checks whether the moves lead each posting to its place in `stored_places`, which comes from
+    /// table posting.
     pub fn close(&self, stored_places: &[ResNo]) -> bool
         ensures { (resources : List Resource) (postings : List PostingRow) (rows : List MoveRow)
             → HasMoves resources postings self.now.taken self.now.places.items rows
             → stored_places.now ≡ map (λ (p : PostingRow). p.place) postings
             → IsTrue result ↔ MoveRule resources postings rows }
     {
-        are_same_places(self.places.as_slice(), stored_places)
+        has_stored_places(self.places.as_slice(), stored_places)
     }
 }
 
-// Whether the two lists of places agree.
-fn are_same_places(places: &[ResNo], stored_places: &[ResNo]) -> bool
-    ensures { IsTrue result ↔ AreSamePlaces places.now stored_places.now }
+// Checks whether `places` has each stored place at the same index.
+fn has_stored_places(places: &[ResNo], stored_places: &[ResNo]) -> bool
+    ensures { IsTrue result ↔ HasStoredPlaces places.now stored_places.now }
 {
     for i in 0..stored_places.len() {
         if places.get(i).copied() != Some(stored_places[i]) {

@@ -1,4 +1,4 @@
-//! The tables outside and label: their rows, and their rules.
+//! The rows of the tables outside and label, and their checks.
 ghost use Rattle.std.specs.Prelude.{◌≡◌, ◌↔◌, ◌<◌, ◌^◌, ℕ, List, [], IsTrue, IfOk, MatchOption, length, map};
 ghost use Rattle.thes_base.specs.declared.data.Resource.{Resource};
 ghost use Rattle.thes_base.specs.Labels.{Label};
@@ -7,7 +7,7 @@ ghost use Rattle.thes_load_rules.specs.Rules.{ResourceRule, OutsideRule, LabelRu
 ghost use Rattle.thes_load_rows.specs.Forms.{HasOutsideForm, HasLabelForm};
 ghost use Rattle.thes_load_rows.specs.RowsSoFar.{TakeResult};
 ghost use Rattle.thes_load_rows.specs.ReadResults.{ReadResult};
-ghost use Rattle.thes_load_rows.specs.NamesSoFar.{HasOutside, HasLabels, vocabulary_of};
+ghost use Rattle.thes_load_rows.specs.NamesSoFar.{HasOutside, HasLabels, vocabulary_of_rows};
 
 use crate::rows::{label_in, outside_in};
 use std::alloc::{AllocError, Global};
@@ -15,7 +15,8 @@ use thes_tables::cells::Cell;
 use thes_tables::rows::{LabelRow, OutsideRow};
 use thes_vocab::{Vocab, VocabLoad};
 
-/// What is kept of the rows of table outside so far: a vocabulary with their IRIs, and the last number, or 0.
+/// The rows of table outside read so far: a vocabulary with their IRIs, and the number of the last
+/// row, 0 without rows.
 #[derive(Drop)]
 pub struct OutsideLoad {
     pub vocab: VocabLoad,
@@ -23,16 +24,17 @@ pub struct OutsideLoad {
 }
 
 impl OutsideLoad {
-    /// Returns a load without rows, over a vocabulary without IRIs.
+    /// Creates a load without rows over a vocabulary without IRIs.
     pub fn new(vocab: VocabLoad) -> OutsideLoad
         ensures { (base : List ℕ) (resources : List Resource)
-            → vocab ≡ vocabulary_of base resources [] []
+            → vocab ≡ vocabulary_of_rows base resources [] []
             → HasOutside base resources result.vocab result.last [] }
     {
         OutsideLoad { vocab, last: 0 }
     }
 
-    /// Adds the next row, or returns false if it breaks the rule.
+    /// Adds the IRI of the next row; returns false if its number isn't greater than the last, or
+    /// `VocabLoad::take_iri` doesn't allow it.
     pub fn take(&mut self, row: OutsideRow) -> Result<bool, AllocError>
         requires { HasOutsideForm row }
         ensures { IfOk result (λ good.
@@ -54,7 +56,8 @@ impl OutsideLoad {
         }
     }
 
-    /// Parses the next row and adds it, or returns false if it is faulty.
+    /// Parses the next row and adds its IRI; returns false if the row can't follow the rows read so
+    /// far in a table that meets its rule.
     pub fn read(&mut self, alloc: Global, cells: &[Cell]) -> Result<bool, AllocError>
         ensures { IfOk result (λ good.
             (base : List ℕ) (resources : List Resource) (rows : List (ℕ × List ℕ))
@@ -73,7 +76,7 @@ impl OutsideLoad {
         }
     }
 
-    /// Checks whether each outside concept has a row.
+    /// Checks whether each outside concept has an IRI.
     pub fn close(&self) -> bool
         ensures { (base : List ℕ) (resources : List Resource) (rows : List (ℕ × List ℕ))
             → HasOutside base resources self.now.vocab self.now.last rows
@@ -85,7 +88,8 @@ impl OutsideLoad {
     }
 }
 
-/// Adds the next row of table label, or returns false if it breaks the rule.
+/// Adds the label of the next row of table label; returns false if it is a duplicate or
+/// `VocabLoad::take_label` doesn't allow it.
 pub fn take_label(vocab: &mut VocabLoad, row: LabelRow) -> Result<bool, AllocError>
     requires { HasLabelForm row }
     ensures { IfOk result (λ good.
@@ -99,7 +103,8 @@ pub fn take_label(vocab: &mut VocabLoad, row: LabelRow) -> Result<bool, AllocErr
     Ok(good)
 }
 
-/// Parses the next row of table label and adds it, or returns false if it is faulty.
+/// Parses the next row of table label and adds its label; returns false if the row can't follow the
+/// rows read so far in a table that meets its rule.
 pub fn read_label(vocab: &mut VocabLoad, alloc: Global, cells: &[Cell]) -> Result<bool, AllocError>
     ensures { IfOk result (λ good.
         (base : List ℕ) (resources : List Resource) (outside : List (ℕ × List ℕ))

@@ -1,4 +1,4 @@
-//! Table posting: its rows, and its rule.
+//! The rows of table posting, and their checks.
 ghost use Rattle.std.specs.Prelude.{◌≤◌, ◌<◌, ◌↔◌, List, IsTrue, IfOk, length, map, ◌^◌, ◌≡◌, []};
 ghost use Rattle.thes_base.specs.declared.data.Resource.{Resource};
 ghost use Rattle.thes_tables.specs.declared.rows.PostingRow.{PostingRow};
@@ -7,7 +7,7 @@ ghost use Rattle.thes_load_rows.specs.Forms.{HasPostingForm};
 ghost use Rattle.thes_tables.specs.Cells.{posting_cells};
 ghost use Rattle.thes_load_rows.specs.ReadResults.{ReadResult};
 ghost use Rattle.thes_load_rows.specs.PostingPlaces.{ArePlaced};
-ghost use Rattle.thes_load_rows.specs.RowsSoFar.{TakeResult, HasPostings, HasMoves, IsNextPosting, KeyIsTaken};
+ghost use Rattle.thes_load_rows.specs.RowsSoFar.{TakeResult, HasPostings, HasMoves, IsNextPosting, KeyInsertResult};
 
 use crate::ends::{is_concept, is_live};
 use crate::moves::MoveLoad;
@@ -17,29 +17,31 @@ use std::collections::BTreeSet;
 use thes_base::data::Resource;
 use thes_base::number::ResNo;
 use thes_base::text::Key;
-use thes_post::tally::Tally;
+use thes_post::tally::LoadedCounts;
 use thes_tables::cells::Cell;
 use thes_tables::rows::PostingRow;
 
-/// What is kept of the rows of table posting so far: keys, first concepts, places and counts.
+/// The rows of table posting read so far: their keys, first concepts and places, and the counts of
+/// their postings.
 #[derive(Drop)]
 pub struct PostingLoad {
     pub keys: BTreeSet<Key>,
     pub firsts: Vec<ResNo>,
     pub stored_places: Vec<ResNo>,
-    pub tally: Tally,
+    pub tally: LoadedCounts,
     ghost few: { length firsts.items < 2 ^ 32 },
     ghost told: { tally.accepted ≤ length firsts.items },
 }
 
-/// The places of all postings by the rows of table posting, and the counts of these.
+/// The places of all postings as table posting states them, and the counts of postings.
 #[derive(Drop)]
 pub struct PlacedPostings {
     pub stored_places: Vec<ResNo>,
-    pub tally: Tally,
+    pub tally: LoadedCounts,
 }
 
-// Whether a row meets the rule as the next one, but for the uniqueness of its key.
+// Checks whether a row may be the next one if its key is new: it has the next number, its first
+// concept and its place are concepts, and the place is live unless the posting was withdrawn.
 fn is_next(resources: &[Resource], taken: usize, row: &PostingRow) -> bool
     requires { taken < usize.MAX }
     ensures { IsTrue result ↔ IsNextPosting resources.now taken row.now }
@@ -50,16 +52,16 @@ fn is_next(resources: &[Resource], taken: usize, row: &PostingRow) -> bool
         && (row.withdrawn || is_live(resources, row.place))
 }
 
-// Inserts a key, and returns whether it is new.
-fn take_key(keys: &mut BTreeSet<Key>, key: Key) -> Result<bool, AllocError>
-    ensures { IfOk result (KeyIsTaken keys.old.keys keys.new.keys key) }
+// Inserts a key, and returns whether no row had it before.
+fn add_key(keys: &mut BTreeSet<Key>, key: Key) -> Result<bool, AllocError>
+    ensures { IfOk result (KeyInsertResult keys.old.keys keys.new.keys key) }
 {
     let fresh = keys.insert(key)?;
     Ok(fresh)
 }
 
 impl PostingLoad {
-    /// Returns a load without rows.
+    /// Creates a load without rows.
     pub fn new(alloc: Global) -> PostingLoad
         ensures { (resources : List Resource)
             → HasPostings resources result.keys.keys result.firsts.items
@@ -69,11 +71,12 @@ impl PostingLoad {
             keys: BTreeSet::new(alloc),
             firsts: Vec::new(alloc),
             stored_places: Vec::new(alloc),
-            tally: Tally::new(alloc),
+            tally: LoadedCounts::new(alloc),
         }
     }
 
-    /// Keeps the next row, or returns false if it breaks the rule.
+    /// Adds the next row; returns false if it can't follow the rows added so far in a table that
+    /// meets its rule.
     pub fn take(&mut self, resources: &[Resource], row: PostingRow) -> Result<bool, AllocError>
         requires { HasPostingForm row }
         ensures { IfOk result (λ good. (rows : List PostingRow)
@@ -87,7 +90,7 @@ impl PostingLoad {
             let first = row.first;
             let place = row.place;
             let withdrawn = row.withdrawn;
-            if take_key(&mut self.keys, row.key)? {
+            if add_key(&mut self.keys, row.key)? {
                 self.firsts.push(first)?;
                 self.stored_places.push(place)?;
                 self.tally.count_posting(place, withdrawn)?;
@@ -100,7 +103,8 @@ impl PostingLoad {
         }
     }
 
-    /// Parses the next row and keeps it, or returns false if it is faulty.
+    /// Parses the next row and adds it; returns false if the row can't follow the rows read so far
+    /// in a table that meets its rule.
     pub fn read(
         &mut self,
         alloc: Global,
@@ -125,7 +129,8 @@ impl PostingLoad {
         }
     }
 
-    /// Splits what is kept: first concepts, where the moves begin, and places, where they must end.
+    /// Splits the load into the first concepts, at which moves start, and the places, at which they
+    /// must end, with the counts.
     pub fn close(self) -> (MoveLoad, PlacedPostings)
         ensures { (resources : List Resource) (rows : List PostingRow)
             → HasPostings resources self.keys.keys self.firsts.items

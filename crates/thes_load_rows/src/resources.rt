@@ -1,11 +1,11 @@
-//! Table resource: its rows, and its rule.
+//! The rows of table resource, and their checks.
 ghost use Rattle.std.specs.Prelude.{◌≡◌, ◌<◌, ◌^◌, ◌↔◌, List, IsTrue, IfOk, [], length};
 ghost use Rattle.thes_base.specs.declared.data.Resource.{Resource};
 ghost use Rattle.thes_base.specs.Resources.{IsScheme, scheme_of, replacement_of};
 ghost use Rattle.thes_load_rules.specs.Rules.{ResourceRule};
 ghost use Rattle.thes_tables.specs.Cells.{resource_rows};
 ghost use Rattle.thes_load_rows.specs.ReadResults.{ReadResult};
-ghost use Rattle.thes_load_rows.specs.ResourceChecks.{IsNextResource, SchemeFits, ReplacementFits, ResourceFits, EachResourceFits, AreApart, HasReturn, is_cycle};
+ghost use Rattle.thes_load_rows.specs.ResourceChecks.{AppendResourceResult, SchemeFits, ReplacementFits, ResourceFits, EachResourceFits, NoneReplacesItself, HasReturn, is_cycle};
 
 use crate::ends::{is_concept, resource_at};
 use crate::rows::{ResourceRow, resource_in};
@@ -16,7 +16,7 @@ use thes_base::number::ResNo;
 use thes_graph::graph::Graph;
 use thes_tables::cells::Cell;
 
-/// The rows of table resource so far, all of which are kept.
+/// The resources of the rows of table resource read so far.
 #[derive(Drop)]
 pub struct ResourceLoad {
     pub resources: Vec<Resource>,
@@ -24,7 +24,7 @@ pub struct ResourceLoad {
 }
 
 impl ResourceLoad {
-    /// Returns a load without rows.
+    /// Creates a load without rows.
     pub fn new(alloc: Global) -> ResourceLoad
         ensures { result.resources.items ≡ [] }
     {
@@ -33,10 +33,10 @@ impl ResourceLoad {
         }
     }
 
-    /// Appends a row, or returns false if its number isn't the next one.
+    /// Appends the resource of a row; returns false if the row's number isn't the next one.
     pub fn take(&mut self, row: &ResourceRow) -> Result<bool, AllocError>
         ensures { IfOk result
-            (IsNextResource self.old.resources.items self.new.resources.items row.now) }
+            (AppendResourceResult self.old.resources.items self.new.resources.items row.now) }
     {
         if row.number.get() as usize == self.resources.len() + 1 {
             self.resources.push(row.resource)?;
@@ -46,7 +46,8 @@ impl ResourceLoad {
         }
     }
 
-    /// Parses a row and appends it, or returns false if it is faulty.
+    /// Parses the next row and appends its resource; returns false if the row has another form or a
+    /// number that isn't the next one.
     pub fn read(&mut self, cells: &[Cell]) -> Result<bool, AllocError>
         ensures { IfOk result
             (ReadResult (resource_rows 1) (λ rows. rows ≡ self.new.resources.items) ResourceRule
@@ -61,7 +62,7 @@ impl ResourceLoad {
         }
     }
 
-    /// Checks whether the resources meet the rule of the table.
+    /// Checks whether all resources together meet the table's rule.
     pub fn close(&self, alloc: Global) -> Result<bool, AllocError>
         ensures { IfOk result (λ good. IsTrue good ↔ ResourceRule self.now.resources.items) }
     {
@@ -69,7 +70,7 @@ impl ResourceLoad {
     }
 }
 
-// Whether each resource is legal among the others, and replacements have no cycle.
+// Checks whether each resource is legal among the others, and replacements form no cycle.
 fn are_legal(alloc: Global, resources: &[Resource]) -> Result<bool, AllocError>
     requires { length resources.now < 2 ^ 32 }
     ensures { IfOk result (λ good. IsTrue good ↔ ResourceRule resources.now) }
@@ -85,7 +86,7 @@ fn are_legal(alloc: Global, resources: &[Resource]) -> Result<bool, AllocError>
     }
 }
 
-// Whether each resource is legal among the others.
+// Checks whether each resource has a scheme, a status and a replacement as its kind requires.
 fn each_fits(resources: &[Resource]) -> bool
     requires { length resources.now < 2 ^ 32 }
     ensures { IsTrue result ↔ EachResourceFits resources.now }
@@ -101,7 +102,7 @@ fn each_fits(resources: &[Resource]) -> bool
     true
 }
 
-// Whether a resource has the scheme, the status and the replacement that its kind requires.
+// Checks whether a resource has a scheme, a status and a replacement as its kind requires.
 fn fits(resources: &[Resource], n: ResNo, r: &Resource) -> bool
     ensures { IsTrue result ↔ ResourceFits resources.now n r.now }
 {
@@ -110,6 +111,7 @@ fn fits(resources: &[Resource], n: ResNo, r: &Resource) -> bool
         && replacement_fits(resources, n, r)
 }
 
+// Checks whether the number is that of a scheme.
 fn is_scheme(resources: &[Resource], n: ResNo) -> bool
     ensures { IsTrue result ↔ IsScheme resources.now n }
 {
@@ -119,6 +121,7 @@ fn is_scheme(resources: &[Resource], n: ResNo) -> bool
     }
 }
 
+// Returns the scheme of the resource; None if it has none, or no resource has the number.
 fn scheme_of(resources: &[Resource], n: ResNo) -> Option<ResNo>
     ensures { result ≡ scheme_of resources.now n }
 {
@@ -128,6 +131,8 @@ fn scheme_of(resources: &[Resource], n: ResNo) -> Option<ResNo>
     }
 }
 
+// Checks whether a resource of the kind may have this scheme: the number of a scheme for a concept
+// or a collection, and none for another resource.
 fn scheme_fits(resources: &[Resource], kind: ResourceKind, scheme: Option<ResNo>) -> bool
     ensures { IsTrue result ↔ SchemeFits resources.now kind scheme }
 {
@@ -140,6 +145,7 @@ fn scheme_fits(resources: &[Resource], kind: ResourceKind, scheme: Option<ResNo>
     }
 }
 
+// Checks whether the replacement, if there is one, is another concept of the scheme, and the resource is dead.
 fn replacement_fits(resources: &[Resource], n: ResNo, r: &Resource) -> bool
     ensures { IsTrue result ↔ ReplacementFits resources.now n r.now r.now.replaced }
 {
@@ -151,10 +157,11 @@ fn replacement_fits(resources: &[Resource], n: ResNo, r: &Resource) -> bool
     }
 }
 
-// Whether replacements have a cycle: they are checked as the links of a graph, from each resource to a broader one.
+// Checks whether replacements form a cycle, by the check of a graph that has each of them as a
+// broader link.
 fn returns(alloc: Global, resources: &[Resource]) -> Result<bool, AllocError>
     requires few { length resources.now < 2 ^ 32 }
-    requires apart { AreApart resources.now }
+    requires apart { NoneReplacesItself resources.now }
     ensures { IfOk result (HasReturn resources.now) }
 {
     let mut graph = Graph::new(alloc);
@@ -172,7 +179,7 @@ fn returns(alloc: Global, resources: &[Resource]) -> Result<bool, AllocError>
     if is_cycle(first) { Ok(true) } else { Ok(false) }
 }
 
-// Whether the first broken rule is that links have no cycle.
+// Checks whether the first broken rule is Cycle.
 fn is_cycle(first: Option<Refusal>) -> bool
     ensures { result ≡ is_cycle first }
 {
@@ -182,6 +189,7 @@ fn is_cycle(first: Option<Refusal>) -> bool
     }
 }
 
+// Returns the replacement of the resource; None if it has none, or no resource has the number.
 fn replacement_of(resources: &[Resource], n: ResNo) -> Option<ResNo>
     ensures { result ≡ replacement_of resources.now n }
 {

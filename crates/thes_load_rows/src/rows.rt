@@ -1,4 +1,4 @@
-//! Parsers of rows of cells, one for each table.
+//! Parsers of rows of cells, one for each table, which return None for a row of another form.
 ghost use Rattle.std.specs.Prelude.{IfOk};
 ghost use Rattle.thes_tables.specs.Cells.{outside_cells, label_cells, link_cells, hier_cells, posting_cells, move_cells};
 ghost use Rattle.thes_load_rows.specs.Forms.{HasResourceForm, HasOutsideForm, HasLabelForm, HasLinkForm, HasHierForm, HasPostingForm, HasMoveForm};
@@ -15,14 +15,15 @@ use thes_base::number::{MoveNo, PostNo, ResNo};
 use thes_tables::cells::Cell;
 use thes_tables::rows::{HierRow, LabelRow, MoveRow, OutsideRow, PostingRow};
 
-/// A row of table resource.
+/// A row of table resource: a resource, with its number.
 #[derive(Clone, Copy, Debug)]
 pub struct ResourceRow {
     pub number: ResNo,
     pub resource: Resource,
 }
 
-/// Parses a row of table resource.
+/// Parses the five cells of a row of table resource: number, kind, scheme, live flag and
+/// replacement.
 pub fn resource_in(cells: &[Cell]) -> Option<ResourceRow>
     ensures { Spells row_cells HasResourceForm cells.now result }
 {
@@ -45,7 +46,7 @@ pub fn resource_in(cells: &[Cell]) -> Option<ResourceRow>
     })
 }
 
-/// Parses a row of table outside.
+/// Parses the two cells of a row of table outside: number and IRI.
 pub fn outside_in(alloc: Global, cells: &[Cell]) -> Result<Option<OutsideRow>, AllocError>
     ensures { IfOk result (Spells outside_cells HasOutsideForm cells.now) }
 {
@@ -64,7 +65,7 @@ pub fn outside_in(alloc: Global, cells: &[Cell]) -> Result<Option<OutsideRow>, A
     }
 }
 
-/// Parses a row of table label.
+/// Parses the four cells of a row of table label: owner, kind, tag and text.
 pub fn label_in(alloc: Global, cells: &[Cell]) -> Result<Option<LabelRow>, AllocError>
     ensures { IfOk result (Spells label_cells HasLabelForm cells.now) }
 {
@@ -89,7 +90,7 @@ pub fn label_in(alloc: Global, cells: &[Cell]) -> Result<Option<LabelRow>, Alloc
     }
 }
 
-/// Parses a row of table link.
+/// Parses the three cells of a row of table link: kind and both ends.
 pub fn link_in(cells: &[Cell]) -> Option<Link>
     ensures { Spells link_cells HasLinkForm cells.now result }
 {
@@ -106,7 +107,7 @@ pub fn link_in(cells: &[Cell]) -> Option<Link>
     })
 }
 
-/// Parses a row of table hier.
+/// Parses the three cells of a row of table hier: narrower concept, broader concept and type.
 pub fn hier_in(cells: &[Cell]) -> Option<HierRow>
     ensures { Spells hier_cells HasHierForm cells.now result }
 {
@@ -123,7 +124,8 @@ pub fn hier_in(cells: &[Cell]) -> Option<HierRow>
     })
 }
 
-/// Parses a row of table posting.
+/// Parses the six cells of a row of table posting: number, key, record, first concept, place and
+/// withdrawn flag.
 pub fn posting_in(alloc: Global, cells: &[Cell]) -> Result<Option<PostingRow>, AllocError>
     ensures { IfOk result (Spells posting_cells HasPostingForm cells.now) }
 {
@@ -158,7 +160,7 @@ pub fn posting_in(alloc: Global, cells: &[Cell]) -> Result<Option<PostingRow>, A
     }
 }
 
-/// Parses a row of table move.
+/// Parses the four cells of a row of table move: number, posting, source and target.
 pub fn move_in(cells: &[Cell]) -> Option<MoveRow>
     ensures { Spells move_cells HasMoveForm cells.now result }
 {

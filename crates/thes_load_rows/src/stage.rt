@@ -1,6 +1,6 @@
-//! The state of a load while the rows of one table come.
+//! The stages of a load, one for each table whose rows are read.
 ghost use Rattle.std.specs.Prelude.{◌≡◌, ◌↔◌, ◌<◌, ◌≤◌, IsTrue, IfOk};
-ghost use Rattle.thes_load_rows.specs.Progress.{stage_table, is_stopped, next_table, table_no, ReadsRow, Closes, Reaches};
+ghost use Rattle.thes_load_rows.specs.Progress.{stage_table, is_stopped, next_table, table_no, ReadsRow, Closes, ReachesTable};
 
 use crate::closing::{
     close_hier, close_label, close_meta, close_outside, close_posting, close_resource,
@@ -17,22 +17,32 @@ use thes_base::text::Base;
 use thes_tables::cells::Cell;
 use thes_vocab::VocabLoad;
 
-/// The state of a load, by its current table: what is kept of the rows so far, or the first fault with that table.
+/// A stage of a load: the table whose rows are read, with what the rows read so far encode, or the first fault.
 #[derive(Drop)]
 pub enum Stage {
+    /// Table meta, with its row if that has been read.
     Meta(Option<MetaRow>),
+    /// Table resource, with the base and the resources read so far.
     Resource(Base, ResourceLoad),
+    /// Table outside, with all resources and the IRIs of outside concepts read so far.
     Outside(OutsideLoad),
+    /// Table label, with all resources and IRIs, and the labels read so far.
     Label(VocabLoad),
+    /// Table link, with the vocabulary and the links that aren't hierarchical read so far.
     Link(LinkedVocab),
+    /// Table hier, with the vocabulary, the links of table link, and the hierarchical links read so far.
     Hier(LinkedVocab),
+    /// Table posting, with the vocabulary and all links, and the postings read so far.
     Posting(LinkedVocab, PostingLoad),
+    /// Table move, with the vocabulary and all links, the stored places and counts of all postings,
+    /// and the places after the moves read so far.
     Move(LinkedVocab, PlacedPostings, MoveLoad),
+    /// The first fault, and the current table.
     Stopped(Fault, Table),
 }
 
 impl Stage {
-    /// Returns the current table: the one whose rows come.
+    /// Returns the table whose rows are read.
     pub fn current_table(&self) -> Table
         ensures { result ≡ stage_table self.now }
     {
@@ -49,14 +59,14 @@ impl Stage {
         }
     }
 
-    /// Returns whether the load is past the rows of this table.
+    /// Checks whether the load is past the rows of this table.
     pub fn is_past(&self, table: Table) -> bool
         ensures { IsTrue result ↔ (table_no table < table_no (stage_table self.now)) }
     {
         number(table) < number(self.current_table())
     }
 
-    /// Returns whether the load has stopped with a fault.
+    /// Checks whether the load has stopped with a fault.
     pub(crate) fn is_stopped(&self) -> bool
         ensures { result ≡ is_stopped self.now }
     {
@@ -66,7 +76,9 @@ impl Stage {
         }
     }
 
-    /// Parses the next row of the current table and keeps it, or returns false if it is faulty.
+    /// Parses the next row of the current table and adds it; returns false if the row can't follow
+    /// the rows read so far in a table that meets its rule. What only the whole table shows is
+    /// checked at its end. After a fault it does nothing and returns true.
     pub(crate) fn read(&mut self, alloc: Global, cells: &[Cell]) -> Result<bool, AllocError>
         ensures { IfOk result (ReadsRow self.old self.new cells.now) }
     {
@@ -99,7 +111,8 @@ impl Stage {
         }
     }
 
-    // Checks the current table as a whole, and moves on to the next one.
+    // Checks the current table after its last row, and makes the next one current; keeps the first
+    // fault. Does nothing at table move, the last one.
     fn close(self, alloc: Global) -> Result<Stage, AllocError>
         ensures { IfOk result (Closes self) }
     {
@@ -116,10 +129,10 @@ impl Stage {
         }
     }
 
-    /// Closes the tables before this one, which becomes the current one.
+    /// Closes the tables before this one, which becomes the current table.
     pub(crate) fn reach(self, alloc: Global, table: Table) -> Result<Stage, AllocError>
         requires { table_no (stage_table self) ≤ table_no table }
-        ensures { IfOk result (λ new. Reaches self new table) }
+        ensures { IfOk result (λ new. ReachesTable self new table) }
     {
         let mut stage = self;
         for i in number(stage.current_table())..number(table) {
@@ -129,7 +142,7 @@ impl Stage {
     }
 }
 
-// The table after this one; the last is its own successor.
+// Returns the table after this one. The last table is its own successor.
 fn next(current_table: Table) -> Table
     ensures { result ≡ next_table current_table }
 {
@@ -144,7 +157,7 @@ fn next(current_table: Table) -> Table
     }
 }
 
-// The index of a table in the order of a load.
+// Returns the index of a table in the order of a load, from 0.
 fn number(table: Table) -> u32
     ensures { result ≡ table_no table }
 {

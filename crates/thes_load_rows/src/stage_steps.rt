@@ -1,4 +1,5 @@
-//! The steps of a load: a row, a table that can't be queried, and the end.
+//! The operations of a load: adding a row, stopping at a table that the database can't query, and
+//! finishing.
 ghost use Rattle.std.specs.Prelude.{◌≤◌, IfOk};
 ghost use Rattle.thes_tables.specs.Cells.{Raw};
 ghost use Rattle.thes_load_rows.specs.declared.stage.Stage.TheVariants as stage;
@@ -14,7 +15,7 @@ use thes_base::fault::{Fault, Table};
 use thes_post::book::Book;
 use thes_tables::cells::Cell;
 
-/// The parts of a state, from rows that load: the vocabulary with its links, and the counts of postings.
+/// The parts of a state that loaded rows encode: the vocabulary with its links, and the counts of postings.
 #[derive(Drop)]
 pub struct LoadedParts {
     pub linked_vocab: LinkedVocab,
@@ -22,7 +23,8 @@ pub struct LoadedParts {
 }
 
 impl Stage {
-    /// Parses a row of a table and keeps it, or stops with the fault. Closes the tables before it first.
+    /// Closes the tables before `table`, and adds its next row, or stops with its fault if the row
+    /// can't follow those read so far; keeps an earlier fault.
     pub fn row(self, alloc: Global, table: Table, cells: &[Cell]) -> Result<Stage, AllocError>
         requires { table_no (stage_table self) ≤ table_no table }
         ensures { IfOk result (λ next. HasRow self next table cells.now) }
@@ -41,8 +43,9 @@ impl Stage {
         }
     }
 
-    /// Stops with the fault of a table that can't be queried, unless there is one before it. Closes those tables first.
-    pub fn unqueried(self, alloc: Global, table: Table) -> Result<Stage, AllocError>
+    /// Closes the tables before `table`, which the database can't query, and stops with its fault;
+    /// keeps an earlier fault.
+    pub fn report_unqueried(self, alloc: Global, table: Table) -> Result<Stage, AllocError>
         requires { table_no (stage_table self) ≤ table_no table }
         ensures { IfOk result (λ next. HasUnqueried self next table) }
     {
@@ -69,7 +72,8 @@ impl Stage {
     }
 }
 
-// Checks table move, the last one, as a whole.
+// Checks table move, the last one, after its last row; returns the loaded parts, or the table's
+// fault.
 fn close_moves(
     linked_vocab: LinkedVocab,
     placed: PlacedPostings,

@@ -1,4 +1,4 @@
--- Proves that the rows of a legal state load, and encode it.
+-- The tables of a legal state load, and encode that state.
 use Rattle.std.proofs.Common.{◌≡◌, ◌⊎◌, ◌<◌, ℕ, List, [], ◌∷◌, map, refl, sym, ap, ◌∙◌, subst, arith, inl, inr, cond}
 use Rattle.std.proofs.lemmas.Bool.{cases_Bool}
 use Rattle.std.proofs.lemmas.Option.{same_Some}
@@ -12,14 +12,14 @@ use Rattle.thes_base.specs.declared.data.History.{History}
 use Rattle.thes_base.specs.Resources.{entry_at, IsConcept, is_live_concept}
 use Rattle.thes_base.specs.Postings.{place}
 use Rattle.thes_base.specs.State.{State}
-use Rattle.thes_base.specs.Texts.{HaveForms}
-use Rattle.thes_base.specs.Legal.{Legal, IsLegalHistory, IsLegalMove}
+use Rattle.thes_base.specs.Texts.{StateHasForms}
+use Rattle.thes_base.specs.Legal.{IsLegalState, IsLegalHistory, IsLegalMove}
 use Rattle.thes_base.proofs.LabelSetLemmas.{labels_total, labels_exact}
 use Rattle.thes_base.proofs.LegalPostingLemmas.{place_concept}
 use Rattle.thes_base.proofs.SoundStateLemmas.{forms_of_legal}
 use Rattle.thes_tables.specs.declared.rows.PostingRow.{PostingRow}
 use Rattle.thes_tables.specs.declared.rows.MoveRow.{MoveRow}
-use Rattle.thes_tables.specs.Tables.{Tables, IsIn, Ascends, IsRowsOf, posting_row, recorded_move, moves_of}
+use Rattle.thes_tables.specs.Tables.{Tables, IsIn, IriNumbersAscend, IsRowsOf, posting_row, recorded_move, moves_of}
 use Rattle.thes_tables.specs.Cells.{cells_of_tables}
 use Rattle.thes_tables.proofs.MoveRowLemmas.{map_numbered, in_all}
 use Rattle.thes_load_rules.specs.Rules.{iris_of, history_of, state_of, OutsideRule, PostingRule, MoveRule}
@@ -29,8 +29,8 @@ use Rattle.thes_load_rules.proofs.LinkTableLemmas.{same_links}
 use Rattle.thes_load_rules.proofs.MoveOrderLemmas.{own_moves, numbered_in_order, row_count_is_move_count}
 use Rattle.thes_load_rules.proofs.OpenTableLemmas.{IsOpen, loads_open}
 
--- The state that rows encode is the one whose rows they are.
-module _ (base : List ℕ) (s : State) (t : Tables) (legal : Legal base s) (are : IsRowsOf base s t) where
+-- The state that the tables encode is the state whose tables they are.
+module _ (base : List ℕ) (s : State) (t : Tables) (legal : IsLegalState base s) (are : IsRowsOf base s t) where
   same_histories : map (history_of t.move) t.posting ≡ s.histories
   same_histories = ap (map (history_of t.move)) are.posting ∙ go s.histories (λ h there. let at =
       in_numbered s.histories h there in
@@ -58,10 +58,8 @@ module _ (base : List ℕ) (s : State) (t : Tables) (legal : Legal base s) (are 
     histories = same_histories i;
   }
 
--- Rows of table outside, and the map of IRIs.
-
-pub number_above : (above : ℕ) (rows : List (ℕ × List ℕ)) (row : ℕ × List ℕ) → Ascends above rows → IsIn row rows
-    → above < row.0
+pub number_above : (above : ℕ) (rows : List (ℕ × List ℕ)) (row : ℕ × List ℕ) → IriNumbersAscend above rows
+    → IsIn row rows → above < row.0
 number_above above [] row ascends h = absurd h
 number_above above (x ∷ rows) row ascends (inl e) = let n = ap (λ (y : ℕ × List ℕ). y.0) e in let r = ascends.0 in
     omega (arith, n, r)
@@ -69,7 +67,7 @@ number_above above (x ∷ rows) row ascends (inr h) = let q = number_above x.0 r
     ascends.0 in omega (arith, q, r)
 
 -- The map of IRIs has the IRI of each row.
-pub row_iri : (above : ℕ) (rows : List (ℕ × List ℕ)) (row : ℕ × List ℕ) → Ascends above rows → IsIn row rows
+pub row_iri : (above : ℕ) (rows : List (ℕ × List ℕ)) (row : ℕ × List ℕ) → IriNumbersAscend above rows → IsIn row rows
     → dict.get (iris_of rows) row.0 ≡ Some row.1
 row_iri above [] row ascends h = absurd h
 row_iri above (x ∷ rows) row ascends (inl e) =
@@ -88,12 +86,12 @@ row_iri above (x ∷ rows) row ascends (inr h) =
         number_above x.0 rows row ascends.1 h in absurd (omega (arith, same, q))
     apart (inr miss) = miss
 
--- Tables that encode a legal state meet their rules.
-module _ (t : Tables) (legal : Legal t.base (state_of t)) (are : IsRowsOf t.base (state_of t) t) where
+-- Assumes tables that encode a legal state, which meet their rules.
+module _ (t : Tables) (legal : IsLegalState t.base (state_of t)) (are : IsRowsOf t.base (state_of t) t) where
   abbrev s : State
   s = state_of t
 
-  forms : HaveForms t.base s
+  forms : StateHasForms t.base s
   forms = forms_of_legal t.base s legal
 
   held_outside : OutsideRule t.base t.resource t.outside
@@ -103,7 +101,7 @@ module _ (t : Tables) (legal : Legal t.base (state_of t)) (are : IsRowsOf t.base
     legal = legal.resources.outside;
   }
 
-  -- The history of a row.
+  -- The history under a number is that of the row with this number.
   history_at : (n : ℕ) (p : PostingRow) → entry_at t.posting n ≡ Some p → entry_at s.histories n
       ≡ Some (history_of t.move p)
   history_at n p e = map_numbered (history_of t.move) t.posting n p e
@@ -188,12 +186,12 @@ module _ (t : Tables) (legal : Legal t.base (state_of t)) (are : IsRowsOf t.base
     move = (refl, held_moves);
   }
 
--- The rows of a legal state load, and encode it.
-pub held_loads : (base : List ℕ) (s : State) (t : Tables) → Legal base s → IsRowsOf base s t
+-- The tables of a legal state load, and encode that state.
+pub held_loads : (base : List ℕ) (s : State) (t : Tables) → IsLegalState base s → IsRowsOf base s t
     → HasVerdict (cells_of_tables t) (Ok t) × (state_of t ≡ s)
 held_loads base s t legal are =
     let same = same_state base s t legal are in
-    let own : Legal t.base (state_of t) × IsRowsOf t.base (state_of t) t =
-    subst (λ (x : State). Legal t.base x × IsRowsOf t.base x t) (sym same)
-    (subst (λ (b : List ℕ). Legal b s × IsRowsOf b s t) (sym are.base_is) (legal, are)) in
+    let own : IsLegalState t.base (state_of t) × IsRowsOf t.base (state_of t) t =
+    subst (λ (x : State). IsLegalState t.base x × IsRowsOf t.base x t) (sym same)
+    (subst (λ (b : List ℕ). IsLegalState b s × IsRowsOf b s t) (sym are.base_is) (legal, are)) in
     (loads_open (cells_of_tables t) t (held_open t own.0 own.1), same)

@@ -1,14 +1,14 @@
--- Proves that the tables link and hier encode one set of links.
+-- The tables link and hier encode one set of links.
 use Rattle.std.proofs.Common.{◌≡◌, ◌⊎◌, List, ◌++◌, map, sym, ap, ◌∙◌, subst, inl, inr}
 use Rattle.std.proofs.lemmas.Option.{same_Some}
 use Rattle.std.specs.Prelude.{Option, None, Some}
 use Rattle.thes_base.specs.declared.data.Link.{Link}
-use Rattle.thes_base.specs.Links.{Links, HeldIn}
+use Rattle.thes_base.specs.Links.{Links, Holds}
 use Rattle.thes_base.proofs.LinkSetLemmas.{links_total, links_exact}
 use Rattle.thes_base.proofs.SetMemberLemmas.{same_members}
 use Rattle.thes_tables.specs.declared.rows.HierRow.{HierRow}
 use Rattle.thes_tables.specs.declared.rows.HierType.{HierType}
-use Rattle.thes_tables.specs.Tables.{IsIn, AreDistinct, IsListingOf, IsLinkOf, IsHierOf, hier_link, hier_type}
+use Rattle.thes_tables.specs.Tables.{IsIn, AreDistinct, IsUnsortedListing, IsLinkOf, IsHierOf, hier_link, hier_type}
 use Rattle.thes_tables.specs.Changes.{hier_row}
 use Rattle.thes_tables.proofs.RowSetLemmas.{in_append, append_left, append_right, in_map, map_in}
 use Rattle.thes_tables.proofs.LinkRowLemmas.{type_back, link_of_hier_row}
@@ -25,21 +25,22 @@ no_type : (row : HierRow) (l : Link) → l ≡ hier_link row → hier_type l.kin
 no_type row l e none = let both = sym none ∙ ap (λ (x : Link). hier_type x.kind) e ∙ type_back row.typ in absurd (cc)
 
 module _ (K : List Link) (H : List HierRow) where
-  pub held_cases : (l : Link) → HeldIn (links_of K H) l → IsIn l K
+  pub held_cases : (l : Link) → Holds (links_of K H) l → IsIn l K
       ⊎ ((row : HierRow) × IsIn row H × (l ≡ hier_link row))
   held_cases l h = elim (in_append l K (map hier_link H) (row_of links_total links_exact (K ++ map hier_link H) l h)) [
     | inl plain ↦ inl plain
     | inr typed ↦ inr (in_map hier_link l H typed)
   ]
 
-  pub link_held : (l : Link) → IsIn l K → HeldIn (links_of K H) l
+  pub link_held : (l : Link) → IsIn l K → Holds (links_of K H) l
   link_held l h = in_set links_total links_exact _ l (append_left l K (map hier_link H) h)
 
-  pub hier_held : (row : HierRow) → IsIn row H → HeldIn (links_of K H) (hier_link row)
+  pub hier_held : (row : HierRow) → IsIn row H → Holds (links_of K H) (hier_link row)
   hier_held row h = in_set links_total links_exact _ (hier_link row) (append_right (hier_link row) K (map hier_link H)
       (map_in hier_link row H h))
 
-  pub link_lists : EachRow (λ l. hier_type l.kind ≡ None) K → AreDistinct K → IsListingOf (IsLinkOf (links_of K H)) K
+  pub link_lists : EachRow (λ l. hier_type l.kind ≡ None) K → AreDistinct K
+      → IsUnsortedListing (IsLinkOf (links_of K H)) K
   link_lists kinds once = record {
     sound = λ l h. (link_held l h, kinds l h);
     complete = λ l h. elim (held_cases l h.0) [
@@ -49,7 +50,8 @@ module _ (K : List Link) (H : List HierRow) where
     once = once;
   }
 
-  pub hier_lists : EachRow (λ l. hier_type l.kind ≡ None) K → AreDistinct H → IsListingOf (IsHierOf (links_of K H)) H
+  pub hier_lists : EachRow (λ l. hier_type l.kind ≡ None) K → AreDistinct H
+      → IsUnsortedListing (IsHierOf (links_of K H)) H
   hier_lists kinds once = record {
     sound = hier_held;
     complete = λ row h. elim (held_cases (hier_link row) h) [
@@ -60,21 +62,21 @@ module _ (K : List Link) (H : List HierRow) where
   }
 
   -- Tables that are listings of a set of links encode exactly that set.
-  pub same_links : (links : Links) → IsListingOf (IsLinkOf links) K → IsListingOf (IsHierOf links) H → links_of K H
-      ≡ links
+  pub same_links : (links : Links) → IsUnsortedListing (IsLinkOf links) K → IsUnsortedListing (IsHierOf links) H
+      → links_of K H ≡ links
   same_links links plain typed = same_members links_total links_exact _ _ to from
     where
-      to : (l : Link) → HeldIn (links_of K H) l → HeldIn links l
+      to : (l : Link) → Holds (links_of K H) l → Holds links l
       to l h = elim (held_cases l h) [
         | inl there ↦ (plain.sound l there).0
-        | inr there ↦ subst (HeldIn links) (sym there.2) (typed.sound there.0 there.1)
+        | inr there ↦ subst (Holds links) (sym there.2) (typed.sound there.0 there.1)
       ]
 
-      from : (l : Link) → HeldIn links l → HeldIn (links_of K H) l
+      from : (l : Link) → Holds links l → Holds (links_of K H) l
       from l h = go (hier_type l.kind) (λ i. hier_type l.kind)
         where
-          go : (o : Option HierType) → hier_type l.kind ≡ o → HeldIn (links_of K H) l
+          go : (o : Option HierType) → hier_type l.kind ≡ o → Holds (links_of K H) l
           go None e = link_held l (plain.complete l (h, e))
-          go (Some typ) e = subst (HeldIn (links_of K H)) (link_of_hier_row l typ e)
+          go (Some typ) e = subst (Holds (links_of K H)) (link_of_hier_row l typ e)
               (hier_held (hier_row typ l)
-              (typed.complete (hier_row typ l) (subst (HeldIn links) (sym (link_of_hier_row l typ e)) h)))
+              (typed.complete (hier_row typ l) (subst (Holds links) (sym (link_of_hier_row l typ e)) h)))

@@ -1,4 +1,4 @@
--- Proves that tables that meet their rules encode a legal state.
+-- Tables that meet their rules encode a legal state.
 use Rattle.std.proofs.Common.{◌≡◌, ◌≢◌, ◌≤◌, ℕ, length, List, [], ◌∷◌, map, refl, sym, ap, ◌∙◌, subst, arith, inl, inr}
 use Rattle.std.proofs.lemmas.Option.{same_Some}
 use Rattle.std.specs.Prelude.{Some, Ok}
@@ -8,8 +8,8 @@ use Rattle.thes_base.specs.declared.data.History.{History}
 use Rattle.thes_base.specs.declared.data.Move.{Move}
 use Rattle.thes_base.specs.Resources.{entry_at, IsConcept, is_live_concept}
 use Rattle.thes_base.specs.Postings.{place, AreConsecutiveMoves, move_count}
-use Rattle.thes_base.specs.Texts.{HaveForms, IsPostingForm}
-use Rattle.thes_base.specs.Legal.{Legal, LegalPostings, IsLegalHistory, IsLegalMove, AllMoves, HasMove}
+use Rattle.thes_base.specs.Texts.{StateHasForms, IsPostingForm}
+use Rattle.thes_base.specs.Legal.{IsLegalState, AreLegalPostings, IsLegalHistory, IsLegalMove, AllMoves, HasMove}
 use Rattle.thes_base.proofs.LabelSetLemmas.{labels_total, labels_exact}
 use Rattle.thes_base.proofs.NumberedLemmas.{numbered_bound}
 use Rattle.thes_base.proofs.SoundStateLemmas.{legal_of_sound}
@@ -53,7 +53,7 @@ module _ (rs : List Resource) (P : List PostingRow) (M : List MoveRow) (posting 
   abbrev hs : List History
   hs = map (history_of M) P
 
-  -- Each history is that of a row.
+  -- Each history is that of a row of table posting.
   history_row : (n : ℕ) (h : History) → entry_at hs n ≡ Some h → (p : PostingRow) × (entry_at P n ≡ Some p)
       × (h ≡ history_of M p)
   history_row n h e = numbered_unmap (history_of M) P n h e
@@ -119,7 +119,7 @@ module _ (rs : List Resource) (P : List PostingRow) (M : List MoveRow) (posting 
         subst (λ i. HasMove k (moves_of i M)) (sym (posting.numbers row.posting p.0 p.1)) has,
       )
 
-  -- The row of the move with this number.
+  -- Each move number of a history is that of a row of table move.
   row_with : (k n : ℕ) (h : History) → entry_at hs n ≡ Some h → HasMove k h.moves → (row : MoveRow)
       × (entry_at M k ≡ Some row) × (row.posting ≡ n)
   row_with k n h e has =
@@ -138,8 +138,8 @@ module _ (rs : List Resource) (P : List PostingRow) (M : List MoveRow) (posting 
       let b = row_with k n h eh kh in
       sym a.2 ∙ ap (λ (x : MoveRow). x.posting) (same_Some _ _ (sym a.1 ∙ b.1)) ∙ b.2
 
-  -- The histories are legal together.
-  postings_legal : LegalPostings rs hs
+  -- The postings of the tables are legal.
+  postings_legal : AreLegalPostings rs hs
   postings_legal = record {
     few = (let l = length-map P (history_of M) in let f = posting.few in omega (arith, l, f));
     few_moves = (let c = row_count_of_moves in let f = move.few in omega (arith, c, f));
@@ -194,7 +194,7 @@ module _ (rs : List Resource) (P : List PostingRow) (M : List MoveRow) (posting 
           subst (λ r. IsIn r M) (row_one own.0 row (own.2 ∙ history_number row.posting h at) own.3) own.1
 
 module _ (raw : Raw) (t : Tables) (all : IsOpen raw t) where
-  state_has_forms : HaveForms t.base (state_of t)
+  state_has_forms : StateHasForms t.base (state_of t)
   state_has_forms = record {
     base_form = all.meta.1;
     iris = λ n iri e. all.outside.1.forms (n, iri) (iri_row t.outside n iri e);
@@ -205,7 +205,7 @@ module _ (raw : Raw) (t : Tables) (all : IsOpen raw t) where
         (all.posting.1.forms was.0 (numbered_in t.posting n was.0 was.1));
   }
 
-  state_is_legal : Legal t.base (state_of t)
+  state_is_legal : IsLegalState t.base (state_of t)
   state_is_legal = legal_of_sound t.base (state_of t) (record {
     resources = record {
       few = all.resource.1.few;
@@ -231,8 +231,8 @@ module _ (raw : Raw) (t : Tables) (all : IsOpen raw t) where
     move = moves_of_histories t.resource t.posting t.move all.posting.1 all.move.1;
   }
 
--- Rows that load encode a legal state.
-pub loaded_state_legal : (raw : Raw) (t : Tables) → HasVerdict raw (Ok t) → Legal t.base (state_of t)
+-- Tables that load encode a legal state, and the rows are their cells.
+pub loaded_state_legal : (raw : Raw) (t : Tables) → HasVerdict raw (Ok t) → IsLegalState t.base (state_of t)
     × IsRowsOf t.base (state_of t) t × (raw ≡ cells_of_tables t)
 loaded_state_legal raw t loads = let all = open_of raw t loads in
     (state_is_legal raw t all, tables_hold_state raw t all, open_listed raw t all)

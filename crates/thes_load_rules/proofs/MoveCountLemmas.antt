@@ -1,4 +1,4 @@
--- Proves that rows of table move are in one to one correspondence with the moves of the histories.
+-- Rows of table move and moves of the histories are in one-to-one correspondence.
 use Rattle.std.proofs.Common.{◌≡◌, ◌⊎◌, ◌<◌, ◌≤◌, ℕ, suc, ◌+◌, length, List, [], ◌∷◌, refl, sym, ap, ◌∙◌, subst}
 use Rattle.std.proofs.Common.{arith, inl, inr, Bool, true, false, cond, eqb, eqb-true, ne_eqb, map}
 use Rattle.std.proofs.lemmas.Bool.{cases_Bool, eq-eqb, eqb-false}
@@ -14,11 +14,11 @@ use Rattle.thes_tables.specs.declared.rows.MoveRow.{MoveRow}
 use Rattle.thes_tables.specs.Tables.{IsIn, recorded_move, moves_of}
 use Rattle.thes_load_rules.specs.Rules.{EachRow}
 
--- The rows of a posting.
+-- The rows of table move of a posting.
 abbrev rows_of_posting : ℕ → List MoveRow → List MoveRow
 rows_of_posting n rows = filter (λ (row : MoveRow). row.posting == n) rows
 
--- The moves of a posting in a list whose first row is the posting's, or not.
+-- The moves of a posting begin with the first row if that is the posting's, and don't if it isn't.
 pub hit_is : (n : ℕ) (m : MoveRow) (rows : List MoveRow) → eqb m.posting n ≡ true → moves_of n (m ∷ rows)
     ≡ recorded_move m ∷ moves_of n rows
 hit_is n m rows e = ap (λ b. map recorded_move (cond b (m ∷ rows_of_posting n rows) (rows_of_posting n rows))) e
@@ -26,8 +26,6 @@ hit_is n m rows e = ap (λ b. map recorded_move (cond b (m ∷ rows_of_posting n
 pub miss_is : (n : ℕ) (m : MoveRow) (rows : List MoveRow) → eqb m.posting n ≡ false → moves_of n (m ∷ rows)
     ≡ moves_of n rows
 miss_is n m rows e = ap (λ b. map recorded_move (cond b (m ∷ rows_of_posting n rows) (rows_of_posting n rows))) e
-
--- Moves and their rows.
 
 -- Each move of a posting has a row.
 pub row_of_move : (n : ℕ) (m : Move) (rows : List MoveRow) → IsIn m (moves_of n rows) → (row : MoveRow)
@@ -77,8 +75,6 @@ pub all_of_in : (P : Move → Type 0) (moves : List Move) → ((m : Move) → Is
 all_of_in P [] each = tt
 all_of_in P (m ∷ moves) each = (each m (inl refl), all_of_in P moves (λ x h. each x (inr h)))
 
--- The number of rows is the sum of the numbers of moves, as each row is one posting's.
-
 none_of : (k p : ℕ) (hs : List History) → NumberedFrom k hs → p < k → count_by (λ h. eqb p h.number) hs ≡ 0
 none_of k p [] num lt = refl
 none_of k p (h ∷ hs) num lt =
@@ -114,7 +110,7 @@ sum_none [] = refl
 sum_none (h ∷ hs) = let a = sum_by-cons (λ (x : History). length (moves_of x.number [])) h hs in let ih =
     sum_none hs in omega (arith, a, ih)
 
--- The sum after one more row: the histories with its number count one more.
+-- A further row adds 1 to the sum for each history with its number.
 sum_more : (m : MoveRow) (rows : List MoveRow) (hs : List History)
     → sum_by (λ (h : History). length (moves_of h.number (m ∷ rows))) hs ≡ count_by (λ h. eqb m.posting h.number) hs
     + sum_by (λ (h : History). length (moves_of h.number rows)) hs

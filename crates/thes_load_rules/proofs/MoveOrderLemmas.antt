@@ -1,4 +1,4 @@
--- Proves that the rows of table move of a legal state have no gaps, and that those of each posting are its moves.
+-- The rows of table move of a legal state have no gaps, and those of each posting are its moves.
 use Rattle.std.proofs.Common.{◌≡◌, ◌⊎◌, ◌<◌, ◌≤◌, ℕ, zero, suc, ◌+◌, length, List, [], ◌∷◌, refl, sym, ap, ◌∙◌, subst}
 use Rattle.std.proofs.Common.{arith, inl, inr, eqb}
 use Rattle.std.proofs.lemmas.Bool.{cases_Bool}
@@ -9,16 +9,16 @@ use Rattle.thes_base.specs.declared.data.History.{History}
 use Rattle.thes_base.specs.declared.data.Move.{Move}
 use Rattle.thes_base.specs.Resources.{entry_at}
 use Rattle.thes_base.specs.Postings.{AreConsecutiveMoves, move_count}
-use Rattle.thes_base.specs.Legal.{LegalPostings, IsLegalHistory}
+use Rattle.thes_base.specs.Legal.{AreLegalPostings, IsLegalHistory}
 use Rattle.thes_base.proofs.NumberedLemmas.{numbered_bound}
 use Rattle.thes_tables.specs.declared.rows.MoveRow.{MoveRow}
-use Rattle.thes_tables.specs.Tables.{IsIn, Rises, AreMoves, recorded_move, moves_of}
+use Rattle.thes_tables.specs.Tables.{IsIn, MoveNumbersAscend, AreMoves, recorded_move, moves_of}
 use Rattle.thes_tables.proofs.MoveRowLemmas.{number_within_count}
 use Rattle.thes_load_rules.specs.Rules.{AreInOrder}
 use Rattle.thes_load_rules.proofs.MoveCountLemmas.{hit_is, miss_is, row_of_move, move_of_row, in_of_has}
 use Rattle.thes_load_rules.proofs.MoveCountLemmas.{rows_counted_as_moves}
 
--- The numbers are consecutive from `k`.
+-- The rows are numbered consecutively from `k` on.
 abbrev pub RunFrom : ℕ → List MoveRow → Type 0
 RunFrom k [] = Unit {0}
 RunFrom k (row ∷ rows) = (row.number ≡ k) × RunFrom (k + 1) rows
@@ -45,31 +45,32 @@ order_of_run rows run = go
     go zero row e = absurd (cc)
     go (suc n) row e = let q = run_at 1 rows n row run e in omega (arith, q)
 
-pub rises_of_order : (rows : List MoveRow) → AreInOrder (λ (row : MoveRow). row.number) rows → Rises 0 rows
+pub rises_of_order : (rows : List MoveRow) → AreInOrder (λ (row : MoveRow). row.number) rows → MoveNumbersAscend 0 rows
 rises_of_order rows order =
     go 0 1 rows (omega arith) (run_from 1 rows (λ i row e. let q = order (suc i) row e in omega (arith, q)))
   where
-    go : (above k : ℕ) (rows : List MoveRow) → above < k → RunFrom k rows → Rises above rows
+    go : (above k : ℕ) (rows : List MoveRow) → above < k → RunFrom k rows → MoveNumbersAscend above rows
     go above k [] lt run = tt
     go above k (row ∷ rows) lt run = let n = run.0 in
         ((omega (arith, n)), go row.number (k + 1) rows (omega (arith, n)) run.1)
 
--- The number of each row of an increasing list exceeds its lower bound.
-pub number_above_start : (above : ℕ) (rows : List MoveRow) (row : MoveRow) → Rises above rows → IsIn row rows → above
-    < row.number
+-- The number of each row of a rising list exceeds the list's lower bound.
+pub number_above_start : (above : ℕ) (rows : List MoveRow) (row : MoveRow) → MoveNumbersAscend above rows
+    → IsIn row rows → above < row.number
 number_above_start above [] row rises h = absurd h
 number_above_start above (x ∷ rows) row rises (inl e) = let n = ap (λ (y : MoveRow). y.number) e in let r = rises.0 in
     omega (arith, n, r)
 number_above_start above (x ∷ rows) row rises (inr h) = let q = number_above_start x.number rows row rises.1 h in
     let r = rises.0 in omega (arith, q, r)
 
--- Each number between the bound and that of a row is the number of a row.
+-- Each number above the bound and below that of a row is the number of a row.
 abbrev IsFull : ℕ → List MoveRow → Type 0
 IsFull above rows = (row : MoveRow) → IsIn row rows → (k : ℕ) → above < k → k < row.number → (other : MoveRow)
     × IsIn other rows × (other.number ≡ k)
 
--- The numbers of an increasing list without gaps are consecutive.
-run_of_full : (above : ℕ) (rows : List MoveRow) → Rises above rows → IsFull above rows → RunFrom (above + 1) rows
+-- The numbers of a rising list without gaps are consecutive.
+run_of_full : (above : ℕ) (rows : List MoveRow) → MoveNumbersAscend above rows → IsFull above rows
+    → RunFrom (above + 1) rows
 run_of_full above [] rises full = tt
 run_of_full above (x ∷ rows) rises full =
     (next, subst (λ k. RunFrom k rows) (let e = next in omega (arith, e)) (run_of_full x.number rows rises.1 later))
@@ -96,8 +97,6 @@ run_of_full above (x ∷ rows) rises full =
         let is = other.2 in
         (other.0, among other.0 other.1 (omega (arith, is, above_k)), other.2)
 
--- Moves in the order of their numbers.
-
 abbrev AreRisingMoves : ℕ → List Move → Type 0
 AreRisingMoves above [] = Unit {0}
 AreRisingMoves above (m ∷ moves) = (above < m.number) × AreRisingMoves m.number moves
@@ -119,7 +118,8 @@ lower : (low above : ℕ) (moves : List Move) → low ≤ above → AreRisingMov
 lower low above [] le climbs = tt
 lower low above (m ∷ moves) le climbs = ((let c = climbs.0 in omega (arith, c, le)), climbs.1)
 
-rising_of_rises : (n above : ℕ) (rows : List MoveRow) → Rises above rows → AreRisingMoves above (moves_of n rows)
+rising_of_rises : (n above : ℕ) (rows : List MoveRow) → MoveNumbersAscend above rows
+    → AreRisingMoves above (moves_of n rows)
 rising_of_rises n above [] rises = tt
 rising_of_rises n above (row ∷ rows) rises =
     let rest = rising_of_rises n row.number rows rises.1 in
@@ -129,7 +129,7 @@ rising_of_rises n above (row ∷ rows) rises =
           (lower above row.number (moves_of n rows) (let r = rises.0 in omega (arith, r)) rest)
     ]
 
--- Two increasing lists with the same moves are equal.
+-- Two rising lists with the same moves are equal.
 same_moves : (above below : ℕ) (xs ys : List Move) → AreRisingMoves above xs → AreRisingMoves below ys
     → ((m : Move) → IsIn m xs → IsIn m ys) → ((m : Move) → IsIn m ys → IsIn m xs) → xs ≡ ys
 same_moves above below [] [] cx cy to from = refl
@@ -164,9 +164,9 @@ same_moves above below (x ∷ xs) (y ∷ ys) cx cy to from = λ i. head i ∷ sa
       | inr g ↦ g
     ]
 
-module _ (rs : List Resource) (hs : List History) (legal : LegalPostings rs hs) (rows : List MoveRow)
+module _ (rs : List Resource) (hs : List History) (legal : AreLegalPostings rs hs) (rows : List MoveRow)
     (are : AreMoves hs rows) where
-  -- The rows of a posting are its moves.
+  -- The moves of a posting are those of its rows.
   pub own_moves : (n : ℕ) (h : History) → entry_at hs n ≡ Some h → h.moves ≡ moves_of h.number rows
   own_moves n h e = same_moves 0 0 h.moves (moves_of h.number rows)
       (rising_of_follows 0 h.first h.moves sound.well_formed) (rising_of_rises h.number 0 rows are.rises) to from
@@ -190,7 +190,7 @@ module _ (rs : List Resource) (hs : List History) (legal : LegalPostings rs hs) 
           subst (λ (x : Move). IsIn x h.moves) row.3 (subst (λ (x : History). IsIn (recorded_move row.0) x.moves) same
           is.2)
 
-  -- The rows are numbered without gaps.
+  -- The rows are numbered from 1 without gaps.
   pub numbered_in_order : AreInOrder (λ (row : MoveRow). row.number) rows
   numbered_in_order = order_of_run rows (subst (λ k. RunFrom k rows) (let e : 0 + 1 ≡ 1 = omega arith in e)
       (run_of_full 0 rows are.rises full))

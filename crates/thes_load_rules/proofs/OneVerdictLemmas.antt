@@ -1,4 +1,4 @@
--- Proves that rows have at most one verdict.
+-- Rows of cells have at most one verdict.
 use Rattle.std.proofs.Common.{◌≡◌, ◌⊎◌, ℕ, List, sym, ◌∙◌, subst, inl, inr}
 use Rattle.std.specs.Prelude.{Result, Ok, Err}
 use Rattle.std.proofs.lemmas.Option.{same_Some}
@@ -15,7 +15,7 @@ use Rattle.thes_tables.proofs.CellLemmas.{label_one, link_one, hier_one, posting
 use Rattle.thes_load_rules.specs.Verdicts.{IsTable, IsMeta, IsNewer, IsOlder, Verdict, stopped_if, faulty_unless}
 use Rattle.thes_load_rules.specs.Verdicts.{tables_of, HasVerdict}
 
--- At most one result has the verdict.
+-- The verdict is that of at most one result.
 pub record IsSingle (verdict : Verdict) : Type 0 where
   pub same : (a b : Result Tables Fault) → verdict a → verdict b → a ≡ b
 

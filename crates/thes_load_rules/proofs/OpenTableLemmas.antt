@@ -1,4 +1,4 @@
--- Proves that rows load exactly when all tables meet their rules.
+-- Tables load exactly when all of them meet their rules.
 use Rattle.std.proofs.Common.{◌≡◌, ◌<◌, ℕ, List, refl, sym, ◌∙◌, subst, arith, inl, inr, map}
 use Rattle.std.specs.Prelude.{Ok}
 use Rattle.std.proofs.lemmas.Option.{same_Some}
@@ -31,7 +31,7 @@ not_newer raw base meta newer = let above = version_two (λ version. 2 < version
 pub not_older : (raw : RawTable) (base : List ℕ) → IsMeta raw base → IsOlder raw → ⊥
 not_older raw base meta older = let is = version_two (λ version. version ≡ 1) raw base meta older in omega (arith, is)
 
--- All tables of rows that load meet their rules.
+-- If the tables load, all of them meet their rules.
 pub open_of : (raw : Raw) (t : Tables) → HasVerdict raw (Ok t) → IsOpen raw t
 open_of raw t (inl (newer, is)) = absurd (cc)
 open_of raw t (inr (n, inl (older, is))) = absurd (cc)
@@ -99,7 +99,7 @@ loads_open raw t all =
       ),
     )
 
--- Rows whose tables meet their rules are the cells of those tables.
+-- If all tables meet their rules, the rows are their cells.
 pub open_listed : (raw : Raw) (t : Tables) → IsOpen raw t → raw ≡ cells_of_tables t
 open_listed raw t all = λ i. record {
   meta = all.meta.0 i;

@@ -1,4 +1,4 @@
--- Proves how numbers, sets and maps of a list of rows relate to its rows.
+-- Numbers, sets and maps of a list of rows, and the rows from which they come.
 use Rattle.std.proofs.Common.{◌≡◌, ◌⊎◌, ◌≤◌, ℕ, zero, suc, length, List, [], ◌∷◌, map, refl, sym, ap, ◌∙◌, arith, inl}
 use Rattle.std.proofs.Common.{inr, true, false, cond}
 use Rattle.std.proofs.lemmas.Bool.{cases_Bool}
@@ -13,11 +13,9 @@ use Rattle.std.specs.FinSet as set
 use Rattle.std.specs.FinMap as dict
 use Rattle.thes_base.specs.Resources.{entry_at}
 use Rattle.thes_base.proofs.SetMemberLemmas.{same_members}
-use Rattle.thes_tables.specs.Tables.{IsIn, AreDistinct, IsListingOf}
+use Rattle.thes_tables.specs.Tables.{IsIn, AreDistinct, IsUnsortedListing}
 use Rattle.thes_tables.proofs.RowSetLemmas.{in_any, any_in}
 use Rattle.thes_load_rules.specs.Rules.{iris_of}
-
--- Rows by number.
 
 module _ {A : Type 0} where
   pub numbered_later : (xs : List A) (n : ℕ) (x y : A) → entry_at xs n ≡ Some x → entry_at (y ∷ xs) (suc n) ≡ Some x
@@ -49,8 +47,6 @@ module _ {A B : Type 0} (f : A → B) where
   numbered_unmap (x ∷ xs) (suc zero) y e = (x, refl, sym (same_Some _ _ e))
   numbered_unmap (x ∷ xs) (suc (suc n)) y e = numbered_unmap xs (suc n) y e
 
--- Sets of rows.
-
 module _ {A : Type 0} {R : A → A → Ordering} (total : IsTotalOrder R) (exact : IsAntisymmetric R) where
   pub row_of : (rows : List A) (q : A) → set.contains (set.from_list {R = R} rows) q ≡ true → IsIn q rows
   row_of rows q e = in_any total exact q rows (sym (set.contains-from_list total rows q) ∙ e)
@@ -58,21 +54,19 @@ module _ {A : Type 0} {R : A → A → Ordering} (total : IsTotalOrder R) (exact
   pub in_set : (rows : List A) (q : A) → IsIn q rows → set.contains (set.from_list {R = R} rows) q ≡ true
   in_set rows q h = set.contains-from_list total rows q ∙ any_in total exact q rows h
 
-  pub lists_own : (rows : List A) → AreDistinct rows → IsListingOf (λ q. set.contains (set.from_list {R = R} rows) q
-      ≡ true) rows
+  pub lists_own : (rows : List A) → AreDistinct rows
+      → IsUnsortedListing (λ q. set.contains (set.from_list {R = R} rows) q ≡ true) rows
   lists_own rows once = record { sound = in_set rows; complete = row_of rows; once = once }
 
-  pub set_of_lists : (s : set.FinSet R) (rows : List A) → IsListingOf (λ q. set.contains s q ≡ true) rows
+  pub set_of_lists : (s : set.FinSet R) (rows : List A) → IsUnsortedListing (λ q. set.contains s q ≡ true) rows
       → set.from_list rows ≡ s
   set_of_lists s rows are = same_members total exact _ _ (λ q e. are.sound q (row_of rows q e))
       (λ q e. in_set rows q (are.complete q e))
 
--- Rows of outside.
-
 nat_tied : (m n : ℕ) → eq_by_cmp nat_cmp m n ≡ true → m ≡ n
 nat_tied m n e = exact_unsigned m n ((Equal-is (nat_cmp m n)).0 e)
 
--- Each IRI of the map has a row.
+-- Each IRI of the map is that of a row.
 pub iri_row : (rows : List (ℕ × List ℕ)) (n : ℕ) (iri : List ℕ) → dict.get (iris_of rows) n ≡ Some iri
     → IsIn (n, iri) rows
 iri_row [] n iri e = let none = dict.get-empty {X = List ℕ} nat_cmp n in absurd (cc)

@@ -1,4 +1,4 @@
--- Proves that the verdict on rows is that of the table by table check.
+-- The verdict on rows is the one found table by table.
 use Rattle.std.proofs.Common.{◌∙◌, refl, sym, arith, inl, inr}
 use Rattle.std.proofs.lemmas.Option.{same_Some}
 use Rattle.thes_tables.specs.Tables.{Tables}
@@ -8,7 +8,7 @@ use Rattle.thes_load_rules.specs.Verdicts.{IsNewer, IsOlder}
 use Rattle.thes_load_rules.specs.Laws.{VerdictByTable}
 use Rattle.thes_load_rules.proofs.OpenTableLemmas.{not_newer, not_older, loads_open}
 
--- The verdict of the check for each outcome of each table.
+-- Each case of the check table by table gives the verdict.
 pub verdict_by_table : (raw : Raw) (t : Tables) → VerdictByTable raw t
 verdict_by_table raw t = record {
   newer = λ is. inl (is, refl);

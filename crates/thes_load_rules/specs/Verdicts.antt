@@ -1,4 +1,4 @@
--- The verdict on arbitrary rows of cells: the tables that they encode, or the fault that stops a load.
+-- The verdict on arbitrary rows of cells: the tables that they encode, or the fault that a load reports.
 use Rattle.std.specs.Prelude.{◌≡◌, ◌⊎◌, ◌<◌, ℕ, List, [], ◌∷◌, map, Some, Result, Ok, Err}
 use Rattle.thes_base.specs.declared.fault.Table.{Table}
 use Rattle.thes_base.specs.declared.fault.Table.TheVariants as table
@@ -17,41 +17,41 @@ use Rattle.thes_base.specs.declared.data.Link.{Link}
 use Rattle.thes_base.specs.Labels.{Label}
 use Rattle.thes_load_rules.specs.Rules.{ResourceRule, OutsideRule, LabelRule, LinkRule, HierRule, PostingRule, MoveRule}
 
--- A property of results: tables, or a fault.
+-- A verdict: the property of being the right result, which is tables or a fault.
 abbrev pub Verdict : Type 1
 Verdict = Result Tables Fault → Type 0
 
--- The fault if the condition holds, and the verdict of the rest otherwise.
+-- The fault if the condition holds, or else the remaining verdict.
 abbrev pub stopped_if : Type 0 → Fault → Verdict → Verdict
 stopped_if condition fault rest answer = (condition × (answer ≡ Err fault)) ⊎ ((condition → ⊥) × rest answer)
 
--- The table is faulty if no rows pass; otherwise the verdict of the rest, given the rows that pass.
+-- The fault that names the table if no rows pass, or else the remaining verdict, given rows that pass.
 abbrev pub faulty_unless : {A : Type 0} → (A → Type 0) → Table → (A → Verdict) → Verdict
 faulty_unless {A} passes name rest answer =
     (((x : A) → passes x → ⊥) × (answer ≡ Err (BadStore name))) ⊎ ((x : A) × passes x × rest x answer)
 
--- The table can be queried, has the cells of these typed rows, and they meet its rule.
+-- The database can query the table, the table has the cells of these typed rows, and the rows meet its rule.
 abbrev pub IsTable : {A : Type 0} → (List A → List (List Cell)) → (List A → Type 0) → RawTable → List A → Type 0
 IsTable cells_of Rule raw rows = (raw ≡ Some (cells_of rows)) × Rule rows
 
--- Table meta has one row, with number 1, a version of this property, and an arbitrary base.
+-- Table meta has one row, with key 1, a version that has the property, and an arbitrary base.
 abbrev pub HasVersion : (ℕ → Type 0) → RawTable → Type 0
 HasVersion Is raw =
     (version : ℕ) × (base : Cell) × Is version × (raw ≡ Some ((number_cell 1 ∷ number_cell version ∷ base ∷ []) ∷ []))
 
--- The store is of a version after 2.
+-- The store has a version after 2, which this program doesn't know.
 abbrev pub IsNewer : RawTable → Type 0
 IsNewer = HasVersion (λ version. 2 < version)
 
--- The store is of version 1.
+-- The store has version 1, and must be migrated.
 abbrev pub IsOlder : RawTable → Type 0
 IsOlder = HasVersion (λ version. version ≡ 1)
 
--- Table meta has one row, of version 2 and this base.
+-- Table meta has one row, with version 2 and this base, which has its form.
 abbrev pub IsMeta : RawTable → List ℕ → Type 0
 IsMeta raw base = (raw ≡ Some (meta_cells base ∷ [])) × IsBase base
 
--- The tables of these typed rows.
+-- The tables that have these typed rows.
 abbrev pub tables_of :
     List ℕ → List Resource → List (ℕ × List ℕ) → List Label → List Link → List HierRow → List PostingRow → List MoveRow
     → Tables
@@ -67,7 +67,8 @@ tables_of base resources outside labels links hier postings moves =
       move = moves;
     }
 
--- The verdict on the rows: tables are checked in this order, and the first faulty one is named.
+-- The verdict on the rows: the version is checked first, and then the tables meta, resource, outside, label, link,
+-- hier, posting and move in order; the first that breaks its rule is reported.
 abbrev pub HasVerdict : Raw → Verdict
 HasVerdict raw =
     stopped_if (IsNewer raw.meta) NewerStore

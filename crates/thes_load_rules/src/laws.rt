@@ -1,22 +1,23 @@
-//! Laws of the verdict on rows of cells.
+//! Laws of the verdict on rows of cells, independent of the program that loads them.
 ghost use Rattle.thes_load_rules.specs.Laws.{OneVerdict, LoadedIsLegal, LegalStateLoads, TablesCheckedInTurn};
 
-/// No effect; states for the proof that rows have at most one verdict.
+/// No effect; states for the proof that rows of cells have at most one verdict.
 pub fn one_verdict()
     ensures { OneVerdict }
 {}
 
-/// No effect; states for the proof that rows that load encode a legal state.
+/// No effect; states for the proof that tables that load encode a legal state.
 pub fn loaded_is_legal()
     ensures { LoadedIsLegal }
 {}
 
-/// No effect; states for the proof that the rows of a legal state load, and encode it.
+/// No effect; states for the proof that the tables of a legal state load, and encode that state.
 pub fn legal_state_loads()
     ensures { LegalStateLoads }
 {}
 
-/// No effect; states for the proof that tables are checked in order, and the first one to break its rule is faulty.
+/// No effect; states for the proof that tables are checked in order, and that the first one to break its rule is
+/// reported.
 pub fn tables_checked_in_turn()
     ensures { TablesCheckedInTurn }
 {}

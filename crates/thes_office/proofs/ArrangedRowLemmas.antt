@@ -14,18 +14,16 @@ use Rattle.thes_load_rules.proofs.OpenTableLemmas.{IsOpen, open_of}
 use Rattle.thes_load_rules.proofs.OneVerdictLemmas.{loads_single}
 use Rattle.thes_load_rules.proofs.LoadedStateLemmas.{loaded_state_legal}
 use Rattle.thes_core.specs.CoreView.{CoreView, IsViewOf}
-use Rattle.thes_office.specs.SortedRows.{first_number, IsSorted, AreSorted}
+use Rattle.thes_office.specs.SortedRows.{first_number, IsSortedCopy, AreSorted}
 use Rattle.thes_office.specs.LoadedCore.{IsLoaded}
 use Rattle.thes_office.specs.RowOrder.{IsArranged, AreArranged, AreRowsOfState, HoldsRows, AreRefused, AnyOrder}
 use Rattle.thes_office.proofs.RisingNumberLemmas.{AreRising, up_of_sorted, up_of_rising}
 use Rattle.thes_office.proofs.RowOrderLemmas.{AreOrdered, AreTables, tables_back, verdicts_agree, resources_rise}
 use Rattle.thes_office.proofs.RowOrderLemmas.{outside_rise, postings_rise, moves_rise}
 
--- Sorted tables of the same rows.
-
--- Sorting both of two arrangements gives tables whose rows have one order.
-sorted_both : (raw other sorted again : RawTable) → IsArranged raw other → IsSorted raw sorted → IsSorted other again
-    → AreOrdered sorted again
+-- Tables sorted from two arrangements of the same rows have their rows in the same order.
+sorted_both : (raw other sorted again : RawTable) → IsArranged raw other → IsSortedCopy raw sorted
+    → IsSortedCopy other again → AreOrdered sorted again
 sorted_both None None None None same s t = refl
 sorted_both None None None (Some again) same s t = absurd (cc)
 sorted_both None None (Some sorted) again same s t = absurd (cc)
@@ -41,7 +39,7 @@ sorted_both (Some raw) (Some other) (Some sorted) (Some again) same s t = (
 )
 
 sorted_cells : (cells : List (List Cell)) (raw sorted : RawTable) → AreRising first_number 1 cells
-    → IsArranged (Some cells) raw → IsSorted raw sorted → AreOrdered (Some cells) sorted
+    → IsArranged (Some cells) raw → IsSortedCopy raw sorted → AreOrdered (Some cells) sorted
 sorted_cells cells None sorted rising same s = absurd same
 sorted_cells cells (Some raw) None rising same s = absurd s
 sorted_cells cells (Some raw) (Some sorted) rising same s = (
@@ -50,7 +48,7 @@ sorted_cells cells (Some raw) (Some sorted) rising same s = (
   up_of_sorted first_number sorted s.1,
 )
 
-arranged_sorted : (raw sorted : RawTable) → IsSorted raw sorted → IsArranged sorted raw
+arranged_sorted : (raw sorted : RawTable) → IsSortedCopy raw sorted → IsArranged sorted raw
 arranged_sorted None None s = refl
 arranged_sorted None (Some sorted) s = absurd (cc)
 arranged_sorted (Some raw) None s = absurd s
@@ -65,7 +63,7 @@ both_plain : (raw other sorted again : RawTable) → IsArranged raw other → so
 both_plain raw other sorted again same s t = subst (λ x. IsArranged x again) (sym s)
     (subst (IsArranged raw) (sym t) same)
 
--- The same for all tables of two arrangements.
+-- Sorting two arrangements of the rows of a store gives the same order in each numbered table.
 tables_of_sorted : (raw other sorted again : Raw) → AreArranged raw other → AreSorted raw sorted
     → AreSorted other again → AreTables sorted again
 tables_of_sorted raw other sorted again same s t = record {
@@ -79,7 +77,7 @@ tables_of_sorted raw other sorted again same s t = record {
   move = sorted_both raw.move other.move sorted.move again.move same.move s.move t.move;
 }
 
--- The same for rows that load and an arrangement of them.
+-- Sorting an arrangement of rows that load restores their order in each numbered table.
 tables_of_listed : (t : Tables) (raw sorted : Raw) → IsOpen (cells_of_tables t) t → AreArranged (cells_of_tables t)
     raw → AreSorted raw sorted → AreTables (cells_of_tables t) sorted
 tables_of_listed t raw sorted all same s = record {
@@ -95,7 +93,7 @@ tables_of_listed t raw sorted all same s = record {
   move = sorted_cells _ raw.move sorted.move (moves_rise t.move all.move.1.numbers) same.move s.move;
 }
 
--- Sorted rows are an arrangement.
+-- Sorting a table arranges its rows.
 arranged_of_sorted : (raw sorted : Raw) → AreSorted raw sorted → AreArranged sorted raw
 arranged_of_sorted raw sorted s = record {
   meta = plain raw.meta sorted.meta s.meta;
@@ -111,8 +109,6 @@ arranged_of_sorted raw sorted s = record {
     plain : (raw sorted : RawTable) → sorted ≡ raw → IsArranged sorted raw
     plain raw sorted is = subst (λ x. IsArranged x raw) (sym is) (arranged_itself raw)
 
--- Rows of a legal state, and rows that load.
-
 -- The rows of a legal state load once they are sorted, and encode it.
 legal_loaded : (base : List ℕ) (s : State) (raw sorted : Raw) → AreRowsOfState base s raw → AreSorted raw sorted
     → (u : Tables) × HasVerdict sorted (Ok u) × (state_of u ≡ s) × (u.base ≡ base)
@@ -120,7 +116,7 @@ legal_loaded base s raw sorted are in_order =
     let t = are.tables in
     let held = held_loads base s t are.legal are.rows in
     let r = (verdicts_agree (cells_of_tables t) sorted
-    (tables_of_listed t raw sorted (open_of (cells_of_tables t) t held.0) are.arranged in_order)).agrees (Ok t)
+    (tables_of_listed t raw sorted (open_of (cells_of_tables t) t held.0) are.tables_arranged in_order)).agrees (Ok t)
     held.0 in
     (r.2.0, subst (HasVerdict sorted) r.2.1 r.1, r.2.2 ∙ held.1, r.2.3 ∙ are.rows.base_is)
 
@@ -133,7 +129,7 @@ loaded_legal raw sorted t in_order loads =
       legal = told.0;
       tables = t;
       rows = told.1;
-      arranged = subst (λ x. AreArranged x raw) told.2 (arranged_of_sorted raw sorted in_order);
+      tables_arranged = subst (λ x. AreArranged x raw) told.2 (arranged_of_sorted raw sorted in_order);
     }
 
 one_result : (raw : Raw) (t u : Tables) → HasVerdict raw (Ok t) → HasVerdict raw (Ok u) → t ≡ u
@@ -160,7 +156,7 @@ rows_refused raw sorted fault in_order loads = record {
       subst (HasVerdict again) r.2 r.1;
 }
 
--- The law of rows in any order.
+-- The verdict doesn't depend on the order of rows within a table.
 pub one_in_any_order : AnyOrder
 one_in_any_order raw other sorted again same s t =
     let over = tables_of_sorted raw other sorted again same s t in

@@ -1,4 +1,4 @@
--- Proves that the facts queried from a keeper are those of the histories of the state.
+-- Proves that the facts queried from the storage are those of the histories of the state.
 use Rattle.std.proofs.Common.{◌≡◌, ℕ, zero, suc, List, [], ◌∷◌, ◌++◌, refl, sym, ap, subst, ◌∙◌, inl, inr, map}
 use Rattle.std.proofs.Common.{append_assoc, append-nil}
 use Rattle.std.specs.Prelude.{Option, None, Some, Result, Ok, slice_get, option_map, filter, Bool, true, false, cond}
@@ -8,7 +8,7 @@ use Rattle.thes_base.specs.declared.data.History.{History}
 use Rattle.thes_base.specs.declared.fault.Fault.{Fault}
 use Rattle.thes_base.specs.declared.request.Command.{Command}
 use Rattle.thes_base.specs.declared.request.Command.TheVariants as request
-use Rattle.thes_base.specs.Legal.{Legal}
+use Rattle.thes_base.specs.Legal.{IsLegalState}
 use Rattle.thes_base.specs.Postings.{is_assigned_to}
 use Rattle.thes_base.specs.Resources.{entry_at}
 use Rattle.thes_base.specs.State.{State}
@@ -16,20 +16,20 @@ use Rattle.thes_tables.specs.declared.rows.PostingRow.{PostingRow}
 use Rattle.thes_tables.specs.Cells.{Raw}
 use Rattle.thes_tables.specs.Tables.{IsIn, posting_row}
 use Rattle.thes_core.specs.declared.facts.Facts.{Facts}
-use Rattle.thes_core.specs.Facts.{AreFacts, IsRowOfKey, posting_row_at, standing_numbers}
+use Rattle.thes_core.specs.Facts.{AreFacts, IsRowOfKey, posting_row_at, assigned_posting_numbers}
 use Rattle.thes_store.specs.Sinks.{SinkAcceptsAll}
-use Rattle.thes_store.specs.Reading.{IsPostingOfKey, standing_rows}
+use Rattle.thes_store.specs.Reading.{IsPostingOfKey, assigned_posting_rows}
 use Rattle.thes_office.specs.QueryFrames.{QueryFrame, PushesNumber, RowInTables, RowsInTables}
 use Rattle.thes_office.specs.TablesOfState.{TablesOfState}
 
--- Each row is that of a history.
+-- Each row of the posting table is that of a history.
 in_rows : (hs : List History) (row : PostingRow) → IsIn row (map posting_row hs) → (i : ℕ) × (h : History)
     × (slice_get hs i ≡ Some h) × (row ≡ posting_row h)
 in_rows [] row has = absurd has
 in_rows (h ∷ hs) row (inl same) = (0, h, refl, same)
 in_rows (h ∷ hs) row (inr later) = let r = in_rows hs row later in (suc r.0, r.1, r.2, r.3)
 
--- The row of each history is among the rows.
+-- The posting table has the row of each history.
 row_in : (hs : List History) (i : ℕ) (h : History) → slice_get hs i ≡ Some h → IsIn (posting_row h) (map posting_row hs)
 row_in [] i h at = absurd (cc)
 row_in (g ∷ hs) zero h at = inl (ap posting_row (same_Some _ _ (sym at)))
@@ -37,7 +37,8 @@ row_in (g ∷ hs) (suc i) h at = inr (row_in hs i h at)
 
 -- The row found for a key is that of its history.
 pub found_key : (base : List ℕ) (s : State) (rows : List PostingRow) (key : List ℕ) (found : Option PostingRow)
-    → Legal base s → rows ≡ map posting_row s.histories → IsPostingOfKey key rows found → IsRowOfKey key s.histories
+    → IsLegalState base s → rows ≡ map posting_row s.histories → IsPostingOfKey key rows found
+    → IsRowOfKey key s.histories
     found
 found_key base s rows key (Some row) legal is f =
     let has = f.0 in
@@ -59,15 +60,16 @@ numbered_map f [] (suc n) = refl
 numbered_map f (x ∷ xs) (suc zero) = refl
 numbered_map f (x ∷ xs) (suc (suc n)) = numbered_map f xs (suc n)
 
--- The postings assigned to a concept, by rows and by histories.
-pub assigned_rows : (concept : ℕ) (hs : List History) → standing_rows concept (map posting_row hs)
+-- The rows of the postings assigned to a concept are those of the histories assigned to it.
+pub assigned_rows : (concept : ℕ) (hs : List History) → assigned_posting_rows concept (map posting_row hs)
     ≡ map posting_row (filter (is_assigned_to concept) hs)
 assigned_rows concept [] = refl
 assigned_rows concept (h ∷ hs) = go (is_assigned_to concept h) (assigned_rows concept hs)
   where
-    go : (b : Bool) → standing_rows concept (map posting_row hs) ≡ map posting_row (filter (is_assigned_to concept) hs)
-        → cond b (posting_row h ∷ standing_rows concept (map posting_row hs))
-        (standing_rows concept (map posting_row hs))
+    go : (b : Bool) → assigned_posting_rows concept (map posting_row hs) ≡ map posting_row
+        (filter (is_assigned_to concept) hs)
+        → cond b (posting_row h ∷ assigned_posting_rows concept (map posting_row hs))
+        (assigned_posting_rows concept (map posting_row hs))
         ≡ map posting_row (cond b (h ∷ filter (is_assigned_to concept) hs) (filter (is_assigned_to concept) hs))
     go true e = ap (λ (rows : List PostingRow). posting_row h ∷ rows) e
     go false e = e
@@ -86,16 +88,17 @@ numbers_of (h ∷ hs) = ap (λ (l : List ℕ). h.number ∷ l) (numbers_of hs)
 
 -- The numbers collected are those of the postings assigned to the concept.
 pub assigned_numbers : (s : State) (rows : List PostingRow) (concept : ℕ) (old new : List ℕ) → rows
-    ≡ map posting_row s.histories → old ≡ [] → SinkAcceptsAll PushesNumber old (standing_rows concept rows) new → new
-    ≡ standing_numbers concept s.histories
+    ≡ map posting_row s.histories → old ≡ [] → SinkAcceptsAll PushesNumber old (assigned_posting_rows concept rows) new
+    → new
+    ≡ assigned_posting_numbers concept s.histories
 assigned_numbers s rows concept old new is none took =
-    numbers_taken old new (standing_rows concept rows) took
-    ∙ ap (λ (l : List ℕ). l ++ map (λ (r : PostingRow). r.number) (standing_rows concept rows)) none
-    ∙ ap (λ (l : List PostingRow). map (λ (r : PostingRow). r.number) (standing_rows concept l)) is
+    numbers_taken old new (assigned_posting_rows concept rows) took
+    ∙ ap (λ (l : List ℕ). l ++ map (λ (r : PostingRow). r.number) (assigned_posting_rows concept rows)) none
+    ∙ ap (λ (l : List PostingRow). map (λ (r : PostingRow). r.number) (assigned_posting_rows concept l)) is
     ∙ ap (map (λ (r : PostingRow). r.number)) (assigned_rows concept s.histories)
     ∙ numbers_of (filter (is_assigned_to concept) s.histories)
 
--- The rows found so far, of postings queried one after another.
+-- The rows found so far, while postings are queried in order.
 pub record RowsReadSoFar {K : Type 0} (rows : K → Raw) (is_up : K → Type 0) (failed : K → ℕ) (old now : K)
     (ns : List ℕ) (told : List (Option PostingRow)) : Type 0 where
   pub same : is_up now → rows now ≡ rows old
@@ -103,7 +106,7 @@ pub record RowsReadSoFar {K : Type 0} (rows : K → Raw) (is_up : K → Type 0) 
   pub count : failed now ≡ failed old
   pub rows_are_read : is_up now → RowsInTables (rows old) ns told
 
--- The rows found after one more query.
+-- A query for one more posting appends its row to the rows found.
 pub rows_read_more : {K : Type 0} (rows : K → Raw) (is_up : K → Type 0) (failed : K → ℕ) (old mid new : K)
     (ns more : List ℕ) (told last : List (Option PostingRow)) (n : ℕ) (row : Option PostingRow)
     → RowsReadSoFar rows is_up failed old mid ns told
@@ -121,7 +124,7 @@ rows_read_more rows is_up failed old mid new ns more told last n row t asks one 
       ∙ ap (map (posting_row_at s.histories)) (sym grown);
 }
 
--- The facts for each request that needs them.
+-- The facts of each kind of request that needs some are those of the histories.
 module _ (hs : List History) (command : Command) where
   pub facts_of_post : (key rec : List ℕ) (concept : ℕ) (facts : Facts) → command ≡ request.Post key rec concept
       → IsRowOfKey key hs facts.known → facts.named_postings.items ≡ [] → facts.standing.items ≡ []
@@ -154,7 +157,7 @@ module _ (hs : List History) (command : Command) where
       }
 
   pub facts_of_merge : (source target : ℕ) (facts : Facts) → command ≡ request.Merge source target → facts.known
-      ≡ None → facts.named_postings.items ≡ [] → facts.standing.items ≡ standing_numbers source hs
+      ≡ None → facts.named_postings.items ≡ [] → facts.standing.items ≡ assigned_posting_numbers source hs
       → AreFacts command hs facts
   facts_of_merge source target facts is known named_postings standing =
       subst (λ (r : Command). AreFacts r hs facts) (sym is) record {

@@ -1,4 +1,4 @@
--- Proves that a core built of all rows of a keeper is a copy of its tables, and that any fault is their verdict.
+-- Proves that a core built of all rows of the storage is a copy of its tables, and that any fault is their verdict.
 use Rattle.std.proofs.Common.{◌≡◌, ◌≢◌, ◌⊎◌, sym, subst, ◌∙◌, inl, inr}
 use Rattle.std.specs.Prelude.{Err}
 use Rattle.thes_base.specs.declared.data.Limits.{Limits}

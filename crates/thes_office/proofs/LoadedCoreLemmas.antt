@@ -1,7 +1,7 @@
 -- Proves that a core built of the parts of loaded rows holds the state that they encode.
 use Rattle.std.proofs.Common.{◌≡◌, ◌∙◌, sym, ap, subst, List, ℕ, false}
 use Rattle.std.specs.Prelude.{Ok}
-use Rattle.thes_base.specs.Legal.{Legal}
+use Rattle.thes_base.specs.Legal.{IsLegalState}
 use Rattle.thes_base.specs.State.{State}
 use Rattle.thes_post.specs.PostingCounts.{ArePostingCounts}
 use Rattle.thes_tables.specs.Cells.{Raw}
@@ -25,16 +25,16 @@ parts_of_state : (raw : Raw) (parts : LoadedParts) (t : Tables) → HasVerdict r
     → HasNames parts.linked_vocab.vocab t → HasLinks t.resource parts.linked_vocab.links.graph t.link t.hier
     → ArePostingCounts (state_of t).histories parts.book
     → ArePartsOf (state_of t) parts.linked_vocab.vocab parts.linked_vocab.links.graph.links parts.book
-    × Legal parts.linked_vocab.vocab.base (state_of t)
-parts_of_state raw parts t loads names links sums = (
+    × IsLegalState parts.linked_vocab.vocab.base (state_of t)
+parts_of_state raw parts t loads names links posting_counts = (
   record {
     resources = ap (λ (v : Vocabulary). v.resources) names;
     iris = ap (λ (v : Vocabulary). v.iris) names;
     labels = ap (λ (v : Vocabulary). v.labels) names;
     links_are = links.are;
-    sums_are = sums;
+    posting_counts_are = posting_counts;
   },
-  subst (λ (b : List ℕ). Legal b (state_of t)) (sym (ap (λ (v : Vocabulary). v.base) names))
+  subst (λ (b : List ℕ). IsLegalState b (state_of t)) (sym (ap (λ (v : Vocabulary). v.base) names))
       (loaded_state_legal raw t loads).0,
 )
 
@@ -42,7 +42,7 @@ parts_of_state raw parts t loads names links sums = (
 pub parts_legal : (read : Stage) (parts : LoadedParts) → IsOfRows read → is_stopped read ≡ false
     → ((raw : Raw) → HasRead read raw → LoadResult raw (Ok parts))
     → (s : State) × ArePartsOf s parts.linked_vocab.vocab parts.linked_vocab.links.graph.links parts.book
-    × Legal parts.linked_vocab.vocab.base s
+    × IsLegalState parts.linked_vocab.vocab.base s
 parts_legal read parts rows reads ends =
     let r = rows reads in
     let e = ends r.0 r.1 in
@@ -51,8 +51,8 @@ parts_legal read parts rows reads ends =
 
 pub core_is_loaded : (raw : Raw) (parts : LoadedParts) (core : CoreView)
     → ((s : State) → ArePartsOf s parts.linked_vocab.vocab parts.linked_vocab.links.graph.links parts.book
-    → Legal parts.linked_vocab.vocab.base s → IsViewOf core s)
+    → IsLegalState parts.linked_vocab.vocab.base s → IsViewOf core s)
     → core.setting.base ≡ parts.linked_vocab.vocab.base → LoadResult raw (Ok parts) → IsLoaded raw core
-core_is_loaded raw parts core holds base (t, loads, names, links, sums) =
-    let told = parts_of_state raw parts t loads names links sums in
+core_is_loaded raw parts core holds base (t, loads, names, links, posting_counts) =
+    let told = parts_of_state raw parts t loads names links posting_counts in
     (t, loads, holds (state_of t) told.0 told.1, base ∙ ap (λ (v : Vocabulary). v.base) names)

@@ -1,9 +1,10 @@
--- Proves that each call keeps the invariant of an office, and what it does to the tables.
+-- Proves that each call keeps the invariant of an office, and its effect on the tables.
 use Rattle.std.proofs.Common.{◌≡◌, ◌⊎◌, ◌++◌, ◌∷◌, [], ℕ, List, Bool, true, false, refl, sym, ap, subst, ◌∙◌, inl}
 use Rattle.std.proofs.Common.{inr, append_assoc, append-nil, take, drop, take-append-drop, length, length-drop, arith}
-use Rattle.std.proofs.Common.{◌<◌, ◌≤◌}
+use Rattle.std.proofs.Common.{◌<◌, ◌≤◌, length-append}
 use Rattle.std.specs.Prelude.{Result, Ok, Err}
 use Rattle.std.specs.Borrow.{Bor}
+use Rattle.std.specs.List.{AllByRecursion}
 use Rattle.thes_base.specs.declared.data.Limits.{Limits}
 use Rattle.thes_base.specs.declared.fault.Fault.{Fault}
 use Rattle.thes_base.specs.declared.fault.Fault.TheVariants as faults
@@ -11,7 +12,7 @@ use Rattle.thes_base.specs.declared.request.Answer.{Answer}
 use Rattle.thes_base.specs.declared.request.Command.{Command}
 use Rattle.thes_base.specs.Headline.{IsConsistentState}
 use Rattle.thes_base.specs.Machine.{Run, Step}
-use Rattle.thes_base.specs.Refusals.{Setting}
+use Rattle.thes_base.specs.Refusals.{Setting, AreLimits}
 use Rattle.thes_base.specs.State.{State}
 use Rattle.thes_base.proofs.MachineLemmas.{legal_is_consistent}
 use Rattle.thes_tables.specs.Cells.{Raw}
@@ -19,20 +20,20 @@ use Rattle.thes_core.specs.CoreView as core
 use Rattle.thes_store.specs.Causes.{HasCause, IsCounted}
 use Rattle.thes_load_rules.specs.Verdicts.{HasVerdict}
 use Rattle.thes_office.specs.QueryFrames.{LoadFrame}
-use Rattle.thes_office.specs.Office.{AreLimits, FaultBehaviour, TablesAfterRun, IsConsistent, IsCopy, OfficeView}
+use Rattle.thes_office.specs.Office.{ChangesNothing, FaultBehaviour, TablesAfterRun, IsConsistent, IsCopy, OfficeView}
 use Rattle.thes_office.specs.Office.{PerformResult, CompleteRun, PartialRun, ReadyResult, SameTables, TablesAfterStep}
 use Rattle.thes_office.specs.Office.{setting}
 use Rattle.thes_office.specs.TablesOfState.{TablesOfState}
 use Rattle.thes_office.proofs.StateTableLemmas.{faulty_has_no_state, state_is_unique, same_tables_same_state}
 use Rattle.thes_office.proofs.StepLemmas.{copies_over}
 
--- A run without requests.
+-- A run without requests leaves the tables unchanged.
 pub empty_run : (limits : Limits) (raw : Raw) (base : List ℕ) (s : State) → TablesOfState raw base s
     → IsConsistentState base s → TablesAfterRun limits raw [] [] raw
 empty_run limits raw base s shows in_order = record {
   base = base;
-  before = s;
-  after = s;
+  state_before = s;
+  state_after = s;
   tables_before = shows;
   run = refl;
   shows = shows;
@@ -53,7 +54,7 @@ has_failed before now fault (inr (e, inl more)) is = omega (arith, more)
 has_failed before now fault (inr (e, inr (at_most, same))) is = omega (arith, at_most, same)
 
 module _ {K : Type 0} (rows : K → Raw) (is_up : K → Type 0) (failed : K → ℕ) where
-  -- The invariant after a load.
+  -- A load establishes the invariant, with a copy that isn't stale.
   pub consistent_after_load : (old new : K) (copy : core.CoreView) (limits : Limits) → AreLimits limits → copy.spent
       ≡ false → (is_up new → IsCopy (rows old) limits copy) → (is_up new → rows new ≡ rows old)
       → IsConsistent rows is_up failed new copy limits false
@@ -68,7 +69,7 @@ module _ {K : Type 0} (rows : K → Raw) (is_up : K → Type 0) (failed : K → 
       here : is_up new → IsCopy (rows new) limits copy
       here up = copies_over (rows old) (rows new) limits copy (same up) (copies up)
 
-  -- The invariant after a call that changes neither the tables nor the copy.
+  -- A call that changes neither the tables nor the copy keeps the invariant.
   pub consistent_after_query : (old new : K) (copy : core.CoreView) (limits : Limits) (stale stale' : Bool)
       → IsConsistent rows is_up failed old copy limits stale → failed old ≤ failed new
       → (stale' ≡ true → (stale ≡ true) ⊎ (0 < failed new)) → (stale' ≡ false → stale ≡ false)
@@ -91,7 +92,7 @@ module _ {K : Type 0} (rows : K → Raw) (is_up : K → Type 0) (failed : K → 
       so (inl e) = still (kept.why e)
       so (inr once) = inr once
 
-  -- The invariant after a request is answered.
+  -- A request that is answered keeps the invariant.
   pub consistent_after_answer : (new : K) (copy copy' : core.CoreView) (limits : Limits) (stale : Bool) (old : Raw)
       (command : Command) (answer : Answer) → AreLimits limits → (is_up new → copy.setting.limits ≡ limits) → stale
       ≡ copy'.spent
@@ -100,13 +101,13 @@ module _ {K : Type 0} (rows : K → Raw) (is_up : K → Type 0) (failed : K → 
       failed new copy' limits stale
   consistent_after_answer new copy copy' limits stale old command answer few set is steps copies = record {
     few = few;
-    shows = λ up. let x = steps up in (x.base, x.after, x.shows);
+    shows = λ up. let x = steps up in (x.base, x.state_after, x.shows);
     unspent = λ e. sym is ∙ e;
     copies = λ e up. subst (λ (l : Limits). IsCopy (rows new) l copy') (set up) (copies up (sym is ∙ e));
     why = λ e. inl (sym is ∙ e);
   }
 
-  -- The effect of a load that fails, although the tables encode a state.
+  -- A load that fails is out of memory or reports a Store fault, since the tables encode a state.
   pub behaviour_of_load_fault : (old new : K) (copy : core.CoreView) (limits : Limits) (stale : Bool) (fault : Fault)
       (office_view : OfficeView K) → LoadFrame rows is_up failed old new (let x : Result core.CoreView Fault =
       Err fault in x)
@@ -136,20 +137,20 @@ module _ {K : Type 0} (rows : K → Raw) (is_up : K → Type 0) (failed : K → 
       only up (inr (inr faulty)) = let x = kept.shows (read.was up) in
           absurd (faulty_has_no_state (rows old) fault faulty x.0 x.1 x.2)
 
-  -- The result of `ready`, after a reload.
+  -- After a reload, `ready` returns a current copy.
   pub ready_core : (old : OfficeView K) (keeper : K) (copy : core.CoreView) (limits : Limits) (stale : Bool)
       (office_view : OfficeView K) (lent : Bor core.CoreView) → IsConsistent rows is_up failed keeper copy limits
       stale → record { keeper = keeper; limits = limits; stale = stale } ≡ office_view
       → FaultBehaviour rows is_up failed old office_view (let x : Result (Unit {0}) Fault = Ok tt in x)
       → SameTables rows is_up old office_view → office_view.stale ≡ false → lent.now ≡ copy
       → ReadyResult rows is_up failed old (Ok lent) (record { keeper = keeper; limits = limits; stale = stale })
-  ready_core old keeper copy limits stale office_view lent kept is goes same fresh lends =
+  ready_core old keeper copy limits stale office_view lent kept is fault_behaviour same fresh lends =
       subst (ReadyResult rows is_up failed old (Ok lent)) (sym is) record {
-        goes = record {
-          limits = goes.limits;
-          was = goes.was;
-          later = goes.later;
-          count = goes.count;
+        fault_behaviour = record {
+          limits = fault_behaviour.limits;
+          was = fault_behaviour.was;
+          later = fault_behaviour.later;
+          count = fault_behaviour.count;
           store =
               tt;
           stale = tt;
@@ -171,6 +172,11 @@ module _ {K : Type 0} (rows : K → Raw) (is_up : K → Type 0) (failed : K → 
 
 -- Runs.
 
+pub all_parts : {X : Type 0} (P : X → Type 0) (xs ys : List X) → AllByRecursion P (xs ++ ys) → AllByRecursion P xs
+    × AllByRecursion P ys
+all_parts P [] ys all = (tt, all)
+all_parts P (x ∷ xs) ys all = let rest = all_parts P xs ys all.1 in ((all.0, rest.0), rest.1)
+
 run_push : (s : Setting) (commands : List Command) (answers : List Answer) (a b c : State) (command : Command)
     (answer : Answer) → Run s a commands answers b → Step s b command answer c → Run s a (commands ++ command ∷ [])
     (answers ++ answer ∷ []) c
@@ -180,23 +186,52 @@ run_push s (x ∷ commands) [] a b c command answer run step = absurd run
 run_push s (x ∷ commands) (y ∷ answers) a b c command answer run step =
     (run.0, run.1, run_push s commands answers run.0 b c command answer run.2 step)
 
--- A run with one more request.
+-- A run followed by one more request is a run.
 pub run_of_one_more : (limits : Limits) (first mid last : Raw) (commands : List Command) (answers : List Answer)
     (command : Command) (answer : Answer) → TablesAfterRun limits first commands answers mid → TablesAfterStep limits
     mid command answer last → TablesAfterRun limits first (commands ++ command ∷ []) (answers ++ answer ∷ []) last
 run_of_one_more limits first mid last commands answers command answer run step =
-    let one = state_is_unique mid step.base run.base step.before run.after step.tables_before run.shows in
-    let shows = subst (λ (b : List ℕ). TablesOfState last b step.after) one.0 step.shows in
+    let one = state_is_unique mid step.base run.base step.state_before run.state_after step.tables_before run.shows in
+    let shows = subst (λ (b : List ℕ). TablesOfState last b step.state_after) one.0 step.shows in
     record {
       base = run.base;
-      before = run.before;
-      after = step.after;
+      state_before = run.state_before;
+      state_after = step.state_after;
       tables_before = run.tables_before;
-      run = run_push (setting run.base limits) commands answers run.before run.after step.after command answer run.run
-          (subst (λ (p : List ℕ × State). Step (setting p.0 limits) p.1 command answer step.after)
+      run = run_push (setting run.base limits) commands answers run.state_before run.state_after step.state_after
+          command answer run.run
+          (subst (λ (p : List ℕ × State). Step (setting p.0 limits) p.1 command answer step.state_after)
           (λ i. (one.0 i, one.1 i)) step.step);
       shows = shows;
-      in_order = legal_is_consistent run.base step.after shows.legal;
+      in_order = legal_is_consistent run.base step.state_after shows.legal;
+    }
+
+run_on : (s : Setting) (commands : List Command) (answers : List Answer) (more : List Command) (further : List Answer)
+    (a b c : State) → Run s a commands answers b → Run s b more further c → Run s a (commands ++ more)
+    (answers ++ further) c
+run_on s [] [] more further a b c run rest = subst (λ (x : State). Run s x more further c) run rest
+run_on s [] (x ∷ answers) more further a b c run rest = absurd run
+run_on s (x ∷ commands) [] more further a b c run rest = absurd run
+run_on s (x ∷ commands) (y ∷ answers) more further a b c run rest =
+    (run.0, run.1, run_on s commands answers more further run.0 b c run.2 rest)
+
+-- Two runs over the tables, one after another, are one run.
+pub run_of_more : (limits : Limits) (first mid last : Raw) (commands : List Command) (answers : List Answer)
+    (more : List Command) (further : List Answer) → TablesAfterRun limits first commands answers mid
+    → TablesAfterRun limits mid more further last → TablesAfterRun limits first (commands ++ more)
+    (answers ++ further) last
+run_of_more limits first mid last commands answers more further x y =
+    let one = state_is_unique mid y.base x.base y.state_before x.state_after y.tables_before x.shows in record {
+      base = x.base;
+      state_before = x.state_before;
+      state_after = y.state_after;
+      tables_before = x.tables_before;
+      run = run_on (setting x.base limits) commands answers more further x.state_before x.state_after y.state_after
+          x.run
+          (subst (λ (p : List ℕ × State). Run (setting p.0 limits) p.1 more further y.state_after)
+          (λ i. (one.0 i, one.1 i)) y.run);
+      shows = subst (λ (b : List ℕ). TablesOfState last b y.state_after) one.0 y.shows;
+      in_order = subst (λ (b : List ℕ). IsConsistentState b y.state_after) one.0 y.in_order;
     }
 
 module _ {K : Type 0} (rows : K → Raw) (is_up : K → Type 0) (failed : K → ℕ) where
@@ -206,10 +241,12 @@ module _ {K : Type 0} (rows : K → Raw) (is_up : K → Type 0) (failed : K → 
     pub was : is_up now.keeper → is_up old.keeper
     pub count : failed now.keeper ≡ failed old.keeper
     pub given : List Answer
+    pub each : length given ≡ length done
     pub kept : after ≡ before ++ given
     pub goes_on : is_up now.keeper → TablesAfterRun old.limits (rows old.keeper) done given (rows now.keeper)
+    pub same : is_up now.keeper → AllByRecursion ChangesNothing given → rows now.keeper ≡ rows old.keeper
 
-  -- Before the first request.
+  -- Before the first request, the progress is that of no requests.
   pub run_starts : (keeper : K) (copy : core.CoreView) (limits : Limits) (stale : Bool) (office_view : OfficeView K)
       (before : List Answer) → IsConsistent rows is_up failed keeper copy limits stale
       → record { keeper = keeper; limits = limits; stale = stale } ≡ office_view → RunSoFar office_view office_view []
@@ -220,54 +257,66 @@ module _ {K : Type 0} (rows : K → Raw) (is_up : K → Type 0) (failed : K → 
         was = λ up. up;
         count = refl;
         given = [];
+        each = refl;
         kept = sym (append-nil before);
         goes_on = λ up. let x = consistent.shows up in empty_run limits (rows keeper) x.0 x.1 x.2
             (legal_is_consistent x.0 x.1 x.2.legal);
+        same = λ up all. refl;
       }
 
-  -- After one more request.
+  -- An answered request extends the progress by one.
   pub run_continues : (old mid new : OfficeView K) (done more : List Command) (before after last : List Answer)
       (command : Command) (answer : Answer) → RunSoFar old mid done before after → FaultBehaviour rows is_up failed
       mid new (let x : Result Answer Fault = Ok answer in x)
       → PerformResult rows is_up mid command (Ok answer) new → last ≡ after ++ answer ∷ [] → more ≡ done ++ command
       ∷ [] → RunSoFar old new more before last
-  run_continues old mid new done more before after last command answer r goes performed pushed grown = record {
-    limits = goes.limits ∙ r.limits;
-    was = λ up. r.was (goes.was up);
-    count = goes.count ∙ r.count;
-    given = r.given ++ answer ∷ [];
-    kept = pushed ∙ ap (λ (l : List Answer). l ++ answer ∷ []) r.kept ∙ append_assoc before r.given (answer ∷ []);
-    goes_on = λ up.
-        let step = subst (λ (l : Limits). TablesAfterStep l (rows mid.keeper) command answer (rows new.keeper))
-        r.limits (performed up) in
-        subst (λ (l : List Command). TablesAfterRun old.limits (rows old.keeper) l (r.given ++ answer ∷ [])
-        (rows new.keeper)) (sym grown)
-        (run_of_one_more old.limits (rows old.keeper) (rows mid.keeper) (rows new.keeper) done r.given command answer
-        (r.goes_on (goes.was up)) step);
-  }
+  run_continues old mid new done more before after last command answer r fault_behaviour performed pushed grown =
+      record {
+        limits = fault_behaviour.limits ∙ r.limits;
+        was = λ up. r.was (fault_behaviour.was up);
+        count = fault_behaviour.count ∙ r.count;
+        given = r.given ++ answer ∷ [];
+        each = let a = length-append r.given (answer ∷ []) in let b = length-append done (command ∷ []) in
+            let c = ap (λ (l : List Command). length l) grown in
+            omega (arith, a, b, c, r.each);
+        kept = pushed ∙ ap (λ (l : List Answer). l ++ answer ∷ []) r.kept ∙ append_assoc before r.given (answer ∷ []);
+        goes_on = λ up.
+            let step = subst (λ (l : Limits). TablesAfterStep l (rows mid.keeper) command answer (rows new.keeper))
+            r.limits (performed up) in
+            subst (λ (l : List Command). TablesAfterRun old.limits (rows old.keeper) l (r.given ++ answer ∷ [])
+            (rows new.keeper)) (sym grown)
+            (run_of_one_more old.limits (rows old.keeper) (rows mid.keeper) (rows new.keeper) done r.given command
+            answer (r.goes_on (fault_behaviour.was up)) step);
+        same = λ up all. let parts = all_parts ChangesNothing r.given (answer ∷ []) all in
+            (performed up).same parts.1.0 ∙ r.same (fault_behaviour.was up) parts.0;
+      }
 
-  -- After the last request.
+  -- The progress after the last request is a complete run.
   pub run_completes : (old now : OfficeView K) (commands done : List Command) (before after : List Answer)
       → RunSoFar old now done before after → done ≡ commands → CompleteRun rows is_up old commands before after now
   run_completes old now commands done before after r same = record {
     answers = r.given;
+    each = r.each ∙ ap (λ (l : List Command). length l) same;
     kept = r.kept;
     goes_on = λ up. subst (λ (l : List Command). TablesAfterRun old.limits (rows old.keeper) l r.given
         (rows now.keeper)) same (r.goes_on up);
+    same = r.same;
   }
 
-  -- A run that stops before a request.
+  -- A fault before a request makes the progress a partial run.
   pub run_stops : (old now last : OfficeView K) (commands : List Command) (n : ℕ) (before after told : List Answer)
       → n < length commands → RunSoFar old now (take n commands) before after → (is_up last.keeper → is_up now.keeper)
       → (is_up last.keeper → rows last.keeper ≡ rows now.keeper) → told ≡ after → PartialRun rows is_up old commands
       before told last
   run_stops old now last commands n before after told more r was same is = record {
-    done = take n commands;
-    left = drop n commands;
+    commands_done = take n commands;
+    commands_left = drop n commands;
     answers = r.given;
     all = sym (take-append-drop n commands);
     some = omega (arith, length-drop n commands, more);
+    each = r.each;
     kept = is ∙ r.kept;
     goes_on = λ up. subst (λ (l : Raw). TablesAfterRun old.limits (rows old.keeper) (take n commands) r.given l)
         (sym (same up)) (r.goes_on (was up));
+    same = λ up all. same up ∙ r.same (was up) all;
   }

@@ -20,8 +20,6 @@ use Rattle.thes_tables.specs.Tables.{IsIn, AreDistinct}
 use Rattle.thes_load_rules.proofs.RowListLemmas.{row_of, in_set}
 use Rattle.thes_core.proofs.DeltaLemmas.{contains_in, in_contains}
 
--- Elements.
-
 module _ {A : Type 0} where
   pub in_permuted : (xs ys : List A) → IsPermutation xs ys → (x : A) → IsIn x xs → IsIn x ys
   in_permuted xs ys p x h = contains_in ys x (Contains-permutation xs ys x p (in_contains xs x h))
@@ -64,7 +62,7 @@ module _ {A B : Type 0} (f : A → B) where
             ap (λ k. swap k i j) is ∙ swap_map zs i j,
           )
 
--- Duplicates, by the number of occurrences of each key.
+-- The number of occurrences of each key shows whether a list has duplicates.
 
 module _ {A K : Type 0} {R : K → K → Ordering} (total : IsTotalOrder R) (exact : IsAntisymmetric R) (key : A → K)
     (own : (x y : A) → key x ≡ key y → x ≡ y) where
@@ -135,7 +133,7 @@ module _ {A K : Type 0} {R : K → K → Ordering} (total : IsTotalOrder R) (exa
   once_permuted xs ys p once = once_counted ys (λ x. let e = sum_by-IsPermutation (hit x) xs ys p in let m =
       count_once xs once x in omega (arith, e, m))
 
--- The set of a permuted list.
+-- A permuted list has the same set of elements.
 
 module _ {K : Type 0} {R : K → K → Ordering} (total : IsTotalOrder R) (exact : IsAntisymmetric R) where
   pub set_permuted : (xs ys : List K) → IsPermutation xs ys → set.from_list {R = R} ys ≡ set.from_list xs

@@ -8,7 +8,7 @@ use Rattle.thes_base.specs.declared.fault.Refusal.{Refusal}
 use Rattle.thes_base.specs.declared.data.Limits.{Limits}
 use Rattle.thes_base.specs.declared.data.Resource.{Resource}
 use Rattle.thes_base.specs.declared.data.Totals.{Totals}
-use Rattle.thes_base.specs.Refusals.{unless_resource}
+use Rattle.thes_base.specs.RuleParts.{unless_resource, unless_concept}
 use Rattle.thes_base.specs.Resources.{entry_at, IsConcept}
 use Rattle.thes_base.specs.RefusalRules.{accepted}
 use Rattle.thes_base.specs.State.{State}
@@ -18,17 +18,17 @@ use Rattle.thes_tables.specs.Cells.{Raw}
 use Rattle.thes_tables.specs.Tables.{moves_of}
 use Rattle.thes_core.specs.CoreView as core
 use Rattle.thes_store.specs.Sinks.{SinkAcceptsAll, SinkAcceptsPrefix}
-use Rattle.thes_store.specs.Reading.{PostingWithMoves, IsPostingOfNumber, standing_rows}
+use Rattle.thes_store.specs.Reading.{PostingWithMoves, IsPostingOfNumber, assigned_posting_rows}
 use Rattle.thes_load_rules.specs.Rules as tables
 use Rattle.thes_load_rules.proofs.LegalTableLemmas.{held_loads}
 use Rattle.thes_office.specs.QueryFrames.{InStateOfTables}
-use Rattle.thes_office.specs.Listing.{ConceptCheck, rows_assigned_to}
+use Rattle.thes_office.specs.AssignedPostings.{rows_assigned_to}
 use Rattle.thes_office.specs.Office.{IsCopy}
 use Rattle.thes_office.specs.TablesOfState.{TablesOfState}
 use Rattle.thes_office.proofs.FactLemmas.{numbered_map, assigned_rows}
 use Rattle.thes_office.proofs.StateTableLemmas.{state_is_unique}
 
--- A posting with its moves is a history.
+-- The row of a posting with its moves determines its history.
 pub history_of_posting : (raw : Raw) (base : List ℕ) (s : State) (x : TablesOfState raw base s) (n : ℕ)
     (told : PostingWithMoves) → IsPostingOfNumber n x.tables (Some told)
     → Some (record {
@@ -74,7 +74,7 @@ history_of_none raw base s x n is =
 -- The check of a concept by the copy is that of the state.
 pub concept_check_of_copy : (raw : Raw) (limits : Limits) (copy : core.CoreView) → IsCopy raw limits copy
     → (concept : ℕ) (answer : Option Refusal) → unless_resource (IsConcept copy.resources) copy.resources concept
-    accepted answer → InStateOfTables raw (λ s. ConceptCheck s concept answer)
+    accepted answer → InStateOfTables raw (λ s. unless_concept s concept answer)
 concept_check_of_copy raw limits copy is concept answer judges base s x =
     subst (λ (rs : List Resource). unless_resource (IsConcept rs) rs concept accepted answer)
     (ap (λ (t : State). t.resources)
@@ -82,40 +82,42 @@ concept_check_of_copy raw limits copy is concept answer judges base s x =
 
 -- The totals of the copy are those of the state.
 pub totals_of_copy : (raw : Raw) (limits : Limits) (copy : core.CoreView) (totals : Totals) → IsCopy raw limits copy
-    → totals.accepted ≡ copy.sums.accepted → totals.withdrawn ≡ copy.sums.withdrawn → totals.standing
-    ≡ copy.sums.accepted - copy.sums.withdrawn
+    → totals.accepted ≡ copy.posting_counts.accepted → totals.withdrawn ≡ copy.posting_counts.withdrawn
+    → totals.standing
+    ≡ copy.posting_counts.accepted - copy.posting_counts.withdrawn
     → InStateOfTables raw (λ s. totals ≡ totals_of s.histories)
 totals_of_copy raw limits copy totals is accepted withdrawn standing base s x =
-    let sums = is.holds.sums in
+    let posting_counts = is.holds.posting_counts in
     (λ i. record {
-      accepted = (accepted ∙ sums.accepted) i;
-      withdrawn = (withdrawn ∙ sums.withdrawn) i;
+      accepted = (accepted ∙ posting_counts.accepted) i;
+      withdrawn = (withdrawn ∙ posting_counts.withdrawn) i;
       standing =
-          (standing ∙ (λ j. sums.accepted j - sums.withdrawn j)) i;
+          (standing ∙ (λ j. posting_counts.accepted j - posting_counts.withdrawn j)) i;
     })
     ∙ ap (λ (t : State). totals_of t.histories) (state_is_unique raw copy.setting.base base is.state s is.shows x).1
 
--- The rows yielded are those of the histories.
+-- The rows of the postings assigned to a concept are those of the histories assigned to it.
 rows_of_histories_at : (raw : Raw) (base : List ℕ) (s : State) (x : TablesOfState raw base s) (concept : ℕ)
-    → standing_rows concept x.tables.posting ≡ rows_assigned_to s concept
-rows_of_histories_at raw base s x concept = ap (standing_rows concept) x.holds.posting
+    → assigned_posting_rows concept x.tables.posting ≡ rows_assigned_to s concept
+rows_of_histories_at raw base s x concept = ap (assigned_posting_rows concept) x.holds.posting
     ∙ assigned_rows concept s.histories
 
 module _ {S : Type 0} (gives : S → PostingRow → Result (Unit {0}) Fault → S → Type 0) (raw : Raw) (concept : ℕ)
     (old new : S) where
   pub takes_rows_assigned : (base : List ℕ) (s : State) (x : TablesOfState raw base s) → SinkAcceptsAll gives old
-      (standing_rows concept x.tables.posting) new → SinkAcceptsAll gives old (rows_assigned_to s concept) new
+      (assigned_posting_rows concept x.tables.posting) new → SinkAcceptsAll gives old (rows_assigned_to s concept) new
   takes_rows_assigned base s x took = subst (λ (rows : List PostingRow). SinkAcceptsAll gives old rows new)
       (rows_of_histories_at raw base s x concept) took
 
   pub takes_some_assigned : (fault : Fault) (base : List ℕ) (s : State) (x : TablesOfState raw base s)
-      → SinkAcceptsPrefix gives fault old (standing_rows concept x.tables.posting) new → SinkAcceptsPrefix gives fault
+      → SinkAcceptsPrefix gives fault old (assigned_posting_rows concept x.tables.posting) new
+      → SinkAcceptsPrefix gives fault
       old (rows_assigned_to s concept) new
   takes_some_assigned fault base s x took =
       subst (λ (rows : List PostingRow). SinkAcceptsPrefix gives fault old rows new)
       (rows_of_histories_at raw base s x concept) took
 
-  -- A sink that has received nothing.
+  -- A sink that has received nothing has received a prefix of the rows.
   pub takes_none : (fault : Fault) (rows : List PostingRow) → SinkAcceptsPrefix gives fault old rows old
   takes_none fault [] = refl
   takes_none fault (row ∷ rows) = inl refl

@@ -52,7 +52,7 @@ module _ {A : Type 0} (n : A → ℕ) where
   low_bounds_member low (y ∷ xs) x up (inr h) = let r = low_bounds_member (n y) xs x up.1 h in let q = up.0 in
       omega (arith, r, q)
 
-  -- 1 for a row with this number, and 0 otherwise.
+  -- The count of one row in the rows with number `m`: 1 if it has this number, and 0 otherwise.
   abbrev hit : ℕ → A → ℕ
   hit m x = cond (eqb (n x) m) 1 0
 
@@ -83,16 +83,18 @@ module _ {A : Type 0} (n : A → ℕ) where
   -- Two sorted lists of the same rows, one with increasing numbers, are equal.
   same_rows : (low least : ℕ) (xs ys : List A) → AreRising low xs → AreUp least ys
       → ((f : A → ℕ) → sum_by f ys ≡ sum_by f xs) → ((x : A) → IsIn x ys → IsIn x xs) → ys ≡ xs
-  same_rows low least [] [] rising up sums into = refl
-  same_rows low least [] (y ∷ ys) rising up sums into = absurd (into y (inl refl))
-  same_rows low least (x ∷ xs) [] rising up sums into = let e = sums (λ z. 1) in let s = sum_by-cons (λ z. 1) x xs in
+  same_rows low least [] [] rising up posting_counts into = refl
+  same_rows low least [] (y ∷ ys) rising up posting_counts into = absurd (into y (inl refl))
+  same_rows low least (x ∷ xs) [] rising up posting_counts into = let e = posting_counts
+      (λ z. 1) in let s = sum_by-cons (λ z. 1) x xs in
       absurd (omega (arith, e, s))
-  same_rows low least (x ∷ xs) (y ∷ ys) rising up sums into =
+  same_rows low least (x ∷ xs) (y ∷ ys) rising up posting_counts into =
       at (into y (inl refl)) (λ e. same_rows (n x + 1) (n y) xs ys rising.1 up.1 (λ f. less f e)
       (λ z h. later z e h (into z (inr h))))
     where
       less : (f : A → ℕ) → y ≡ x → sum_by f ys ≡ sum_by f xs
-      less f e = let a = sums f in let b = sum_by-cons f x xs in let c = sum_by-cons f y ys in let d = ap f e in
+      less f e = let a = posting_counts f in let b = sum_by-cons f x xs in let c = sum_by-cons f y ys in let d = ap f
+          e in
           omega (arith, a, b, c, d)
 
       rest : sum_by (hit (n x)) xs ≡ 0
@@ -111,7 +113,7 @@ module _ {A : Type 0} (n : A → ℕ) where
       at (inl e) again = λ i. e i ∷ again e i
       at (inr h) again =
           let far = low_bounds_member (n x + 1) xs y (rising_is_up (n x + 1) xs rising.1) h in
-          let total = sums (hit (n x)) in
+          let total = posting_counts (hit (n x)) in
           let of_ys = none (n x) (n y) (y ∷ ys) (omega (arith, far)) (omega arith, up.1) in
           let of_xs = some (x ∷ xs) x (inl refl) in
           absurd (omega (arith, total, of_ys, of_xs))

@@ -12,14 +12,14 @@ use Rattle.thes_base.specs.declared.fault.Fault.TheVariants.{BadStore, NewerStor
 use Rattle.thes_base.specs.declared.fault.Table.{Table}
 use Rattle.thes_base.specs.declared.fault.Table.TheVariants as table
 use Rattle.thes_base.specs.Labels.{Label}
-use Rattle.thes_base.specs.Legal.{LegalLabels, LegalLinks}
+use Rattle.thes_base.specs.Legal.{AreLegalLabels, AreLegalLinks}
 use Rattle.thes_base.proofs.LabelSetLemmas.{labels_total, labels_exact}
 use Rattle.thes_base.proofs.LinkSetLemmas.{links_total, links_exact}
 use Rattle.thes_tables.specs.declared.cells.Cell.{Cell}
 use Rattle.thes_tables.specs.declared.rows.HierRow.{HierRow}
 use Rattle.thes_tables.specs.declared.rows.PostingRow.{PostingRow}
 use Rattle.thes_tables.specs.declared.rows.MoveRow.{MoveRow}
-use Rattle.thes_tables.specs.Tables.{Tables, Ascends, hier_link}
+use Rattle.thes_tables.specs.Tables.{Tables, IriNumbersAscend, hier_link}
 use Rattle.thes_tables.specs.Cells.{Raw, RawTable, resource_rows, outside_cells, label_cells, link_cells, hier_cells}
 use Rattle.thes_tables.specs.Cells.{posting_cells, move_cells}
 use Rattle.thes_load_rules.specs.Rules.{state_of, links_of, AreInOrder, ResourceRule, OutsideRule, LabelRule}
@@ -32,9 +32,7 @@ use Rattle.thes_office.specs.RowOrder.{IsArranged}
 use Rattle.thes_office.proofs.PermutationLemmas.{in_back, map_permuted, once_permuted, set_permuted}
 use Rattle.thes_office.proofs.RisingNumberLemmas.{AreUp, AreRising, only_order, rising_in_order}
 
--- Verdicts that agree.
-
--- The same fault, or tables that encode the same state.
+-- Two verdicts agree: they are the same fault, or tables that encode the same state.
 abbrev pub AreAlike : Result Tables Fault → Result Tables Fault → Type 0
 AreAlike (Err fault) other = other ≡ Err fault
 AreAlike (Ok t) other = (u : Tables) × (other ≡ Ok u) × (state_of u ≡ state_of t) × (u.base ≡ t.base)
@@ -74,9 +72,7 @@ faulty_same P Q name here there over back rest =
     faulty_agree P Q (λ x y. x ≡ y) name here there (λ x p. (x, over x p, refl)) (λ y q. (y, back y q))
     (λ x y e. subst (λ z. VerdictsAgree (here x) (there z)) e (rest x))
 
--- Each table.
-
--- The same rows, sorted in both by number; or neither can be queried.
+-- The tables have the same rows, both sorted by number, or neither can be queried.
 abbrev pub AreOrdered : RawTable → RawTable → Type 0
 AreOrdered None there = there ≡ None
 AreOrdered (Some rows) None = ⊥
@@ -95,7 +91,7 @@ arranged_back None (Some others) same = absurd (cc)
 arranged_back (Some rows) None same = absurd same
 arranged_back (Some rows) (Some others) p = IsPermutation-sym rows others p
 
--- A numbered table that meets its rule has one order.
+-- A numbered table whose rows meet its rule has only one sorted order.
 numbered_over : {A : Type 0} (cells_of : List A → List (List Cell)) (Rule : List A → Type 0)
     → ((rows : List A) → Rule rows → AreRising first_number 1 (cells_of rows))
     → (here there : RawTable) → AreOrdered here there → (rows : List A) → IsTable cells_of Rule here rows
@@ -108,7 +104,7 @@ numbered_over cells_of Rule rising (Some cells) (Some others) (p, up, there) row
   rule,
 )
 
--- Any other table has typed rows in the order of its cells.
+-- A table without numbers has its typed rows in the order of its untyped ones.
 rows_over : {A : Type 0} (cells_of : A → List Cell) (Rule Other : List A → Type 0)
     → ((xs ys : List A) → IsPermutation xs ys → Rule xs → Other ys)
     → (here there : RawTable) → IsArranged here there → (xs : List A) → IsTable (map cells_of) Rule here xs
@@ -119,7 +115,7 @@ rows_over cells_of Rule Other over (Some cells) (Some others) p xs (is, rule) =
     let r = map_permuted cells_of xs others (subst (λ l. IsPermutation l others) (same_Some _ _ is) p) in
     (r.0, (ap Some r.2, over xs r.0 r.1 rule), r.1)
 
--- One row has one order.
+-- A table of one row has only one order.
 one_over : (here there : RawTable) → IsArranged here there → (row : List Cell) → here ≡ Some (row ∷ []) → there
     ≡ Some (row ∷ [])
 one_over None there same row is = absurd (cc)
@@ -138,14 +134,14 @@ version_over : (Is : ℕ → Type 0) (here there : RawTable) → IsArranged here
     → HasVersion Is there
 version_over Is here there same (version, base, are, is) = (version, base, are, one_over here there same _ is)
 
--- The rule of each table.
+-- The rows of each numbered table have increasing numbers.
 
 pub resources_rise : (n : ℕ) (rs : List Resource) → AreRising first_number n (resource_rows n rs)
 resources_rise n [] = tt
 resources_rise n (r ∷ rs) = (omega arith, resources_rise (n + 1) rs)
 
-pub outside_rise : (above : ℕ) (rows : List (ℕ × List ℕ)) → Ascends above rows → AreRising first_number (above + 1)
-    (map outside_cells rows)
+pub outside_rise : (above : ℕ) (rows : List (ℕ × List ℕ)) → IriNumbersAscend above rows
+    → AreRising first_number (above + 1) (map outside_cells rows)
 outside_rise above [] ascends = tt
 outside_rise above (row ∷ rows) ascends = ((let q = ascends.0 in omega (arith, q)), outside_rise row.0 rows ascends.1)
 
@@ -163,7 +159,7 @@ labels_over : (rs : List Resource) (xs ys : List Label) → IsPermutation xs ys 
 labels_over rs xs ys p rule = record {
   once = once_permuted labels_total labels_exact (λ l. l) (λ x y e. e) xs ys p rule.once;
   forms = λ l h. rule.forms l (in_back xs ys p l h);
-  legal = subst (LegalLabels rs) (sym (set_permuted labels_total labels_exact xs ys p)) rule.legal;
+  legal = subst (AreLegalLabels rs) (sym (set_permuted labels_total labels_exact xs ys p)) rule.legal;
 }
 
 links_over : (rs : List Resource) (xs ys : List Link) → IsPermutation xs ys → LinkRule rs xs → LinkRule rs ys
@@ -173,7 +169,7 @@ links_over rs xs ys p rule = record {
   each = λ l h. rule.each l (in_back xs ys p l h);
 }
 
--- The links of both tables.
+-- Permuted rows of the tables of links give the same links.
 links_same : (K L : List Link) (xs ys : List HierRow) → IsPermutation K L → IsPermutation xs ys → links_of L ys
     ≡ links_of K xs
 links_same K L xs ys p q = set_permuted links_total links_exact (K ++ map hier_link xs) (L ++ map hier_link ys)
@@ -183,12 +179,10 @@ hier_over : (rs : List Resource) (K L : List Link) → IsPermutation K L → (xs
     → HierRule rs K xs → HierRule rs L ys
 hier_over rs K L p xs ys q rule = record {
   once = once_permuted links_total links_exact hier_link hier_link_one xs ys q rule.once;
-  legal = subst (LegalLinks rs) (sym (links_same K L xs ys p q)) rule.legal;
+  legal = subst (AreLegalLinks rs) (sym (links_same K L xs ys p q)) rule.legal;
 }
 
--- All tables.
-
--- The same rows in each table, and those of numbered tables sorted in both.
+-- Each table has the same rows in both, and numbered tables are sorted in both.
 pub record AreTables (here there : Raw) : Type 0 where
   pub meta : IsArranged here.meta there.meta
   pub resource : AreOrdered here.resource there.resource
@@ -199,7 +193,7 @@ pub record AreTables (here there : Raw) : Type 0 where
   pub posting : AreOrdered here.posting there.posting
   pub move : AreOrdered here.move there.move
 
--- The relation is symmetric.
+-- The relation `AreTables` is symmetric.
 pub tables_back : (here there : Raw) → AreTables here there → AreTables there here
 tables_back here there same = record {
   meta = arranged_back here.meta there.meta same.meta;
@@ -212,7 +206,7 @@ tables_back here there same = record {
   move = ordered_back here.move there.move same.move;
 }
 
--- Each table meets its rule in both, or in neither.
+-- Each rule of the verdict holds of both sets of tables or of neither.
 module _ (here there : Raw) (same : AreTables here there) where
   newer : IsNewer here.meta → IsNewer there.meta
   newer = version_over (λ version. suc 2 ≤ version) here.meta there.meta same.meta
@@ -257,7 +251,7 @@ module _ (here there : Raw) (same : AreTables here there) where
   moves rs ps = numbered_over (map move_cells) (MoveRule rs ps) (λ rows rule. moves_rise rows rule.numbers) here.move
       there.move same.move
 
--- The tables after the last check encode the same state.
+-- Tables that pass the last check in both orders encode the same state.
 tables_agree : (base : List ℕ) (rs : List Resource) (outside : List (ℕ × List ℕ)) (labels marks : List Label)
     (K L : List Link) (xs ys : List HierRow) (ps : List PostingRow) (ms : List MoveRow)
     → IsPermutation labels marks → IsPermutation K L → IsPermutation xs ys

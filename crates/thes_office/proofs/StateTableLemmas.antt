@@ -3,7 +3,7 @@ use Rattle.std.proofs.Common.{◌≡◌, ℕ, List, sym, ap, subst, ◌∙◌}
 use Rattle.std.specs.Prelude.{Ok, Err}
 use Rattle.thes_base.specs.declared.fault.Fault.{Fault}
 use Rattle.thes_base.specs.State.{State}
-use Rattle.thes_base.specs.Legal.{Legal}
+use Rattle.thes_base.specs.Legal.{IsLegalState}
 use Rattle.thes_tables.specs.declared.change.Change.{Change}
 use Rattle.thes_tables.specs.Cells.{Raw, cells_of_tables}
 use Rattle.thes_tables.specs.ChangeLaw.{AreChangesBetween}
@@ -57,7 +57,7 @@ changes_fit raw base s next changes x leads t is = leads.fit t (listed_tables_ho
 
 -- The rows after the changes between two states encode the second.
 pub state_after_changes : (old new : Raw) (base : List ℕ) (s next : State) (changes : List Change)
-    → TablesOfState old base s → AreChangesBetween base changes s next → Legal base next
+    → TablesOfState old base s → AreChangesBetween base changes s next → IsLegalState base next
     → ((t : Tables) → old ≡ cells_of_tables t → new ≡ cells_of_tables (tables_after_delta changes t))
     → TablesOfState new base next
 state_after_changes old new base s next changes x leads legal made = record {

@@ -6,11 +6,11 @@ use Rattle.thes_base.specs.declared.fault.Fault.{Fault}
 use Rattle.thes_base.specs.declared.request.Answer.{Answer}
 use Rattle.thes_base.specs.declared.request.Command.{Command}
 use Rattle.thes_base.specs.declared.request.Command.TheVariants as request
-use Rattle.thes_base.specs.Legal.{Legal}
+use Rattle.thes_base.specs.Legal.{IsLegalState}
 use Rattle.thes_base.specs.Machine.{Step, next_state, answer_of}
-use Rattle.thes_base.specs.Refusals.{Setting, IsSetting}
+use Rattle.thes_base.specs.Refusals.{Setting, AreLimits, IsSetting}
 use Rattle.thes_base.specs.State.{State}
-use Rattle.thes_base.specs.Texts.{HasForms}
+use Rattle.thes_base.specs.Texts.{CommandHasForms}
 use Rattle.thes_base.proofs.SoundStateLemmas.{forms_of_legal}
 use Rattle.thes_tables.specs.declared.change.Change.{Change}
 use Rattle.thes_tables.specs.Cells.{Raw, cells_of_tables}
@@ -19,18 +19,15 @@ use Rattle.thes_tables.specs.Tables.{Tables}
 use Rattle.thes_core.specs.CoreDecisions.{AcceptedVerdict, ApplyResult}
 use Rattle.thes_core.specs.CoreView.{CoreView}
 use Rattle.thes_core.proofs.NextStateLemmas.{next_legal, step_of_accepted}
-use Rattle.thes_office.specs.Office.{AreLimits, ChangesNothing, IsCopy, TablesAfterStep}
+use Rattle.thes_office.specs.Office.{ChangesNothing, IsCopy, TablesAfterStep}
 use Rattle.thes_office.specs.TablesOfState.{TablesOfState}
 use Rattle.thes_office.proofs.StateTableLemmas.{state_after_changes}
 
-pub setting_fits : (setting : Setting) (s : State) → AreLimits setting.limits → Legal setting.base s → IsSetting setting
+pub setting_fits : (setting : Setting) (s : State) → AreLimits setting.limits → IsLegalState setting.base s
+    → IsSetting setting
 setting_fits setting s few legal = record {
   base_form = (forms_of_legal setting.base s legal).base_form;
-  resources = few.resources;
-  labels = few.labels;
-  links = few.links;
-  postings = few.postings;
-  moves = few.moves;
+  limits = few;
 }
 
 -- The answer to an accepted request is neither a refusal nor the number of a known posting.
@@ -50,23 +47,23 @@ accepted_changes (request.Split source tag text postings) s x = x
 accepted_changes (request.Post key rec concept) s x = x
 accepted_changes (request.Withdraw posting) s x = x
 
--- A step that keeps the state keeps the rows.
+-- A step that leaves the state unchanged leaves the rows unchanged.
 pub steps_settled : (setting : Setting) (raw : Raw) (s : State) (command : Command) (answer : Answer)
     → TablesOfState raw setting.base s → Step setting s command answer s → TablesAfterStep setting.limits raw command
     answer raw
 steps_settled setting raw s command answer x step = record {
   base = setting.base;
-  before = s;
-  after = s;
+  state_before = s;
+  state_after = s;
   tables_before = x;
   step = step;
   shows = x;
   same = λ nothing. refl;
 }
 
--- An accepted request whose changes are committed.
+-- A request that is accepted, and whose changes are committed, is a step of the machine.
 module _ (setting : Setting) (old new : Raw) (s : State) (command : Command) (answer : Answer) (changes : List Change)
-    (few : AreLimits setting.limits) (forms : HasForms command) (x : TablesOfState old setting.base s)
+    (few : AreLimits setting.limits) (forms : CommandHasForms command) (x : TablesOfState old setting.base s)
     (grants : AcceptedVerdict setting s command answer changes)
     (made : (t : Tables) → old ≡ cells_of_tables t → new ≡ cells_of_tables (tables_after_delta changes t)) where
   pub state_after_accepted : TablesOfState new setting.base (next_state command s)
@@ -77,8 +74,8 @@ module _ (setting : Setting) (old new : Raw) (s : State) (command : Command) (an
   pub steps_accepted : TablesAfterStep setting.limits old command answer new
   steps_accepted = record {
     base = setting.base;
-    before = s;
-    after = next_state command s;
+    state_before = s;
+    state_after = next_state command s;
     tables_before = x;
     step = subst (λ (a : Answer). Step setting s command a (next_state command s)) (sym grants.answer_is)
         (step_of_accepted setting s command grants.accepts);
@@ -86,7 +83,7 @@ module _ (setting : Setting) (old new : Raw) (s : State) (command : Command) (an
     same = λ nothing. absurd (accepted_changes command s (subst ChangesNothing grants.answer_is nothing));
   }
 
-  -- The copy after the request, if it is usable.
+  -- A copy that is usable after the request holds the next state.
   pub copies_accepted : (copy copy' : CoreView) (given : Answer) (result : Result Answer Fault) → copy.setting
       ≡ setting → ApplyResult copy (next_state command s) given result copy' → copy'.spent ≡ false
       → IsCopy new setting.limits copy'
@@ -99,12 +96,12 @@ module _ (setting : Setting) (old new : Raw) (s : State) (command : Command) (an
   }
   copies_accepted copy copy' given (Err fault) is makes unspent = let spent = makes.1 in absurd (cc)
 
--- A copy of equal rows.
+-- A copy of the rows is a copy of equal rows.
 pub copies_over : (old new : Raw) (limits : Limits) (copy : CoreView) → new ≡ old → IsCopy old limits copy
     → IsCopy new limits copy
 copies_over old new limits copy same is = subst (λ (r : Raw). IsCopy r limits copy) (sym same) is
 
--- A copy with the limits of its own setting.
+-- A copy is one with the limits of its own setting.
 pub copies_own : (raw : Raw) (limits : Limits) (copy : CoreView) → IsCopy raw limits copy
     → IsCopy raw copy.setting.limits copy
 copies_own raw limits copy is = record { limits_are = refl; state = is.state; holds = is.holds; shows = is.shows }

@@ -15,7 +15,7 @@ use Rattle.thes_office.specs.LoaderFeed.{IsBegun, KnowsRows, FeedResult, IsInTur
 use Rattle.thes_office.specs.LoaderLaw.{LoaderReadsStore}
 use Rattle.thes_office.proofs.TableFeedLemmas.{with_rows, table_taken}
 
--- Receiving two lists is receiving the first, and then the second.
+-- A sink that receives two lists receives the first, and then the second.
 split_takes : {S A : Type 0} (gives : S → A → Result (Unit {0}) Fault → S → Type 0) (xs ys : List A) (old new : S)
     → yields.SinkAcceptsAll gives old (xs ++ ys) new → (mid : S) × yields.SinkAcceptsAll gives old xs mid
     × yields.SinkAcceptsAll gives mid ys new
@@ -23,12 +23,12 @@ split_takes gives [] ys old new takes = (old, refl, takes)
 split_takes gives (x ∷ xs) ys old new (next, given, rest) = let r = split_takes gives xs ys next new rest in
     (r.0, (next, given, r.1), r.2)
 
--- A table after one in turn is in turn also.
+-- If a table is in turn, so is every later one.
 later_in_turn : (name next : Table) (l : Loader) → table_no name ≤ table_no next → IsInTurn name l.stage
     → IsInTurn next l.stage
 later_in_turn name next l order turn = omega (arith, order, turn)
 
--- The law of a loader over a whole store.
+-- A loader that has received all rows of a store knows them.
 pub loader_reads_all : LoaderReadsStore
 loader_reads_all limits raw old new begun takes =
     let a = split_takes FeedResult (sink_rows_of_table table.Meta raw.meta ++ sink_rows_of_table table.Resource
@@ -78,7 +78,7 @@ loader_reads_all limits raw old new begun takes =
     h7.turn) h7.knows a.2 in
     (h8.knows, h8.same ∙ h7.same ∙ h6.same ∙ h5.same ∙ h4.same ∙ h3.same ∙ h2.same ∙ h1.same ∙ begun.limits_are)
 
--- The same, with the loader after each table.
+-- A loader that receives each table in order knows the rows of all of them.
 pub reads_each_table : (limits : Limits) (raw : Raw) (l0 l1 l2 l3 l4 l5 l6 l7 l8 : Loader) → IsBegun limits l0
     → yields.SinkAcceptsAll FeedResult l0 (sink_rows_of_table table.Meta raw.meta) l1
     → yields.SinkAcceptsAll FeedResult l1 (sink_rows_of_table table.Resource raw.resource) l2

@@ -12,7 +12,7 @@ use Rattle.thes_load_rows.specs.Progress.{table_no, raw_with_row, raw_without_ta
 use Rattle.thes_office.specs.declared.loader.Loader.{Loader}
 use Rattle.thes_office.specs.LoaderFeed.{KnowsRows, FeedResult, IsInTurn}
 
--- The rows with others in one table.
+-- The rows of a store, with those of one table replaced.
 abbrev pub with_rows : Table → RawTable → Raw → Raw
 with_rows table.Meta rows raw = record raw { meta = rows }
 with_rows table.Resource rows raw = record raw { resource = rows }
@@ -52,7 +52,7 @@ pub record HasReadTable (name : Table) (raw : Raw) (old new : Loader) : Type 0 w
   pub same : new.limits ≡ old.limits
 
 module _ (name : Table) (raw : Raw) where
-  -- What a loader knows after the rest of the rows of the table.
+  -- A loader that receives the rest of the rows of a table knows the table.
   rows_taken : (done rows : List (List Cell)) (old new : Loader) → IsInTurn name old.stage
       → KnowsRows old (with_rows name (Some done) raw)
       → yields.SinkAcceptsAll FeedResult old (map (λ row. (name, Some row)) rows) new

@@ -1,4 +1,4 @@
--- Proves what a stage is after a row or report of a table in its turn, or after it.
+-- Proves the stage after a row or report of a table, in the table's turn or after it.
 use Rattle.std.proofs.Common.{◌≡◌, ◌↔◌, ◌<◌, ◌≤◌, ◌+◌, ◌-◌, ◌∙◌, ℕ, zero, suc, Bool, false, true≢false, List, refl}
 use Rattle.std.proofs.Common.{sym, subst, arith}
 use Rattle.std.specs.Prelude.{Option, None, Some, IsTrue}

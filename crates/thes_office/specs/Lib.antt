@@ -1,6 +1,6 @@
 pub mod TablesOfState
 pub mod QueryFrames
-pub mod Listing
+pub mod AssignedPostings
 pub mod Office
 pub mod LoaderView
 pub mod LoadedCore

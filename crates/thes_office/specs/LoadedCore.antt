@@ -1,4 +1,4 @@
--- A core built of rows.
+-- A core built from the rows of a store.
 use Rattle.std.specs.Prelude.{◌≡◌, Ok}
 use Rattle.thes_tables.specs.Tables.{Tables}
 use Rattle.thes_tables.specs.Cells.{Raw}

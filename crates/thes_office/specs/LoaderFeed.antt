@@ -1,4 +1,4 @@
--- What a loader knows of the rows that it has received.
+-- The rows that a loader has received, and the loader after the next row.
 use Rattle.std.specs.Prelude.{◌≡◌, ◌≤◌, ◌<◌, List, Option, None, Some, Result, Ok, Err}
 use Rattle.thes_base.specs.declared.data.Limits.{Limits}
 use Rattle.thes_base.specs.declared.fault.Fault.{Fault}
@@ -16,22 +16,23 @@ use Rattle.thes_office.specs.declared.loader.Loader.{Loader}
 abbrev pub KnowsRows : Loader → Raw → Type 0
 KnowsRows loader raw = HasRead loader.stage raw
 
--- The loader has received nothing yet.
+-- The loader has received no row, and waits for those of the first table, meta.
 pub record IsBegun (limits : Limits) (loader : Loader) : Type 0 where
   pub table_is : stage_table loader.stage ≡ table.Meta
   pub none : KnowsRows loader empty_raw
   pub limits_are : loader.limits ≡ limits
 
--- The rows with one more row of a table, or with the report (None) that it can't be queried.
+-- The rows with one more at the end of a table, or with the report (None) that the table can't be queried.
 abbrev pub with_news : Table → Option (List Cell) → Raw → Raw
 with_news table None raw = raw_without_table table raw
 with_news table (Some cells) raw = raw_with_row table cells raw
 
--- The current table of the stage is this one, or one before it.
+-- The current table of the stage is this one, or an earlier one.
 abbrev pub IsInTurn : Table → Stage → Type 0
 IsInTurn table stage = table_no (stage_table stage) ≤ table_no table
 
--- The stage after a row or report of a table: in its turn it is kept, and after that it is a fault of the table.
+-- The stage after a row or report of a table: the stage keeps it if the table is the current one or a later one, and
+-- stops with the fault of that table if the table is past.
 pub record NextStage (name : Table) (news : Option (List Cell)) (old new : Stage) : Type 0 where
   pub table_is : IsInTurn name old → stage_table new ≡ name
   pub reads : IsInTurn name old → (raw : Raw) → HasRead old raw → HasRead new (with_news name news raw)

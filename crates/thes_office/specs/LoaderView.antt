@@ -1,15 +1,15 @@
--- A loader, as contracts see it.
+-- A loader as contracts see it.
 use Rattle.std.specs.Prelude.{◌≡◌, false}
 use Rattle.thes_base.specs.declared.data.Limits.{Limits}
 use Rattle.thes_tables.specs.Cells.{Raw}
 use Rattle.thes_load_rows.specs.declared.stage.Stage.{Stage}
 use Rattle.thes_load_rows.specs.Progress.{HasRead, is_stopped}
 
--- The stage of a loader, and the limits of the core that it will build.
+-- A loader as contracts see it: the stage of its load, and the limits of the core that it will build.
 pub record LoaderView : Type 0 where
   pub stage : Stage
   pub limits : Limits
 
--- The stage knows some rows, unless it has stopped with a fault.
+-- The stage is that after reading some rows, perhaps none, unless it has stopped with a fault.
 abbrev pub IsOfRows : Stage → Type 0
 IsOfRows stage = is_stopped stage ≡ false → (raw : Raw) × HasRead stage raw

@@ -1,4 +1,4 @@
--- The results of queries to a keeper.
+-- The results of queries of the storage.
 use Rattle.std.specs.Prelude.{◌≡◌, ◌⊎◌, ◌<◌, ◌≤◌, ◌++◌, ℕ, List, [], ◌∷◌, map, Option, Result, Ok, Err, OnOk, IfErr}
 use Rattle.thes_base.specs.declared.fault.Fault.{Fault}
 use Rattle.thes_base.specs.declared.fault.Fault.TheVariants as faults
@@ -8,19 +8,20 @@ use Rattle.thes_base.specs.Resources.{entry_at}
 use Rattle.thes_base.specs.State.{State}
 use Rattle.thes_tables.specs.Cells.{Raw}
 use Rattle.thes_tables.specs.declared.rows.PostingRow.{PostingRow}
-use Rattle.thes_core.specs.Facts.{AreFacts, IsRowOfKey, posting_row_at, standing_numbers}
+use Rattle.thes_core.specs.Facts.{AreFacts, IsRowOfKey, posting_row_at, assigned_posting_numbers}
 use Rattle.thes_core.specs.declared.facts.Facts.{Facts}
 use Rattle.thes_store.specs.Causes.{HasCause, max_failures}
 use Rattle.thes_office.specs.TablesOfState.{TablesOfState}
 
--- What every query keeps: the tables stay the same, and a fault has its cause.
+-- The frame of every query: the tables are unchanged, and the count of failures agrees with the result.
 pub record QueryFrame {K T : Type 0} (rows : K → Raw) (is_up : K → Type 0) (failed : K → ℕ) (old new : K)
     (result : Result T Fault) : Type 0 where
   pub same : is_up new → rows new ≡ rows old
   pub was : is_up new → is_up old
   pub cause : HasCause (failed old) (failed new) result
 
--- What a load keeps: the tables stay the same, and a fault of the store has its cause.
+-- The frame of a load: the tables are unchanged, and a Store fault has been counted as a failure of the storage, unless
+-- the count is at its maximum.
 pub record LoadFrame {K T : Type 0} (rows : K → Raw) (is_up : K → Type 0) (failed : K → ℕ)
     (old new : K) (result : Result T Fault) : Type 0 where
   pub same : is_up new → rows new ≡ rows old
@@ -33,31 +34,31 @@ pub record LoadFrame {K T : Type 0} (rows : K → Raw) (is_up : K → Type 0) (f
 abbrev pub InStateOfTables : Raw → (State → Type 0) → Type 0
 InStateOfTables raw P = (base : List ℕ) (s : State) → TablesOfState raw base s → P s
 
--- The facts for a command are those of the rows.
+-- The facts are those that the command needs about the postings of the rows.
 abbrev pub FactsInTables : Raw → Command → Facts → Type 0
 FactsInTables raw command facts = InStateOfTables raw (λ s. AreFacts command s.histories facts)
 
--- The row found is that of the posting with this key, or there is none.
+-- The result is the row of the posting with this key, or None if there is none.
 abbrev pub KeyInTables : Raw → List ℕ → Option PostingRow → Type 0
 KeyInTables raw key found = InStateOfTables raw (λ s. IsRowOfKey key s.histories found)
 
--- The row is that of the posting with this number, or there is none.
+-- The result is the row of the posting with this number, or None if there is none.
 abbrev pub RowInTables : Raw → ℕ → Option PostingRow → Type 0
 RowInTables raw n row = InStateOfTables raw (λ s. row ≡ posting_row_at s.histories n)
 
--- The history is that of the posting with this number, or there is none.
+-- The result is the history of the posting with this number, or None if there is none.
 abbrev pub HistoryInTables : Raw → ℕ → Option History → Type 0
 HistoryInTables raw n told = InStateOfTables raw (λ s. told ≡ entry_at s.histories n)
 
--- The rows are those of the postings with these numbers.
+-- The results are the rows of the postings with these numbers, in that order.
 abbrev pub RowsInTables : Raw → List ℕ → List (Option PostingRow) → Type 0
 RowsInTables raw ns rows = InStateOfTables raw (λ s. rows ≡ map (posting_row_at s.histories) ns)
 
--- The numbers are those of the postings assigned to the concept.
+-- The numbers are those of the postings assigned to the concept, in increasing order.
 abbrev pub AssignedInTables : Raw → ℕ → List ℕ → Type 0
-AssignedInTables raw concept numbers = InStateOfTables raw (λ s. numbers ≡ standing_numbers concept s.histories)
+AssignedInTables raw concept numbers = InStateOfTables raw (λ s. numbers ≡ assigned_posting_numbers concept s.histories)
 
--- The number of the row is appended, or nothing on a fault.
+-- The sink appends the number of the row, or nothing on a fault.
 abbrev pub PushesNumber : List ℕ → PostingRow → Result (Unit {0}) Fault → List ℕ → Type 0
 PushesNumber old row (Ok done) new = new ≡ old ++ row.number ∷ []
 PushesNumber old row (Err fault) new = new ≡ old

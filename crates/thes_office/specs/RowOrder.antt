@@ -1,8 +1,8 @@
--- Rows in any order within each table.
+-- The rows of a store, in any order within each table.
 use Rattle.std.specs.Prelude.{◌≡◌, ◌↔◌, ℕ, List, None, Some, Ok, Err}
 use Rattle.std.specs.List.Sorted.{IsPermutation}
 use Rattle.thes_base.specs.declared.fault.Fault.{Fault}
-use Rattle.thes_base.specs.Legal.{Legal}
+use Rattle.thes_base.specs.Legal.{IsLegalState}
 use Rattle.thes_base.specs.State.{State}
 use Rattle.thes_tables.specs.Tables.{Tables, IsRowsOf}
 use Rattle.thes_tables.specs.Cells.{Raw, RawTable, cells_of_tables}
@@ -17,7 +17,7 @@ IsArranged None other = other ≡ None
 IsArranged (Some rows) None = ⊥
 IsArranged (Some rows) (Some other) = IsPermutation rows other
 
--- Each table has the same rows in any order.
+-- Each table has the same rows in both, in any order.
 pub record AreArranged (raw other : Raw) : Type 0 where
   pub meta : IsArranged raw.meta other.meta
   pub resource : IsArranged raw.resource other.resource
@@ -30,18 +30,19 @@ pub record AreArranged (raw other : Raw) : Type 0 where
 
 -- The rows encode this legal state, in any order within each table.
 pub record AreRowsOfState (base : List ℕ) (s : State) (raw : Raw) : Type 0 where
-  pub legal : Legal base s
+  pub legal : IsLegalState base s
   pub tables : Tables
   pub rows : IsRowsOf base s tables
-  pub arranged : AreArranged (cells_of_tables tables) raw
+  pub tables_arranged : AreArranged (cells_of_tables tables) raw
 
--- The rows encode a legal state, and the core holds the only one that they encode.
+-- The rows encode a legal state, and the core holds each state that they encode.
 pub record HoldsRows (raw : Raw) (core : CoreView) : Type 0 where
   pub state : State
   pub are : AreRowsOfState core.setting.base state raw
   pub holds : (base : List ℕ) (s : State) → AreRowsOfState base s raw → IsViewOf core s × (core.setting.base ≡ base)
 
--- The rows encode no legal state, and the fault is the verdict on them in any order.
+-- The rows encode no legal state, and the fault is the verdict on them in every order, once numbered tables are sorted
+-- by number.
 pub record AreRefused (raw : Raw) (fault : Fault) : Type 0 where
   pub none : (base : List ℕ) (s : State) → AreRowsOfState base s raw → ⊥
   pub verdict : (other sorted : Raw) → AreArranged raw other → AreSorted other sorted → HasVerdict sorted (Err fault)

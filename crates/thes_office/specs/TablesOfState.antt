@@ -1,7 +1,7 @@
--- Tables that encode a state.
+-- The relation of a store's tables to the state that they encode.
 use Rattle.std.specs.Prelude.{◌≡◌, ℕ, List}
 use Rattle.thes_base.specs.State.{State}
-use Rattle.thes_base.specs.Legal.{Legal}
+use Rattle.thes_base.specs.Legal.{IsLegalState}
 use Rattle.thes_tables.specs.Cells.{Raw, cells_of_tables}
 use Rattle.thes_tables.specs.Tables.{Tables, IsRowsOf}
 
@@ -10,4 +10,4 @@ pub record TablesOfState (raw : Raw) (base : List ℕ) (s : State) : Type 0 wher
   pub tables : Tables
   pub rows : raw ≡ cells_of_tables tables
   pub holds : IsRowsOf base s tables
-  pub legal : Legal base s
+  pub legal : IsLegalState base s

@@ -1,4 +1,4 @@
-//! The facts about postings that a request needs, queried from the keeper.
+//! Queries of the storage for the facts about postings on which the check of a request depends.
 ghost use Rattle.std.specs.Prelude.{◌≡◌, [], None, IfOk};
 ghost use Rattle.thes_office.specs.QueryFrames.{QueryFrame, FactsInTables, KeyInTables, RowInTables, RowsInTables, AssignedInTables};
 
@@ -12,9 +12,10 @@ use thes_core::Facts;
 use thes_store::keeper::{Keeper, Posting};
 use thes_tables::rows::PostingRow;
 
-/// Queries the keeper for the facts about postings that the request needs.
+/// Queries the storage for the facts about postings that the check of the request needs: the posting with the key of a
+/// post, the postings that a withdrawal or a split names, or those that a merge moves; none for another request.
 pub fn facts_of<K: Keeper>(alloc: Global, keeper: &mut K, command: &Command) -> Result<Facts, Fault>
-    ensures told { IfOk result (λ facts. K.is_up keeper.new
+    ensures in_tables { IfOk result (λ facts. K.is_up keeper.new
         → FactsInTables (K.rows keeper.old) command.now facts) }
     ensures asks { QueryFrame K.rows K.is_up K.failed keeper.old keeper.new result }
 {
@@ -47,7 +48,7 @@ pub fn facts_of<K: Keeper>(alloc: Global, keeper: &mut K, command: &Command) -> 
     }
 }
 
-// The facts for a request that names postings.
+// Returns facts that consist of the rows of the named postings alone.
 fn named_facts(alloc: Global, named_postings: Vec<Option<PostingRow>>) -> Facts
     ensures known { result.known ≡ None }
     ensures named_postings { result.named_postings.items ≡ named_postings.items }
@@ -60,21 +61,21 @@ fn named_facts(alloc: Global, named_postings: Vec<Option<PostingRow>>) -> Facts
     }
 }
 
-// The row of the posting with this key.
+// Looks up the row of the posting with this key.
 fn posting_of_key<K: Keeper>(keeper: &mut K, key: &Key) -> Result<Option<PostingRow>, Fault>
-    ensures told { IfOk result (λ found. K.is_up keeper.new
+    ensures in_tables { IfOk result (λ found. K.is_up keeper.new
         → KeyInTables (K.rows keeper.old) key.now found) }
     ensures asks { QueryFrame K.rows K.is_up K.failed keeper.old keeper.new result }
 {
     keeper.find(key)
 }
 
-// The row of the posting with this number.
+// Looks up the row of the posting with this number, without its moves.
 fn posting_of_number<K: Keeper>(
     keeper: &mut K,
     posting: PostNo,
 ) -> Result<Option<PostingRow>, Fault>
-    ensures told { IfOk result (λ row. K.is_up keeper.new
+    ensures in_tables { IfOk result (λ row. K.is_up keeper.new
         → RowInTables (K.rows keeper.old) posting row) }
     ensures asks { QueryFrame K.rows K.is_up K.failed keeper.old keeper.new result }
 {
@@ -88,13 +89,13 @@ fn posting_of_number<K: Keeper>(
     }
 }
 
-// The rows of the postings with these numbers, in that order.
+// Looks up the rows of the postings with these numbers, in that order; None for a number without a posting.
 fn postings_of_numbers<K: Keeper>(
     alloc: Global,
     keeper: &mut K,
     postings: &[PostNo],
 ) -> Result<Vec<Option<PostingRow>>, Fault>
-    ensures told { IfOk result (λ rows. K.is_up keeper.new
+    ensures in_tables { IfOk result (λ rows. K.is_up keeper.new
         → RowsInTables (K.rows keeper.old) postings.now rows.items) }
     ensures asks { QueryFrame K.rows K.is_up K.failed keeper.old keeper.new result }
 {
@@ -108,13 +109,13 @@ fn postings_of_numbers<K: Keeper>(
     Ok(rows)
 }
 
-// The numbers of the postings assigned to a concept.
+// Collects the numbers of the postings assigned to a concept, in increasing order.
 fn numbers_assigned_to<K: Keeper>(
     alloc: Global,
     keeper: &mut K,
     concept: ResNo,
 ) -> Result<Vec<PostNo>, Fault>
-    ensures told { IfOk result (λ numbers. K.is_up keeper.new
+    ensures in_tables { IfOk result (λ numbers. K.is_up keeper.new
         → AssignedInTables (K.rows keeper.old) concept numbers.items) }
     ensures asks { QueryFrame K.rows K.is_up K.failed keeper.old keeper.new result }
 {

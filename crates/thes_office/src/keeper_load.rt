@@ -1,4 +1,4 @@
-//! Builds a core of the tables of a keeper.
+//! Builds a core from the tables of the storage.
 ghost use Rattle.std.specs.Prelude.{◌≡◌, ◌≢◌, ◌⊎◌, false, Err, IfOk, IfErr};
 ghost use Rattle.thes_load_rules.specs.Verdicts.{HasVerdict};
 ghost use Rattle.thes_office.specs.QueryFrames.{LoadFrame};
@@ -11,7 +11,7 @@ use thes_base::fault::{Fault, Table};
 use thes_core::Core;
 use thes_store::keeper::Keeper;
 
-/// Builds a core of the tables of a keeper. Any fault but OutOfMemory and Store is the verdict on their rows.
+/// Builds a core from the tables of the storage. Any fault but OutOfMemory and Store is the verdict on their rows.
 pub fn load<K: Keeper>(alloc: Global, keeper: &mut K, limits: Limits) -> Result<Core, Fault>
     ensures unspent { IfOk result (λ core. core.spent ≡ false) }
     ensures copies { IfOk result (λ core. K.is_up keeper.new
@@ -34,7 +34,7 @@ pub fn load<K: Keeper>(alloc: Global, keeper: &mut K, limits: Limits) -> Result<
     }
 }
 
-// The fault for a verdict on rows, which is never Store: only a keeper reports that one.
+// Returns the fault that is the verdict on rows. Store, which only the storage reports, becomes BadStore of meta.
 fn verdict(fault: Fault) -> Fault
     ensures same { fault ≢ Fault.Store → result ≡ fault }
     ensures never { result ≢ Fault.Store }

@@ -1,8 +1,8 @@
-//! Laws of a loader over any keeper, and of rows in any order.
+//! Laws of a loader over any storage, and of rows in any order.
 ghost use Rattle.thes_office.specs.RowOrder.{AnyOrder};
 ghost use Rattle.thes_office.specs.LoaderLaw.{LoaderReadsStore};
 
-/// No effect; states for the proof that a loader knows the rows of a store once it has received all of them.
+/// No effect; states for the proof that a loader that accepts all rows of a store has received exactly these.
 pub fn loader_reads_store()
     ensures { LoaderReadsStore }
 {}

@@ -1,4 +1,4 @@
-//! Requests over a store: its tables, and a copy of all but the postings in memory.
+//! Requests and queries over a store: its tables, and a copy in memory of all but the postings.
 #![tactic(auto)]
 
 mod facts;

@@ -1,4 +1,4 @@
-//! Builds a core of the rows of a store.
+//! A loader, which builds a core from the rows of a store.
 ghost use Rattle.std.specs.Prelude.{◌≡◌, ◌⊎◌, false, None, Some, Err, IfOk, IfErr, MatchOption};
 ghost use Rattle.thes_base.specs.declared.fault.Fault.TheVariants as faults;
 ghost use Rattle.thes_tables.specs.Cells.{Raw};
@@ -18,8 +18,8 @@ use thes_load_rows::stage::Stage;
 use thes_store::sink::RowSink;
 use thes_tables::cells::Cell;
 
-/// Receives the rows of a store one by one, and builds a core of them. Postings and moves aren't kept beyond that.
-/// After running out of memory it has stopped with that fault.
+/// A sink that receives the rows of a store one by one, and builds a core from them: vocabulary, links and counts, but
+/// neither postings nor moves. If memory runs out, the loader has stopped with that fault.
 #[derive(Drop)]
 pub struct Loader {
     alloc: Global,
@@ -54,7 +54,7 @@ impl Loader {
         }
     }
 
-    // Moves the stage out, and leaves one that is out of memory.
+    // Moves the stage out, and leaves a stage stopped by OutOfMemory, which stays if the next one can't be allocated.
     fn take_stage(&mut self) -> Stage
         ensures taken { result ≡ self.old.stage }
         ensures left { self.new
@@ -67,7 +67,7 @@ impl Loader {
         )
     }
 
-    // Replaces the stage.
+    // Replaces the stage, and drops the old one.
     fn put(&mut self, stage: Stage)
         requires { IsOfRows stage }
         ensures { self.new ≡ record self.old { stage = stage } }
@@ -75,7 +75,7 @@ impl Loader {
         drop(mem::replace(&mut self.stage, stage));
     }
 
-    /// Builds a core of the rows, or returns the fault that is the verdict on them.
+    /// Builds a core from the rows received, or returns the fault that is the verdict on them.
     pub fn finish(self) -> Result<Core, Fault>
         ensures ok { IfOk result (λ core. (raw : Raw) → KnowsRows self raw → IsLoaded raw core) }
         ensures limits { IfOk result (λ core. core.setting.limits ≡ self.limits) }
@@ -104,7 +104,8 @@ impl Loader {
     }
 }
 
-// The stopped stage after a row of this table, if the table is past or the load has stopped before.
+// Returns the stopped stage after a row of this table, if the table comes too late or a fault has already stopped the
+// load, or else None.
 fn stage_after_stop(stage: &Stage, table: Table) -> Option<Stage>
     ensures { MatchOption result
         (IsInTurn table stage.now × (is_stopped stage.now ≡ false))
@@ -120,8 +121,7 @@ fn stage_after_stop(stage: &Stage, table: Table) -> Option<Stage>
     }
 }
 
-// The stage after a row of a table. A stage that isn't used again is dropped by a call, or the proof would have to drop
-// each of its variants.
+// Returns the stage after a row of a table.
 fn stage_after_row(
     stage: Stage,
     alloc: Global,
@@ -134,6 +134,7 @@ fn stage_after_row(
 {
     match stage_after_stop(&stage, table) {
         Some(stage_after_stop) => {
+            // Dropped by a call, or the proof would have to drop each of its variants.
             drop(stage);
             Ok(stage_after_stop)
         }
@@ -141,7 +142,7 @@ fn stage_after_row(
     }
 }
 
-// The stage after the report that a table can't be queried.
+// Returns the stage after the report that a table can't be queried.
 fn stage_after_unqueried(stage: Stage, alloc: Global, table: Table) -> Result<Stage, AllocError>
     requires { IsOfRows stage }
     ensures follows { IfOk result (NextStage table None stage) }
@@ -152,7 +153,7 @@ fn stage_after_unqueried(stage: Stage, alloc: Global, table: Table) -> Result<St
             drop(stage);
             Ok(stage_after_stop)
         }
-        None => stage.unqueried(alloc, table),
+        None => stage.report_unqueried(alloc, table),
     }
 }
 
@@ -165,7 +166,7 @@ impl RowSink for Loader {
         Ok(())
     }
 
-    fn unqueried(&mut self, table: Table) -> Result<(), Fault> {
+    fn report_unqueried(&mut self, table: Table) -> Result<(), Fault> {
         let next = stage_after_unqueried(self.take_stage(), self.alloc, table)?;
         self.put(next);
         Ok(())

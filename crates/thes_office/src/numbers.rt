@@ -1,4 +1,4 @@
-//! A sink that collects the numbers of postings.
+//! A sink for the queries of postings by concept.
 ghost use Rattle.std.specs.Prelude.{◌≡◌, []};
 
 use std::alloc::Global;
@@ -8,7 +8,7 @@ use thes_base::number::PostNo;
 use thes_store::sink::PostingSink;
 use thes_tables::rows::PostingRow;
 
-/// Collects the numbers of the rows that it receives, in that order.
+/// A sink that collects the numbers of postings, in the order of the rows that it receives.
 #[derive(Debug, Drop)]
 pub struct Numbers {
     list: Vec<PostNo>,
@@ -23,7 +23,7 @@ impl Model for Numbers {
 }
 
 impl Numbers {
-    /// Returns a sink without numbers.
+    /// Returns a sink that has received no number yet.
     pub fn new(alloc: Global) -> Numbers
         ensures { result ≡ [] }
     {
@@ -32,7 +32,7 @@ impl Numbers {
         }
     }
 
-    /// Unwraps the numbers.
+    /// Returns the numbers collected.
     pub fn into_list(self) -> Vec<PostNo>
         ensures { result.items ≡ self }
     {

@@ -1,4 +1,4 @@
-//! The office: performs requests and answers queries.
+//! The office, which performs requests and answers queries.
 ghost use Rattle.std.specs.Prelude.{⊤, ◌≡◌, ◌⊎◌, ◌<◌, false, Err, OnOk, IfOk, IfErr, List, ℕ};
 ghost use Rattle.thes_base.specs.Headline.{IsConsistentState};
 ghost use Rattle.thes_base.specs.State.{State};
@@ -18,7 +18,7 @@ use thes_base::request::{Answer, Command};
 use thes_core::Core;
 use thes_store::keeper::Keeper;
 
-/// A keeper of the tables, with a copy of their vocabulary, links and counts in memory.
+/// The storage of the tables, with a copy of their vocabulary, links and counts in memory.
 #[derive(Drop)]
 pub struct Office<K: Keeper> {
     pub(crate) alloc: Global,
@@ -49,7 +49,7 @@ impl<K: Keeper> Office<K> {
     ghost use Rattle.std.specs.Borrow.{sem};
     ghost use Rattle.thes_office.specs.Office.{ReadyResult};
 
-    /// Opens an office over a keeper whose tables encode a state. A fault comes with the keeper; any but OutOfMemory
+    /// Opens an office over a storage whose tables encode a state. A fault comes with the storage; any but OutOfMemory
     /// and Store is the verdict on the rows.
     pub fn start(alloc: Global, mut keeper: K, limits: Limits) -> Result<Office<K>, (Fault, K)>
         ensures limits { IfOk result (λ o. o.limits ≡ limits) }
@@ -76,7 +76,8 @@ impl<K: Keeper> Office<K> {
         }
     }
 
-    /// Returns whether the copy may differ from the tables. The tables are consistent either way.
+    /// Returns whether the copy may differ from the tables, so that the next call reloads it. The tables are consistent
+    /// either way.
     pub fn is_stale(&self) -> bool
         ensures value { result ≡ self.now.stale }
         ensures shows { K.is_up self.now.keeper
@@ -86,7 +87,7 @@ impl<K: Keeper> Office<K> {
         self.stale
     }
 
-    /// Returns the keeper.
+    /// Returns the storage, and drops the copy.
     pub fn into_keeper(self) -> K
         ensures { result ≡ self.keeper }
     {
@@ -100,9 +101,9 @@ impl<K: Keeper> Office<K> {
         keeper
     }
 
-    // Reloads the copy if it is stale.
+    // Reloads the copy from the tables if it is stale; after a fault it is still stale.
     pub(crate) fn refresh(&mut self) -> Result<(), Fault>
-        ensures goes { FaultBehaviour K.rows K.is_up K.failed self.old self.new result }
+        ensures fault_behaviour { FaultBehaviour K.rows K.is_up K.failed self.old self.new result }
         ensures same { SameTables K.rows K.is_up self.old self.new }
         ensures fresh { OnOk result (self.new.stale ≡ false) }
     {
@@ -117,10 +118,11 @@ impl<K: Keeper> Office<K> {
         Ok(())
     }
 
-    // Performs a request with a copy that isn't stale.
+    // Performs a request with a copy that isn't stale. A `Store` fault makes the copy stale, and so does running out of
+    // memory after the commit.
     fn serve(&mut self, command: &Command) -> Result<Answer, Fault>
         requires { self.old.stale ≡ false }
-        ensures goes { FaultBehaviour K.rows K.is_up K.failed self.old self.new result }
+        ensures fault_behaviour { FaultBehaviour K.rows K.is_up K.failed self.old self.new result }
         ensures performed { PerformResult K.rows K.is_up self.old command.now result self.new }
     {
         let facts = match facts_of(self.alloc, &mut self.keeper, command) {
@@ -142,22 +144,23 @@ impl<K: Keeper> Office<K> {
         }
     }
 
-    /// Performs a request, with the answer of the machine. A fault leaves the tables unchanged. A committed request is
-    /// always answered, even if memory for the copy runs out, which makes the copy stale.
+    /// Performs a request and returns its answer: a refusal if the request breaks a rule. On a fault the tables are
+    /// unchanged. A committed request is always answered, even if memory for the copy runs out, which makes the copy
+    /// stale.
     pub fn perform(&mut self, command: &Command) -> Result<Answer, Fault>
-        ensures goes { FaultBehaviour K.rows K.is_up K.failed self.old self.new result }
+        ensures fault_behaviour { FaultBehaviour K.rows K.is_up K.failed self.old self.new result }
         ensures performed { PerformResult K.rows K.is_up self.old command.now result self.new }
     {
         self.refresh()?;
         self.serve(command)
     }
 
-    /// Performs requests in order, and appends their answers. The answers and the tables are those of the machine: each
-    /// posting accepted and not withdrawn is assigned to exactly one live concept, which its moves lead to from its
-    /// first; the counts of live concepts add up to postings accepted less withdrawn; and the triples meet the
-    /// conditions of SKOS. A fault stops the run, and the requests answered before it stay performed.
+    /// Performs requests in order, and appends their answers. A fault stops the run; the requests answered before it
+    /// stay performed. The tables after the run are consistent: each posting accepted and not withdrawn is assigned to
+    /// exactly one live concept, to which its moves lead from its first concept; the counts of live concepts add up to
+    /// the number of postings accepted minus those withdrawn; and the triples meet the conditions of SKOS.
     pub fn run(&mut self, commands: &[Command], answers: &mut Vec<Answer>) -> Result<(), Fault>
-        ensures goes { FaultBehaviour K.rows K.is_up K.failed self.old self.new result }
+        ensures fault_behaviour { FaultBehaviour K.rows K.is_up K.failed self.old self.new result }
         ensures ran { RunResult K.rows K.is_up self.old commands.now
             answers.old.items answers.new.items result self.new }
     {
@@ -175,7 +178,7 @@ impl<K: Keeper> Office<K> {
         Ok(())
     }
 
-    /// Returns the copy of the tables, after a reload if it is stale.
+    /// Returns the copy of the tables, reloaded first if it was stale.
     pub fn ready(&mut self) -> Result<&Core, Fault>
         ensures* after { sem 𝓛
             (follows_so (the_row K.row K.Keeper) (the_row K.row K.Keeper) self.entry.ghost_name none

@@ -1,11 +1,11 @@
-//! Queries of postings.
+//! Queries of an office about postings: totals, a history, and the postings assigned to a concept.
 ghost use Rattle.std.specs.Prelude.{◌≡◌, false, IfOk};
 ghost use Rattle.thes_base.specs.Resources.{IsConcept};
-ghost use Rattle.thes_base.specs.Refusals.{unless_resource};
+ghost use Rattle.thes_base.specs.RuleParts.{unless_resource};
 ghost use Rattle.thes_base.specs.RefusalRules.{accepted};
 ghost use Rattle.thes_base.specs.Views.{totals_of};
 ghost use Rattle.thes_office.specs.QueryFrames.{QueryFrame, InStateOfTables, HistoryInTables};
-ghost use Rattle.thes_office.specs.Listing.{ListingResult};
+ghost use Rattle.thes_office.specs.AssignedPostings.{AssignedPostingsResult};
 ghost use Rattle.thes_office.specs.Office.{FaultBehaviour, IsCopy, SameTables};
 
 use crate::office::Office;
@@ -16,9 +16,10 @@ use thes_core::Core;
 use thes_store::keeper::{Keeper, Posting};
 use thes_store::sink::PostingSink;
 
-// The history of the posting with this number.
+// Returns the history of the posting with this number, from its row and its moves in the tables; None if no posting has
+// the number.
 fn history_at<K: Keeper>(keeper: &mut K, number: PostNo) -> Result<Option<History>, Fault>
-    ensures told { IfOk result (λ told. K.is_up keeper.new
+    ensures in_tables { IfOk result (λ told. K.is_up keeper.new
         → HistoryInTables (K.rows keeper.old) number told) }
     ensures asks { QueryFrame K.rows K.is_up K.failed keeper.old keeper.new result }
 {
@@ -39,7 +40,7 @@ fn history_at<K: Keeper>(keeper: &mut K, number: PostNo) -> Result<Option<Histor
     }
 }
 
-// Checks that the number is a concept's, live or not.
+// Checks that the number is a concept's, live or not: the refusal is UnknownResource or WrongKind.
 fn check_concept(core: &Core, concept: ResNo) -> Option<Refusal>
     requires { core.now.spent ≡ false }
     ensures { let resources = core.now.resources in
@@ -52,7 +53,8 @@ fn check_concept(core: &Core, concept: ResNo) -> Option<Refusal>
     }
 }
 
-// Yields the postings assigned to a concept to a sink, or returns the refusal.
+// Yields the rows of the postings assigned to a concept to a sink, or returns the refusal of a number that isn't a
+// concept's.
 fn list<K: Keeper, S: PostingSink>(
     keeper: &mut K,
     core: &Core,
@@ -63,7 +65,7 @@ fn list<K: Keeper, S: PostingSink>(
     requires copies { K.is_up keeper.old
         → IsCopy (K.rows keeper.old) core.now.setting.limits core.now }
     ensures lists { K.is_up keeper.new
-        → ListingResult S.gives (K.rows keeper.old) concept sink.old result sink.new }
+        → AssignedPostingsResult S.gives (K.rows keeper.old) concept sink.old result sink.new }
     ensures asks { QueryFrame K.rows K.is_up K.failed keeper.old keeper.new result }
 {
     if let Some(refusal) = check_concept(core, concept) {
@@ -76,11 +78,12 @@ fn list<K: Keeper, S: PostingSink>(
 }
 
 impl<K: Keeper> Office<K> {
-    /// Returns the numbers of postings accepted, withdrawn, and accepted but not withdrawn.
+    /// Returns the numbers of postings accepted, withdrawn, and accepted but not withdrawn, from the counts of the
+    /// copy.
     pub fn totals(&mut self) -> Result<Totals, Fault>
-        ensures goes { FaultBehaviour K.rows K.is_up K.failed self.old self.new result }
+        ensures fault_behaviour { FaultBehaviour K.rows K.is_up K.failed self.old self.new result }
         ensures same { SameTables K.rows K.is_up self.old self.new }
-        ensures told { IfOk result (λ totals. K.is_up self.new.keeper
+        ensures in_tables { IfOk result (λ totals. K.is_up self.new.keeper
             → InStateOfTables (K.rows self.new.keeper) (λ s. totals ≡ totals_of s.histories)) }
     {
         if let Err(fault) = self.refresh() {
@@ -89,11 +92,12 @@ impl<K: Keeper> Office<K> {
         Ok(self.core.totals())
     }
 
-    /// Returns the history of a posting.
+    /// Looks up the history of a posting in the tables: first concept, moves and withdrawal; None if no posting has the
+    /// number.
     pub fn posting(&mut self, number: PostNo) -> Result<Option<History>, Fault>
-        ensures goes { FaultBehaviour K.rows K.is_up K.failed self.old self.new result }
+        ensures fault_behaviour { FaultBehaviour K.rows K.is_up K.failed self.old self.new result }
         ensures same { SameTables K.rows K.is_up self.old self.new }
-        ensures told { IfOk result (λ told. K.is_up self.new.keeper
+        ensures in_tables { IfOk result (λ told. K.is_up self.new.keeper
             → HistoryInTables (K.rows self.new.keeper) number told) }
     {
         self.refresh()?;
@@ -106,17 +110,18 @@ impl<K: Keeper> Office<K> {
         }
     }
 
-    /// Yields the postings assigned to a concept to a sink, in the order of their numbers, or returns the refusal. On a
-    /// fault the sink has received the first few of them.
+    /// Yields the postings assigned to a concept to a sink, in the order of their numbers, or returns the refusal of a
+    /// number that isn't a concept's. On a fault the sink has received a prefix of them.
     pub fn postings<S: PostingSink>(
         &mut self,
         concept: ResNo,
         sink: &mut S,
     ) -> Result<Option<Refusal>, Fault>
-        ensures goes { FaultBehaviour K.rows K.is_up K.failed self.old self.new result }
+        ensures fault_behaviour { FaultBehaviour K.rows K.is_up K.failed self.old self.new result }
         ensures same { SameTables K.rows K.is_up self.old self.new }
         ensures lists { K.is_up self.new.keeper
-            → ListingResult S.gives (K.rows self.new.keeper) concept sink.old result sink.new }
+            → AssignedPostingsResult S.gives (K.rows self.new.keeper) concept sink.old result
+            sink.new }
     {
         if let Err(fault) = self.refresh() {
             return Err(fault);

@@ -1,4 +1,4 @@
-//! Builds a core of lists of rows.
+//! Builds a core from lists of rows, in any order within each table.
 ghost use Rattle.std.specs.Prelude.{◌≡◌, ◌⊎◌, false, IfOk, IfErr, OnOk, Err};
 ghost use Rattle.thes_base.specs.declared.fault.Fault.TheVariants as faults;
 ghost use Rattle.thes_tables.specs.Cells.{Raw};
@@ -7,7 +7,7 @@ ghost use Rattle.thes_store.specs.Sinks.{SinkAcceptsAll, sink_rows_of_table};
 ghost use Rattle.thes_office.specs.LoaderFeed.{KnowsRows, FeedResult};
 ghost use Rattle.thes_office.specs.LoadedCore.{IsLoaded};
 ghost use Rattle.thes_office.specs.RowOrder.{HoldsRows, AreRefused};
-ghost use Rattle.thes_office.specs.SortedRows.{first_number, table_of, raw_of, IsSorted, AreSorted};
+ghost use Rattle.thes_office.specs.SortedRows.{first_number, table_of, raw_of, IsSortedCopy, AreSorted};
 
 use crate::loader::Loader;
 use std::alloc::{AllocError, Global};
@@ -19,7 +19,7 @@ use thes_store::row_output::{AsCells, yield_rows};
 use thes_store::sink::RowSink;
 use thes_tables::cells::Cell;
 
-/// A row of cells.
+/// A row of a table, as a list of untyped cells.
 #[derive(Debug, Drop)]
 pub struct CellRow {
     cells: Vec<Cell>,
@@ -35,14 +35,15 @@ impl Model for CellRow {
 }
 
 impl CellRow {
-    /// Wraps the cells.
+    /// Returns the row with these cells.
     pub fn new(cells: Vec<Cell>) -> CellRow
         ensures { result ≡ cells.items }
     {
         CellRow { cells }
     }
 
-    // The number in the first cell, by which numbered tables are sorted, or 0.
+    // Returns the number in the first cell, by which numbered tables are sorted, or 0 if that cell isn't a natural
+    // number.
     fn number(&self) -> u64
         ensures { result ≡ first_number self.now }
     {
@@ -64,7 +65,7 @@ impl AsCells for CellRow {
     }
 }
 
-/// The rows of a store, in any order within a table; None for a table that can't be queried.
+/// The rows of the eight tables of a store, in any order within a table; None for a table that can't be queried.
 #[derive(Debug, Drop)]
 pub struct CellRows {
     pub meta: Option<Vec<CellRow>>,
@@ -77,9 +78,9 @@ pub struct CellRows {
     pub steps: Option<Vec<CellRow>>,
 }
 
-// Sorts the rows of a table by number.
+// Sorts the rows of a table by their first cell; a table that can't be queried stays so.
 fn sort_table(table: &mut Option<Vec<CellRow>>) -> Result<(), AllocError>
-    ensures { OnOk result (IsSorted (table_of table.old) (table_of table.new)) }
+    ensures { OnOk result (IsSortedCopy (table_of table.old) (table_of table.new)) }
 {
     if let Some(rows) = table {
         rows.sort_by_key(
@@ -91,7 +92,7 @@ fn sort_table(table: &mut Option<Vec<CellRow>>) -> Result<(), AllocError>
     Ok(())
 }
 
-// Passes the rows of a table to a loader, or the report that it can't be queried.
+// Passes the rows of a table to a loader, or the report that the table can't be queried.
 fn feed_table(
     alloc: Global,
     name: Table,
@@ -99,17 +100,18 @@ fn feed_table(
     loader: &mut Loader,
 ) -> Result<(), Fault>
     ensures takes { OnOk result
-        (SinkAcceptsAll FeedResult loader.old (sink_rows_of_table name (table_of table.now)) loader.new) }
+        (SinkAcceptsAll FeedResult loader.old (sink_rows_of_table name (table_of table.now))
+        loader.new) }
     ensures err { IfErr result (λ fault. fault ≡ faults.OutOfMemory) }
 {
     match table {
         Some(rows) => yield_rows(alloc, name, rows.as_slice(), loader),
-        None => loader.unqueried(name),
+        None => loader.report_unqueried(name),
     }
 }
 
 impl CellRows {
-    // Sorts the rows of the numbered tables by number.
+    // Sorts the rows of the tables numbered in their first column: resource, outside, posting and move.
     fn sort(&mut self) -> Result<(), AllocError>
         ensures { OnOk result (AreSorted (raw_of self.old) (raw_of self.new)) }
     {
@@ -120,7 +122,7 @@ impl CellRows {
     }
 }
 
-// Passes all rows to a loader, table by table.
+// Passes all rows to a loader, table by table, in the order in which a store yields them.
 fn read_rows(alloc: Global, rows: &CellRows, limits: Limits) -> Result<Loader, Fault>
     ensures knows { IfOk result (λ loader. KnowsRows loader (raw_of rows.now)
         × (loader.limits ≡ limits)) }
@@ -138,8 +140,8 @@ fn read_rows(alloc: Global, rows: &CellRows, limits: Limits) -> Result<Loader, F
     Ok(loader)
 }
 
-/// Builds a core of lists of rows, or returns the fault that is the verdict on them. Numbered tables are sorted first,
-/// so the result doesn't depend on the order of the lists.
+/// Builds a core from lists of rows, or returns the fault that is the verdict on them. Sorts numbered tables first, so
+/// the result doesn't depend on the order of the lists. Only tests call it.
 pub fn from_rows(alloc: Global, rows: CellRows, limits: Limits) -> Result<Core, Fault>
     ensures ok { IfOk result (λ core. (sorted : Raw) × AreSorted (raw_of rows) sorted
         × IsLoaded sorted core) }

@@ -1,16 +1,18 @@
-//! Performs one request.
+//! Performs one request on the storage and the core.
 ghost use Rattle.std.specs.Prelude.{◌≡◌, false, IfOk, OnErr};
 ghost use Rattle.thes_store.specs.Causes.{HasCause};
 ghost use Rattle.thes_office.specs.QueryFrames.{FactsInTables};
-ghost use Rattle.thes_office.specs.Office.{AreLimits, IsCopy, TablesAfterStep};
+ghost use Rattle.thes_base.specs.Refusals.{AreLimits};
+ghost use Rattle.thes_office.specs.Office.{IsCopy, TablesAfterStep};
 
 use thes_base::fault::Fault;
 use thes_base::request::{Answer, Command};
 use thes_core::{Core, Facts, Verdict};
 use thes_store::keeper::Keeper;
 
-/// Performs a request with a core that holds the state of the tables. A committed request is answered; if memory for
-/// the core runs out after the commit, the core is unusable until reloaded.
+/// Decides a request and, if it is accepted, commits its changes to the tables and applies it to the core, which holds
+/// their state. A committed request is always answered; if memory for the core runs out after the commit, the core is
+/// unusable until reloaded.
 pub fn perform_at<K: Keeper>(
     keeper: &mut K,
     core: &mut Core,
@@ -21,7 +23,8 @@ pub fn perform_at<K: Keeper>(
     requires few { K.is_up keeper.old → AreLimits core.old.setting.limits }
     requires copies { K.is_up keeper.old
         → IsCopy (K.rows keeper.old) core.old.setting.limits core.old }
-    requires told { K.is_up keeper.old → FactsInTables (K.rows keeper.old) command.now facts.now }
+    requires in_tables { K.is_up keeper.old
+        → FactsInTables (K.rows keeper.old) command.now facts.now }
     ensures steps { let limits = core.old.setting.limits in IfOk result (λ answer.
         K.is_up keeper.new
         → TablesAfterStep limits (K.rows keeper.old) command.now answer (K.rows keeper.new)) }

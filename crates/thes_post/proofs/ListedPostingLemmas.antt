@@ -5,12 +5,13 @@ use Rattle.std.specs.Prelude.{Some, None}
 use Rattle.thes_base.specs.declared.data.History.{History}
 use Rattle.thes_base.specs.Resources.{entry_at}
 use Rattle.thes_base.specs.RefusalRules.{accepted}
-use Rattle.thes_base.specs.Refusals.{EachListed, IsPostingThat, unless_standing}
+use Rattle.thes_base.specs.Refusals.{EachListed, IsPostingThat}
+use Rattle.thes_base.specs.RuleParts.{unless_assigned}
 use Rattle.thes_base.proofs.RefusalRuleLemmas.{passed_unless}
 use Rattle.std.proofs.lemmas.Bool.{cases_Bool, not-true}
 use Rattle.thes_post.proofs.EachLemmas.{each_more, each_at}
 
--- A flag that is set when a listed posting fails a test.
+-- Assumes a loop over the listed postings, with a flag that is set when one fails a test.
 module _ (hs : List History) (test : History → Bool) (ns : List ℕ) (i item : ℕ) (h : History) (mark fails : Bool)
     (inside : i < length ns) (is : item ≡ get_or ns i item) (at : entry_at hs item ≡ Some h)
     (told : test h ≡ not fails) where
@@ -39,9 +40,7 @@ module _ (hs : List History) (test : History → Bool) (ns : List ℕ) (i item :
           let t : true ≡ false = sym p.2 ∙ ap test same ∙ told ∙ ap not now in
           absurd (cc)
 
--- The postings of an accepted request pass the tests.
-
-pub passed_standing : (hs : List History) (n : ℕ) → unless_standing hs n accepted None → (h : History)
+pub passed_standing : (hs : List History) (n : ℕ) → unless_assigned hs n accepted None → (h : History)
     × (entry_at hs n ≡ Some h) × (h.withdrawn ≡ false)
 passed_standing hs n row =
     let known = passed_unless row in

@@ -14,11 +14,11 @@ use Rattle.thes_post.specs.Rising.{RisesFrom}
 abbrev pub as_number : Bool → ℕ
 as_number b = cond b 1 0
 
--- The list has the number.
+-- The test of whether the list has the number.
 abbrev pub has_number : List ℕ → ℕ → Bool
 has_number ns n = list_any (λ m. eqb m n) ns
 
--- A rising list has no number below its least.
+-- A strictly rising list has no number below its least.
 pub has_below : (least n : ℕ) (ns : List ℕ) → n < least → RisesFrom least ns → has_number ns n ≡ false
 has_below least n [] l r = refl
 has_below least n (m ∷ ns) l r =
@@ -69,7 +69,7 @@ once_times (m ∷ ns) e n = ⊎_elim
     let both = times_cons n m ns in
     omega (arith, rest, here, both)) (cases_Bool (eqb m n))
 
--- A list that has each number at most once is one without duplicates.
+-- A list that has each number at most once lists none twice.
 times_once : (ns : List ℕ) → ((n : ℕ) → occurrences n ns ≤ 1) → EachOnce ns
 times_once [] f = tt
 times_once (m ∷ ns) f = (
@@ -84,7 +84,7 @@ times_once (m ∷ ns) f = (
   times_once ns (λ n. let both = times_cons n m ns in let most = f n in omega (arith, both, most)),
 )
 
--- The order of a list doesn't matter.
+-- A permutation of a list without duplicates has none.
 pub once_permutation : (ms ns : List ℕ) → IsPermutation ms ns → EachOnce ms → EachOnce ns
 once_permutation ms ns p e = times_once ns (λ n. let same = sum_by-IsPermutation (λ m. cond (eqb m n) 1 0) ms ns p in
     let most = once_times ms e n in omega (arith, same, most))
@@ -93,7 +93,7 @@ pub once_of_rises : (least : ℕ) (ns : List ℕ) → RisesFrom least ns → Eac
 once_of_rises least [] r = tt
 once_of_rises least (n ∷ ns) r = (has_below (n + 1) n ns (omega arith) r.1, once_of_rises (n + 1) ns r.1)
 
--- A sorted list without duplicates rises.
+-- A sorted list without duplicates rises strictly.
 pub rises_of_once : (least : ℕ) (ns : List ℕ) → ((k : ℕ) → k < length ns → least ≤ get_or ns k 0) → IsNonDecreasing ns
     → EachOnce ns → RisesFrom least ns
 rises_of_once least [] low up e = tt

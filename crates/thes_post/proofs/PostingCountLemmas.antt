@@ -19,8 +19,6 @@ use Rattle.thes_base.proofs.LegalPostingLemmas.{count_set_numbered}
 use Rattle.thes_post.specs.PostingCounts.{PostingCounts, count_of, ArePostingCounts, CountsAfterPost}
 use Rattle.thes_post.specs.PostingCounts.{CountsAfterWithdrawal, CountsAfterMoves}
 
--- The counts to which a history adds.
-
 stands_here : (c : ℕ) (h : History) → h.withdrawn ≡ false → place h ≡ c → is_assigned_to c h ≡ true
 stands_here c h stays at = λ i. not (stays i) && eq-eqb (place h) c at i
 
@@ -34,8 +32,6 @@ stands_not c h apart = elim (cases_Bool (not h.withdrawn)) [
 pub stands_parts : (c : ℕ) (h : History) → is_assigned_to c h ≡ true → (h.withdrawn ≡ false) × (place h ≡ c)
 stands_parts c h s = let parts = and_parts (not h.withdrawn) (eqb (place h) c) s in
     (not-true h.withdrawn parts.0, eqb-true (place h) c parts.1)
-
--- One history is replaced by another.
 
 -- Replacing a history changes a count by the difference of the two.
 count_set : (test : History → Bool) (hs : List History) (i : ℕ) (h new : History) → slice_get hs i ≡ Some h
@@ -52,7 +48,7 @@ count_set test (x ∷ hs) (suc i) h new e =
     let ih = count_set test hs i h new e in
     omega (arith, a, b, ih)
 
--- A history is added.
+-- Assumes that a posting is added with the moves along its path.
 module _ (hs : List History) (key rec : List ℕ) (first : ℕ) (way : List ℕ) where
   abbrev posted : List History
   posted = histories_after_post key rec first way hs
@@ -94,7 +90,7 @@ module _ (hs : List History) (key rec : List ℕ) (first : ℕ) (way : List ℕ)
         omega (arith, a, b, m));
   }
 
--- A posting is withdrawn.
+-- Assumes that a posting is withdrawn.
 module _ (hs : List History) (n : ℕ) (h : History) (at : entry_at hs n ≡ Some h) (stays : h.withdrawn ≡ false) where
   abbrev less : List History
   less = set_entry_at hs n (history_after_withdrawal h)
@@ -159,14 +155,14 @@ module _ (hs : List History) (n : ℕ) (h : History) (at : entry_at hs n ≡ Som
             at refl in omega (arith, a, b, m));
       })
 
--- Some postings move from the source to the target.
+-- Assumes that the postings that pass a test move from the source to the target.
 module _ (passes : History → Bool) (source target : ℕ) (apart : source ≢ target) where
   -- The postings that pass the test are assigned to the source.
   abbrev pub AllAssigned : List History → Type 0
   AllAssigned [] = Unit {0}
   AllAssigned (h ∷ hs) = (passes h ≡ true → is_assigned_to source h ≡ true) × AllAssigned hs
 
-  -- The test has one value for a posting before its move, and one after it.
+  -- The test has one value for a posting assigned to the source, and another after its move.
   abbrev Turns : (History → Bool) → Bool → Bool → History → Type 0
   Turns test before after h = (test h ≡ before) × ((n : ℕ) → test (history_after_move n target h) ≡ after)
 
@@ -174,7 +170,7 @@ module _ (passes : History → Bool) (source target : ℕ) (apart : source ≢ t
   one_more true k = refl
   one_more false k = refl
 
-  -- The moves change a count by the number of histories that pass.
+  -- The moves change the number of histories that pass a test by the number of postings moved.
   turned : (test : History → Bool) (before after : Bool) → ((h : History) → is_assigned_to source h ≡ true
       → Turns test before after h) → (number : ℕ) (hs : List History) → AllAssigned hs
       → count_by test (histories_after_moves passes target number hs) + cond before (count_by passes hs) 0
@@ -257,7 +253,7 @@ module _ (passes : History → Bool) (source target : ℕ) (apart : source ≢ t
         number hs all in
         omega (arith, e)
 
-    -- The postings of both concepts are at most all postings.
+    -- The postings assigned to both concepts are together at most all postings.
     pub both_fit : assigned_count target hs + count_by passes hs ≤ length hs
     both_fit =
         let m = more_there in
@@ -297,12 +293,12 @@ module _ (passes : History → Bool) (source target : ℕ) (apart : source ≢ t
           omega (arith, a, b, m, is));
     }
 
--- The postings assigned to the source are.
+-- Each posting that passes the test of being assigned to the source is assigned to it.
 pub all_assigned : (source target : ℕ) (apart : source ≢ target) (hs : List History)
     → AllAssigned (is_assigned_to source) source target apart hs
 all_assigned source target apart [] = tt
 all_assigned source target apart (h ∷ hs) = (λ s. s, all_assigned source target apart hs)
 
--- The counts of no histories.
+-- The counts of an empty list of histories are 0.
 pub sums_none : ArePostingCounts [] (record { counts = []; accepted = 0; withdrawn = 0; moves = 0 })
 sums_none = record { standing = λ c. refl; accepted = refl; withdrawn = refl; moves = refl }

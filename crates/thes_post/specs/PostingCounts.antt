@@ -4,7 +4,7 @@ use Rattle.thes_base.specs.Types.{Number}
 use Rattle.thes_base.specs.declared.data.History.{History}
 use Rattle.thes_base.specs.Postings.{accepted_count, withdrawn_count, assigned_count, move_count}
 
--- The counts of postings: `counts` has at place n those assigned to concept n, and none past its end.
+-- The counts of postings: entry n of `counts` is the number assigned to concept n, and 0 past its end.
 pub record PostingCounts : Type 0 where
   pub counts : List ℕ
   pub accepted : ℕ
@@ -13,32 +13,32 @@ pub record PostingCounts : Type 0 where
 
 -- The number of postings assigned to the concept.
 abbrev pub count_of : PostingCounts → Number → ℕ
-count_of sums concept = slice_index sums.counts concept
+count_of posting_counts concept = slice_index posting_counts.counts concept
 
--- The counts are those of the histories.
-pub record ArePostingCounts (histories : List History) (sums : PostingCounts) : Type 0 where
-  pub standing : (concept : Number) → count_of sums concept ≡ assigned_count concept histories
-  pub accepted : sums.accepted ≡ accepted_count histories
-  pub withdrawn : sums.withdrawn ≡ withdrawn_count histories
-  pub moves : sums.moves ≡ move_count histories
+-- The counts are those of the postings with these histories.
+pub record ArePostingCounts (histories : List History) (posting_counts : PostingCounts) : Type 0 where
+  pub standing : (concept : Number) → count_of posting_counts concept ≡ assigned_count concept histories
+  pub accepted : posting_counts.accepted ≡ accepted_count histories
+  pub withdrawn : posting_counts.withdrawn ≡ withdrawn_count histories
+  pub moves : posting_counts.moves ≡ move_count histories
 
--- One more posting to the concept, after `steps` moves, keeps all counts below 2 ^ 32.
-pub record HasRoomForPost (concept : Number) (steps : ℕ) (sums : PostingCounts) : Type 0 where
-  pub here : count_of sums concept + 1 < 2 ^ 32
-  pub accepted : sums.accepted + 1 < 2 ^ 32
-  pub moves : sums.moves + steps < 2 ^ 32
+-- There is room for one more posting to the concept, with `steps` moves: all counts stay below 2 ^ 32.
+pub record HasRoomForPost (concept : Number) (steps : ℕ) (posting_counts : PostingCounts) : Type 0 where
+  pub here : count_of posting_counts concept + 1 < 2 ^ 32
+  pub accepted : posting_counts.accepted + 1 < 2 ^ 32
+  pub moves : posting_counts.moves + steps < 2 ^ 32
 
--- A posting that can be withdrawn is assigned to the concept.
-pub record HasPostingToWithdraw (concept : Number) (sums : PostingCounts) : Type 0 where
-  pub here : 0 < count_of sums concept
-  pub accepted : sums.withdrawn < sums.accepted
+-- A posting that isn't withdrawn is assigned to the concept.
+pub record HasPostingToWithdraw (concept : Number) (posting_counts : PostingCounts) : Type 0 where
+  pub here : 0 < count_of posting_counts concept
+  pub accepted : posting_counts.withdrawn < posting_counts.accepted
 
--- At least `moved` postings are assigned to the source, and one move of each to the target keeps all counts below 2 ^
--- 32.
-pub record HasRoomForMoves (source target : Number) (moved : ℕ) (sums : PostingCounts) : Type 0 where
-  pub standing : moved ≤ count_of sums source
-  pub there : count_of sums target + moved < 2 ^ 32
-  pub moves : sums.moves + moved < 2 ^ 32
+-- There is room to move `moved` postings from the source to the target, with one move each: the source has at least as
+-- many, and all counts stay below 2 ^ 32.
+pub record HasRoomForMoves (source target : Number) (moved : ℕ) (posting_counts : PostingCounts) : Type 0 where
+  pub standing : moved ≤ count_of posting_counts source
+  pub there : count_of posting_counts target + moved < 2 ^ 32
+  pub moves : posting_counts.moves + moved < 2 ^ 32
 
 -- The counts after one more posting to the concept and `steps` moves.
 pub record CountsAfterPost (concept : Number) (steps : ℕ) (old new : PostingCounts) : Type 0 where
@@ -65,12 +65,12 @@ pub record CountsAfterMoves (source target : Number) (moved : ℕ) (old new : Po
   pub withdrawn : new.withdrawn ≡ old.withdrawn
   pub moves : new.moves ≡ old.moves + moved
 
--- The counts of a tally: no more postings are assigned to a concept, or withdrawn, than were accepted, and there are no
--- moves.
-pub record AreTallyCounts (sums : PostingCounts) : Type 0 where
-  pub standing : (n : Number) → count_of sums n ≤ sums.accepted
-  pub withdrawn : sums.withdrawn ≤ sums.accepted
-  pub moves : sums.moves ≡ 0
+-- The counts of a `LoadedCounts`: no more postings are assigned to a concept, or withdrawn, than were accepted, and
+-- there are no moves.
+pub record AreTallyCounts (posting_counts : PostingCounts) : Type 0 where
+  pub standing : (n : Number) → count_of posting_counts n ≤ posting_counts.accepted
+  pub withdrawn : posting_counts.withdrawn ≤ posting_counts.accepted
+  pub moves : posting_counts.moves ≡ 0
 
 -- The counts after one more posting, which is withdrawn or assigned to the place.
 pub record CountsAfterTally (place : Number) (gone : Bool) (old new : PostingCounts) : Type 0 where

@@ -1,4 +1,4 @@
-//! The counts of postings. The postings themselves are in the storage.
+//! The counts of postings, kept in memory; the postings themselves are in the storage.
 ghost use Rattle.std.specs.Prelude.{◌≡◌, ◌≢◌, ◌<◌, ◌+◌, ◌-◌, ◌^◌, ℕ, [], length, slice_index, IfOk, OnOk, OnErr};
 ghost use Rattle.thes_post.specs.PostingCounts.{count_of, HasRoomForPost, HasPostingToWithdraw, HasRoomForMoves, CountsAfterPost, CountsAfterWithdrawal, CountsAfterMoves};
 
@@ -7,8 +7,8 @@ use std::marker::Model;
 use thes_base::data::Totals;
 use thes_base::number::{PostNo, ResNo};
 
-/// The number of postings assigned to each concept, and the numbers of postings accepted and
-/// withdrawn, and of moves.
+/// The number of postings assigned to each concept, and the total numbers of postings accepted, of
+/// postings withdrawn, and of moves.
 #[derive(Drop)]
 pub struct Book {
     counts: Vec<u32>,
@@ -33,14 +33,14 @@ impl Model for Book {
     ghost invariant = { λ a. a.withdrawn ≤ a.accepted };
 }
 
-// Returns the count at a place, which is 0 past the end.
+// Returns the count at the index `place`; 0 past the end.
 fn count_at(counts: &[u32], place: usize) -> u32
     ensures { result ≡ slice_index counts.now place }
 {
     counts.get(place).copied().unwrap_or(0)
 }
 
-// Extends the counts up to a place with zeros.
+// Appends zeros until the counts have an entry at the index `place`; does nothing if they have one.
 fn grow_counts(counts: &mut Vec<u32>, place: usize) -> Result<(), AllocError>
     requires { place < 2 ^ 32 }
     ensures same { (n : ℕ) → slice_index counts.new.items n ≡ slice_index counts.old.items n }
@@ -54,7 +54,7 @@ fn grow_counts(counts: &mut Vec<u32>, place: usize) -> Result<(), AllocError>
 }
 
 impl Book {
-    /// Creates the counts of no postings.
+    /// Creates counts that are all 0, without allocating.
     pub fn new(alloc: Global) -> Book
         ensures { result ≡ record { counts = []; accepted = 0; withdrawn = 0; moves = 0 } }
     {
@@ -66,8 +66,8 @@ impl Book {
         }
     }
 
-    /// Counts a new posting, assigned to the concept after `moves` moves, and returns its number.
-    /// Counts saturate.
+    /// Counts a new posting, assigned to the concept after `moves` moves, and returns its number;
+    /// counts saturate at 2³² - 1.
     pub fn post(&mut self, concept: ResNo, moves: u64) -> Result<PostNo, AllocError>
         ensures number { IfOk result (λ n.
             HasRoomForPost concept moves self.old → n ≡ self.old.accepted + 1) }
@@ -85,9 +85,10 @@ impl Book {
         Ok(PostNo::new(self.accepted))
     }
 
-    /// Counts a posting assigned to the concept as withdrawn. Changes nothing if there is none.
+    /// Counts a posting assigned to the concept as withdrawn; changes nothing if there is none.
     pub fn withdraw(&mut self, concept: ResNo)
-        ensures { HasPostingToWithdraw concept self.old → CountsAfterWithdrawal concept self.old self.new }
+        ensures { HasPostingToWithdraw concept self.old
+            → CountsAfterWithdrawal concept self.old self.new }
     {
         let count = count_at(self.counts.as_slice(), concept.get() as usize);
         if count > 0 && self.withdrawn < self.accepted {
@@ -97,7 +98,7 @@ impl Book {
     }
 
     /// Counts all postings of the source as moved to the target, with one move each, and returns
-    /// their number. Counts saturate.
+    /// their number; counts saturate at 2³² - 1.
     pub fn move_all(&mut self, source: ResNo, target: ResNo) -> Result<u32, AllocError>
         requires apart { source ≢ target }
         ensures count { IfOk result (λ k. k ≡ count_of self.old source) }
@@ -111,8 +112,8 @@ impl Book {
         Ok(count)
     }
 
-    /// Counts `count` postings of the source as moved to the target, with one move each. Changes
-    /// nothing if the source has fewer; counts saturate.
+    /// Counts `count` postings of the source as moved to the target, with one move each; changes
+    /// nothing if the source has fewer. Counts saturate at 2³² - 1.
     pub fn move_listed(
         &mut self,
         source: ResNo,
@@ -136,7 +137,7 @@ impl Book {
         Ok(())
     }
 
-    /// Returns the number of postings assigned to a concept.
+    /// Returns the number of postings assigned to a concept, 0 for a number without a count.
     pub fn count(&self, concept: ResNo) -> u64
         ensures value { result ≡ count_of self.now concept }
         ensures small { result < 2 ^ 32 }
@@ -159,21 +160,21 @@ impl Book {
         }
     }
 
-    /// Returns the number of postings accepted.
+    /// Returns the number of postings accepted, withdrawn ones included.
     pub fn accepted(&self) -> u32
         ensures { result ≡ self.now.accepted }
     {
         self.accepted
     }
 
-    /// Returns the number of moves.
+    /// Returns the number of moves of all postings.
     pub fn moves(&self) -> u32
         ensures { result ≡ self.now.moves }
     {
         self.moves
     }
 
-    // Sets the number of moves.
+    // Sets the number of moves, which a `LoadedCounts` doesn't count.
     pub(crate) fn set_moves(&mut self, moves: u32)
         ensures { self.new ≡ record self.old { moves = moves } }
     {

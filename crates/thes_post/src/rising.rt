@@ -1,4 +1,4 @@
-//! Lists of the numbers of postings.
+//! Lists of the numbers of postings: sorting, and a check for duplicates.
 ghost use Rattle.std.specs.Prelude.{◌↔◌, IsTrue, IfOk};
 ghost use Rattle.std.specs.List.Sorted.{IsPermutation, IsNonDecreasing};
 ghost use Rattle.thes_base.specs.Refusals.{EachOnce};
@@ -7,7 +7,7 @@ ghost use Rattle.thes_post.specs.Rising.{RisesFrom};
 use std::alloc::{AllocError, Global};
 use thes_base::number::PostNo;
 
-/// Returns the numbers in rising order.
+/// Returns a copy of the numbers in ascending order, with their duplicates.
 pub fn sorted_numbers(alloc: Global, numbers: &[PostNo]) -> Result<Vec<PostNo>, AllocError>
     ensures permutation { IfOk result (λ v. IsPermutation numbers.now v.items) }
     ensures in_order { IfOk result (λ v. IsNonDecreasing v.items) }
@@ -18,7 +18,7 @@ pub fn sorted_numbers(alloc: Global, numbers: &[PostNo]) -> Result<Vec<PostNo>, 
     Ok(list)
 }
 
-// Checks whether each number is greater than the one before it.
+// Checks whether each number is greater than the number before it.
 fn is_rising(numbers: &[PostNo]) -> bool
     ensures { IsTrue result ↔ RisesFrom 0 numbers.now }
 {
@@ -33,7 +33,7 @@ fn is_rising(numbers: &[PostNo]) -> bool
     true
 }
 
-/// Checks whether no number is listed twice.
+/// Checks whether no number is listed twice; fails only if memory for a sorted copy runs out.
 pub fn is_each_once(alloc: Global, numbers: &[PostNo]) -> Result<bool, AllocError>
     ensures { IfOk result (λ once. IsTrue once ↔ EachOnce numbers.now) }
 {

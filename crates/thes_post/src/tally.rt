@@ -1,4 +1,4 @@
-//! The counts of postings while they are loaded.
+//! The counts of postings while a store is loaded.
 ghost use Rattle.std.specs.Prelude.{◌≡◌, ◌≤◌, ◌<◌, ◌+◌, ◌^◌, ℕ, [], OnOk, OnErr};
 ghost use Rattle.thes_post.specs.PostingCounts.{CountsAfterTally, count_of};
 
@@ -7,13 +7,13 @@ use std::alloc::{AllocError, Global};
 use std::marker::Model;
 use thes_base::number::ResNo;
 
-/// The counts of postings that are loaded one by one at their places. Moves are counted at the end.
+/// The counts of the postings loaded so far. Moves aren't counted; `close` sets their number.
 #[derive(Drop)]
-pub struct Tally {
+pub struct LoadedCounts {
     book: Book,
 }
 
-impl Model for Tally {
+impl Model for LoadedCounts {
     ghost use Rattle.std.specs.Prelude.{◌≡◌};
     ghost use Rattle.thes_post.specs.PostingCounts.{PostingCounts, AreTallyCounts};
 
@@ -24,17 +24,17 @@ impl Model for Tally {
     ghost invariant = { λ a. AreTallyCounts a.book };
 }
 
-impl Tally {
-    /// Creates the counts of no postings.
-    pub fn new(alloc: Global) -> Tally
+impl LoadedCounts {
+    /// Creates counts that are all 0, without allocating.
+    pub fn new(alloc: Global) -> LoadedCounts
         ensures { result ≡ record { counts = []; accepted = 0; withdrawn = 0; moves = 0 } }
     {
-        Tally {
+        LoadedCounts {
             book: Book::new(alloc),
         }
     }
 
-    /// Counts one more posting, which is assigned to the place or withdrawn.
+    /// Counts one more posting, which is assigned to the concept `place` unless it was withdrawn.
     pub fn count_posting(&mut self, place: ResNo, withdrawn: bool) -> Result<(), AllocError>
         requires { self.old.accepted + 1 < 2 ^ 32 }
         ensures ok { OnOk result (CountsAfterTally place withdrawn self.old self.new) }
@@ -47,7 +47,7 @@ impl Tally {
         Ok(())
     }
 
-    /// Returns the counts as a book, with the number of moves.
+    /// Returns the counts as a book, with `moves` as the number of moves.
     pub fn close(self, moves: u64) -> Book
         requires { moves < 2 ^ 32 }
         ensures { result ≡ record self { moves = moves } }

@@ -1,4 +1,4 @@
--- Proves that a run of the machine leads an office through the requests of connections.
+-- Proves that the requests of connections lead an office through a run of the machine.
 use Rattle.std.proofs.Common.{◌∙◌, inl, inr, subst, ℕ, List, [], ◌∷◌, ◌++◌, Option, None, Some, Result, Ok, Err, arith}
 use Rattle.thes_base.specs.declared.data.Limits.{Limits}
 use Rattle.thes_base.specs.declared.fault.Fault.{Fault}
@@ -12,13 +12,13 @@ use Rattle.thes_tables.specs.Cells.{Raw}
 use Rattle.thes_office.specs.Office.{FaultBehaviour, TablesAfterRun, OfficeView, setting}
 use Rattle.thes_office.specs.TablesOfState.{TablesOfState}
 use Rattle.thes_office.proofs.StateTableLemmas.{state_is_unique}
-use Rattle.thes_exchange.specs.declared.request.Query.{Query}
+use Rattle.thes_requests.specs.declared.request.Query.{Query}
 use Rattle.thes_import.specs.Imports as importer
 use Rattle.thes_import.specs.declared.postings.ImportHalt.{ImportHalt}
 use Rattle.thes_import.specs.declared.postings.FileImport as performed
 use Rattle.thes_import.specs.declared.postings.FileImport.TheVariants as done
-use Rattle.thes_http_request.specs.declared.place.Place.{Place}
-use Rattle.thes_http_request.specs.declared.place.Place.TheVariants as place
+use Rattle.thes_http_request.specs.declared.endpoint.Endpoint.{Endpoint}
+use Rattle.thes_http_request.specs.declared.endpoint.Endpoint.TheVariants as endpoint
 use Rattle.thes_http_request.specs.declared.problem.Problem.{Problem}
 use Rattle.thes_http_request.specs.Heads.{parts_of}
 use Rattle.thes_http_request.specs.Queries.{DisplayQuery, display_query_of}
@@ -27,14 +27,12 @@ use Rattle.thes_http.specs.declared.response.Response.{Response}
 use Rattle.thes_http.specs.declared.service.Display.{Display}
 use Rattle.thes_http.specs.declared.service.Display.TheVariants as display
 use Rattle.thes_http.specs.Server.{AreAnswered, Exchange, LeadsBy}
-use Rattle.thes_http.specs.Serving.{Answers, AnswersHead, DisplayQueryEffect, DisplayEffect, PlaceEffect}
+use Rattle.thes_http.specs.Serving.{Answers, AnswersHead, DisplayQueryEffect, DisplayEffect, EndpointEffect}
 use Rattle.thes_http.specs.Serving.{ServiceEffects, CommandEffect, QueryEffect as ShowsView, NumberQueryEffect}
 use Rattle.thes_http.specs.Serving.{effects}
 use Rattle.thes_service.specs.OfficeRequests.{IsReachedByRun, OfficePerforms, OfficeShows}
 use Rattle.thes_service.specs.Service.{OfficeDisplays, OfficeExports, OfficeImports}
 use Rattle.thes_service.proofs.ScriptRunLemmas.{led_kept, led_same, led_start, led_step}
-
--- Runs, one after another.
 
 run_on : (s : Setting) (commands : List Command) (answers : List Answer) (more : List Command) (further : List Answer)
     (a b c : State) → Run s a commands answers b → Run s b more further c → Run s a (commands ++ more)
@@ -45,43 +43,44 @@ run_on s (x ∷ commands) [] more further a b c run rest = absurd run
 run_on s (x ∷ commands) (y ∷ answers) more further a b c run rest =
     (run.0, run.1, run_on s commands answers more further run.0 b c run.2 rest)
 
--- Two runs over the tables, one after another, are one run.
+-- Two consecutive runs over the tables are one run.
 goes_on_over : (limits : Limits) (first mid last : Raw) (commands : List Command) (answers : List Answer)
     (more : List Command) (further : List Answer) → TablesAfterRun limits first commands answers mid
     → TablesAfterRun limits mid more further last → TablesAfterRun limits first (commands ++ more)
     (answers ++ further) last
 goes_on_over limits first mid last commands answers more further x y =
-    let one = state_is_unique mid y.base x.base y.before x.after y.tables_before x.shows in record {
+    let one = state_is_unique mid y.base x.base y.state_before x.state_after y.tables_before x.shows in record {
       base = x.base;
-      before = x.before;
-      after = y.after;
+      state_before = x.state_before;
+      state_after = y.state_after;
       tables_before = x.tables_before;
-      run = run_on (setting x.base limits) commands answers more further x.before x.after y.after x.run
-          (subst (λ (p : List ℕ × State). Run (setting p.0 limits) p.1 more further y.after) (λ i. (one.0 i, one.1 i))
-          y.run);
-      shows = subst (λ (b : List ℕ). TablesOfState last b y.after) one.0 y.shows;
-      in_order = subst (λ (b : List ℕ). IsConsistentState b y.after) one.0 y.in_order;
+      run = run_on (setting x.base limits) commands answers more further x.state_before x.state_after y.state_after
+          x.run
+          (subst (λ (p : List ℕ × State). Run (setting p.0 limits) p.1 more further y.state_after)
+          (λ i. (one.0 i, one.1 i)) y.run);
+      shows = subst (λ (b : List ℕ). TablesOfState last b y.state_after) one.0 y.shows;
+      in_order = subst (λ (b : List ℕ). IsConsistentState b y.state_after) one.0 y.in_order;
     }
 
 module _ {K : Type 0} (rows : K → Raw) (is_up : K → Type 0) (failed : K → ℕ) where
   abbrev IsReached : OfficeView K → OfficeView K → Type 0
   IsReached old new = IsReachedByRun rows is_up failed old new
 
-  -- The relations of an office as a service.
+  -- The behaviour of an office as a service.
   abbrev Office : ServiceEffects (OfficeView K)
   Office = effects (OfficePerforms rows is_up failed) (OfficeShows rows is_up failed)
       (OfficeImports rows is_up failed) (OfficeExports rows is_up failed) (OfficeDisplays rows is_up failed)
 
-  -- A run of several requests.
+  -- A run of several requests extends the run before it.
   led_run : {T : Type 0} (old mid new : OfficeView K) (result : Result T Fault) (commands : List Command)
       (answers : List Answer) → IsReached old mid → FaultBehaviour rows is_up failed mid new result
       → (is_up new.keeper → TablesAfterRun mid.limits (rows mid.keeper) commands answers (rows new.keeper))
       → IsReached old new
-  led_run old mid new result commands answers reached goes run = record {
-    limits = goes.limits ∙ reached.limits;
-    was = λ up. reached.was (goes.was up);
-    later = omega (arith, reached.later, goes.later);
-    goes_on = λ up. let x = reached.goes_on (goes.was up) in
+  led_run old mid new result commands answers reached fault_behaviour run = record {
+    limits = fault_behaviour.limits ∙ reached.limits;
+    was = λ up. reached.was (fault_behaviour.was up);
+    later = omega (arith, reached.later, fault_behaviour.later);
+    goes_on = λ up. let x = reached.goes_on (fault_behaviour.was up) in
         let more = subst (λ (l : Limits). TablesAfterRun l (rows mid.keeper) commands answers (rows new.keeper))
         reached.limits (run up) in (
           x.0 ++ commands,
@@ -94,20 +93,24 @@ module _ {K : Type 0} (rows : K → Raw) (is_up : K → Type 0) (failed : K → 
   import_reached : {T : Type 0} (old mid new : OfficeView K) (result : Result T Fault) (file : List ℕ)
       (is : Result performed.FileImport ImportHalt) → FaultBehaviour rows is_up failed mid new result
       → importer.Imports rows is_up mid file is new → IsReached old mid → IsReached old new
-  import_reached old mid new result file (Ok (done.Rows report)) goes x reached = let all = x.2 in
-      led_run old mid new result _ _ reached goes (λ up. let ran = all.performs up in ran.goes_on)
-  import_reached old mid new result file (Ok done.Malformed) goes x reached = led_kept rows is_up failed old mid new
+  import_reached old mid new result file (Ok (done.Rows report)) fault_behaviour x reached = let all = x.2 in
+      led_run old mid new result _ _ reached fault_behaviour (λ up. let ran = all.performs up in ran.goes_on)
+  import_reached old mid new result file (Ok done.Malformed) fault_behaviour x reached = led_kept rows is_up failed old
+      mid new
       reached x.1
-  import_reached old mid new result file (Err halted) goes (inl x) reached = led_kept rows is_up failed old mid new
+  import_reached old mid new result file (Err halted) fault_behaviour (inl x) reached = led_kept rows is_up failed old
+      mid new
       reached x.2
-  import_reached old mid new result file (Err halted) goes (inr x) reached = let some = x.2 in let all =
-      some.imports in led_run old mid new result _ _ reached goes (λ up. let ran = all.performs up in ran.goes_on)
+  import_reached old mid new result file (Err halted) fault_behaviour (inr x) reached = let some = x.2 in let all =
+      some.imports in led_run old mid new result _ _ reached fault_behaviour
+      (λ up. let ran = all.performs up in ran.goes_on)
 
   request_reached : (old mid new : OfficeView K) (command : Command) (answer : Result Answer Fault)
       → OfficePerforms rows is_up failed mid command answer new → IsReached old mid → IsReached old new
   request_reached old mid new command (Ok answer) x reached = led_step rows is_up failed old mid new command answer
-      reached x.goes x.performed
-  request_reached old mid new command (Err fault) x reached = led_same rows is_up failed old mid new _ reached x.goes
+      reached x.fault_behaviour x.performed
+  request_reached old mid new command (Err fault) x reached = led_same rows is_up failed old mid new _ reached
+      x.fault_behaviour
       x.performed
 
   performs : (old mid new : OfficeView K) (r : Response) (body : List ℕ) → CommandEffect Office mid r new body
@@ -119,7 +122,7 @@ module _ {K : Type 0} (rows : K → Raw) (is_up : K → Type 0) (failed : K → 
   shows : (old mid new : OfficeView K) (r : Response) (query : Query) → ShowsView Office mid r new query
       → IsReached old mid → IsReached old new
   shows old mid new r query x reached = let shown = x.1 in led_same rows is_up failed old mid new x.0 reached
-      shown.goes shown.same
+      shown.fault_behaviour shown.same
 
   shows_number : (old mid new : OfficeView K) (r : Response) (query : ℕ → Query) (text : List ℕ)
       → NumberQueryEffect Office mid r new query text → IsReached old mid → IsReached old new
@@ -130,7 +133,7 @@ module _ {K : Type 0} (rows : K → Raw) (is_up : K → Type 0) (failed : K → 
       → DisplayEffect Office mid r new which scheme lang → IsReached old mid → IsReached old new
   displays_in old mid new r which scheme lang (inl x) reached = led_kept rows is_up failed old mid new reached x.1.1
   displays_in old mid new r which scheme lang (inr x) reached = let shown = x.2 in
-      led_same rows is_up failed old mid new x.1 reached shown.goes shown.same
+      led_same rows is_up failed old mid new x.1 reached shown.fault_behaviour shown.same
 
   displays : (old mid new : OfficeView K) (r : Response) (which : Display) (asked : Option DisplayQuery)
       → DisplayQueryEffect Office mid r new which asked → IsReached old mid → IsReached old new
@@ -138,25 +141,25 @@ module _ {K : Type 0} (rows : K → Raw) (is_up : K → Type 0) (failed : K → 
   displays old mid new r which (Some asked) (inl x) reached = led_kept rows is_up failed old mid new reached x.1.1
   displays old mid new r which (Some asked) (inr x) reached = displays_in old mid new r which x.0 asked.lang x.3 reached
 
-  does : (old mid new : OfficeView K) (r : Response) (p : Place) (number query body : List ℕ) → PlaceEffect Office mid
-      r new p number query body → IsReached old mid → IsReached old new
-  does old mid new r place.Requests number query body x reached = performs old mid new r body x reached
-  does old mid new r place.Import number query body x reached = let import = x.1 in
-      import_reached old mid new x.0 body import.done import.goes import.imports reached
-  does old mid new r place.Totals number query body x reached = shows old mid new r _ x reached
-  does old mid new r place.Concept number query body x reached = shows_number old mid new r _ number x reached
-  does old mid new r place.Postings number query body x reached = shows_number old mid new r _ number x reached
-  does old mid new r place.Posting number query body x reached = shows_number old mid new r _ number x reached
-  does old mid new r place.Export number query body x reached = let export = x.1 in
-      led_same rows is_up failed old mid new x.0 reached export.goes export.same
-  does old mid new r place.Alphabetical number query body x reached = displays old mid new r display.Alphabetical
+  does : (old mid new : OfficeView K) (r : Response) (p : Endpoint) (number query body : List ℕ)
+      → EndpointEffect Office mid r new p number query body → IsReached old mid → IsReached old new
+  does old mid new r endpoint.Requests number query body x reached = performs old mid new r body x reached
+  does old mid new r endpoint.Import number query body x reached = let import = x.1 in
+      import_reached old mid new x.0 body import.done import.fault_behaviour import.imports reached
+  does old mid new r endpoint.Totals number query body x reached = shows old mid new r _ x reached
+  does old mid new r endpoint.Concept number query body x reached = shows_number old mid new r _ number x reached
+  does old mid new r endpoint.Postings number query body x reached = shows_number old mid new r _ number x reached
+  does old mid new r endpoint.Posting number query body x reached = shows_number old mid new r _ number x reached
+  does old mid new r endpoint.Export number query body x reached = let export = x.1 in
+      led_same rows is_up failed old mid new x.0 reached export.fault_behaviour export.same
+  does old mid new r endpoint.Alphabetical number query body x reached = displays old mid new r display.Alphabetical
       (display_query_of query) x reached
-  does old mid new r place.Hierarchical number query body x reached = displays old mid new r display.Hierarchical
+  does old mid new r endpoint.Hierarchical number query body x reached = displays old mid new r display.Hierarchical
       (display_query_of query) x reached
 
   head_answered : (old mid new : OfficeView K) (r : Response) (wants : Result HeadRequest Problem) (rest : List ℕ)
       → AnswersHead Office mid r new wants rest → IsReached old mid → IsReached old new
-  head_answered old mid new r (Ok w) rest x reached = does old mid new r w.place w.number w.query _ x.1 reached
+  head_answered old mid new r (Ok w) rest x reached = does old mid new r w.endpoint w.number w.query _ x.1 reached
   head_answered old mid new r (Err problem) rest x reached = led_kept rows is_up failed old mid new reached x.1
 
   exchange_reached : (old mid new : OfficeView K) (r : Response) (bytes : List ℕ) → Answers Office mid r new bytes
@@ -172,7 +175,7 @@ module _ {K : Type 0} (rows : K → Raw) (is_up : K → Type 0) (failed : K → 
   all_answered old new (e ∷ before) x reached = exchange_reached old x.0 new e.response e.bytes x.2
       (all_answered old x.0 before x.1 reached)
 
-  -- Several connections.
+  -- A number of connections leads the office through a run of the machine.
   pub connections_lead : (most : ℕ) (old new : OfficeView K) → (is_up old.keeper → (base : List ℕ) × (s : State)
       × TablesOfState (rows old.keeper) base s × IsConsistentState base s) → LeadsBy Office most old new
       → IsReached old new

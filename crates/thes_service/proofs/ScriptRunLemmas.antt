@@ -1,4 +1,4 @@
--- Proves that a run of the machine leads an office through a script.
+-- Proves that the lines of a script lead an office through a run of the machine.
 use Rattle.std.proofs.Common.{◌≡◌, ◌∙◌, inl, inr, sym, refl, subst, ℕ, List, [], ◌∷◌, ◌++◌, Option, Result, Ok, Err}
 use Rattle.std.proofs.Common.{arith}
 use Rattle.std.specs.Prelude.{IfOk, IfErr}
@@ -13,16 +13,16 @@ use Rattle.thes_tables.specs.Cells.{Raw}
 use Rattle.thes_office.specs.Office.{FaultBehaviour, TablesAfterRun, OfficeView, SameTables, TablesAfterStep}
 use Rattle.thes_office.specs.TablesOfState.{TablesOfState}
 use Rattle.thes_office.proofs.OfficeViewLemmas.{run_of_one_more, empty_run}
-use Rattle.thes_exchange.specs.declared.answer.Reply.TheVariants as reply
-use Rattle.thes_exchange.specs.declared.serve.LineAnswer.{LineAnswer}
-use Rattle.thes_exchange.specs.declared.serve.LineAnswer.TheVariants.{Reply, View}
-use Rattle.thes_exchange.specs.declared.script.Ended.{Ended}
-use Rattle.thes_exchange.specs.Script.{LineOutcome, Skipped, Unheld, Answered, StepLine, RunLines, Session, Completes}
-use Rattle.thes_exchange.specs.Script.{Stops}
+use Rattle.thes_requests.specs.declared.answer.Reply.TheVariants as reply
+use Rattle.thes_requests.specs.declared.serve.LineAnswer.{LineAnswer}
+use Rattle.thes_requests.specs.declared.serve.LineAnswer.TheVariants.{Reply, View}
+use Rattle.thes_requests.specs.declared.script.ScriptEnd.{ScriptEnd}
+use Rattle.thes_requests.specs.Script.{LineOutcome, Skipped, Unheld, Answered, StepLine, RunLines, Session, Completes}
+use Rattle.thes_requests.specs.Script.{Stops}
 use Rattle.thes_service.specs.OfficeRequests.{IsReachedByRun, OfficeServes, is_always_open}
 
 module _ {K : Type 0} (rows : K → Raw) (is_up : K → Type 0) (failed : K → ℕ) where
-  -- Before the first line.
+  -- Before the first line, the run is empty.
   pub led_start : (office : OfficeView K) → (is_up office.keeper → (base : List ℕ) × (s : State)
       × TablesOfState (rows office.keeper) base s × IsConsistentState base s) → IsReachedByRun rows is_up failed
       office office
@@ -33,7 +33,7 @@ module _ {K : Type 0} (rows : K → Raw) (is_up : K → Type 0) (failed : K → 
     goes_on = λ up. let x = shows up in ([], [], empty_run office.limits (rows office.keeper) x.0 x.1 x.2 x.3);
   }
 
-  -- A call that leaves the tables as they were.
+  -- A call that leaves the tables unchanged leaves the run unchanged.
   pub led_same : {T : Type 0} (old mid new : OfficeView K) (result : Result T Fault) → IsReachedByRun rows is_up
       failed old mid → FaultBehaviour rows is_up failed mid new result → SameTables rows is_up mid new
       → IsReachedByRun rows is_up failed old new
@@ -45,7 +45,7 @@ module _ {K : Type 0} (rows : K → Raw) (is_up : K → Type 0) (failed : K → 
         (x.0, x.1, subst (λ (r : Raw). TablesAfterRun old.limits (rows old.keeper) x.0 x.1 r) (sym (same up)) x.2);
   }
 
-  -- A request that is answered.
+  -- A request that is answered extends the run by one step.
   pub led_step : (old mid new : OfficeView K) (command : Command) (answer : Answer) → IsReachedByRun rows is_up failed
       old mid → FaultBehaviour rows is_up failed mid new (let x : Result Answer Fault = Ok answer in x)
       → (is_up new.keeper → TablesAfterStep mid.limits (rows mid.keeper) command answer (rows new.keeper))
@@ -70,17 +70,19 @@ module _ {K : Type 0} (rows : K → Raw) (is_up : K → Type 0) (failed : K → 
 
   line_reached : (line : List ℕ) (o : LineAnswer) (old mid new : OfficeView K) → OfficeServes rows is_up failed mid
       line o new → IsReachedByRun rows is_up failed old mid → IsReachedByRun rows is_up failed old new
-  line_reached line (Reply (reply.Answer a)) old mid new (inl p) reached = led_step old mid new p.0 a reached p.2.goes
+  line_reached line (Reply (reply.Answer a)) old mid new (inl p) reached = led_step old mid new p.0 a reached
+      p.2.fault_behaviour
       p.2.performed
-  line_reached line (Reply (reply.Answer a)) old mid new (inr p) reached = led_same old mid new _ reached p.3.goes
+  line_reached line (Reply (reply.Answer a)) old mid new (inr p) reached = led_same old mid new _ reached
+      p.3.fault_behaviour
       p.3.same
   line_reached line (Reply (reply.Bad f)) old mid new p reached = led_kept old mid new reached p.1
   line_reached line (Reply (reply.Fault f)) old mid new (inl p) reached = led_kept old mid new reached p.1
   line_reached line (Reply (reply.Fault f)) old mid new (inr (inl p)) reached =
-      led_same old mid new _ reached p.2.goes p.2.performed
+      led_same old mid new _ reached p.2.fault_behaviour p.2.performed
   line_reached line (Reply (reply.Fault f)) old mid new (inr (inr p)) reached =
-      led_same old mid new _ reached p.2.goes p.2.same
-  line_reached line (View text) old mid new p reached = led_same old mid new _ reached p.2.goes p.2.same
+      led_same old mid new _ reached p.2.fault_behaviour p.2.same
+  line_reached line (View text) old mid new p reached = led_same old mid new _ reached p.2.fault_behaviour p.2.same
 
   step_reached : (line : List ℕ) (f : LineOutcome) (old mid new : OfficeView K)
       → StepLine (OfficeServes rows is_up failed) mid line f new → IsReachedByRun rows is_up failed old mid
@@ -98,9 +100,9 @@ module _ {K : Type 0} (rows : K → Raw) (is_up : K → Type 0) (failed : K → 
   reached (line ∷ more) (f ∷ line_outcomes) old mid new r so_far = reached more line_outcomes old r.0 new r.2
       (step_reached line f old mid r.0 r.1 so_far)
 
-  -- A script, whether or not it was stopped.
+  -- A script is a run of the machine, whether or not a fault stopped it.
   pub script_leads : {R W : Type 0} (remaining : R → Option (List ℕ)) (contents : W → Option (List ℕ))
-      (result : Result Ended PipeFault) (old new : Session R W (OfficeView K))
+      (result : Result ScriptEnd PipeFault) (old new : Session R W (OfficeView K))
       → (is_up old.handler.keeper → (base : List ℕ) × (s : State) × TablesOfState (rows old.handler.keeper) base s
       × IsConsistentState base s)
       → IfOk result (Completes remaining contents (OfficeServes rows is_up failed) is_always_open old new)

@@ -1,4 +1,4 @@
--- Proves that the results computed from a core are those of the state that the tables show.
+-- Proves that the results computed from a core are those of the state that the tables encode.
 use Rattle.std.proofs.Common.{◌≡◌, ◌∙◌, sym, refl, ap, subst, ℕ, List, [], ◌∷◌, ◌++◌, map, append_assoc, append-nil}
 use Rattle.std.proofs.Common.{Option, None, Some, Result, Ok}
 use Rattle.std.proofs.lemmas.Simd.{map-map}
@@ -7,7 +7,7 @@ use Rattle.serde_json.specs.Data.{Data}
 use Rattle.thes_base.specs.declared.data.Limits.{Limits}
 use Rattle.thes_base.specs.declared.fault.Fault.{Fault}
 use Rattle.thes_base.specs.declared.fault.Refusal.{Refusal}
-use Rattle.thes_base.specs.Legal.{Legal}
+use Rattle.thes_base.specs.Legal.{IsLegalState}
 use Rattle.thes_base.specs.State.{State}
 use Rattle.thes_base.specs.Views.{assigned_histories}
 use Rattle.thes_tables.specs.Cells.{Raw}
@@ -17,41 +17,42 @@ use Rattle.thes_core.specs.CoreView as core
 use Rattle.thes_core.specs.CoreView.{IsViewOf}
 use Rattle.thes_store.specs.Sinks.{SinkAcceptsAll}
 use Rattle.thes_office.specs.QueryFrames.{InStateOfTables}
-use Rattle.thes_office.specs.Listing.{ListingResult, rows_assigned_to}
+use Rattle.thes_office.specs.AssignedPostings.{AssignedPostingsResult, rows_assigned_to}
 use Rattle.thes_office.specs.Office.{FaultBehaviour, IsCopy, OfficeView, ReadyResult}
 use Rattle.thes_office.specs.TablesOfState.{TablesOfState}
 use Rattle.thes_office.proofs.StateTableLemmas.{state_is_unique}
-use Rattle.thes_exchange.specs.declared.handler.QueryAnswer.{QueryAnswer}
-use Rattle.thes_exchange.specs.declared.handler.QueryAnswer.TheVariants as viewed
-use Rattle.thes_exchange.specs.declared.request.Query.TheVariants as asked
+use Rattle.thes_requests.specs.declared.handler.QueryAnswer.{QueryAnswer}
+use Rattle.thes_requests.specs.declared.handler.QueryAnswer.TheVariants as viewed
+use Rattle.thes_requests.specs.declared.request.Query.TheVariants as asked
 use Rattle.thes_exchange.specs.declared.view.View.TheVariants as views
 use Rattle.thes_exchange.specs.Viewing.{IsQueryAnswer}
-use Rattle.thes_exchange.specs.Listing.{entries}
+use Rattle.thes_exchange.specs.PostingList.{entries}
 use Rattle.thes_exchange.specs.ViewTexts.{entry_data, line_text, listing_data, postings_data}
 use Rattle.thes_service.specs.OfficeRequests.{OfficeShows}
 use Rattle.thes_service.specs.PostingLists.{ListsRow}
 use Rattle.thes_service.specs.Service.{HoldsOfState}
 use Rattle.thes_service.specs.declared.posting_lister.PostingLister.{PostingLister}
 
--- A property of each legal state that a copy holds is one of the state that the rows show, with its base.
+-- If each legal state that a copy holds has a property, the state that the rows encode has it, with its base.
 held_based : (raw : Raw) (limits : Limits) (copy : core.CoreView) (P : List ℕ → State → Type 0)
-    → IsCopy raw limits copy → ((s : State) → IsViewOf copy s → Legal copy.setting.base s → P copy.setting.base s)
+    → IsCopy raw limits copy → ((s : State) → IsViewOf copy s → IsLegalState copy.setting.base s
+    → P copy.setting.base s)
     → (base : List ℕ) (s : State) → TablesOfState raw base s → P base s
 held_based raw limits copy P is so base s x =
     let one = state_is_unique raw copy.setting.base base is.state s is.shows x in
     subst (λ (p : List ℕ × State). P p.0 p.1) (λ i. (one.0 i, one.1 i)) (so is.state is.holds is.shows.legal)
 
--- The same for a property that doesn't depend on the base.
-pub held_shown : (raw : Raw) (limits : Limits) (copy : core.CoreView) (P : State → Type 0) → IsCopy raw limits copy
-    → ((s : State) → IsViewOf copy s → P s) → InStateOfTables raw P
-held_shown raw limits copy P is so = held_based raw limits copy (λ base. P) is (λ s holds legal. so s holds)
-
--- The postings at a concept.
+-- If each state that a copy holds has a property that doesn't depend on the base, the state that the rows encode has
+-- it.
+pub holds_in_encoded_states : (raw : Raw) (limits : Limits) (copy : core.CoreView) (P : State → Type 0)
+    → IsCopy raw limits copy → ((s : State) → IsViewOf copy s → P s) → InStateOfTables raw P
+holds_in_encoded_states raw limits copy P is so = held_based raw limits copy (λ base. P) is
+    (λ s holds legal. so s holds)
 
 abbrev entry_of : PostingRow → Data
 entry_of row = entry_data row.number row.key row.rec
 
--- The rows that a list receives are appended to it.
+-- A list that receives rows has them appended.
 rows_listed : (old new : PostingLister) (rows : List PostingRow) → SinkAcceptsAll ListsRow old rows new
     → entries new.listing ≡ entries old.listing ++ map entry_of rows
 rows_listed old new [] took = ap (λ (r : PostingLister). entries r.listing) took
@@ -60,7 +61,7 @@ rows_listed old new (row ∷ rows) took =
     rows_listed took.0 new rows took.2 ∙ ap (λ (es : List Data). es ++ map entry_of rows) took.1
     ∙ append_assoc (entries old.listing) (entry_of row ∷ []) (map entry_of rows)
 
--- A list that was empty has the postings at the concept.
+-- A list that was empty has the postings assigned to the concept.
 pub listed_at : (s : State) (concept : ℕ) (old new : PostingLister) → entries old.listing ≡ []
     → SinkAcceptsAll ListsRow old (rows_assigned_to s concept) new
     → listing_data (entries new.listing) ≡ postings_data (assigned_histories concept s.histories)
@@ -69,45 +70,45 @@ listed_at s concept old new none took =
     ∙ ap (λ (es : List Data). es ++ map entry_of (rows_assigned_to s concept)) none
     ∙ map-map entry_of posting_row (assigned_histories concept s.histories))
 
--- The line of the list is the view of the postings at the concept.
+-- The line of the list is the view of the postings assigned to the concept.
 pub listing_viewed : (raw : Raw) (concept : ℕ) (old new : PostingLister) (told : Option Refusal) (text : List ℕ)
-    → told ≡ None → ListingResult ListsRow raw concept old (Ok told) new → entries old.listing ≡ [] → text
+    → told ≡ None → AssignedPostingsResult ListsRow raw concept old (Ok told) new → entries old.listing ≡ [] → text
     ≡ line_text (listing_data (entries new.listing))
     → InStateOfTables raw (λ s. IsQueryAnswer s (asked.Postings concept) (Ok (viewed.Line text)))
 listing_viewed raw concept old new told text none lists empty is base s x =
-    let so = subst (λ (o : Option Refusal). ListingResult ListsRow raw concept old (Ok o) new) none lists base s x in (
+    let so = subst (λ (o : Option Refusal). AssignedPostingsResult ListsRow raw concept old (Ok o) new) none lists base
+    s x in (
       views.Postings (assigned_histories concept s.histories),
       (so.0, refl),
       is
           ∙ ap line_text (listed_at s concept old new empty so.1),
     )
 
--- A refusal of the listing is the refusal of the view.
+-- The refusal of the listing is the refusal of the view.
 pub refusal_viewed : (raw : Raw) (concept : ℕ) (old new : PostingLister) (told : Option Refusal) (refusal : Refusal)
-    → told ≡ Some refusal → ListingResult ListsRow raw concept old (Ok told) new
+    → told ≡ Some refusal → AssignedPostingsResult ListsRow raw concept old (Ok told) new
     → InStateOfTables raw (λ s. IsQueryAnswer s (asked.Postings concept) (Ok (viewed.No refusal)))
 refusal_viewed raw concept old new told refusal some lists =
-    let so = subst (λ (o : Option Refusal). ListingResult ListsRow raw concept old (Ok o) new) some lists in so.1
-
--- Calls of an office.
+    let so = subst (λ (o : Option Refusal). AssignedPostingsResult ListsRow raw concept old (Ok o) new) some lists in
+    so.1
 
 module _ {K : Type 0} (rows : K → Raw) (is_up : K → Type 0) (failed : K → ℕ) where
-  -- A call whose answer is mapped to another.
+  -- A call without a fault behaves alike for any value returned.
   pub goes_on_to : {A B : Type 0} (old new : OfficeView K) (a : A) (b : B) → FaultBehaviour rows is_up failed old new
       (let x : Result A Fault = Ok a in x) → FaultBehaviour rows is_up failed old new (let x : Result B Fault =
       Ok b in x)
-  goes_on_to old new a b goes = record {
-    limits = goes.limits;
-    was = goes.was;
-    later = goes.later;
+  goes_on_to old new a b fault_behaviour = record {
+    limits = fault_behaviour.limits;
+    was = fault_behaviour.was;
+    later = fault_behaviour.later;
     count =
-        goes.count;
+        fault_behaviour.count;
     store = tt;
     stale = tt;
     fault = λ up. tt;
   }
 
-  -- The view of a concept, from the core of the office.
+  -- The view of a concept from the core of an office is a view of the state that the tables encode.
   pub concept_ready : (old new : OfficeView K) (result : Result (Bor core.CoreView) Fault) (copy : Bor core.CoreView)
       (n : ℕ) (told : QueryAnswer) → ReadyResult rows is_up failed old result new → result ≡ Ok copy
       → ((s : State) → IsViewOf copy.now s → IsQueryAnswer s (asked.Concept n) (Ok told)) → OfficeShows rows is_up
@@ -115,22 +116,22 @@ module _ {K : Type 0} (rows : K → Raw) (is_up : K → Type 0) (failed : K → 
   concept_ready old new result copy n told ready is so =
       let here = subst (λ (r : Result (Bor core.CoreView) Fault). ReadyResult rows is_up failed old r new) is ready in
       record {
-        goes = goes_on_to old new copy told here.goes;
+        fault_behaviour = goes_on_to old new copy told here.fault_behaviour;
         same = here.same;
-        viewed = λ up. held_shown (rows new.keeper) new.limits copy.now
+        viewed = λ up. holds_in_encoded_states (rows new.keeper) new.limits copy.now
             (λ s. IsQueryAnswer s (asked.Concept n) (Ok told)) (here.shown.copies up) so;
       }
 
-  -- A result that is right for each state that the core holds.
+  -- A result that is right for each state that the core holds is right for the state that the tables encode.
   pub told_ready : {A : Type 0} (IsSo : List ℕ → State → A → Type 0) (old new : OfficeView K)
       (result : Result (Bor core.CoreView) Fault) (copy : Bor core.CoreView) (told : A) → ReadyResult rows is_up
       failed old result new → result ≡ Ok copy
-      → ((s : State) → IsViewOf copy.now s → Legal copy.now.setting.base s → IsSo copy.now.setting.base s told)
+      → ((s : State) → IsViewOf copy.now s → IsLegalState copy.now.setting.base s → IsSo copy.now.setting.base s told)
       → HoldsOfState rows is_up failed IsSo old (Ok told) new
   told_ready IsSo old new result copy told ready is so =
       let here = subst (λ (r : Result (Bor core.CoreView) Fault). ReadyResult rows is_up failed old r new) is ready in
       record {
-        goes = goes_on_to old new copy told here.goes;
+        fault_behaviour = goes_on_to old new copy told here.fault_behaviour;
         same = here.same;
         told = λ up. held_based (rows new.keeper) new.limits copy.now (λ base s. IsSo base s told)
             (here.shown.copies up) so;

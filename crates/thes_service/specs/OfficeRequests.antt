@@ -1,4 +1,4 @@
--- The effect of requests and queries on an office, and of a whole script.
+-- The effect of requests, queries and scripts on an office.
 use Rattle.std.specs.Prelude.{◌≡◌, ◌≤◌, ℕ, Bool, true, List, Result, Ok, IfOk}
 use Rattle.thes_base.specs.declared.fault.Fault.{Fault}
 use Rattle.thes_base.specs.declared.request.Answer.{Answer}
@@ -6,38 +6,40 @@ use Rattle.thes_base.specs.declared.request.Command.{Command}
 use Rattle.thes_tables.specs.Cells.{Raw}
 use Rattle.thes_office.specs.QueryFrames.{InStateOfTables}
 use Rattle.thes_office.specs.Office.{FaultBehaviour, TablesAfterRun, OfficeView, PerformResult, SameTables}
-use Rattle.thes_exchange.specs.declared.handler.QueryAnswer.{QueryAnswer}
-use Rattle.thes_exchange.specs.declared.request.Query.{Query}
+use Rattle.thes_requests.specs.declared.handler.QueryAnswer.{QueryAnswer}
+use Rattle.thes_requests.specs.declared.request.Query.{Query}
 use Rattle.thes_exchange.specs.Viewing.{IsQueryAnswer}
-use Rattle.thes_exchange.specs.Serving.{Serving, Serves}
+use Rattle.thes_requests.specs.Serving.{LineBehaviour, Serves}
 
--- An office may be called at any time: a stale copy of its tables is reloaded first.
+-- An office accepts calls at any time, since it reloads a stale copy of its tables.
 abbrev pub is_always_open : {K : Type 0} → OfficeView K → Bool
 is_always_open office = true
 
 module _ {K : Type 0} (rows : K → Raw) (is_up : K → Type 0) (failed : K → ℕ) where
-  -- A request is a step of the machine, and the tables show the state after it; a fault leaves them as they were.
+  -- A command is performed by a step of the machine, whose next state the tables encode; a fault
+  -- leaves them unchanged.
   pub record OfficePerforms (old : OfficeView K) (command : Command) (result : Result Answer Fault)
       (new : OfficeView K) : Type 0 where
-    pub goes : FaultBehaviour rows is_up failed old new result
+    pub fault_behaviour : FaultBehaviour rows is_up failed old new result
     pub performed : PerformResult rows is_up old command result new
 
-  -- The query is answered by the line of its view, or the refusal, in the state that the tables show; they stay as they
-  -- were.
+  -- A query is answered by the line of its view, or by the refusal of its number, in the state that the tables encode;
+  -- they are unchanged.
   pub record OfficeShows (old : OfficeView K) (query : Query) (result : Result QueryAnswer Fault)
       (new : OfficeView K) : Type 0 where
-    pub goes : FaultBehaviour rows is_up failed old new result
+    pub fault_behaviour : FaultBehaviour rows is_up failed old new result
     pub same : SameTables rows is_up old new
     pub viewed : IfOk result (λ v. is_up new.keeper →
         InStateOfTables (rows new.keeper) (λ s. IsQueryAnswer s query (Ok v)))
 
-  -- A line is answered by a step of the machine, by a view of the state, or by the fault for input that isn't a
+  -- A line is answered by a step of the machine, by a view of the state, or by the form fault of input that isn't a
   -- request.
-  abbrev pub OfficeServes : Serving (OfficeView K)
+  abbrev pub OfficeServes : LineBehaviour (OfficeView K)
   OfficeServes = Serves OfficePerforms OfficeShows
 
-  -- A run of the machine leads from the old tables to the new ones. In the state that these show, each posting that
-  -- isn't withdrawn is assigned to exactly one live concept, the counts add up, and the triples meet the conditions.
+  -- A run of the machine leads from the old tables to the new ones. In the state that the new ones encode, each posting
+  -- that isn't withdrawn is assigned to exactly one live concept, the counts add up, and the triples meet the
+  -- conditions of SKOS.
   pub record IsReachedByRun (old new : OfficeView K) : Type 0 where
     pub limits : new.limits ≡ old.limits
     pub was : is_up new.keeper → is_up old.keeper

@@ -1,12 +1,12 @@
--- The effect of posting files on an office, and the exports and displays of the state that its tables show.
+-- The effect of posting files on an office, and the exports and displays of the state that its tables encode.
 use Rattle.std.specs.Prelude.{◌≡◌, ℕ, List, Result, Ok, Err, IfOk}
 use Rattle.thes_base.specs.declared.fault.Fault.{Fault}
 use Rattle.thes_base.specs.Resources.{IsScheme}
 use Rattle.thes_base.specs.State.{State}
 use Rattle.thes_tables.specs.Cells.{Raw}
 use Rattle.thes_display.specs.Alphabetical.{IsAlphabetical}
-use Rattle.thes_display.specs.Hierarchical.{IsHierarchical}
-use Rattle.thes_display.specs.DisplayWrites.{IsNoScheme}
+use Rattle.thes_display.specs.Hierarchical.{IsHierarchicalDisplay}
+use Rattle.thes_display.specs.DisplayWrites.{IsSchemeRefusal}
 use Rattle.thes_export.specs.Export.{IsExport, IsReadAs}
 use Rattle.thes_office.specs.Office.{FaultBehaviour, OfficeView, SameTables}
 use Rattle.thes_office.specs.TablesOfState.{TablesOfState}
@@ -21,50 +21,50 @@ use Rattle.thes_http.specs.declared.service.DisplayAnswer.TheVariants as display
 use Rattle.thes_http.specs.declared.service.ImportAnswer.{ImportAnswer}
 use Rattle.thes_http.specs.declared.service.ImportAnswer.TheVariants as imported
 
--- The export of a state, which as an N-Triples document has exactly the state's triples and no other reading.
+-- The export of a state: an N-Triples document whose only reading is the state's triples.
 abbrev pub IsExportRead : List ℕ → State → List ℕ → Type 0
 IsExportRead base s text = IsExport base s text × IsReadAs base s text
 
 -- The text of a display of a scheme in a language.
 abbrev pub IsDisplay : Display → ℕ → List ℕ → State → List ℕ → Type 0
 IsDisplay which.Alphabetical scheme tag s text = IsAlphabetical s scheme tag text
-IsDisplay which.Hierarchical scheme tag s text = IsHierarchical s scheme tag text
+IsDisplay which.Hierarchical scheme tag s text = IsHierarchicalDisplay s scheme tag text
 
--- The display of a scheme, or the refusal of a number that isn't a scheme's.
+-- The answer to a request for a display: its text, or the refusal of a number that isn't a scheme's.
 abbrev pub IsDisplayed : Display → ℕ → List ℕ → State → DisplayAnswer → Type 0
 IsDisplayed display scheme tag s (displayed.Lines page) =
     IsScheme s.resources scheme × IsDisplay display scheme tag s page
-IsDisplayed display scheme tag s (displayed.No refusal) = IsNoScheme s.resources scheme refusal
+IsDisplayed display scheme tag s (displayed.No refusal) = IsSchemeRefusal s.resources scheme refusal
 
--- The answer to an import: the lines of all rows, or that the file is malformed, or the fault that ended it.
+-- The answer to an import: the lines of all outcomes, the form fault of a malformed file, or the fault that halted it.
 abbrev pub import_answer : Result performed.FileImport ImportHalt → Result ImportAnswer Fault
 import_answer (Ok (ends.Rows report)) = Ok (imported.Outcomes report.text.items)
 import_answer (Ok ends.Malformed) = Ok imported.Malformed
 import_answer (Err halted) = Err halted.fault
 
 module _ {K : Type 0} (rows : K → Raw) (is_up : K → Type 0) (failed : K → ℕ) where
-  -- The result has the property `IsSo` for the base and the state that the tables show; they stay as they were.
+  -- The result has the property `IsSo` for the base and the state that the tables encode, and the tables are unchanged.
   pub record HoldsOfState {A : Type 0} (IsSo : List ℕ → State → A → Type 0) (old : OfficeView K)
       (result : Result A Fault) (new : OfficeView K) : Type 0 where
-    pub goes : FaultBehaviour rows is_up failed old new result
+    pub fault_behaviour : FaultBehaviour rows is_up failed old new result
     pub same : SameTables rows is_up old new
     pub told : IfOk result (λ a. is_up new.keeper →
         (base : List ℕ) (s : State) → TablesOfState (rows new.keeper) base s → IsSo base s a)
 
-  -- The export of the state that the tables show.
+  -- The export of the state that the tables encode.
   abbrev pub OfficeExports : OfficeView K → Result (List ℕ) Fault → OfficeView K → Type 0
   OfficeExports old result new = HoldsOfState IsExportRead old result new
 
-  -- A display of the state that the tables show, or the refusal.
+  -- A display of the state that the tables encode, or the refusal of the scheme's number.
   abbrev pub OfficeDisplays : OfficeView K → Display → ℕ → List ℕ → Result DisplayAnswer Fault → OfficeView K → Type 0
   OfficeDisplays old display scheme tag result new =
       HoldsOfState (λ base. IsDisplayed display scheme tag) old result new
 
   -- The postings of the file were performed in order, by a run of the machine, and the answer has their outcomes; or a
-  -- fault ended the run, and the answer is the fault alone.
+  -- fault halted the run, and the answer is that fault alone.
   pub record OfficeImports (old : OfficeView K) (file : List ℕ) (result : Result ImportAnswer Fault)
       (new : OfficeView K) : Type 0 where
-    pub goes : FaultBehaviour rows is_up failed old new result
+    pub fault_behaviour : FaultBehaviour rows is_up failed old new result
     pub done : Result performed.FileImport ImportHalt
     pub imports : importer.Imports rows is_up old file done new
     pub told : result ≡ import_answer done

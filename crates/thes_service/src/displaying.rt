@@ -1,4 +1,4 @@
-//! Displays of the state that an office's tables show.
+//! Displays of the state that an office's tables encode.
 ghost use Rattle.std.specs.Prelude.{◌≡◌, false, IfOk};
 ghost use Rattle.thes_base.specs.State.{State};
 ghost use Rattle.thes_core.specs.CoreView.{IsViewOf};
@@ -16,7 +16,7 @@ use thes_http::service::{Display, DisplayAnswer, Page};
 use thes_office::Office;
 use thes_store::keeper::Keeper;
 
-// Returns the text of a display.
+// Returns the text of the display of a scheme in the language of the tag.
 fn display_text(
     core: &Core,
     alloc: Global,
@@ -34,7 +34,7 @@ fn display_text(
     }
 }
 
-// Returns a display of the state that the core holds, or the refusal of the scheme.
+// Returns a display of a scheme in the state that the core holds, or the refusal of the scheme's number.
 fn display_core_scheme(
     core: &Core,
     alloc: Global,
@@ -53,7 +53,7 @@ fn display_core_scheme(
     Ok(DisplayAnswer::Lines(Page::new(text)))
 }
 
-/// Returns a display of a scheme in a language, or the refusal of the scheme.
+/// Returns a display of a scheme in the language of the tag, or the refusal of the scheme's number.
 pub(crate) fn display_scheme<K: Keeper>(
     office: &mut Office<K>,
     alloc: Global,

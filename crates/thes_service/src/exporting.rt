@@ -1,4 +1,4 @@
-//! The export of the state that an office's tables show.
+//! The export of the state that an office's tables encode.
 ghost use Rattle.std.specs.Prelude.{◌≡◌, false, IfOk};
 ghost use Rattle.thes_base.specs.State.{State};
 ghost use Rattle.thes_core.specs.CoreView.{IsViewOf};
@@ -13,7 +13,7 @@ use thes_http::service::Page;
 use thes_office::Office;
 use thes_store::keeper::Keeper;
 
-// Returns the export of the state that the core holds.
+// Returns the triples of the state that the core holds, as a page of N-Triples.
 fn export_page(core: &Core, alloc: Global) -> Result<Page, AllocError>
     requires { core.now.spent ≡ false }
     ensures { (s : State) → IsViewOf core.now s →
@@ -23,7 +23,7 @@ fn export_page(core: &Core, alloc: Global) -> Result<Page, AllocError>
     Ok(Page::new(text))
 }
 
-/// Returns the export as N-Triples.
+/// Returns the triples of the state that the tables encode, as a page of N-Triples.
 pub(crate) fn export_office<K: Keeper>(office: &mut Office<K>, alloc: Global) -> Result<Page, Fault>
     ensures { OfficeExports K.rows K.is_up K.failed office.old result office.new }
 {

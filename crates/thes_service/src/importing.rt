@@ -1,4 +1,4 @@
-//! Imports posting files into an office.
+//! The import of posting files into an office.
 ghost use Rattle.std.specs.Prelude.{◌≡◌};
 ghost use Rattle.thes_service.specs.Service.{OfficeImports};
 
@@ -11,7 +11,7 @@ use thes_import::report::Report;
 use thes_office::Office;
 use thes_store::keeper::Keeper;
 
-// Returns the lines of a report.
+// Returns the text of a report, without its counts.
 fn page_of(report: Report) -> Page
     ensures { result ≡ report.text.items }
 {
@@ -19,8 +19,8 @@ fn page_of(report: Report) -> Page
     Page::new(text)
 }
 
-/// Performs the postings of a file, and returns the lines of their outcomes. A fault ends the import; the rows before
-/// it stay performed.
+/// Performs the postings of a file, and returns the lines of their outcomes. A fault replaces the answer; the rows
+/// before it stay performed.
 pub(crate) fn import_into_office<K: Keeper>(
     office: &mut Office<K>,
     alloc: Global,

@@ -1,4 +1,4 @@
-//! Scripts and connections over an office.
+//! Scripts and HTTP connections over an office.
 #![tactic(auto)]
 
 mod displaying;

@@ -1,4 +1,4 @@
-//! An office as a handler of requests.
+//! An office as a request handler.
 ghost use Rattle.std.specs.Prelude.{◌≡◌};
 
 use crate::viewing::view_query;
@@ -6,12 +6,13 @@ use std::alloc::Global;
 use std::marker::Model;
 use thes_base::fault::Fault;
 use thes_base::request::{Answer, Command};
-use thes_exchange::handler::{QueryAnswer, RequestHandler};
-use thes_exchange::request::Query;
 use thes_office::Office;
+use thes_requests::handler::{QueryAnswer, RequestHandler};
+use thes_requests::request::Query;
 use thes_store::keeper::Keeper;
 
-/// An office that handles requests and queries. A contract sees it as the office.
+/// An office that performs the requests of scripts and connections. In contracts its value is that
+/// of the office.
 #[derive(Drop)]
 pub struct OfficeHandler<K: Keeper> {
     pub office: Office<K>,
@@ -29,7 +30,7 @@ impl<K: Keeper> Model for OfficeHandler<K> {
 }
 
 impl<K: Keeper> OfficeHandler<K> {
-    /// Makes a handler of an office.
+    /// Wraps an office, fresh or stale.
     pub fn new(office: Office<K>) -> OfficeHandler<K>
         ensures { result ≡ office }
     {
@@ -45,8 +46,9 @@ impl<K: Keeper> OfficeHandler<K> {
     }
 }
 
-/// Each request is a step of the machine over the keeper's tables, and each view shows their state. A stale copy is
-/// reloaded first; a fault leaves the tables as they were.
+/// Each command is performed by a step of the machine over the tables of the storage, and each view
+/// is of the state that they encode. A stale copy is reloaded first; a fault leaves the tables
+/// unchanged.
 impl<K: Keeper> RequestHandler for OfficeHandler<K> {
     ghost use Rattle.thes_service.specs.OfficeRequests.{OfficePerforms, OfficeShows, is_always_open};
 

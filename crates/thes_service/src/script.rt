@@ -1,7 +1,7 @@
-//! Scripts over an office.
+//! Scripts of requests over an office.
 ghost use Rattle.std.specs.Prelude.{IfOk, IfErr};
 ghost use Rattle.thes_base.specs.Pipe.{IsFresh, KeepsSharedCallLimit};
-ghost use Rattle.thes_exchange.specs.Script.{session, Completes, Stops};
+ghost use Rattle.thes_requests.specs.Script.{session, Completes, Stops};
 ghost use Rattle.thes_service.specs.OfficeRequests.{OfficeServes, is_always_open, IsReachedByRun};
 
 use crate::office_handler::OfficeHandler;
@@ -9,22 +9,22 @@ use std::alloc::Global;
 use std::io::{Read, Write};
 use thes_base::fault::PipeFault;
 use thes_base::pipe::Pipe;
-use thes_exchange::script::{Ended, script};
+use thes_requests::script::{ScriptEnd, script};
 use thes_store::keeper::Keeper;
 
-/// Answers each line of the input by a step of the machine or by a view of the state that the tables show.
+/// Answers each line of the input by a step of the machine, or by a view of the state that the tables encode.
 ///
-/// Whatever the lines are: if the keeper is up as the call ends, a run of the machine leads from the state that the
-/// tables showed before to the one that they show now. In it each posting that isn't withdrawn is assigned to exactly
-/// one live concept, the counts add up, and the triples meet the conditions. Where the keeper fails or memory runs out,
-/// the line is answered by the fault, and the tables stay as they were. Lines and their limits are those of `script`;
-/// `OutOfMemory` ends it only before the first line.
+/// Whatever the lines are: if the storage is up at the end of the call, a run of the machine leads from the state that
+/// the tables encoded before the call to the one that they encode after it. That state is consistent: each posting that
+/// isn't withdrawn is assigned to exactly one live concept, the counts add up, and the triples meet the conditions of
+/// SKOS. If the storage fails or memory runs out, the line is answered by the fault, and the tables are unchanged. The
+/// limits on lines are those of `script`; `OutOfMemory` is returned only before the first line.
 pub fn office_script<K: Keeper, R: Read, W: Write>(
     alloc: Global,
     reader: &mut Pipe<R>,
     writer: &mut Pipe<W>,
     handler: &mut OfficeHandler<K>,
-) -> Result<Ended, PipeFault>
+) -> Result<ScriptEnd, PipeFault>
     requires reader { IsFresh reader.old }
     requires writer { IsFresh writer.old }
     ensures completed { let serves = OfficeServes K.rows K.is_up K.failed in
@@ -36,7 +36,7 @@ pub fn office_script<K: Keeper, R: Read, W: Write>(
     ensures reached { IsReachedByRun K.rows K.is_up K.failed handler.old handler.new }
     ensures calls { KeepsSharedCallLimit reader.old reader.new writer.old writer.new }
 {
-    // No effect; states that the tables show a state for the proof.
+    // No effect; states for the proof that the tables encode a state.
     let _ = handler.office.is_stale();
     script(alloc, reader, writer, handler)
 }

@@ -1,4 +1,4 @@
-//! Connections over an office.
+//! An HTTP server over an office.
 ghost use Rattle.thes_http.specs.Server.{LeadsBy};
 ghost use Rattle.thes_http.specs.Serving.{effects};
 ghost use Rattle.thes_service.specs.OfficeRequests.{IsReachedByRun, OfficePerforms, OfficeShows};
@@ -8,17 +8,19 @@ use crate::office_handler::OfficeHandler;
 use std::alloc::Global;
 use std::io;
 use std::net::Net;
+use std::rt::Clock;
 use thes_http::server::serve;
 use thes_store::keeper::Keeper;
 
 /// Serves `count` connections of a listener, one after another.
 ///
-/// Whatever clients send: if the keeper is up as the call ends, a run of the machine leads from the state that the
-/// tables showed before to the one that they show now. In it each posting that isn't withdrawn is assigned to exactly
-/// one live concept, the counts add up, and the triples meet the conditions. An error is that of accepting a
-/// connection.
-pub fn office_serve<N: Net, K: Keeper>(
+/// Whatever the clients send: if the storage is up at the end of the call, a run of the machine leads from the state
+/// that the tables encoded before the call to the one that they encode after it. That state is consistent: each posting
+/// that isn't withdrawn is assigned to exactly one live concept, the counts add up, and the triples meet the conditions
+/// of SKOS. An error is that of accepting a connection, or `OutOfMemory` if memory for the routes ran out.
+pub fn office_serve<N: Net + Clock, K: Keeper>(
     alloc: Global,
+    clock: &N,
     listener: &N::Listener,
     count: u32,
     handler: &mut OfficeHandler<K>,
@@ -29,7 +31,7 @@ pub fn office_serve<N: Net, K: Keeper>(
         handler.old handler.new }
     ensures reached { IsReachedByRun K.rows K.is_up K.failed handler.old handler.new }
 {
-    // No effect; states that the tables show a state for the proof.
+    // No effect; states for the proof that the tables encode a state.
     let _ = handler.office.is_stale();
-    serve::<N, OfficeHandler<K>>(alloc, listener, count, handler)
+    serve::<N, OfficeHandler<K>>(alloc, clock, listener, count, handler)
 }

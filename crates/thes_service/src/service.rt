@@ -1,4 +1,4 @@
-//! An office as the service behind a connection.
+//! An office as the service behind HTTP connections.
 use crate::displaying::display_scheme;
 use crate::exporting::export_office;
 use crate::importing::import_into_office;
@@ -10,9 +10,9 @@ use thes_base::text::Tag;
 use thes_http::service::{Display, DisplayAnswer, ImportAnswer, Page, Service};
 use thes_store::keeper::Keeper;
 
-/// A posting file is performed by a run of the machine over the keeper's tables; a fault ends it, and the rows before
-/// it stay performed. Exports and displays are those of the state that the tables show, which stay as they were. A
-/// stale copy is reloaded first.
+/// An import is a run of the machine over the tables of the storage; a fault ends it, and the rows before it stay
+/// performed. Exports and displays are of the state that the tables encode, and leave the tables unchanged. A stale
+/// copy is reloaded first.
 impl<K: Keeper> Service for OfficeHandler<K> {
     ghost use Rattle.thes_service.specs.Service.{OfficeDisplays, OfficeExports, OfficeImports};
 

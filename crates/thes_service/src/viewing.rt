@@ -1,4 +1,4 @@
-//! Views of the state that an office's tables show.
+//! Views of the state that an office's tables encode.
 ghost use Rattle.std.specs.Prelude.{◌≡◌, false, Ok, IfOk};
 ghost use Rattle.thes_base.specs.State.{State};
 ghost use Rattle.thes_core.specs.CoreView.{IsViewOf};
@@ -11,11 +11,11 @@ use thes_base::fault::{Fault, Refusal};
 use thes_base::number::{PostNo, ResNo};
 use thes_core::Core;
 use thes_exchange::concept::concept_view;
-use thes_exchange::handler::{QueryAnswer, ViewLine};
-use thes_exchange::request::Query;
 use thes_exchange::view::View;
 use thes_exchange::viewing::query_answer;
 use thes_office::Office;
+use thes_requests::handler::{QueryAnswer, ViewLine};
+use thes_requests::request::Query;
 use thes_store::keeper::Keeper;
 
 fn view_totals<K: Keeper>(office: &mut Office<K>, alloc: Global) -> Result<QueryAnswer, Fault>
@@ -27,7 +27,7 @@ fn view_totals<K: Keeper>(office: &mut Office<K>, alloc: Global) -> Result<Query
     }
 }
 
-// Returns the view of a concept in the state that the core holds.
+// Returns the line for a concept in the state that the core holds, or the refusal of its number.
 fn view_core_concept(core: &Core, alloc: Global, number: ResNo) -> Result<QueryAnswer, AllocError>
     requires { core.now.spent ≡ false }
     ensures { (s : State) → IsViewOf core.now s →
@@ -80,7 +80,7 @@ fn view_posting<K: Keeper>(
     }
 }
 
-/// Returns the line of the view that a query asks for, or the refusal.
+/// Returns the line of the view that answers a query, or the refusal of its number.
 pub(crate) fn view_query<K: Keeper>(
     office: &mut Office<K>,
     alloc: Global,

@@ -1,4 +1,4 @@
--- Proves that a new store has empty tables and one row of meta.
+-- The tables of a new store are empty but for one row of table meta.
 use Rattle.std.proofs.Common.{arith, ◌≡◌, ◌∙◌, ℕ, pos, List, [], Ok, Err, Result, OnOk, refl, ap}
 use Rattle.std.specs.Prelude.{IsUtf8}
 use Rattle.sqlite.specs.declared.types.Value.{Value}
@@ -11,14 +11,14 @@ use Rattle.sqlite.specs.declared.error.Error.{Error}
 use Rattle.sqlite.specs.State.{State, Executes, ExecutesInside}
 use Rattle.thes_tables.specs.Tables.{empty_tables}
 use Rattle.thes_tables.specs.Cells.{meta_cells}
-use Rattle.thes_sql.specs.Schema.{meta, store_schema}
+use Rattle.thes_sql.specs.Schema.{meta_table, store_schema}
 use Rattle.thes_sql.specs.StoredRows.{Keeps, AreKeyed, AreHidden, stored_meta, values}
 use Rattle.thes_sql.specs.TransactionEffects.{IsEmpty, Transforms}
 use Rattle.thes_sql.proofs.StatementTextLemmas as text
 use Rattle.thes_sql.proofs.WriteEffectLemmas.{cast_int, cast_null}
 use Rattle.thes_sql.proofs.InsertLemmas.{inserts_row}
 
-pub cast_meta : (base : List ℕ) → cast_row meta (stored_meta base) ≡ stored_meta base
+pub cast_meta : (base : List ℕ) → cast_row meta_table (stored_meta base) ≡ stored_meta base
 cast_meta base = rw (cast_null, cast_int (pos 1), cast_int (pos 2)) refl
 
 no_keyed : {A : Type 0} (stored : A → Row) (num : A → ℕ) (tree : List Row) → tree ≡ [] → AreKeyed stored num [] tree
@@ -27,12 +27,12 @@ no_keyed stored num tree none = record { rises = tt; rows = none }
 no_hidden : {A : Type 0} (of : A → List Value) (tree : List Row) → tree ≡ [] → AreHidden of [] tree
 no_hidden of tree none = record { given = []; same = refl; held = record { rises = tt; rows = none } }
 
--- The INSERT into meta makes empty tables those of a new store.
+-- The INSERT into table meta turns empty tables into those of a new store.
 pub adds_meta : (base : List ℕ) → IsUtf8 base → (old new : State) (count : ℕ) → IsEmpty store_schema old.now
     → Executes text.add_meta_text (values (meta_cells base)) old new (Ok count) → Keeps new.now (empty_tables base)
 adds_meta base spelled old new count empty h =
-    let w = inserts_row 0 meta text.add_meta_text text.add_meta_terms 4 (values (meta_cells base)) (stored_meta base)
-    (λ rows. stored_meta base) refl refl (λ olds news. refl) text.add_meta_is refl
+    let w = inserts_row 0 meta_table text.add_meta_text text.add_meta_terms 4 (values (meta_cells base))
+    (stored_meta base) (λ rows. stored_meta base) refl refl (λ olds news. refl) text.add_meta_is refl
     (λ rows. ap (with_rowid Chosen rows) (cast_meta base)) old new count empty.0 h in
     let e = empty.1 in
     record {

@@ -1,4 +1,4 @@
--- Proves that a database keeps its tables when a statement rewrites one of them.
+-- A database that is a store stays one when a statement rewrites one of its tables.
 use Rattle.std.proofs.Common.{arith, ◌≡◌, ◌≢◌, ℕ, List, [], ◌∷◌, sym, subst, rules}
 use Rattle.std.specs.List.{AllByRecursion}
 use Rattle.sqlite.specs.Order.{Row}
@@ -20,9 +20,9 @@ use Rattle.thes_sql.specs.StoredRows.{IsSpelledOutside, IsSpelledLabel, IsSpelle
 use Rattle.thes_sql.specs.OldStore.{KeepsAs, stored_version}
 use Rattle.thes_sql.specs.Reads.{tree_of}
 use Rattle.thes_sql.specs.Schema.{store_schema}
-use Rattle.thes_sql.proofs.StatementLemmas.{Rewrites, Untouched}
+use Rattle.thes_sql.proofs.StatementLemmas.{Rewrites, LeavesOtherTables}
 
--- The rows of one table's tree, where meta has this version.
+-- The tree of one table has its rows, where table meta has this version.
 abbrev pub HoldsAs : ℕ → Table → Tables → List Row → Type 0
 HoldsAs version table.Meta t tree = tree ≡ stored_version version t.base ∷ []
 HoldsAs version table.Resource t tree = HoldResources t.resource tree
@@ -33,10 +33,10 @@ HoldsAs version table.Hier t tree = AreHidden hier_values t.hier tree
 HoldsAs version table.Posting t tree = HoldPostings t.posting tree
 HoldsAs version table.Move t tree = HoldMoves t.move tree
 
-abbrev pub Holds : Table → Tables → List Row → Type 0
-Holds = HoldsAs 2
+abbrev pub HoldsTable : Table → Tables → List Row → Type 0
+HoldsTable = HoldsAs 2
 
-pub holds_tree : (db : Trees) (t : Tables) → Hold db t → (p : Table) → Holds p t (db (tree_of p))
+pub holds_tree : (db : Trees) (t : Tables) → Hold db t → (p : Table) → HoldsTable p t (db (tree_of p))
 holds_tree db t h table.Meta = h.meta
 holds_tree db t h table.Resource = h.resource
 holds_tree db t h table.Outside = h.outside
@@ -46,7 +46,7 @@ holds_tree db t h table.Hier = h.hier
 holds_tree db t h table.Posting = h.posting
 holds_tree db t h table.Move = h.move
 
--- A database whose trees each hold their table keeps the tables.
+-- A database in which each tree has its table's rows is a store with the tables.
 pub keeps_all : (version : ℕ) (db : Database) (t : Tables) → db.schema ≡ store_schema
     → ((p : Table) → HoldsAs version p t (db.trees (tree_of p))) → ArePostingsNumbered 1 t.posting → AreSpelled t
     → KeepsAs version db t
@@ -66,11 +66,11 @@ keeps_all version db t has each numbered spelled = record {
   hier = each table.Hier;
 }
 
--- With version 2 in meta, the database keeps the tables.
+-- A store with version 2 in table meta is one of version 2.
 pub keeps_current : (db : Database) (t : Tables) → KeepsAs 2 db t → Keeps db t
 keeps_current db t k = search rules
 
-pub untouched_tree : (tree : ℕ) (old new : Trees) → Untouched tree old new → (p : Table) → tree_of p ≢ tree
+pub untouched_tree : (tree : ℕ) (old new : Trees) → LeavesOtherTables tree old new → (p : Table) → tree_of p ≢ tree
     → new (tree_of p) ≡ old (tree_of p)
 untouched_tree tree old new same table.Meta = same.0
 untouched_tree tree old new same table.Resource = same.1.0
@@ -83,14 +83,14 @@ untouched_tree tree old new same table.Move = same.1.1.1.1.1.1.0
 
 module _ (old new : State) (t : Tables) (kept : Keeps old.now t) where
   module _ {tree : ℕ} {Held : List Row → Type 0} (w : Rewrites tree Held old new) where
-    -- Each table but the one rewritten holds its rows.
-    other_table_held : (p : Table) → tree_of p ≢ tree → Holds p t (new.now.trees (tree_of p))
+    -- Each table other than the rewritten one has its rows.
+    other_table_held : (p : Table) → tree_of p ≢ tree → HoldsTable p t (new.now.trees (tree_of p))
     other_table_held p apart =
-        subst (Holds p t) (sym (untouched_tree tree old.now.trees new.now.trees w.others p apart))
+        subst (HoldsTable p t) (sym (untouched_tree tree old.now.trees new.now.trees w.others p apart))
         (holds_tree old.now.trees t kept.hold p)
 
-    keeps_with : (u : Tables) → ((p : Table) → Holds p u (new.now.trees (tree_of p))) → ArePostingsNumbered 1 u.posting
-        → AreSpelled u → Keeps new.now u
+    keeps_with : (u : Tables) → ((p : Table) → HoldsTable p u (new.now.trees (tree_of p)))
+        → ArePostingsNumbered 1 u.posting → AreSpelled u → Keeps new.now u
     keeps_with u each numbered spelled = keeps_current new.now u (keeps_all 2 new.now u w.schema each numbered spelled)
 
   pub keeps_resource : (rows : List Resource) → Rewrites 1 (HoldResources rows) old new

@@ -1,4 +1,4 @@
--- Proves what an INSERT of one row makes of a table.
+-- An INSERT of one row appends the row to its table.
 use Rattle.std.proofs.Common.{arith, ◌≡◌, inl, inr, ℕ, ℤ, ◌+ℤ◌, suc, pos, List, [], ◌∷◌, ◌++◌, ◌<◌, ◌+◌, ◌/◌, length}
 use Rattle.std.proofs.Common.{map, filter, fold, slice_get, Bool, cond, false, Option, None, Some, Ok, Err, Result}
 use Rattle.std.proofs.Common.{OnOk, refl, sym, ap, subst, ◌∙◌}
@@ -41,8 +41,9 @@ use Rattle.thes_tables.specs.Rows.{tables_after_change, ChangeFits}
 use Rattle.thes_sql.specs.TransactionEffects.{AppliesChange}
 use Rattle.thes_tables.specs.Cells.{resource_kind_no, optional_cell, hier_type_no, resource_cells, outside_cells}
 use Rattle.thes_tables.specs.Cells.{posting_cells, move_cells}
-use Rattle.thes_sql.specs.Schema.{resource, outside, label, link, hier, posting, move, store_schema}
-use Rattle.thes_sql.specs.StoredRows.{Keeps, NumbersRiseAbove, AreKeyed, AreHidden, ArePostingsNumbered, hidden_row}
+use Rattle.thes_sql.specs.Schema.{resource_table, outside_table, label_table, link_table, hier_table, posting_table}
+use Rattle.thes_sql.specs.Schema.{move_table, store_schema}
+use Rattle.thes_sql.specs.StoredRows.{Keeps, AreIncreasingAbove, AreKeyed, AreHidden, ArePostingsNumbered, hidden_row}
 use Rattle.thes_sql.specs.StoredRows.{values, numbered_from, stored_resource, stored_outside, stored_posting}
 use Rattle.thes_sql.specs.StoredRows.{stored_move, label_values, link_values, hier_values, value_of, IsSpelledOutside}
 use Rattle.thes_sql.specs.StoredRows.{IsSpelledLabel, IsSpelledPosting}
@@ -55,7 +56,7 @@ use Rattle.thes_sql.proofs.StatementLemmas.{Rewrites, rewrites_as}
 use Rattle.thes_sql.proofs.HeldTableLemmas.{keeps_resource, keeps_outside, keeps_label, keeps_link, keeps_hier}
 use Rattle.thes_sql.proofs.HeldTableLemmas.{keeps_posting, keeps_move}
 
--- The text with these parameters makes the change in any tables that the database keeps and the change fits.
+-- The statement makes the change in each store with tables that the change fits.
 abbrev pub Makes : List ℕ → Row → Change → Type 1
 Makes text params c = (old new : State) (t : Tables) (count : ℕ) → Keeps old.now t → ChangeFits c t
     → Executes text params old new (Ok count) → Keeps new.now (tables_after_change c t)
@@ -71,7 +72,7 @@ applies_change text params c makes old new (Ok count) h = record {
   is_open = h.1.is_open;
 }
 
--- One row is put into the tree, with a new rowid if it has none.
+-- The INSERT puts one row into the tree, under a new rowid if the row has none.
 pub inserts_row : (at : ℕ) (table : Table) (sql : List ℕ) (terms : List Term) (width : ℕ) (params source : Row)
     (new : List Row → Row)
     → slice_get store_schema.tables at ≡ Some table → table.is_counted ≡ false → IsQuietTable store_schema table
@@ -93,9 +94,7 @@ inserts_row at table sql terms width params source new is_at uncounted quiet is 
       others = it.3.tables;
     }
 
--- Tables whose rows have their own numbers as rowids.
-
--- A row with a greater number than all others is appended.
+-- The INSERT appends a row with a greater number than all others.
 pub adds_keyed : {X : Type 0} (num : X → ℕ) (stored : X → Row) → ((x : X) → rowid (stored x) ≡ Int (pos (num x)))
     → (at : ℕ) (table : Table) (sql : List ℕ) (terms : List Term) (width : ℕ) (params : Row) (x : X)
     → slice_get store_schema.tables at ≡ Some table → table.is_counted ≡ false → IsQuietTable store_schema table
@@ -113,8 +112,6 @@ adds_keyed num stored is_num at table sql terms width params x is_at uncounted q
     old new
     count has h)
 
--- Tables whose rows get rowids from the database.
-
 abbrev next_id : {A : Type 0} → ℕ → List (ℕ × A) → ℕ
 next_id n [] = n
 next_id n (l ∷ ls) = next_id (l.0 + 1) ls
@@ -129,12 +126,13 @@ module _ {A : Type 0} (of : A → List Value) where
   next_is n (l ∷ ls) = subst (λ z. fold (λ _ r. id_in (rowid r) +ℤ pos 1) z (map (hidden_row of) ls) ≡ pos
       (next_id (l.0 + 1) ls)) (sym (one_more l.0)) (next_is (l.0 + 1) ls)
 
-  above_next : (a n : ℕ) (ls : List (ℕ × A)) → NumbersRiseAbove (λ (row : ℕ × A). row.0) a ls → a < n → a < next_id n ls
+  above_next : (a n : ℕ) (ls : List (ℕ × A)) → AreIncreasingAbove (λ (row : ℕ × A). row.0) a ls → a < n
+      → a < next_id n ls
   above_next a n [] up lt = lt
   above_next a n (l ∷ ls) up lt = let more = above_next l.0 (l.0 + 1) ls up.1 (omega arith) in let first = up.0 in
       omega (arith, more, first)
 
-  below_next : (a n : ℕ) (ls : List (ℕ × A)) → NumbersRiseAbove (λ (row : ℕ × A). row.0) a ls → (y : ℕ × A) → Has ls y
+  below_next : (a n : ℕ) (ls : List (ℕ × A)) → AreIncreasingAbove (λ (row : ℕ × A). row.0) a ls → (y : ℕ × A) → Has ls y
       → y.0 < next_id n ls
   below_next a n [] up y h = absurd h
   below_next a n (l ∷ ls) up y (inl e) = subst (λ (z : ℕ × A). z.0 < next_id (l.0 + 1) ls) (sym e)
@@ -161,7 +159,7 @@ module _ {A : Type 0} (of : A → List Value) where
             (put_row (Int z ∷ of x) tree)) (sym is) held;
       }
 
-  -- A row is appended.
+  -- The INSERT appends a row under the next rowid.
   pub adds_hidden : (at : ℕ) (table : Table) (sql : List ℕ) (terms : List Term) (width : ℕ) (x : A)
       → slice_get store_schema.tables at ≡ Some table → table.is_counted ≡ false → IsQuietTable store_schema table
       → IsCommandText sql (Insert at (Values terms width))
@@ -177,7 +175,7 @@ module _ {A : Type 0} (of : A → List Value) where
       uncounted quiet
       is given casts old new count has h)
 
-  -- Rows that pass a test remain, under their rowids.
+  -- The rows that pass a test keep their rowids when the others are deleted.
   pub hidden_drop : (q : A → Bool) (xs : List A) (old tree : List Row) (h : AreHidden of xs old)
       → AreKeyed (hidden_row of) (λ (row : ℕ × A). row.0) (filter (λ (row : ℕ × A). q row.1) h.given) tree
       → AreHidden of (filter q xs) tree
@@ -186,8 +184,6 @@ module _ {A : Type 0} (of : A → List Value) where
     same = sym (filter-map q (λ (row : ℕ × A). row.1) h.given) ∙ ap (filter q) h.same;
     held = held;
   }
-
--- The tables whose rows have numbers.
 
 pub in_has : {A : Type 0} (xs : List A) (x : A) → Has xs x → IsIn x xs
 in_has [] x h = absurd h
@@ -222,8 +218,8 @@ cast_held : (o : Option ℕ) → cast Integer (value_of (optional_cell o)) ≡ v
 cast_held None = cast_null
 cast_held (Some n) = cast_int (pos n)
 
--- Column types leave a row of resource as it is.
-pub cast_resource : (row : ℕ × Resource) → cast_row (record resource { tree = 1 })
+-- The column types leave a row of table resource unchanged.
+pub cast_resource : (row : ℕ × Resource) → cast_row (record resource_table { tree = 1 })
     (stored_resource row) ≡ stored_resource row
 cast_resource row = rw (
   cast_null,
@@ -243,13 +239,14 @@ makes_resource n r old new t count kept next h =
     ∙ sym (numbered_push 1 t.resource r) in
     keeps_resource old new t kept (t.resource ++ r ∷ []) (rewrites_as 1 old new
     (subst (λ l. AreKeyed stored_resource (λ (row : ℕ × Resource). row.0) l (new.now.trees 1)) is)
-    (adds_keyed (λ (row : ℕ × Resource). row.0) stored_resource (λ row. refl) 1 (record resource { tree = 1 })
+    (adds_keyed (λ (row : ℕ × Resource). row.0) stored_resource (λ row. refl) 1 (record resource_table { tree = 1 })
     text.add_resource_text text.add_resource_terms 6 (values (resource_cells n r)) (n, r) refl refl
     (λ olds news. refl) text.add_resource_is refl (λ rows. ap (with_rowid Chosen rows) (cast_resource (n, r))) old new
     (numbered_from 1 t.resource) count kept.schema kept.hold.resource (omega (arith, next))
     (λ y k. let b = numbered_below 1 t.resource y k in omega (arith, b, next)) h))
 
-cast_outside : (row : ℕ × List ℕ) → cast_row (record outside { tree = 2 }) (stored_outside row) ≡ stored_outside row
+cast_outside : (row : ℕ × List ℕ) → cast_row (record outside_table { tree = 2 }) (stored_outside row) ≡ stored_outside
+    row
 cast_outside row = rw (cast_null, cast_int (pos row.0)) refl
 
 -- The INSERT of an outside concept makes the change AddOutside.
@@ -258,14 +255,14 @@ pub makes_outside : (n : ℕ) (iri : List ℕ) → 0 < n → IsUtf8 iri → Make
     (change.AddOutside n iri)
 makes_outside n iri least spelled old new t count kept below h =
     keeps_outside old new t kept (t.outside ++ (n, iri) ∷ [])
-    (adds_keyed (λ (row : ℕ × List ℕ). row.0) stored_outside (λ row. refl) 2 (record outside { tree = 2 })
+    (adds_keyed (λ (row : ℕ × List ℕ). row.0) stored_outside (λ row. refl) 2 (record outside_table { tree = 2 })
     text.add_outside_text text.add_outside_terms 3 (values (outside_cells (n, iri))) (n, iri) refl refl
     (λ olds news. refl)
     text.add_outside_is refl (λ rows. ap (with_rowid Chosen rows) (cast_outside (n, iri))) old new t.outside count
     kept.schema kept.hold.outside least (λ y k. below y (in_has t.outside y k)) h)
     (all-append IsSpelledOutside t.outside ((n, iri) ∷ []) kept.hold.spelled.1.0 (spelled, tt))
 
-pub cast_posting : (p : PostingRow) → cast_row (record posting { tree = 8 }) (stored_posting p) ≡ stored_posting p
+pub cast_posting : (p : PostingRow) → cast_row (record posting_table { tree = 8 }) (stored_posting p) ≡ stored_posting p
 cast_posting p = rw (
   cast_null,
   cast_int (pos p.number),
@@ -280,7 +277,7 @@ pub makes_posting : (p : PostingRow) → IsSpelledPosting p
 makes_posting p spelled old new t count kept fits h =
     let next = fits.0 in
     keeps_posting old new t kept (t.posting ++ p ∷ [])
-    (adds_keyed (λ (row : PostingRow). row.number) stored_posting (λ row. refl) 5 (record posting { tree = 8 })
+    (adds_keyed (λ (row : PostingRow). row.number) stored_posting (λ row. refl) 5 (record posting_table { tree = 8 })
     text.add_posting_text text.add_posting_terms 7 (values (posting_cells p)) p refl refl (λ olds news. refl)
     text.add_posting_is refl (λ rows. ap (with_rowid Chosen rows) (cast_posting p)) old new t.posting count
     kept.schema kept.hold.posting (omega (arith, next))
@@ -288,7 +285,7 @@ makes_posting p spelled old new t count kept fits h =
     (postings_push 1 t.posting p kept.hold.numbered (omega (arith, next)))
     (all-append IsSpelledPosting t.posting (p ∷ []) kept.hold.spelled.1.1.1 (spelled, tt))
 
-cast_move : (m : MoveRow) → cast_row (record move { tree = 10 }) (stored_move m) ≡ stored_move m
+cast_move : (m : MoveRow) → cast_row (record move_table { tree = 10 }) (stored_move m) ≡ stored_move m
 cast_move m = rw (
   cast_null,
   cast_int (pos m.number),
@@ -301,17 +298,15 @@ cast_move m = rw (
 pub makes_move : (m : MoveRow) → 0 < m.number → Makes text.add_move_text (values (move_cells m)) (change.AddMove m)
 makes_move m least old new t count kept below h =
     keeps_move old new t kept (t.move ++ m ∷ [])
-    (adds_keyed (λ (row : MoveRow). row.number) stored_move (λ row. refl) 6 (record move { tree = 10 })
+    (adds_keyed (λ (row : MoveRow). row.number) stored_move (λ row. refl) 6 (record move_table { tree = 10 })
     text.add_move_text text.add_move_terms 5 (values (move_cells m)) m refl refl (λ olds news. refl)
     text.add_move_is refl (λ rows. ap (with_rowid Chosen rows) (cast_move m)) old new t.move count kept.schema
     kept.hold.move least (λ y k. below y (in_has t.move y k)) h)
 
--- The tables whose rows have none.
-
 -- The INSERT of a label makes the change AddLabel.
 pub makes_label : (l : Label) → IsSpelledLabel l → Makes text.add_label_text (label_values l) (change.AddLabel l)
 makes_label l spelled old new t count kept fits h = keeps_label old new t kept (t.label ++ l ∷ [])
-    (adds_hidden label_values 3 (record label { tree = 4 }) text.add_label_text text.add_label_terms 5 l refl refl
+    (adds_hidden label_values 3 (record label_table { tree = 4 }) text.add_label_text text.add_label_terms 5 l refl refl
     (λ olds news. refl) text.add_label_is refl
     (λ rows. rw (cast_null, cast_int (pos l.owner), cast_int (pos (label_kind_no l.kind))) refl) old new t.label
     count kept.schema kept.hold.label h)
@@ -320,7 +315,7 @@ makes_label l spelled old new t count kept fits h = keeps_label old new t kept (
 -- The INSERT of a link makes the change AddLink.
 pub makes_link : (l : Link) → Makes text.add_link_text (link_values l) (change.AddLink l)
 makes_link l old new t count kept fits h = keeps_link old new t kept (t.link ++ l ∷ [])
-    (adds_hidden link_values 4 (record link { tree = 6 }) text.add_link_text text.add_link_terms 4 l refl refl
+    (adds_hidden link_values 4 (record link_table { tree = 6 }) text.add_link_text text.add_link_terms 4 l refl refl
     (λ olds news. refl) text.add_link_is refl
     (λ rows. rw (cast_null, cast_int (pos (link_kind_no l.kind)), cast_int (pos l.a), cast_int (pos l.b)) refl) old
     new t.link count kept.schema kept.hold.link h)
@@ -328,7 +323,7 @@ makes_link l old new t count kept fits h = keeps_link old new t kept (t.link ++ 
 -- The INSERT of a hierarchical link makes the change AddHier.
 pub makes_hier : (row : HierRow) → Makes text.add_hier_text (hier_values row) (change.AddHier row)
 makes_hier row old new t count kept fits h = keeps_hier old new t kept (t.hier ++ row ∷ [])
-    (adds_hidden hier_values 7 (record hier { tree = 11 }) text.add_hier_text text.add_hier_terms 4 row refl refl
+    (adds_hidden hier_values 7 (record hier_table { tree = 11 }) text.add_hier_text text.add_hier_terms 4 row refl refl
     (λ olds news. refl) text.add_hier_is refl
     (λ rows. rw (cast_null, cast_int (pos row.a), cast_int (pos row.b), cast_int (pos (hier_type_no row.typ))) refl)
     old new t.hier count kept.schema kept.hold.hier h)

@@ -1,4 +1,4 @@
--- Proves what edits by rowid make of rows with ascending numbers.
+-- Edits by rowid of rows that are sorted by number.
 use Rattle.std.proofs.Common.{arith, ◌≡◌, inl, inr, ℕ, ℤ, pos, ◌<◌, ◌≤◌, ◌==◌, List, [], ◌∷◌, ◌++◌, map, filter, Bool}
 use Rattle.std.proofs.Common.{true, false, not, cond, if◌then◌else◌, refl, sym, ap, subst, ◌∙◌, Less}
 use Rattle.std.specs.List.{AllByRecursion}
@@ -18,7 +18,7 @@ use Rattle.sqlite_rules.specs.Lists.{Has}
 use Rattle.sqlite_rules.proofs.PlaceLemmas.{given as given_is}
 use Rattle.sqlite_rules.proofs.ProbeLemmas.{has_mapped, mapped_has}
 use Rattle.sqlite_rules.proofs.TableLemmas.{put_all_has, put_all_keeps, put_all_adds, without_all_has}
-use Rattle.thes_sql.specs.StoredRows.{NumbersRiseAbove, AreKeyed}
+use Rattle.thes_sql.specs.StoredRows.{AreIncreasingAbove, AreKeyed}
 use Rattle.thes_sql.proofs.TableRowLemmas.{perm_has, filter_has, has_filter, same_rows, table_put, table_left}
 use Rattle.thes_sql.proofs.TableRowLemmas.{left_not, left_has, test_id, num_same}
 use Rattle.thes_tables.proofs.RowSetLemmas.{clash}
@@ -27,17 +27,17 @@ pub int_value_less : (m n : ℕ) → m < n → value_cmp (Int (pos m)) (Int (pos
 int_value_less m n h = value_cmp-Int (pos m) (pos n) ∙ grind (arith, ints, nat_tests)
 
 module _ {X : Type 0} (num : X → ℕ) where
-  pub rising_weaker : (a b : ℕ) (xs : List X) → a ≤ b → NumbersRiseAbove num b xs → NumbersRiseAbove num a xs
+  pub rising_weaker : (a b : ℕ) (xs : List X) → a ≤ b → AreIncreasingAbove num b xs → AreIncreasingAbove num a xs
   rising_weaker a b [] le up = tt
   rising_weaker a b (x ∷ xs) le up = (let lt = up.0 in omega (arith, le, lt), up.1)
 
-  pub rising_number_above : (a : ℕ) (xs : List X) (x : X) → NumbersRiseAbove num a xs → Has xs x → a < num x
+  pub rising_number_above : (a : ℕ) (xs : List X) (x : X) → AreIncreasingAbove num a xs → Has xs x → a < num x
   rising_number_above a [] x up h = absurd h
   rising_number_above a (y ∷ ys) x up (inl e) = subst (λ z. a < num z) (sym e) up.0
   rising_number_above a (y ∷ ys) x up (inr h) = let l = rising_number_above (num y) ys x up.1 h in let f = up.0 in
       omega (arith, l, f)
 
-  pub number_unique : (a : ℕ) (xs : List X) → NumbersRiseAbove num a xs → (x y : X) → Has xs x → Has xs y → num x
+  pub number_unique : (a : ℕ) (xs : List X) → AreIncreasingAbove num a xs → (x y : X) → Has xs x → Has xs y → num x
       ≡ num y → x ≡ y
   number_unique a [] up x y h k e = absurd h
   number_unique a (z ∷ zs) up x y (inl h) (inl k) e = h ∙ sym k
@@ -49,9 +49,9 @@ module _ {X : Type 0} (num : X → ℕ) where
       omega (arith, l, q, e))
   number_unique a (z ∷ zs) up x y (inr h) (inr k) e = number_unique (num z) zs up.1 x y h k e
 
-  pub rising_push : (a : ℕ) (xs : List X) (x : X) → NumbersRiseAbove num a xs → a < num x
+  pub rising_push : (a : ℕ) (xs : List X) (x : X) → AreIncreasingAbove num a xs → a < num x
       → ((y : X) → Has xs y → num y < num x)
-      → NumbersRiseAbove num a (xs ++ x ∷ [])
+      → AreIncreasingAbove num a (xs ++ x ∷ [])
   rising_push a [] x up lt below = (lt, tt)
   rising_push a (y ∷ ys) x up lt below = (
     up.0,
@@ -59,22 +59,22 @@ module _ {X : Type 0} (num : X → ℕ) where
         (λ z h. below z (inr h)),
   )
 
-  pub rising_map : (g : X → X) → ((x : X) → num (g x) ≡ num x) → (a : ℕ) (xs : List X) → NumbersRiseAbove num a xs
-      → NumbersRiseAbove num a (map g xs)
+  pub rising_map : (g : X → X) → ((x : X) → num (g x) ≡ num x) → (a : ℕ) (xs : List X) → AreIncreasingAbove num a xs
+      → AreIncreasingAbove num a (map g xs)
   rising_map g keeps a [] up = tt
   rising_map g keeps a (x ∷ xs) up =
       let e = keeps x in (
         subst (λ n. a < n) (sym e) up.0,
-        subst (λ n. NumbersRiseAbove num n (map g xs)) (sym e)
+        subst (λ n. AreIncreasingAbove num n (map g xs)) (sym e)
             (rising_map g keeps (num x) xs up.1),
       )
 
-  pub rising_filter : (q : X → Bool) (a : ℕ) (xs : List X) → NumbersRiseAbove num a xs → NumbersRiseAbove num a
+  pub rising_filter : (q : X → Bool) (a : ℕ) (xs : List X) → AreIncreasingAbove num a xs → AreIncreasingAbove num a
       (filter q xs)
   rising_filter q a [] up = tt
   rising_filter q a (x ∷ xs) up = go (q x) (rising_filter q (num x) xs up.1)
     where
-      go : (b : Bool) → NumbersRiseAbove num (num x) (filter q xs) → NumbersRiseAbove num a
+      go : (b : Bool) → AreIncreasingAbove num (num x) (filter q xs) → AreIncreasingAbove num a
           (cond b (x ∷ filter q xs) (filter q xs))
       go true more = (up.0, more)
       go false more = rising_weaker a (num x) (filter q xs) (let lt = up.0 in omega (arith, lt)) more
@@ -83,7 +83,7 @@ module _ {X : Type 0} (num : X → ℕ) where
     stored_less : (x y : X) → num x < num y → value_cmp (rowid (stored x)) (rowid (stored y)) ≡ Less
     stored_less x y lt = (λ i. value_cmp (is_num x i) (is_num y i)) ∙ int_value_less (num x) (num y) lt
 
-    all_above : (x : X) (b : ℕ) (ys : List X) → num x ≤ b → NumbersRiseAbove num b ys
+    all_above : (x : X) (b : ℕ) (ys : List X) → num x ≤ b → AreIncreasingAbove num b ys
         → AllByRecursion (λ r. value_cmp (rowid (stored x)) (rowid r) ≡ Less) (map stored ys)
     all_above x b [] le up = tt
     all_above x b (y ∷ ys) le up = let lt = up.0 in (
@@ -92,7 +92,7 @@ module _ {X : Type 0} (num : X → ℕ) where
           (omega (arith, le, lt)) up.1,
     )
 
-    pub is_table : (a : ℕ) (xs : List X) → NumbersRiseAbove num a xs → IsTable (map stored xs)
+    pub is_table : (a : ℕ) (xs : List X) → AreIncreasingAbove num a xs → IsTable (map stored xs)
     is_table a [] up = tt
     is_table a (x ∷ xs) up = (all_above x (num x) xs (omega arith) up.1, is_table (num x) xs up.1)
 
@@ -115,8 +115,8 @@ module _ {X : Type 0} (num : X → ℕ) where
           ap (put_row (stored x)) held.rows ∙ put_last x xs below;
     }
 
-    -- The statement selects the rows that pass, in any order.
-    module _ (p : X → Bool) (xs : List X) (up : NumbersRiseAbove num 0 xs) (given : List Row) (shown : X
+    -- Assumes a statement that selects the rows that pass a test, in any order.
+    module _ (p : X → Bool) (xs : List X) (up : AreIncreasingAbove num 0 xs) (given : List Row) (shown : X
         → Row) (is_given : IsPermutation (map shown (filter p xs)) given)
         (shown_id : (x : X) → id_in (rowid (shown x)) ≡ pos (num x)) where
       abbrev ids : List ℤ
@@ -203,7 +203,7 @@ module _ {X : Type 0} (num : X → ℕ) where
         abbrev news : List Row
         news = numbered Given left (map cast given)
 
-        -- With the new rows in their positions, the selected rows are changed.
+        -- With new rows at the positions of the selected ones, the selected rows are changed.
         pub many_updated : are_fresh left news ≡ true → put_all left news ≡ map stored (map change xs)
         many_updated fresh = same_rows _ _ (table_put news left (table_left ids (map stored xs) table))
             (is_table 0 (map change xs) (rising_map change change_num 0 xs up)) there back

@@ -12,6 +12,8 @@ pub mod TransactionLemmas
 pub mod SchemaTextLemmas
 pub mod CreateStoreLemmas
 pub mod SelectLemmas
+pub mod QueryTextLemmas
 pub mod ReadFrameLemmas
 pub mod MigrationStepLemmas
 pub mod KnownSchemaLemmas
+pub mod DeclarationLemmas

@@ -1,4 +1,4 @@
--- Proves that each statement of a migration takes the store one step from version 1 to version 2.
+-- Each statement of a migration takes a store one step from version 1 to version 2.
 use Rattle.std.proofs.Common.{arith, ◌≡◌, ◌≢◌, ℕ, pos, List, [], ◌∷◌, ◌++◌, map, filter, codes, true, not, Ok, Err}
 use Rattle.std.proofs.Common.{Result, OnOk, refl, sym, ap, subst, ◌∙◌, append-nil, append_assoc, lit<, rules}
 use Rattle.std.proofs.Math.Bool.{and-true}
@@ -33,7 +33,7 @@ use Rattle.thes_tables.specs.declared.cells.Cell.TheVariants as cells
 use Rattle.thes_tables.specs.declared.rows.HierRow.{HierRow}
 use Rattle.thes_tables.specs.Tables.{Tables}
 use Rattle.thes_tables.specs.Cells.{number_cell, hier_type_no}
-use Rattle.thes_sql.specs.Schema.{meta, link, hier, store_schema}
+use Rattle.thes_sql.specs.Schema.{meta_table, link_table, hier_table, store_schema}
 use Rattle.thes_sql.specs.StoredRows.{Keeps, AreHidden, hidden_row, values, link_values, hier_values}
 use Rattle.thes_tables.specs.OldRows.{is_broader, untyped_row, tables_after_migration}
 use Rattle.thes_sql.specs.OldStore.{KeepsAs, stored_version, tables_with_copied_links, HasEmptyHier, HasCopiedLinks}
@@ -48,8 +48,6 @@ use Rattle.thes_sql.proofs.InsertLemmas.{hidden_push, hidden_drop}
 use Rattle.thes_sql.proofs.CreateStoreLemmas.{cast_meta}
 use Rattle.thes_sql.proofs.SelectLemmas.{ordered_query, answer_rows}
 use Rattle.thes_sql.proofs.WhereLemmas.{same_ints}
-
--- The meaning of the texts.
 
 abbrev pub copy_text : List ℕ
 copy_text = codes "INSERT INTO hier (a, b, typ) SELECT a, b, 0 FROM link WHERE kind = 1 ORDER BY rowid"
@@ -66,7 +64,7 @@ copy_query = record (ordered_query 6 broader_filters copy_project) {
       ∷ [];
 }
 
--- Ordering by rowid makes no difference to the rows selected here.
+-- The selected rows are in the order of rowids, whether or not the query asks for it.
 in_order_too : (db : Trees) (params : Row) (out : List Row) → IsAnswer copy_query db params out
     → IsAnswer (ordered_query 6 broader_filters copy_project) db params out
 in_order_too db params out a = search rules
@@ -92,8 +90,6 @@ version_is : IsCommandText version_text (Update 0 (whole_program (plain_query 0 
 unfolding understood everything
 version_is = (refl, (refl, refl))
 
--- One table of a half-migrated store is rewritten.
-
 holds_each_as : (version : ℕ) (db : Database) (t : Tables) → KeepsAs version db t → (p : Name)
     → HoldsAs version p t (db.trees (tree_of p))
 holds_each_as version db t k table.Meta = k.hold.meta
@@ -106,7 +102,7 @@ holds_each_as version db t k table.Posting = k.hold.posting
 holds_each_as version db t k table.Move = k.hold.move
 
 module _ (version : ℕ) (old new : State) (t : Tables) (kept : KeepsAs version old.now t) where
-  -- Each table but the one rewritten holds its rows.
+  -- Each table other than the rewritten one has its rows.
   other_table_kept : {tree : ℕ} {Held : List Row → Type 0} → Rewrites tree Held old new → (p : Name) → tree_of p ≢ tree
       → HoldsAs version p t (new.now.trees (tree_of p))
   other_table_kept {tree} w p apart =
@@ -131,9 +127,7 @@ module _ (version : ℕ) (old new : State) (t : Tables) (kept : KeepsAs version 
       (elim [ table.Meta ↦ w.rows | p ↦ other_table_kept w p (λ e. omega (arith, e)) ]) kept.hold.numbered
       kept.hold.spelled
 
--- The links are inserted into hier.
-
--- Rows without numbers are inserted in order, each with the next rowid.
+-- Rows without numbers are inserted in order, each under the next rowid.
 module _ {A : Type 0} (of : A → List Value) (table : Table)
     (casts : (y : A) (rows : List Row) → with_rowid Chosen rows (cast_row table (Null ∷ of y)) ≡ Int (next_rowid rows)
     ∷ of y) where
@@ -151,21 +145,21 @@ module _ {A : Type 0} (of : A → List Value) (table : Table)
 abbrev copied_cells : ℕ × Link → List Cell
 copied_cells row = cells.Null ∷ number_cell row.1.a ∷ number_cell row.1.b ∷ number_cell 0 ∷ []
 
--- The query's rows are the rows for hier.
+-- The rows that the query returns are the rows for table hier.
 copied_rows : (given : List (ℕ × Link)) → map values (map copied_cells given)
     ≡ map (λ (y : HierRow). Null ∷ hier_values y) (map (λ (row : ℕ × Link). untyped_row row.1) given)
 copied_rows [] = refl
 copied_rows (row ∷ rows) = ap (λ l. (Null ∷ hier_values (untyped_row row.1)) ∷ l) (copied_rows rows)
 
 cast_hier : (y : HierRow) (rows : List Row)
-    → with_rowid Chosen rows (cast_row (record hier { tree = 11 }) (Null ∷ hier_values y)) ≡ Int (next_rowid rows)
+    → with_rowid Chosen rows (cast_row (record hier_table { tree = 11 }) (Null ∷ hier_values y)) ≡ Int (next_rowid rows)
     ∷ hier_values y
 cast_hier y rows = rw (cast_null, cast_int (pos y.a), cast_int (pos y.b), cast_int (pos (hier_type_no y.typ))) refl
 
 is_kind : (row : ℕ × Link) → list_all (holds ([] ∷ hidden_row link_values row ∷ [])) broader_filters ≡ is_broader row.1
 is_kind row = and-true _ ∙ same_ints (link_kind_no row.1.kind) 1
 
--- The numbered links are the links.
+-- The links of numbered rows are the links without their numbers.
 picked_links : (given : List (ℕ × Link)) (links : List Link) → map (λ (row : ℕ × Link). row.1) given ≡ links
     → map (λ (row : ℕ × Link). untyped_row row.1) (filter (λ (row : ℕ × Link). is_broader row.1) given)
     ≡ map untyped_row (filter is_broader links)
@@ -180,7 +174,7 @@ copies_links : (t : Tables) (old new : State) (count : ℕ) → KeepsAs 1 old.no
 copies_links t old new count kept h =
     let trees = old.now.trees in
     let held = kept.hold.link in
-    let there = record hier { tree = 11 } in
+    let there = record hier_table { tree = 11 } in
     let rows = map untyped_row (filter is_broader t.link) in
     let w = runs_as copy_text [] old new store_schema kept.schema (Insert 7 (Asked (whole_program copy_query)))
     copy_is.0 copy_is.1
@@ -202,8 +196,6 @@ copies_links t old new count kept h =
       others = it.3.tables;
     })
 
--- The links are removed from table link.
-
 drops_copied : (t : Tables) (old new : State) (count : ℕ) → KeepsAs 1 old.now t
     → Executes drop_text [] old new (Ok count)
     → KeepsAs 1 new.now (record t { link = filter (λ l. not (is_broader l)) t.link })
@@ -212,22 +204,18 @@ drops_copied t old new count kept h =
     as_link 1 old new t kept (filter (λ l. not (is_broader l)) t.link)
     (rewrites_as 6 old new (hidden_drop link_values (λ l. not (is_broader l)) t.link (old.now.trees 6)
     (new.now.trees 6) held)
-    (deletes (λ (row : ℕ × Link). row.0) (hidden_row link_values) (λ row. refl) 4 (record link { tree = 6 }) refl
+    (deletes (λ (row : ℕ × Link). row.0) (hidden_row link_values) (λ row. refl) 4 (record link_table { tree = 6 }) refl
     (λ olds news. refl) drop_text [] broader_filters (λ row. is_broader row.1) is_kind drop_is (λ row. refl) old new
     held.given count kept.schema held.held h))
-
--- The version is set.
 
 sets_version : (t : Tables) (old new : State) (count : ℕ) → KeepsAs 1 old.now t
     → Executes version_text [] old new (Ok count) → Keeps new.now t
 sets_version t old new count kept h =
     keeps_current new.now t (as_version 1 old new t kept 2 (rewrites_as 0 old new (λ held. held.rows)
-    (updates (λ (row : ℕ × List ℕ). 1) (λ (row : ℕ × List ℕ). stored_version row.0 row.1) (λ row. refl) 0 meta refl
-    (λ olds news. refl) version_text [] [] (λ row. true) (λ row. refl) version_project version_is
+    (updates (λ (row : ℕ × List ℕ). 1) (λ (row : ℕ × List ℕ). stored_version row.0 row.1) (λ row. refl) 0 meta_table
+    refl (λ olds news. refl) version_text [] [] (λ row. true) (λ row. refl) version_project version_is
     (λ row. (2, row.1)) (λ row. refl) (λ row. refl) (λ row. cast_meta row.1) old new ((1, t.base) ∷ []) count
     kept.schema (record { rises = (lit< tt, tt); rows = kept.hold.meta }) h)))
-
--- The statements inside a transaction.
 
 transforms_inside : (From To : Tables → Database → Type 0) (text : List ℕ) → ((t : Tables) (old new : State) (count : ℕ)
     → From t old.now → Executes text [] old new (Ok count) → To t new.now)

@@ -1,9 +1,9 @@
--- Proves that changing the element at a position changes exactly the elements with its number.
+-- Changing the element at a position changes exactly the element with its number.
 use Rattle.std.proofs.Common.{arith, ◌≡◌, ℕ, zero, suc, List, [], ◌∷◌, ◌<◌, ◌+◌, ◌-◌, ◌==◌, map, slice_get, slice_set}
 use Rattle.std.proofs.Common.{Option, Some, None, Bool, true, false, if◌then◌else◌, refl, sym, ap, ◌∙◌}
 use Rattle.std.proofs.lemmas.Bool.Decides.{nat_tests}
 use Rattle.thes_base.specs.declared.data.Resource.{Resource}
-use Rattle.thes_base.specs.Changes.{dead, resources_after_death}
+use Rattle.thes_base.specs.Changes.{resource_after_death, resources_after_death}
 use Rattle.thes_tables.specs.declared.rows.PostingRow.{PostingRow}
 use Rattle.thes_tables.specs.Rows.{with_posting}
 use Rattle.thes_sql.specs.StoredRows.{ArePostingsNumbered, numbered_from}
@@ -20,7 +20,7 @@ module _ {A : Type 0} (f : A → A) where
       let apart : (first == n) ≡ false = grind (arith, nat_tests) in
       λ i. (ap (λ b. if b then (first, f x) else (first, x)) apart i) ∷ none_there n (first + 1) xs (omega arith) i
 
-  -- The list with one element changed.
+  -- The list after the element at a position is changed.
   abbrev pub list_changed_at : ℕ → List A → List A
   list_changed_at i xs = elim (slice_get xs i) [ None ↦ xs | Some x ↦ slice_set xs i (f x) ]
 
@@ -46,15 +46,17 @@ module _ {A : Type 0} (f : A → A) where
       (let q : first + 1 + i ≡ first + suc i = omega arith in q)) j)
 
 pub dead_is : (n : ℕ) (by : Option ℕ) (rs : List Resource) → numbered_from 1 (resources_after_death n by rs) ≡ map
-    (change_if_at_number (dead by) n) (numbered_from 1 rs)
-dead_is zero by rs = sym (none_there (dead by) 0 1 rs (omega arith))
+    (change_if_at_number (resource_after_death by) n) (numbered_from 1 rs)
+dead_is zero by rs = sym (none_there (resource_after_death by) 0 1 rs (omega arith))
 dead_is (suc n) by rs =
-    ap (λ (k : ℕ). numbered_from 1 (elim (slice_get rs n) [ None ↦ rs | Some r ↦ slice_set rs k (dead by r) ]))
+    ap (λ (k : ℕ). numbered_from 1 (elim (slice_get rs n)
+    [ None ↦ rs | Some r ↦ slice_set rs k (resource_after_death by r) ]))
     (let q : suc n - 1 ≡ n = omega arith in q)
-    ∙ numbered_change_at (dead by) n 1 rs ∙ ap (λ (k : ℕ). map (change_if_at_number (dead by) k) (numbered_from 1 rs))
+    ∙ numbered_change_at (resource_after_death by) n 1 rs
+    ∙ ap (λ (k : ℕ). map (change_if_at_number (resource_after_death by) k) (numbered_from 1 rs))
     (let q : 1 + n ≡ suc n = omega arith in q)
 
--- The posting with this number, changed.
+-- The posting is changed if it has this number.
 module _ (f : PostingRow → PostingRow) where
   abbrev pub change_if_number : ℕ → PostingRow → PostingRow
   change_if_number n x = if x.number == n then f x else x

@@ -1,15 +1,17 @@
 -- Proves that a query leaves the database as it is.
-use Rattle.std.proofs.Common.{◌≡◌, ◌⊎◌, inl, inr, ℕ, List, Ok, Err, Result, IfOk, IfErr, false, IsTrue, sym, ap, ◌≢◌}
-use Rattle.std.proofs.Common.{true, refl, OnOk, [], subst, ◌∙◌, append-nil, Option, None, Some}
+use Rattle.std.proofs.Common.{◌≡◌, ◌⊎◌, inl, inr, ℕ, List, length, Ok, Err, Result, IfOk, IfErr, false, IsTrue, sym, ap}
+use Rattle.std.proofs.Common.{true, refl, OnOk, [], subst, ◌∙◌, append-nil, Option, None, Some, is_ok, ◌≢◌}
 use Rattle.sqlite.specs.Order.{Row}
-use Rattle.sqlite.specs.Effect.{Database, RefusesQuery, RefusesToRead}
+use Rattle.sqlite.specs.Tree.{Trees}
+use Rattle.sqlite.specs.Effect.{Database, RefusesQuery, RefusesToRead, is_query}
+use Rattle.sqlite.specs.Command.{Command}
 use Rattle.sqlite.specs.Command.TheVariants.{Select}
 use Rattle.sqlite_schema.specs.declared.program.Program.{Program}
 use Rattle.sqlite_resolve.specs.declared.error.CompileError.{CompileError}
 use Rattle.sqlite.specs.declared.error.Error.TheVariants.{SqlInputError}
 use Rattle.sqlite_trees.specs.declared.error.StoreError.{StoreError}
 use Rattle.sqlite_trees.specs.declared.error.StoreError.TheVariants as cause
-use Rattle.sqlite.specs.Listing.{understood}
+use Rattle.sqlite.specs.Listing.{understood, reads_listing, IsSourceOf}
 use Rattle.sqlite.specs.Outline.{Outline}
 use Rattle.sqlite.specs.Steps.{Outlines}
 use Rattle.sqlite.specs.State.{State, HasCleanDisk, Shown, ShowsRows, FailsToQuery, FailsToShow, IsNotRun}
@@ -20,11 +22,12 @@ use Rattle.sqlite_schema.specs.declared.command.Returning.{Returning}
 use Rattle.sqlite_resolve.specs.declared.compiled.Compiled.{Compiled}
 use Rattle.sqlite_trees.specs.declared.store.Store.{Ghosts}
 use Rattle.sqlite.proofs.StateLemmas.{survives_weaker}
-use Rattle.sqlite.proofs.Callers.{IsPlain, command_of, never_commits}
+use Rattle.sqlite.proofs.Callers.{IsPlain, command_of}
 use Rattle.thes_sql.specs.Schema.{store_schema}
 use Rattle.thes_sql.specs.Reads.{LeavesAlone}
-use Rattle.thes_sql.specs.OldStore.{old_schema, HasKnownSchema, IsUnderstood, AnswersIsUnderstood, KeepsKnown}
-use Rattle.thes_sql.specs.OldStore.{LeavesKnown}
+use Rattle.thes_sql.specs.Queries.{IsQuery, IsWholeQuery, compiles, Finds, IsStoreFault, finds_nothing, FailsToFind}
+use Rattle.thes_sql.specs.Queries.{KeepsDatabase, answer_of_error}
+use Rattle.thes_sql.proofs.QueryTextLemmas.{query_is_plain, query_reads, query_is_whole}
 
 shows_open : (old new : State) (sql : List ℕ) (c : Compiled) (params : Row) (rows : List Row) (o : Option Returning)
     → ShowsRows old new sql c params rows o → IsTrue old.is_open
@@ -37,7 +40,7 @@ runs_open old new sql c params e None h now = h.3.0.was_open
 runs_open old new sql c params e (Some what) (inl h) now = h.1.0.was_open
 runs_open old new sql c params e (Some what) (inr h) now = h.3.was_open now
 
--- If the store is open after a query, it is open before it.
+-- If the database is open after a query, it was open before it.
 was_open : (sql : List ℕ) (params : Row) (old new : State) {V : Type 0} (items : V → List Row) (r : Result V Error)
     → IfOk r (λ v. Shown sql params old new (items v)) → IfErr r (FailsToQuery sql params old new)
     → IsTrue new.is_open → IsTrue old.is_open
@@ -48,11 +51,14 @@ was_open sql params old new items (Err e) ok (inl (inr fails)) now = fails.3.was
 was_open sql params old new items (Err e) ok (inr h) now = runs_open old new sql h.0 _ e h.0.returning h.2 now
 
 -- The database is as before, or as committed.
-module _ (sql : List ℕ) (params : Row) (old new : State) (plain : IsPlain (understood old.now.schema sql)) where
+module _ (sql : List ℕ) (params : Row) (old new : State) (is : IsQuery sql) where
+  plain_here : (c : Compiled) → understood old.now.schema sql ≡ Ok c → IsPlain (Ok c)
+  plain_here = query_is_plain sql is old.now.schema
+
   shown_same : (out : List Row) → Shown sql params old new out → IsUnchanged old new
   unfolding Shown
   shown_same out h =
-      let bare = subst IsPlain h.1.is plain in
+      let bare = plain_here h.0 h.1.is in
       let it = rw bare.0 at h.2 in
       it.3
 
@@ -61,7 +67,7 @@ module _ (sql : List ℕ) (params : Row) (old new : State) (plain : IsPlain (und
   fails_same e (inl (inl refused)) = inl refused.1
   fails_same e (inl (inr fails)) = inr fails.3
   fails_same e (inr h) =
-      let bare = subst IsPlain h.1.is plain in
+      let bare = plain_here h.0 h.1.is in
       let it = rw bare.0 at h.2 in
       inl it.3
 
@@ -71,117 +77,141 @@ module _ (sql : List ℕ) (params : Row) (old new : State) (plain : IsPlain (und
   unchanged_or_rolled_back items (Ok v) ok err = inl (shown_same (items v) ok)
   unchanged_or_rolled_back items (Err e) ok err = fails_same e err
 
+  commits_nothing : (db : Trees) → CommitsShowing sql params old db → ⊥
+  unfolding CommitsShowing
+  commits_nothing db h = let bare = plain_here h.0 h.1.is in absurd (let some = rw bare.0 at h.2 in cc)
+
 left_as_committed : (old new : State) → IsTrue new.is_open → old.now ≡ old.committed → IsUnchanged old new
     ⊎ IsRolledBack old new
     → (new.now ≡ old.now) × (new.committed ≡ old.committed)
 left_as_committed old new still_open settled (inl h) = (h.0.now_is, h.0.committed_is)
 left_as_committed old new still_open settled (inr h) = let back = h.undone still_open in (back.0 ∙ sym settled, back.1)
 
--- A query leaves a store of version 2 as it is, and commits nothing.
-pub leaves_alone : {S : Type 0} (g : Ghosts S) (sql : List ℕ) (params : Row) (old new : Held S) {V : Type 0}
-    (r : Result V Error) (items : V → List Row) → IsPlain (understood store_schema sql)
-    → (old.in_transaction ≡ false → new.in_transaction ≡ false)
-    → (HasCleanDisk (state g new) → IfOk r (λ v. Shown sql params (state g old) (state g new) (items v)))
-    → (HasCleanDisk (state g new) → IfErr r (FailsToQuery sql params (state g old) (state g new)))
-    → Survives (state g old) (state g new) (CommitsShowing sql params (state g old))
-    → LeavesAlone g old new
-leaves_alone g sql params old new r items plain mode ok err s = record {
-  tables = record {
-    mode = mode;
-    was = λ clean still_open. was_open sql params (state g old) (state g new) items r (ok clean) (err clean)
-        still_open;
-    clean = s.clean;
-    same = λ has clean still_open settled. left_as_committed (state g old) (state g new) still_open settled
-        (unchanged_or_rolled_back sql params (state g old) (state g new) (here has) items r (ok clean) (err clean));
-  };
-  crash = λ has. survives_weaker (state g old) (state g new) _ _
-      (λ _ db. never_commits sql params (state g old) db (here has)) s;
-}
-  where
-    here : (state g old).now.schema ≡ store_schema → IsPlain (understood (state g old).now.schema sql)
-    here has = subst (λ schema. IsPlain (understood schema sql)) (sym has) plain
-
--- A query leaves a store of version 1 as it is.
+-- A query leaves a database as it is, and commits nothing.
 module _ {S : Type 0} (g : Ghosts S) (sql : List ℕ) (params : Row) (old new : Held S) {V : Type 0}
-    (r : Result V Error) (items : V → List Row) (plain : IsPlain (understood store_schema sql))
-    (plain_old : IsPlain (understood old_schema sql))
-    (ok : HasCleanDisk (state g new) → IfOk r (λ v. Shown sql params (state g old) (state g new) (items v)))
-    (err : HasCleanDisk (state g new) → IfErr r (FailsToQuery sql params (state g old) (state g new))) where
-  plain_in_known : HasKnownSchema (state g old).now → IsPlain (understood (state g old).now.schema sql)
-  plain_in_known (inl has) = subst (λ schema. IsPlain (understood schema sql)) (sym has) plain
-  plain_in_known (inr has) = subst (λ schema. IsPlain (understood schema sql)) (sym has) plain_old
-
-  -- A query leaves a store of version 1 or 2 as it is, and commits nothing.
-  pub leaves_known : (old.in_transaction ≡ false → new.in_transaction ≡ false)
-      → Survives (state g old) (state g new) (CommitsShowing sql params (state g old)) → LeavesKnown g old new
-  leaves_known mode s = record {
-    mode = mode;
-    was = λ clean still_open. was_open sql params (state g old) (state g new) items r (ok clean) (err clean)
-        still_open;
-    clean = s.clean;
-    same = λ has clean still_open settled. left_as_committed (state g old) (state g new) still_open settled
-        (unchanged_or_rolled_back sql params (state g old) (state g new) (plain_in_known has) items r (ok clean)
-        (err clean));
-    crash = λ has clean db leave. elim (s.crash clean db leave) [
-      | inl before ↦ before
-      | inr made ↦ absurd (never_commits sql params (state g old) db (plain_in_known has) made)
-    ];
+    (r : Result V Error) (items : V → List Row) (is : IsQuery sql)
+    (ok : HasCleanDisk (state g new) → IfOk r (λ v. Shown sql params (state g old) (state g new) (items v))) where
+  pub leaves_alone : (old.in_transaction ≡ false → new.in_transaction ≡ false)
+      → (HasCleanDisk (state g new) → IfErr r (FailsToQuery sql params (state g old) (state g new)))
+      → Survives (state g old) (state g new) (CommitsShowing sql params (state g old)) → LeavesAlone g old new
+  leaves_alone mode err s = record {
+    tables = record {
+      mode = mode;
+      was = λ clean still_open. was_open sql params (state g old) (state g new) items r (ok clean) (err clean)
+          still_open;
+      clean = s.clean;
+      same = λ clean still_open settled. left_as_committed (state g old) (state g new) still_open settled
+          (unchanged_or_rolled_back sql params (state g old) (state g new) is items r (ok clean) (err clean));
+    };
+    crash = survives_weaker (state g old) (state g new) _ _
+        (λ _ db. commits_nothing sql params (state g old) (state g new) is db) s;
   }
 
-  keeps_known_after : (r : Result V Error)
+  keeps_after : (r : Result V Error)
       → (HasCleanDisk (state g new) → IfOk r (λ v. Shown sql params (state g old) (state g new) (items v)))
-      → OnOk r (KeepsKnown g old new)
-  keeps_known_after (Err e) shown = tt
-  keeps_known_after (Ok v) shown = λ has clean.
-      let h = shown_same sql params (state g old) (state g new) (plain_in_known has) (items v) (shown clean) in
+      → KeepsDatabase g old new r
+  keeps_after (Err e) shown = tt
+  keeps_after (Ok v) shown = λ clean.
+      let h = shown_same sql params (state g old) (state g new) is (items v) (shown clean) in
       (h.0.now_is, h.0.committed_is)
 
-  pub keeps_known : OnOk r (KeepsKnown g old new)
-  keeps_known = keeps_known_after r ok
+  pub keeps_database : KeepsDatabase g old new r
+  keeps_database = keeps_after r ok
+
+-- What a query without parameters finds.
+
+-- A fault of the store is none of a query.
+pub cause_finds : (e : Error) (cause : StoreError) → e ≡ store_error cause → finds_nothing e ≡ false
+cause_finds e cause.OutOfMemory is = ap finds_nothing is
+cause_finds e cause.Io is = ap finds_nothing is
+cause_finds e cause.Corrupt is = ap finds_nothing is
+cause_finds e cause.Full is = ap finds_nothing is
+cause_finds e cause.Broken is = ap finds_nothing is
+cause_finds e cause.Unstorable is = ap finds_nothing is
+
+module _ (sql : List ℕ) (old new : State) (is : IsWholeQuery sql) where
+  finds_shown : (out : List Row) → Shown sql [] old new out → Finds sql old.now (Some out)
+  unfolding Shown
+  finds_shown out h =
+      let bare = query_is_plain sql is.0 old.now.schema h.0 h.1.is in
+      let it = rw (bare.0, bare.1) at h.2 in
+      (h.0, h.1.is, it.0, it.1, it.2)
+
+  -- A closed text is refused only if it doesn't compile.
+  no_other : (e : Error) → IsNoStatement old sql [] e
+      → (fault : CompileError) × (understood old.now.schema sql ≡ Err fault) × (e ≡ SqlInputError fault)
+  no_other e (inl h) = h
+  no_other e (inr h) =
+      let closed = query_is_whole sql is old.now.schema h.0 h.1 in
+      elim h.2 [
+        | inl a ↦ absurd (a.0 closed.1)
+        | inr more ↦ elim more [
+          | inl b ↦ absurd (b.0 (sym (ap length closed.0)))
+          | inr c ↦ absurd (c.0 (query_is_plain sql is.0 old.now.schema h.0 h.1).1)
+        ]
+      ]
+
+  not_compiled : (e : Error) → IsNoStatement old sql [] e
+      → (finds_nothing e ≡ true) × (compiles old.now.schema sql ≡ false)
+  not_compiled e h = let why = no_other e h in (ap finds_nothing why.2, ap is_ok why.1)
+
+  -- A query that compiles is refused for its values, or for its length.
+  refused_for_rows : (c : Compiled) → understood old.now.schema sql ≡ Ok c → (source : Database)
+      → IsSourceOf (reads_listing old.now.schema sql) old.now source → (e : Error) → (command : Command)
+      → c.command ≡ command → is_query command ≡ true → RefusesToRead old.step_limit command source [] e
+      → FailsToFind sql old new e
+  refused_for_rows c known source from e (Select q names) so asks (inl h) =
+      let refused = subst (λ k. RefusesToRead None k source [] e) (sym so) (inl h) in
+      inl (ap finds_nothing h.0, inr (c, known, source, from, e, refused))
+  refused_for_rows c known source from e (Select q names) so asks (inr (inl h)) =
+      let refused = subst (λ k. RefusesToRead None k source [] e) (sym so) (inr (inl h)) in
+      inl (ap finds_nothing h.0, inr (c, known, source, from, e, refused))
+  refused_for_rows c known source from e (Select q names) so asks (inr (inr h)) = inr (ap finds_nothing h.0, inr h)
+  refused_for_rows c known source from e other so asks h = absurd (cc)
+
+  pub fails_to_find : (e : Error) → FailsToQuery sql [] old new e → FailsToFind sql old new e
+  unfolding FailsToQuery IsNotRun
+  fails_to_find e (inl (inl refused)) = let why = not_compiled e refused.0 in inl (why.0, inl why.1)
+  fails_to_find e (inl (inr fails)) = inr (cause_finds e fails.0 fails.1, inl (fails.0, fails.1, fails.2))
+  fails_to_find e (inr h) =
+      let bare = query_is_plain sql is.0 old.now.schema h.0 h.1.is in
+      let it = rw (bare.0, bare.1) at h.2 in
+      refused_for_rows h.0 h.1.is it.0 it.1 e h.0.command refl (query_reads sql is.0 old.now.schema h.0 h.1.is) it.2
+
+  pub found_result : {V : Type 0} (items : V → List Row) (r : Result V Error)
+      → IfOk r (λ v. Shown sql [] old new (items v)) → IfErr r (FailsToQuery sql [] old new)
+      → IfOk r (λ v. Finds sql old.now (Some (items v))) × IfErr r (FailsToFind sql old new)
+  found_result items (Ok v) ok err = (finds_shown (items v) ok, tt)
+  found_result items (Err e) ok err = (tt, fails_to_find e err)
 
 -- Preparing a statement leaves the database as it is; a text that doesn't compile fails by no fault of the store.
-pub no_cause : (fault : CompileError) (cause : StoreError) → SqlInputError fault ≢ store_error cause
-no_cause fault cause.OutOfMemory told = cc
-no_cause fault cause.Io told = cc
-no_cause fault cause.Corrupt told = cc
-no_cause fault cause.Full told = cc
-no_cause fault cause.Broken told = cc
-no_cause fault cause.Unstorable told = cc
-
 module _ {S : Type 0} (g : Ghosts S) (sql : List ℕ) (old new : Held S) where
-  -- A failure to prepare leaves the database as before or as committed.
+  -- A failure to prepare a statement leaves the database unchanged or as committed.
   prepared_so : (e : Error) → ((params : Row) → IsNotRun (state g old) (state g new) sql params e)
       → IsUnchanged (state g old) (state g new) ⊎ IsRolledBack (state g old) (state g new)
   unfolding IsNotRun
   prepared_so e h = elim (h []) [ inl refused ↦ inl refused.1 | inr fails ↦ inr fails.3 ]
-
-  not_understood : (fault : CompileError) → ((params : Row)
-      → IsNotRun (state g old) (state g new) sql params (SqlInputError fault))
-      → IsUnchanged (state g old) (state g new)
-  unfolding IsNotRun
-  not_understood fault h = elim (h []) [ inl refused ↦ refused.1 | inr fails ↦ absurd (no_cause fault fails.0 fails.1) ]
 
   open_before : IsUnchanged (state g old) (state g new) ⊎ IsRolledBack (state g old) (state g new)
       → IsTrue (state g new).is_open → IsTrue (state g old).is_open
   open_before (inl h) now = h.0.was_open
   open_before (inr h) now = h.was_open now
 
-  -- Preparing a statement leaves a database of version 1 or 2 as it is.
+  -- Preparing a statement leaves a database of either version unchanged.
   pub prepared_leaves : (old.in_transaction ≡ false → new.in_transaction ≡ false)
       → Survives (state g old) (state g new) (λ _. ⊥)
       → (HasCleanDisk (state g new) → IsUnchanged (state g old) (state g new) ⊎ IsRolledBack (state g old)
       (state g new))
-      → LeavesKnown g old new
+      → LeavesAlone g old new
   prepared_leaves mode s so = record {
-    mode = mode;
-    was = λ clean still_open. open_before (so clean) still_open;
-    clean = s.clean;
-    same = λ has clean still_open settled. left_as_committed (state g old) (state g new) still_open settled (so clean);
-    crash = λ has clean db leave. elim (s.crash clean db leave) [ inl before ↦ before | inr none ↦ absurd none ];
+    tables = record {
+      mode = mode;
+      was = λ clean still_open. open_before (so clean) still_open;
+      clean = s.clean;
+      same = λ clean still_open settled. left_as_committed (state g old) (state g new) still_open settled (so clean);
+    };
+    crash = s;
   }
-
-  pub prepared_keeps : (HasCleanDisk (state g new) → IsUnchanged (state g old) (state g new)) → KeepsKnown g old new
-  prepared_keeps so has clean = let h = so clean in (h.0.now_is, h.0.committed_is)
 
   pub each_so : {V : Type 0} (P : V → Type 0) (r : Result V Error)
       → IfOk r (λ v. P v × IsUnchanged (state g old) (state g new))
@@ -190,46 +220,58 @@ module _ {S : Type 0} (g : Ghosts S) (sql : List ℕ) (old new : Held S) where
   each_so P (Ok v) ok err = inl ok.1
   each_so P (Err e) ok err = prepared_so e err
 
-  pub refused_keeps : (fault : CompileError) → (HasCleanDisk (state g new)
-      → (params : Row) → IsNotRun (state g old) (state g new) sql params (SqlInputError fault))
-      → KeepsKnown g old new
-  refused_keeps fault h = prepared_keeps (λ clean. not_understood fault (h clean))
-
 -- Whether a text compiles.
-module _ {S : Type 0} (g : Ghosts S) (sql : List ℕ) (old new : Held S) where
-  understood_so : (r : Result Compiled CompileError) (s : Outline) → understood (state g old).now.schema sql ≡ r
-      → Outlines r s
-      → IsUnderstood (state g old).now.schema sql true
-  understood_so (Ok c) s is h = (c, is)
-  understood_so (Err fault) s is h = absurd h
+module _ (sql : List ℕ) (old new : State) (is : IsWholeQuery sql) where
+  outlined : (r : Result Compiled CompileError) (s : Outline) → Outlines r s → true ≡ is_ok r
+  outlined (Ok c) s h = refl
+  outlined (Err fault) s h = absurd h
 
-  pub answers_understood : (s : Outline)
-      → (HasCleanDisk (state g new) → Outlines (understood (state g old).now.schema sql) s)
-      → (HasCleanDisk (state g new) → IsUnchanged (state g old) (state g new)) → AnswersIsUnderstood {E = Error} g sql
-      old new (Ok true)
-  answers_understood s shape so clean = (
-    understood_so (understood (state g old).now.schema sql) s refl (shape clean),
-    (so clean).0.now_is,
-  )
+  pub compiles_so : (s : Outline) → Outlines (understood old.now.schema sql) s → true ≡ compiles old.now.schema sql
+  compiles_so s h = outlined (understood old.now.schema sql) s h
 
-  not_so : (fault : CompileError) → IsNoStatement (state g old) sql [] (SqlInputError fault)
-      → IsUnderstood (state g old).now.schema sql false
-  not_so fault (inl h) = (h.0, h.1)
-  not_so fault (inr h) = elim h.2 [
-    | inl a ↦ absurd (let k = a.1 in cc)
-    | inr more ↦ elim more [ inl b ↦ absurd (let k = b.1 in cc) | inr c ↦ absurd (let k = c.1 in cc) ]
-  ]
-
-  pub answers_not_understood : (fault : CompileError) → (HasCleanDisk (state g new)
-      → (params : Row) → IsNotRun (state g old) (state g new) sql params (SqlInputError fault))
-      → AnswersIsUnderstood {E = Error} g sql old new (Ok false)
+  not_prepared : (e : Error) → ((params : Row) → IsNotRun old new sql params e)
+      → ((finds_nothing e ≡ true) × (compiles old.now.schema sql ≡ false) × IsUnchanged old new)
+      ⊎ IsStoreFault old new e
   unfolding IsNotRun
-  answers_not_understood fault h clean = elim (h clean []) [
-    | inl none ↦ (not_so fault none.0, none.1.0.now_is)
-    | inr fails ↦ absurd (no_cause fault fails.0 fails.1)
+  not_prepared e h = elim (h []) [
+    | inl none ↦ let why = not_compiled sql old new is e none.0 in inl (why.0, why.1, none.1)
+    | inr fails ↦ inr (fails.0, fails.1, fails.2)
   ]
+
+  uncompiled : (fault : CompileError) → ((params : Row) → IsNotRun old new sql params (SqlInputError fault))
+      → (compiles old.now.schema sql ≡ false) × IsUnchanged old new
+  uncompiled fault h = elim (not_prepared (SqlInputError fault) h) [
+    | inl none ↦ (none.1, none.2)
+    | inr fails ↦ let e = cause_finds _ fails.0 fails.1 in absurd (cc)
+  ]
+
+  -- A text that fails to be prepared, but not as one that doesn't compile, fails by the store.
+  store_failed : (e : Error) → ((fault : CompileError) → e ≡ SqlInputError fault → ⊥)
+      → ((params : Row) → IsNotRun old new sql params e) → IsStoreFault old new e
+  unfolding IsNotRun
+  store_failed e other h = elim (h []) [
+    | inl none ↦ let why = no_other sql old new is e none.0 in absurd (other why.0 why.2)
+    | inr fails ↦ (fails.0, fails.1, fails.2)
+  ]
+
+  pub answer_is_right : (e : Error) → ((params : Row) → IsNotRun old new sql params e)
+      → IfOk (answer_of_error e) (λ there. there ≡ compiles old.now.schema sql)
+      × IfErr (answer_of_error e) (IsStoreFault old new)
+  answer_is_right (SqlInputError fault) h = (sym (uncompiled fault h).0, tt)
+  answer_is_right e h = (tt, store_failed e (λ fault same. cc) h)
+
+  pub kept_answered : (e : Error) (Clean : Type 0) → (Clean → (params : Row) → IsNotRun old new sql params e)
+      → OnOk (answer_of_error e) (Clean → (new.now ≡ old.now) × (new.committed ≡ old.committed))
+  kept_answered (SqlInputError fault) Clean h = λ clean.
+      let same = (uncompiled fault (h clean)).1 in
+      (same.0.now_is, same.0.committed_is)
+  kept_answered e Clean h = tt
 
 -- A query that compiles in the schema of a store doesn't fail as one that doesn't compile.
+
+pub no_cause : (fault : CompileError) (cause : StoreError) → SqlInputError fault ≢ store_error cause
+no_cause fault cause told = let e = ap finds_nothing told ∙ cause_finds _ cause refl in cc
+
 module _ (sql : List ℕ) (params : Row) (old new : State) (q : Program) (names : List (List ℕ))
     (has : old.now.schema ≡ store_schema) (is : command_of (understood store_schema sql) ≡ Select q names)
     (plain : IsPlain (understood store_schema sql)) (e : Error) (fault : CompileError) where

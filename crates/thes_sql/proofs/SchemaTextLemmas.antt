@@ -1,4 +1,4 @@
--- Proves that the statements of a new store or a migration define its schema.
+-- The statements that create or migrate a store define its schema.
 use Rattle.std.proofs.Common.{arith, ◌≡◌, ◌≢◌, Option, ℕ, suc, zero, ◌<◌, List, [], ◌∷◌, codes, length, take, drop}
 use Rattle.std.proofs.Common.{slice_get, Some, None, Ok, Err, Result, OnOk, inl, inr, refl, sym, ap, subst, subst₂}
 use Rattle.std.proofs.Common.{◌∙◌, ◌||◌, ◌++◌, true, false, lit<, IsTrue}
@@ -33,9 +33,10 @@ use Rattle.sqlite.specs.Command.{Command}
 use Rattle.sqlite_trees.specs.declared.store.Store.{Ghosts}
 use Rattle.sqlite.proofs.Callers.{IsPlain, command_of, statement_of, runs_as}
 use Rattle.sqlite_trees.proofs.ListLemmas.{all-append}
-use Rattle.thes_sql.specs.Schema.{meta, resource, outside, label, link, hier, posting, move, posting_at, move_posting}
-use Rattle.thes_sql.specs.Schema.{schema_0, schema_1, schema_2, schema_3, schema_4, schema_5, schema_6, schema_7}
-use Rattle.thes_sql.specs.Schema.{schema_8, schema_9, store_schema}
+use Rattle.thes_sql.specs.Schema.{meta_table, resource_table, outside_table, label_table, link_table, hier_table}
+use Rattle.thes_sql.specs.Schema.{posting_table, move_table, posting_at, move_posting}
+use Rattle.thes_sql.specs.Schema.{empty_schema, schema_1, schema_2, schema_3, schema_4, schema_5, schema_6, schema_7}
+use Rattle.thes_sql.specs.Schema.{schema_without_indexes, schema_9, store_schema}
 use Rattle.thes_tables.specs.Tables.{Tables}
 use Rattle.thes_sql.specs.StoredRows.{HoldResources, HoldOutside, HoldPostings, HoldMoves, AreHidden, label_values}
 use Rattle.thes_sql.specs.StoredRows.{link_values}
@@ -45,13 +46,13 @@ use Rattle.thes_sql.specs.TransactionEffects.{RunsOrFailsToCompile}
 use Rattle.thes_sql.proofs.WriteEffectLemmas.{value_unstopped, same_value}
 use Rattle.thes_sql.proofs.ReadFrameLemmas.{no_cause}
 
--- In this schema the text defines the table.
+-- The text defines the table in this schema.
 abbrev MakesTable : Schema → List ℕ → Table → Type 0
 MakesTable schema text table =
     (command_of (understood schema text) ≡ CreateTable)
     × (table_defined_by (statement_of text (understood schema text)) ≡ Ok table) × IsPlain (understood schema text)
 
--- In this schema the text defines the index of the table at this position.
+-- The text defines the index of the table at this position in this schema.
 abbrev AddsIndex : Schema → List ℕ → ℕ → Table → Index → Type 0
 AddsIndex schema text at table index =
     (command_of (understood schema text) ≡ CreateIndex at)
@@ -62,7 +63,7 @@ abbrev create_meta_text : List ℕ
 create_meta_text =
     codes "CREATE TABLE meta (one INTEGER PRIMARY KEY, version INTEGER NOT NULL, base TEXT NOT NULL) STRICT;"
 
-create_meta_is : MakesTable schema_0 create_meta_text meta
+create_meta_is : MakesTable empty_schema create_meta_text meta_table
 unfolding understood everything
 create_meta_is = (refl, refl, (refl, refl))
 
@@ -70,14 +71,14 @@ abbrev create_resource_text : List ℕ
 create_resource_text =
     codes "CREATE TABLE resource (num INTEGER PRIMARY KEY, kind INTEGER NOT NULL, scheme INTEGER, live INTEGER NOT NULL, replaced INTEGER) STRICT;"
 
-create_resource_is : MakesTable schema_1 create_resource_text resource
+create_resource_is : MakesTable schema_1 create_resource_text resource_table
 unfolding understood everything
 create_resource_is = (refl, refl, (refl, refl))
 
 abbrev create_outside_text : List ℕ
 create_outside_text = codes "CREATE TABLE outside (num INTEGER PRIMARY KEY, iri TEXT NOT NULL UNIQUE) STRICT;"
 
-create_outside_is : MakesTable schema_2 create_outside_text outside
+create_outside_is : MakesTable schema_2 create_outside_text outside_table
 unfolding understood everything
 create_outside_is = (refl, refl, (refl, refl))
 
@@ -85,7 +86,7 @@ abbrev create_label_text : List ℕ
 create_label_text =
     codes "CREATE TABLE label (owner INTEGER NOT NULL, kind INTEGER NOT NULL, tag TEXT NOT NULL, text TEXT NOT NULL, PRIMARY KEY (owner, kind, tag, text)) STRICT;"
 
-create_label_is : MakesTable schema_3 create_label_text label
+create_label_is : MakesTable schema_3 create_label_text label_table
 unfolding understood everything
 create_label_is = (refl, refl, (refl, refl))
 
@@ -93,7 +94,7 @@ abbrev create_link_text : List ℕ
 create_link_text =
     codes "CREATE TABLE link (kind INTEGER NOT NULL, a INTEGER NOT NULL, b INTEGER NOT NULL, PRIMARY KEY (kind, a, b)) STRICT;"
 
-create_link_is : MakesTable schema_4 create_link_text link
+create_link_is : MakesTable schema_4 create_link_text link_table
 unfolding understood everything
 create_link_is = (refl, refl, (refl, refl))
 
@@ -101,7 +102,7 @@ abbrev create_hier_text : List ℕ
 create_hier_text =
     codes "CREATE TABLE hier (a INTEGER NOT NULL, b INTEGER NOT NULL, typ INTEGER NOT NULL, PRIMARY KEY (a, b, typ)) STRICT;"
 
-create_hier_is : MakesTable schema_7 create_hier_text hier
+create_hier_is : MakesTable schema_7 create_hier_text hier_table
 unfolding understood everything
 create_hier_is = (refl, refl, (refl, refl))
 
@@ -109,7 +110,7 @@ abbrev create_posting_text : List ℕ
 create_posting_text =
     codes "CREATE TABLE posting (num INTEGER PRIMARY KEY, pkey TEXT NOT NULL UNIQUE, record TEXT NOT NULL, first_at INTEGER NOT NULL, at INTEGER NOT NULL, withdrawn INTEGER NOT NULL) STRICT;"
 
-create_posting_is : MakesTable schema_5 create_posting_text posting
+create_posting_is : MakesTable schema_5 create_posting_text posting_table
 unfolding understood everything
 create_posting_is = (refl, refl, (refl, refl))
 
@@ -117,25 +118,26 @@ abbrev create_move_text : List ℕ
 create_move_text =
     codes "CREATE TABLE move (num INTEGER PRIMARY KEY, posting INTEGER NOT NULL, source INTEGER NOT NULL, target INTEGER NOT NULL) STRICT;"
 
-create_move_is : MakesTable schema_6 create_move_text move
+create_move_is : MakesTable schema_6 create_move_text move_table
 unfolding understood everything
 create_move_is = (refl, refl, (refl, refl))
 
 abbrev index_posting_at_text : List ℕ
 index_posting_at_text = codes "CREATE INDEX IF NOT EXISTS posting_at ON posting (at)"
 
-index_posting_at_is : AddsIndex schema_8 index_posting_at_text 5 (record posting { tree = 8 }) posting_at
+index_posting_at_is : AddsIndex schema_without_indexes index_posting_at_text 5 (record posting_table { tree = 8 })
+    posting_at
 unfolding understood everything
 index_posting_at_is = (refl, refl, (refl, refl))
 
 abbrev index_move_posting_text : List ℕ
 index_move_posting_text = codes "CREATE INDEX IF NOT EXISTS move_posting ON move (posting)"
 
-index_move_posting_is : AddsIndex schema_9 index_move_posting_text 6 (record move { tree = 10 }) move_posting
+index_move_posting_is : AddsIndex schema_9 index_move_posting_text 6 (record move_table { tree = 10 }) move_posting
 unfolding understood everything
 index_move_posting_is = (refl, refl, (refl, refl))
 
--- A statement of a batch ran as the command that its text means.
+-- A statement of a batch runs as the command that its text means.
 ran_as : (text : List ℕ) (old new : State) (from : Schema) → old.now.schema ≡ from → (command : Command)
     → is_query command ≡ false → command_of (understood from text) ≡ command → IsPlain (understood from text)
     → (count : ℕ) → ExecutesIn true text [] old new (Ok count)
@@ -149,7 +151,7 @@ ran_as text old new from has command unasked is plain count h =
     subst₂ (λ k t. Runs old new None k t [] count) same (ap (statement_of text) known)
     (rw (bare.0, bare.1) at (rw hidden at h.2))
 
--- A CREATE TABLE leaves the rows of the other tables as they are, and the new table is empty.
+-- A CREATE TABLE leaves the rows of other tables unchanged, and creates the new table empty.
 made_table : (from : Schema) (text : List ℕ) (table : Table) → MakesTable from text table
     → lacks_sequence (created from table) ≡ false
     → (old new : State) (count : ℕ) → old.now.schema ≡ from → ExecutesIn true text [] old new (Ok count)
@@ -172,7 +174,7 @@ made_table from text table is uncounted old new count has h =
     subst (λ (d : Database). (d.schema ≡ created from table) × KeepsRows from.tables old.now.trees d.trees
     × (d.trees (next_tree from) ≡ [])) (sym now) (schema, kept, last)
 
--- A CREATE INDEX leaves all rows as they are.
+-- A CREATE INDEX leaves all rows unchanged.
 made_index : (from : Schema) (text : List ℕ) (at : ℕ) (table : Table) (index : Index)
     → AddsIndex from text at table index → slice_get from.tables at ≡ Some table
     → (old new : State) (count : ℕ) → old.now.schema ≡ from → Executes text [] old new (Ok count)
@@ -211,8 +213,6 @@ defines_table from text table is uncounted old new count empty h =
           (made.2, tt),
     )
 
--- The statements of a batch, in order.
-
 abbrev texts_6 : List ℕ
 texts_6 = create_move_text
 
@@ -234,7 +234,7 @@ texts_1 = create_resource_text ++ texts_2
 abbrev texts_0 : List ℕ
 texts_0 = create_meta_text ++ texts_1
 
--- What follows if a batch of statements ran in order.
+-- Assumes that a batch of statements ran in order.
 module _ {S : Type 0} (g : Ghosts S) (new : Held S) {Goal : Type 0} where
   -- If the first statement leads from one kind of database to another, the rest of the batch runs there.
   first_made : (text one rest : List ℕ) (From To : Database → Type 0) (most : ℕ) (old : Held S)
@@ -255,7 +255,7 @@ module _ {S : Type 0} (g : Ghosts S) (new : Held S) {Goal : Type 0} where
       (subst (λ t. ExecutesIn true t [] (state g old) (state g ran.0) (Ok ran.1)) is ran.2.runs))
       (subst (λ t. RunInTurn g (Some 0) most t ran.0 new (Ok tt)) left ran.3)
 
--- The indexed table exists, so the text compiles.
+-- Assumes that the indexed table exists, so that the text compiles.
 module _ (text : List ℕ) (old new : State) (fault : CompileError) where
   -- A text that doesn't compile changes nothing.
   pub refused_unchanged : Executes text [] old new (Err (SqlInputError fault)) → IsUnchanged old new
@@ -337,7 +337,7 @@ tries_refused text old new fault (inl h) inside = record {
 }
 tries_refused text old new fault (inr h) inside = absurd (let k = h.1 in cc)
 
--- If the statement compiles, it defines the index.
+-- A CREATE INDEX that compiles defines the index.
 index_after_try : (from : Schema) (text : List ℕ) (at : ℕ) (table : Table) (index : Index) → AddsIndex from text
     at table index
     → slice_get from.tables at ≡ Some table → (old new : State) → RunsOrFailsToCompile text old new → old.now.schema
@@ -356,20 +356,20 @@ keeps_rows_twice (t ∷ tables) start mid next a b = (b.0 ∙ a.0, keeps_rows_tw
 
 pub both_indexes : (old mid new : State) → RunsOrFailsToCompile index_posting_at_text old mid
     → RunsOrFailsToCompile index_move_posting_text mid new
-    → ExtendsSchema schema_8 store_schema [] old new
+    → ExtendsSchema schema_without_indexes store_schema [] old new
 both_indexes old mid new first second = record {
   made = λ has.
-      let one = index_after_try schema_8 index_posting_at_text 5 (record posting { tree = 8 }) posting_at
-      index_posting_at_is refl old mid first has in
-      let two = index_after_try schema_9 index_move_posting_text 6 (record move { tree = 10 }) move_posting
+      let one = index_after_try schema_without_indexes index_posting_at_text 5 (record posting_table { tree = 8 })
+      posting_at index_posting_at_is refl old mid first has in
+      let two = index_after_try schema_9 index_move_posting_text 6 (record move_table { tree = 10 }) move_posting
       index_move_posting_is refl mid new second one.0 in
-      (two.0, keeps_rows_twice schema_8.tables old.now.trees mid.now.trees new.now.trees one.1 two.1, tt);
+      (two.0, keeps_rows_twice schema_without_indexes.tables old.now.trees mid.now.trees new.now.trees one.1 two.1, tt);
   inside = second.inside;
 }
 
--- Table hier and both indexes together.
-module _ (old mid new : State) (first : ExtendsSchema old_schema schema_8 (11 ∷ []) old mid)
-    (second : ExtendsSchema schema_8 store_schema [] mid new) where
+-- Assumes that table hier and both indexes were created.
+module _ (old mid new : State) (first : ExtendsSchema old_schema schema_without_indexes (11 ∷ []) old mid)
+    (second : ExtendsSchema schema_without_indexes store_schema [] mid new) where
   -- Hier and the indexes turn an empty store of version 1 into one of version 2.
   pub newer_empty : Transforms (IsEmpty old_schema) (IsEmpty store_schema) old new
   newer_empty = record {
@@ -378,14 +378,14 @@ module _ (old mid new : State) (first : ExtendsSchema old_schema schema_8 (11 �
         let two = second.made one.0 in
         let none = still_empty old.now.trees mid.now.trees old_schema.tables one.1 empty.1 in (
           two.0,
-          still_empty mid.now.trees new.now.trees schema_8.tables two.1
-              (all-append (λ (t : Table). mid.now.trees t.tree ≡ []) old_schema.tables (record hier { tree = 11 }
+          still_empty mid.now.trees new.now.trees schema_without_indexes.tables two.1
+              (all-append (λ (t : Table). mid.now.trees t.tree ≡ []) old_schema.tables (record hier_table { tree = 11 }
               ∷ []) none (one.2.0, tt)),
         );
     inside = second.inside;
   }
 
-  -- Hier and the indexes leave the tables of version 1 as they are, and hier is empty.
+  -- Table hier and the indexes leave the tables of version 1 unchanged, and table hier is empty.
   enlarged_rows : (t : Tables) → KeepsOld old.now t → KeepsAs 1 new.now (record t { hier = [] })
   enlarged_rows t was =
       let one = first.made was.schema in
@@ -418,49 +418,52 @@ module _ (old mid new : State) (first : ExtendsSchema old_schema schema_8 (11 �
   newer_enlarged = record { made = enlarged_rows; inside = second.inside }
 
 module _ {S : Type 0} (g : Ghosts S) where
-  -- The first batch defines the seven tables.
-  all_defined : (old new : Held S) → IsEmpty schema_0 (state g old).now
+  -- The first batch creates the seven tables of version 1.
+  all_defined : (old new : Held S) → IsEmpty empty_schema (state g old).now
       → ExecutesAllInside g 0 texts_0 old new (Ok tt) → IsEmpty old_schema (state g new).now
   unfolding ExecutesAllInside everything
   all_defined old new empty h =
-      first_made g new texts_0 create_meta_text texts_1 (IsEmpty schema_0) (IsEmpty schema_1) (length texts_0) old
+      first_made g new texts_0 create_meta_text texts_1 (IsEmpty empty_schema) (IsEmpty schema_1) (length texts_0) old
       refl refl (lit< tt)
-      (defines_table schema_0 create_meta_text meta create_meta_is refl) empty h (λ at_1 most_1 empty_1 more_1.
+      (defines_table empty_schema create_meta_text meta_table create_meta_is refl) empty h
+      (λ at_1 most_1 empty_1 more_1.
       first_made g new texts_1 create_resource_text texts_2 (IsEmpty schema_1) (IsEmpty schema_2) most_1 at_1 refl
       refl (lit< tt)
-      (defines_table schema_1 create_resource_text resource create_resource_is refl) empty_1 more_1
+      (defines_table schema_1 create_resource_text resource_table create_resource_is refl) empty_1 more_1
       (λ at_2 most_2 empty_2 more_2.
       first_made g new texts_2 create_outside_text texts_3 (IsEmpty schema_2) (IsEmpty schema_3) most_2 at_2 refl refl
       (lit< tt)
-      (defines_table schema_2 create_outside_text outside create_outside_is refl) empty_2 more_2
+      (defines_table schema_2 create_outside_text outside_table create_outside_is refl) empty_2 more_2
       (λ at_3 most_3 empty_3 more_3.
       first_made g new texts_3 create_label_text texts_4 (IsEmpty schema_3) (IsEmpty schema_4) most_3 at_3 refl refl
       (lit< tt)
-      (defines_table schema_3 create_label_text label create_label_is refl) empty_3 more_3
+      (defines_table schema_3 create_label_text label_table create_label_is refl) empty_3 more_3
       (λ at_4 most_4 empty_4 more_4.
       first_made g new texts_4 create_link_text texts_5 (IsEmpty schema_4) (IsEmpty schema_5) most_4 at_4 refl refl
       (lit< tt)
-      (defines_table schema_4 create_link_text link create_link_is refl) empty_4 more_4 (λ at_5 most_5 empty_5 more_5.
+      (defines_table schema_4 create_link_text link_table create_link_is refl) empty_4 more_4
+      (λ at_5 most_5 empty_5 more_5.
       first_made g new texts_5 create_posting_text texts_6 (IsEmpty schema_5) (IsEmpty schema_6) most_5 at_5 refl refl
       (lit< tt)
-      (defines_table schema_5 create_posting_text posting create_posting_is refl) empty_5 more_5
+      (defines_table schema_5 create_posting_text posting_table create_posting_is refl) empty_5 more_5
       (λ at_6 most_6 empty_6 more_6.
       first_made g new texts_6 create_move_text [] (IsEmpty schema_6) (IsEmpty schema_7) most_6 at_6 refl refl (lit< tt)
-      (defines_table schema_6 create_move_text move create_move_is refl) empty_6 more_6 (λ at_7 most_7 empty_7 more_7.
-      subst (λ h. IsEmpty old_schema (state g h).now) (sym more_7.1) empty_7)))))))
+      (defines_table schema_6 create_move_text move_table create_move_is refl) empty_6 more_6
+      (λ at_7 most_7 empty_7 more_7. subst (λ h. IsEmpty old_schema (state g h).now) (sym more_7.1) empty_7)))))))
 
   pub does_define : (old new : Held S) (r : Result (Unit {0}) Error) → ExecutesAllInside g 0 texts_0 old new r
       → OnOk r ((state g new).in_transaction ≡ (state g old).in_transaction) → IsTrue (state g old).in_transaction
-      → OnOk r (Transforms (IsEmpty schema_0) (IsEmpty old_schema) (state g old) (state g new))
+      → OnOk r (Transforms (IsEmpty empty_schema) (IsEmpty old_schema) (state g old) (state g new))
   does_define old new (Err e) h same inside = tt
   does_define old new (Ok done) h same inside = record {
     made = λ empty. all_defined old new empty h;
     inside = same ∙ inside;
   }
 
-  -- The rows are as before, and hier is empty.
+  -- The rows are unchanged, and table hier is empty.
   abbrev HasHier : Trees → Database → Type 0
-  HasHier start db = (db.schema ≡ schema_8) × KeepsRows schema_7.tables start db.trees × ((db.trees 11 ≡ []) × Unit {0})
+  HasHier start db = (db.schema ≡ schema_without_indexes) × KeepsRows schema_7.tables start db.trees
+      × ((db.trees 11 ≡ []) × Unit {0})
 
   -- The batch that creates hier extends the schema of version 1.
   gets_hier : (old new : Held S) → ExecutesAllInside g 0 create_hier_text old new (Ok tt) → (state g old).now.schema
@@ -473,12 +476,12 @@ module _ {S : Type 0} (g : Ghosts S) where
       (HasHier start)
       (length create_hier_text) old refl refl (lit< tt)
       (λ was is count from ran.
-      let m = made_table schema_7 create_hier_text hier create_hier_is refl was is count from.0 ran in
+      let m = made_table schema_7 create_hier_text hier_table create_hier_is refl was is count from.0 ran in
       (m.0, subst (λ (db : Trees). KeepsRows schema_7.tables db is.now.trees) from.1 m.1, (m.2, tt)))
       (has, refl) h (λ mid most was more. subst (λ h. HasHier start (state g h).now) (sym more.1) was)
 
   pub does_hier : (old new : Held S) (r : Result (Unit {0}) Error) → ExecutesAllInside g 0 create_hier_text old new r
       → OnOk r ((state g new).in_transaction ≡ (state g old).in_transaction) → IsTrue (state g old).in_transaction
-      → OnOk r (ExtendsSchema old_schema schema_8 (11 ∷ []) (state g old) (state g new))
+      → OnOk r (ExtendsSchema old_schema schema_without_indexes (11 ∷ []) (state g old) (state g new))
   does_hier old new (Err e) h same inside = tt
   does_hier old new (Ok done) h same inside = record { made = gets_hier old new h; inside = same ∙ inside }

@@ -1,7 +1,7 @@
--- Proves which rows a SELECT of one table returns.
+-- The rows that a SELECT of one table returns.
 use Rattle.std.proofs.Common.{arith, ◌≡◌, ℕ, pos, List, [], ◌∷◌, ◌<◌, ◌≤◌, ◌==◌, ◌&&◌, map, filter, inl, inr}
 use Rattle.std.proofs.Common.{flat_map, codes, Bool, true, false, not, cond, refl, sym, ap, ◌+◌, subst, ◌∙◌, Less}
-use Rattle.std.proofs.Common.{lit<}
+use Rattle.std.proofs.Common.{lit<, Option, Some, None, Ok, is_ok, subst₂}
 use Rattle.std.proofs.Math.Bool.{and-true}
 use Rattle.std.specs.List.{AllByRecursion, list_all}
 use Rattle.std.specs.List.Sorted.{IsPermutation}
@@ -11,7 +11,13 @@ use Rattle.sqlite.specs.declared.types.Value.TheVariants.{Null, Int, Text as Wor
 use Rattle.sqlite.specs.Order.{Row, column, value_cmp}
 use Rattle.sqlite.specs.Term.{Term, lit, col, holds}
 use Rattle.sqlite.specs.Query.{Query, IsAnswer, output, output_cmp, page, Output}
-use Rattle.sqlite_sql.proofs.QueryLemmas.{output_cmp_total}
+use Rattle.sqlite_sql.proofs.QueryLemmas.{output_cmp_total, no_fold_overflows}
+use Rattle.sqlite_typing.specs.Types.{accepts_program}
+use Rattle.sqlite_schema.specs.declared.program.Program.{Program}
+use Rattle.sqlite_resolve.specs.declared.compiled.Compiled.{Compiled}
+use Rattle.sqlite.specs.Effect.{Database, Reads, RefusesQuery, RefusesToRead}
+use Rattle.sqlite.specs.Schema.{Schema}
+use Rattle.sqlite.specs.declared.error.Error.{Error}
 use Rattle.sqlite_keyed.proofs.SortLemmas.{sorted_unique}
 use Rattle.sqlite_keyed.proofs.ListLemmas.{map-map}
 use Rattle.sqlite_catalog.proofs.ListFacts.{filter_all}
@@ -19,7 +25,7 @@ use Rattle.sqlite_trees.specs.Tree.{IsAscending, IsTable, rowid}
 use Rattle.sqlite.specs.Program.{overlay}
 use Rattle.sqlite.specs.Tree.{Trees}
 use Rattle.sqlite.specs.Command.TheVariants.{Select}
-use Rattle.sqlite.specs.Listing.{understood, reads_listing}
+use Rattle.sqlite.specs.Listing.{understood, reads_listing, IsSourceOf}
 use Rattle.sqlite.specs.State.{State, Shown}
 use Rattle.sqlite_tied.specs.Compute.{everything}
 use Rattle.sqlite_value.specs.declared.keys.Collation.TheVariants.{Binary}
@@ -35,22 +41,23 @@ use Rattle.thes_tables.specs.Tables.{Tables}
 use Rattle.thes_tables.specs.Cells.{resource_rows, resource_cells, outside_cells, label_cells, link_cells, hier_cells}
 use Rattle.thes_tables.specs.Cells.{posting_cells, move_cells, meta_cells, number_cell}
 use Rattle.thes_sql.specs.Schema.{store_schema}
-use Rattle.thes_sql.specs.StoredRows.{Keeps, NumbersRiseAbove, AreKeyed, AreHidden, hidden_row, numbered_from, values}
+use Rattle.thes_sql.specs.StoredRows.{Keeps, AreIncreasingAbove, AreKeyed, AreHidden, hidden_row, numbered_from, values}
 use Rattle.thes_sql.specs.StoredRows.{stored_meta, stored_resource, stored_outside, stored_posting, stored_move}
-use Rattle.thes_sql.specs.OldStore.{old_schema, HasVersion, stored_version, version_row}
+use Rattle.thes_sql.specs.OldStore.{old_schema, IsStoreOfVersion, stored_version, version_row}
 use Rattle.thes_tables.specs.declared.cells.Cell.TheVariants as cells
 use Rattle.thes_sql.specs.Reads.{cells_of_table, read_text, cells_with_key, cells_with_number, cells_at_concept}
 use Rattle.thes_sql.specs.Reads.{cells_of_moves, tree_of, places_of, rows_in_trees, IsReadable}
+use Rattle.thes_sql.specs.Queries.{IsQuery, Finds}
 use Rattle.thes_sql.proofs.StatementTextLemmas.{plain_query, whole_program, equal_terms}
 use Rattle.thes_sql.proofs.KeyedRowLemmas.{int_value_less, rising_filter}
 use Rattle.thes_sql.proofs.StatementLemmas.{staged_rows_pass, no_lets, map_shows}
 use Rattle.thes_sql.proofs.WhereLemmas.{by_number, by_place, same_ints, same_words}
 
--- A query of one table, ordered by rowid.
+-- The query of one table with these filters and columns, ordered by rowid.
 abbrev pub ordered_query : ℕ → List Term → List Term → Query
 ordered_query tree filters project = plain_query tree filters project ((col 1 0, ascending Binary) ∷ [])
 
--- In the schema of a store the text is this query, with no inputs but its parameters.
+-- The text is this query in the schema of a store, with no inputs other than its parameters.
 abbrev pub IsQueryText : List ℕ → Query → Type 0
 IsQueryText text q = (names : List (List ℕ))
     × (command_of (understood store_schema text) ≡ Select (whole_program q) names)
@@ -67,7 +74,7 @@ module _ {X : Type 0} (num : X → ℕ) (stored : X → Row) (cells : X → List
   abbrev out_of : X → Output
   out_of x = (Int (pos (num x)) ∷ [], values (cells x))
 
-  output_before_later : (a : ℕ) (x : X) (xs : List X) → num x ≤ a → NumbersRiseAbove num a xs
+  output_before_later : (a : ℕ) (x : X) (xs : List X) → num x ≤ a → AreIncreasingAbove num a xs
       → AllByRecursion (λ b. output_cmp query (out_of x) b ≡ Less) (map out_of xs)
   output_before_later a x [] le up = tt
   output_before_later a x (y ∷ ys) le up =
@@ -75,12 +82,12 @@ module _ {X : Type 0} (num : X → ℕ) (stored : X → Row) (cells : X → List
       let below : num x < num y = omega (arith, le, lt) in
       (rw (int_value_less (num x) (num y) below) refl, output_before_later (num y) x ys (omega (arith, below)) up.1)
 
-  outputs_ascend : (a : ℕ) (xs : List X) → NumbersRiseAbove num a xs
+  outputs_ascend : (a : ℕ) (xs : List X) → AreIncreasingAbove num a xs
       → IsAscending (λ a b. output_cmp query a b ≡ Less) (map out_of xs)
   outputs_ascend a [] up = tt
   outputs_ascend a (x ∷ xs) up = (output_before_later (num x) x xs (omega arith) up.1, outputs_ascend (num x) xs up.1)
 
-  -- Exactly the rows that pass, in ascending order.
+  -- The query returns exactly the rows that pass, in ascending order.
   pub answer_rows : (db : Trees) (xs : List X) (out : List Row) → AreKeyed stored num xs (db tree)
       → IsAnswer query (overlay db []) params out → out ≡ map values (map cells (filter p xs))
   answer_rows db xs out held a =
@@ -103,7 +110,7 @@ module _ {X : Type 0} (num : X → ℕ) (stored : X → Row) (cells : X → List
       h in
       answer_rows old.now.trees xs out held (read.answer Null)
 
--- All rows of a table.
+-- A query without filters returns all rows of a table.
 module _ {X : Type 0} (num : X → ℕ) (stored : X → Row) (cells : X → List Cell) (tree : ℕ) (project : List Term)
     (shows : (x : X) → output (ordered_query tree [] project) ([] ∷ stored x ∷ []) ≡
     (Int (pos (num x)) ∷ [], values (cells x))) where
@@ -121,7 +128,7 @@ numbered_rows : (n : ℕ) (rs : List Resource) → map (λ (row : ℕ × Resourc
 numbered_rows n [] = refl
 numbered_rows n (r ∷ rs) = ap (λ l. resource_cells n r ∷ l) (numbered_rows (n + 1) rs)
 
--- All rows of a table without numbers of its own, in insertion order.
+-- A query without filters returns all rows of a table without numbers, in insertion order.
 hidden_all : {A : Type 0} (cells : A → List Cell) (tree : ℕ) (project : List Term)
     → ((row : ℕ × A) → output (ordered_query tree [] project) ([] ∷ hidden_row (λ x. values (cells x)) row ∷ []) ≡
     (Int (pos row.0) ∷ [], values (cells row.1)))
@@ -141,7 +148,7 @@ posting_columns = col 1 0 ∷ col 1 2 ∷ col 1 3 ∷ col 1 4 ∷ col 1 5 ∷ co
 abbrev move_columns : List Term
 move_columns = col 1 0 ∷ col 1 2 ∷ col 1 3 ∷ col 1 4 ∷ []
 
--- The columns of each table.
+-- The columns that the query for a table returns.
 abbrev columns_of : Table → List Term
 columns_of table.Meta = col 1 0 ∷ col 1 2 ∷ col 1 3 ∷ []
 columns_of table.Resource = col 1 0 ∷ col 1 2 ∷ col 1 3 ∷ col 1 4 ∷ col 1 5 ∷ []
@@ -157,38 +164,36 @@ unfolding understood everything
 table_query_text table.Meta = (_, refl, refl, (refl, refl))
 table_query_text p = (_, refl, refl, (refl, refl))
 
--- The query for a table returns its rows, in order.
-pub table_shown : (p : Table) (old new : State) (t : Tables) (out : List Row) → Keeps old.now t
+-- The query for a table returns all its rows, in order.
+pub rows_of_table : (p : Table) (old new : State) (t : Tables) (out : List Row) → Keeps old.now t
     → Shown (read_text p) [] old new out → out ≡ map values (cells_of_table p t)
-table_shown table.Meta old new t out kept h = all_query_rows (λ (base : List ℕ). 1) stored_meta meta_cells 0
+rows_of_table table.Meta old new t out kept h = all_query_rows (λ (base : List ℕ). 1) stored_meta meta_cells 0
     (columns_of table.Meta) (λ base. refl) (read_text table.Meta) (table_query_text table.Meta) old new (t.base ∷ [])
     out
     kept.schema (record { rises = (lit< tt, tt); rows = kept.hold.meta }) h
-table_shown table.Resource old new t out kept h = all_query_rows (λ (row : ℕ × Resource). row.0) stored_resource
+rows_of_table table.Resource old new t out kept h = all_query_rows (λ (row : ℕ × Resource). row.0) stored_resource
     (λ row. resource_cells row.0 row.1) 1 (columns_of table.Resource) (λ row. refl) (read_text table.Resource)
     (table_query_text table.Resource) old new (numbered_from 1 t.resource) out kept.schema kept.hold.resource h
     ∙ ap (map values) (numbered_rows 1 t.resource)
-table_shown table.Outside old new t out kept h = all_query_rows (λ (row : ℕ × List ℕ). row.0) stored_outside
+rows_of_table table.Outside old new t out kept h = all_query_rows (λ (row : ℕ × List ℕ). row.0) stored_outside
     outside_cells 2
     (columns_of table.Outside) (λ row. refl) (read_text table.Outside) (table_query_text table.Outside) old new
     t.outside out
     kept.schema kept.hold.outside h
-table_shown table.Label old new t out kept h = hidden_all label_cells 4 (columns_of table.Label) (λ row. refl)
+rows_of_table table.Label old new t out kept h = hidden_all label_cells 4 (columns_of table.Label) (λ row. refl)
     (read_text table.Label) (table_query_text table.Label) old new t.label out kept.schema kept.hold.label h
-table_shown table.Link old new t out kept h = hidden_all link_cells 6 (columns_of table.Link) (λ row. refl)
+rows_of_table table.Link old new t out kept h = hidden_all link_cells 6 (columns_of table.Link) (λ row. refl)
     (read_text table.Link) (table_query_text table.Link) old new t.link out kept.schema kept.hold.link h
-table_shown table.Hier old new t out kept h = hidden_all hier_cells 11 (columns_of table.Hier) (λ row. refl)
+rows_of_table table.Hier old new t out kept h = hidden_all hier_cells 11 (columns_of table.Hier) (λ row. refl)
     (read_text table.Hier) (table_query_text table.Hier) old new t.hier out kept.schema kept.hold.hier h
-table_shown table.Posting old new t out kept h = all_query_rows (λ (row : PostingRow). row.number) stored_posting
+rows_of_table table.Posting old new t out kept h = all_query_rows (λ (row : PostingRow). row.number) stored_posting
     posting_cells 8 (columns_of table.Posting) (λ row. refl) (read_text table.Posting)
     (table_query_text table.Posting) old new
     t.posting out kept.schema kept.hold.posting h
-table_shown table.Move old new t out kept h = all_query_rows (λ (row : MoveRow). row.number) stored_move move_cells 10
+rows_of_table table.Move old new t out kept h = all_query_rows (λ (row : MoveRow). row.number) stored_move move_cells 10
     (columns_of table.Move) (λ row. refl) (read_text table.Move) (table_query_text table.Move) old new t.move out
     kept.schema
     kept.hold.move h
-
--- Tables that may hold anything.
 
 module _ (tree : ℕ) (project : List Term) (of : Row → Row)
     (shows : (row : Row) → output (ordered_query tree [] project) ([] ∷ row ∷ []) ≡ (rowid row ∷ [], of row)) where
@@ -231,16 +236,14 @@ module _ (tree : ℕ) (project : List Term) (of : Row → Row)
       each [] = refl
       each (r ∷ rs) = ap (λ l. ([] ∷ r ∷ []) ∷ l) (each rs)
 
-pub whatever_shown : (p : Table) (old new : State) (out : List Row) → IsReadable old.now
+pub rows_of_any_table : (p : Table) (old new : State) (out : List Row) → IsReadable old.now
     → Shown (read_text p) [] old new out → out ≡ rows_in_trees p old.now.trees
-whatever_shown table.Meta old new out is h = rows_read (tree_of table.Meta) (columns_of table.Meta)
+rows_of_any_table table.Meta old new out is h = rows_read (tree_of table.Meta) (columns_of table.Meta)
     (λ row. map (column row) (places_of table.Meta)) (λ row. refl) (read_text table.Meta)
     (table_query_text table.Meta) old new
     out is.schema (is.ordered table.Meta) h
-whatever_shown p old new out is h = rows_read (tree_of p) (columns_of p) (λ row. map (column row) (places_of p))
+rows_of_any_table p old new out is h = rows_read (tree_of p) (columns_of p) (λ row. map (column row) (places_of p))
     (λ row. refl) (read_text p) (table_query_text p) old new out is.schema (is.ordered p) h
-
--- Look-ups.
 
 abbrev pub keyed_text : List ℕ
 keyed_text = codes "SELECT num, pkey, record, first_at, at, withdrawn FROM posting WHERE pkey = ?1 ORDER BY num"
@@ -249,12 +252,20 @@ pub keyed_is : IsQueryText keyed_text (ordered_query 8 (equal_terms (col 1 2) (c
 unfolding understood everything
 keyed_is = (_, refl, refl, (refl, refl))
 
+pub keyed_is_query : IsQuery keyed_text
+unfolding everything
+keyed_is_query = refl
+
 abbrev pub numbered_text : List ℕ
 numbered_text = codes "SELECT num, pkey, record, first_at, at, withdrawn FROM posting WHERE num = ?1 ORDER BY num"
 
 pub numbered_is : IsQueryText numbered_text (ordered_query 8 (equal_terms (col 1 0) (col 0 0) ∷ []) posting_columns)
 unfolding understood everything
 numbered_is = (_, refl, refl, (refl, refl))
+
+pub numbered_is_query : IsQuery numbered_text
+unfolding everything
+numbered_is_query = refl
 
 abbrev pub standing_text : List ℕ
 standing_text =
@@ -265,12 +276,20 @@ pub standing_is : IsQueryText standing_text (ordered_query 8
 unfolding understood everything
 standing_is = (_, refl, refl, (refl, refl))
 
+pub standing_is_query : IsQuery standing_text
+unfolding everything
+standing_is_query = refl
+
 abbrev pub moving_text : List ℕ
 moving_text = codes "SELECT num, posting, source, target FROM move WHERE posting = ?1 ORDER BY num"
 
 pub moving_is : IsQueryText moving_text (ordered_query 10 (equal_terms (col 1 2) (col 0 0) ∷ []) move_columns)
 unfolding understood everything
 moving_is = (_, refl, refl, (refl, refl))
+
+pub moving_is_query : IsQuery moving_text
+unfolding everything
+moving_is_query = refl
 
 -- The rows of posting that pass a test.
 postings_shown : (text : List ℕ) (params : Row) (filters : List Term) (p : PostingRow → Bool)
@@ -282,30 +301,28 @@ postings_shown text params filters p test is old new t out kept h = query_rows (
     stored_posting posting_cells 8 posting_columns params filters p test (λ row. refl) text is old new t.posting out
     kept.schema kept.hold.posting h
 
-pub keyed_shown : (key : List ℕ) (old new : State) (t : Tables) (out : List Row) → Keeps old.now t
+pub rows_with_key : (key : List ℕ) (old new : State) (t : Tables) (out : List Row) → Keeps old.now t
     → Shown keyed_text (Words key ∷ []) old new out → out ≡ map values (cells_with_key key t)
-keyed_shown key = postings_shown keyed_text (Words key ∷ []) (equal_terms (col 1 2) (col 0 0) ∷ [])
+rows_with_key key = postings_shown keyed_text (Words key ∷ []) (equal_terms (col 1 2) (col 0 0) ∷ [])
     (λ x. eq_by_cmp (slice_cmp nat_cmp) x.key key) (λ x. and-true _ ∙ same_words x.key key) keyed_is
 
-pub numbered_shown : (n : ℕ) (old new : State) (t : Tables) (out : List Row) → Keeps old.now t
+pub row_with_number : (n : ℕ) (old new : State) (t : Tables) (out : List Row) → Keeps old.now t
     → Shown numbered_text (Int (pos n) ∷ []) old new out → out ≡ map values (cells_with_number n t)
-numbered_shown n = postings_shown numbered_text (Int (pos n) ∷ []) (equal_terms (col 1 0) (col 0 0) ∷ [])
+row_with_number n = postings_shown numbered_text (Int (pos n) ∷ []) (equal_terms (col 1 0) (col 0 0) ∷ [])
     (λ x. x.number == n) (by_number [] n) numbered_is
 
-pub standing_shown : (concept : ℕ) (old new : State) (t : Tables) (out : List Row) → Keeps old.now t
+pub rows_at_concept : (concept : ℕ) (old new : State) (t : Tables) (out : List Row) → Keeps old.now t
     → Shown standing_text (Int (pos concept) ∷ []) old new out → out ≡ map values (cells_at_concept concept t)
-standing_shown concept = postings_shown standing_text (Int (pos concept) ∷ [])
+rows_at_concept concept = postings_shown standing_text (Int (pos concept) ∷ [])
     (equal_terms (col 1 5) (col 0 0) ∷ equal_terms (col 1 6) (lit (Int (pos 0))) ∷ [])
     (λ x. not x.withdrawn && x.place == concept) (by_place [] concept) standing_is
 
-pub moving_shown : (n : ℕ) (old new : State) (t : Tables) (out : List Row) → Keeps old.now t
+pub rows_of_moves : (n : ℕ) (old new : State) (t : Tables) (out : List Row) → Keeps old.now t
     → Shown moving_text (Int (pos n) ∷ []) old new out → out ≡ map values (cells_of_moves n t)
-moving_shown n old new t out kept h = query_rows (λ (row : MoveRow). row.number) stored_move move_cells 10 move_columns
+rows_of_moves n old new t out kept h = query_rows (λ (row : MoveRow). row.number) stored_move move_cells 10 move_columns
     (Int (pos n) ∷ []) (equal_terms (col 1 2) (col 0 0) ∷ []) (λ x. x.posting == n)
     (λ x. and-true _ ∙ same_ints x.posting n)
     (λ row. refl) moving_text moving_is old new t.move out kept.schema kept.hold.move h
-
--- The row of meta in a store of version 1 or version 2.
 
 abbrev pub meta_text : List ℕ
 meta_text = read_text table.Meta
@@ -327,18 +344,70 @@ version_in_turn version base db out is a =
     version_cells 0 (columns_of table.Meta) [] [] (λ x. true) (λ x. refl) (λ x. refl) db ((version, base) ∷ []) out
     (record { rises = (lit< tt, tt); rows = is }) a
 
--- The query for meta returns its row.
-pub version_shown : (version : ℕ) (base : List ℕ) (old new : State) (out : List Row) → HasVersion version base old.now
-    → Shown meta_text [] old new out → out ≡ version_row version base ∷ []
-version_shown version base old new out (inl has, is) h =
+module _ (sql : List ℕ) (db : Database) (schema : Schema) (has : db.schema ≡ schema) (q : Program)
+    (names : List (List ℕ)) (is : command_of (understood schema sql) ≡ Select q names)
+    (unlisted : reads_listing schema sql ≡ false) where
+  module _ (c : Compiled) (known : understood db.schema sql ≡ Ok c) (source : Database)
+      (from : IsSourceOf (reads_listing db.schema sql) db source) where
+    command_found : c.command ≡ Select q names
+    command_found = ap command_of (sym known ∙ ap (λ s. understood s sql) has) ∙ is
+
+    source_found : source ≡ db
+    source_found = subst (λ b. IsSourceOf b db source) (ap (λ s. reads_listing s sql) has ∙ unlisted) from
+
+  -- What a query finds answers it.
+  found_answers : (rows : List Row) → Finds sql db (Some rows) → Reads (Select q names) db [] rows
+  found_answers rows h = subst₂ (λ k d. Reads k d [] rows) (command_found h.0 h.1 h.2 h.3)
+      (source_found h.0 h.1 h.2 h.3) h.4
+
+  -- A query that compiles, and whose values have a result, finds rows.
+  found_some : is_ok (understood schema sql) ≡ true
+      → ((e : Error) → RefusesQuery None db q [] e → ⊥) → Finds sql db None → ⊥
+  found_some well none (inl no_query) =
+      let e = sym no_query ∙ ap (λ s. is_ok (understood s sql)) has ∙ well in cc
+  found_some well none (inr h) = none h.4 (subst₂ (λ k d. RefusesToRead None k d [] h.4)
+      (command_found h.0 h.1 h.2 h.3) (source_found h.0 h.1 h.2 h.3) h.5)
+
+-- The query for meta finds its row.
+
+abbrev meta_query : Query
+meta_query = ordered_query 0 [] (columns_of table.Meta)
+
+meta_typed : (accepts_program store_schema [] meta_query [] ≡ true)
+    × (accepts_program old_schema [] meta_query [] ≡ true)
+unfolding everything
+meta_typed = (refl, refl)
+
+meta_compiles : (is_ok (understood store_schema meta_text) ≡ true) × (is_ok (understood old_schema meta_text) ≡ true)
+unfolding understood everything
+meta_compiles = (refl, refl)
+
+meta_not_refused : (db : Database) (schema : Schema) → db.schema ≡ schema
+    → accepts_program schema [] meta_query [] ≡ true → (e : Error)
+    → RefusesQuery None db (whole_program meta_query) [] e → ⊥
+meta_not_refused db schema has typed e (inl h) =
+    let k = sym h.1 ∙ ap (λ s. accepts_program s [] meta_query []) has ∙ typed in cc
+meta_not_refused db schema has typed e (inr (inl h)) = elim h.1 [
+  | inl none ↦ none
+  | inr fold ↦ no_fold_overflows (overlay db.trees []) meta_query.from ([] ∷ []) refl fold
+]
+meta_not_refused db schema has typed e (inr (inr h)) = let none = h.1 in cc
+
+pub version_found : (version : ℕ) (base : List ℕ) (db : Database) (found : Option (List Row))
+    → IsStoreOfVersion version base db → Finds meta_text db found → found ≡ Some (version_row version base ∷ [])
+version_found version base db (Some out) (inl has, is) h =
     let asks = table_query_text table.Meta in
-    let read = reads_as meta_text [] old new store_schema has
-    (Select (whole_program (ordered_query 0 [] (columns_of table.Meta))) asks.0)
-    asks.1 asks.3 asks.2 out h in
-    version_in_turn version base old.now.trees out is (read.answer Null)
-version_shown version base old new out (inr has, is) h =
+    ap Some (version_in_turn version base db.trees out is
+    ((found_answers meta_text db store_schema has _ asks.0 asks.1 asks.2 out h).answer Null))
+version_found version base db (Some out) (inr has, is) h =
     let asks = old_meta_query_text in
-    let read = reads_as meta_text [] old new old_schema has
-    (Select (whole_program (ordered_query 0 [] (columns_of table.Meta))) asks.0)
-    asks.1 asks.3 asks.2 out h in
-    version_in_turn version base old.now.trees out is (read.answer Null)
+    ap Some (version_in_turn version base db.trees out is
+    ((found_answers meta_text db old_schema has _ asks.0 asks.1 asks.2 out h).answer Null))
+version_found version base db None (inl has, is) h =
+    let asks = table_query_text table.Meta in
+    absurd (found_some meta_text db store_schema has _ asks.0 asks.1 asks.2 meta_compiles.0
+    (meta_not_refused db store_schema has meta_typed.0) h)
+version_found version base db None (inr has, is) h =
+    let asks = old_meta_query_text in
+    absurd (found_some meta_text db old_schema has _ asks.0 asks.1 asks.2 meta_compiles.1
+    (meta_not_refused db old_schema has meta_typed.1) h)

@@ -1,4 +1,4 @@
--- Proves what a statement makes of the rows of one table, for any table.
+-- The effects of a statement on the rows of one table, for any table.
 use Rattle.std.proofs.Common.{◌≡◌, ◌≢◌, ℕ, pos, List, [], ◌∷◌, ◌++◌, map, filter, flat_map, slice_get, drop, nat_le}
 use Rattle.std.proofs.Common.{unwrap_or, None, ◌^◌, ◌-◌, Bool, true, false, not, cond, if◌then◌else◌, Some, Ok, refl}
 use Rattle.std.proofs.Common.{sym, ap, subst, ◌∙◌}
@@ -30,33 +30,34 @@ use Rattle.thes_sql.proofs.StatementTextLemmas.{plain_query, whole_program, IsCo
 use Rattle.thes_sql.proofs.WriteEffectLemmas.{IsQuietTable, update_effect, delete_effect}
 use Rattle.thes_sql.proofs.KeyedRowLemmas.{many_updated, many_dropped, change_num, rising_map, rising_filter}
 
--- The trees of the other tables are unchanged.
-abbrev pub Untouched : ℕ → Trees → Trees → Type 0
-Untouched tree old new = AllByRecursion (λ (t : Table). t.tree ≢ tree → new t.tree ≡ old t.tree) store_schema.tables
+-- The trees of all other tables are unchanged.
+abbrev pub LeavesOtherTables : ℕ → Trees → Trees → Type 0
+LeavesOtherTables tree old new = AllByRecursion (λ (t : Table). t.tree ≢ tree → new t.tree ≡ old t.tree)
+    store_schema.tables
 
--- The tree of one table holds this, and nothing else changed.
+-- The statement rewrites one table: its tree has these rows, and nothing else has changed.
 pub record Rewrites (tree : ℕ) (Holds : List Row → Type 0) (old new : State) : Type 0 where
   pub schema : new.now.schema ≡ store_schema
   pub rows : Holds (new.now.trees tree)
-  pub others : Untouched tree old.now.trees new.now.trees
+  pub others : LeavesOtherTables tree old.now.trees new.now.trees
 
--- What the tree holds, by an implication.
+-- A rewritten table has each property that its rows imply.
 pub rewrites_as : (tree : ℕ) {P Q : List Row → Type 0} (old new : State)
     → (P (new.now.trees tree) → Q (new.now.trees tree)) → Rewrites tree P old new → Rewrites tree Q old new
 rewrites_as tree old new tell w = record { schema = w.schema; rows = tell w.rows; others = w.others }
 
--- A query without tables of its own is answered from those of the database.
+-- A query without tables of its own reads the database's tables.
 pub no_lets : (db : Trees) (t : ℕ) → overlay db [] t ≡ db t
 no_lets db t = elim (nat_le (2 ^ 31) t) as (λ b. unwrap_or (if b then slice_get [] (t - 2 ^ 31) else None)
     (db t) ≡ db t) [ true ↦ refl | false ↦ refl ]
 
--- A function of each element, mapped over the list.
+-- Mapping a composition of functions is mapping each of them.
 pub map_shows : {X A B : Type 0} (f : A → B) (g : X → A) (h : X → B) → ((x : X) → f (g x) ≡ h x) → (xs : List X)
     → map f (map g xs) ≡ map h xs
 map_shows f g h shows [] = refl
 map_shows f g h shows (x ∷ xs) = λ i. shows x i ∷ map_shows f g h shows xs i
 
--- A query of one table with a test on its rows.
+-- Assumes a query of one table with a test on its rows.
 module _ {X : Type 0} (stored : X → Row) (params : Row) (filters : List Term) (p : X → Bool) (test : (x : X)
     → list_all (holds (params ∷ stored x ∷ [])) filters ≡ p x) where
   abbrev pub staged_rows : List X → List (List Row)
@@ -82,7 +83,7 @@ module _ {X : Type 0} (stored : X → Row) (params : Row) (filters : List Term) 
     abbrev out_of : X → Output
     out_of x = ([], shown x)
 
-    -- The answer has the rows that pass, in any order.
+    -- The query returns the rows that pass, in any order.
     pub answer_permutes : (db : Trees) (xs : List X) (given : List Row) → db tree ≡ map stored xs
         → Answers (record { schema = store_schema; trees = db }) (whole_program query) params given
         → IsPermutation (map shown (filter p xs)) given
@@ -98,7 +99,7 @@ module _ {X : Type 0} (stored : X → Row) (params : Row) (filters : List Term) 
         (IsPermutation-map (λ (o : Output). o.1) (map out_of (filter p xs)) a.ordered
         (subst (λ k. IsPermutation k a.ordered) outputs a.same)))
 
--- A table of a store, and a statement on it.
+-- Assumes a table of a store, and a statement on it.
 module _ {X : Type 0} (num : X → ℕ) (stored : X → Row) (is_num : (x : X) → rowid (stored x) ≡ Int (pos (num x)))
     (at : ℕ) (table : Table) (is_at : slice_get store_schema.tables at ≡ Some table)
     (quiet : IsQuietTable store_schema table)
@@ -107,7 +108,7 @@ module _ {X : Type 0} (num : X → ℕ) (stored : X → Row) (is_num : (x : X) �
   abbrev HoldsKeyedRows : List X → List Row → Type 0
   HoldsKeyedRows = AreKeyed stored num
 
-  -- A DELETE of the rows that pass.
+  -- A DELETE of the rows that pass leaves the other rows.
   pub deletes : (is : IsCommandText text (Delete at (whole_program (plain_query table.tree filters (col 1 0 ∷ []) []))))
       → ((x : X) → output (plain_query table.tree filters (col 1 0 ∷ []) []) (params ∷ stored x ∷ []) ≡
       ([], Int (pos (num x)) ∷ []))
@@ -134,7 +135,7 @@ module _ {X : Type 0} (num : X → ℕ) (stored : X → Row) (is_num : (x : X) �
         others = did.3.tables;
       }
 
-  -- An UPDATE of the rows that pass.
+  -- Assumes an UPDATE of the rows that pass.
   module _ (project : List Term)
       (is : IsCommandText text (Update at (whole_program (plain_query table.tree filters project []))))
       (f : X → X) (keeps : (x : X) → num (f x) ≡ num x)
@@ -147,7 +148,7 @@ module _ {X : Type 0} (num : X → ℕ) (stored : X → Row) (is_num : (x : X) �
     abbrev news : List Row → List Row → List Row
     news l given = numbered Given (without_all l (ids_of given)) (map (λ s. cast_row table (drop 1 s)) given)
 
-    -- The tree holds the changed rows after the UPDATE.
+    -- The tree has the changed rows after the UPDATE.
     pub updates : (old new : State) (xs : List X) (count : ℕ) → old.now.schema ≡ store_schema
         → HoldsKeyedRows xs (old.now.trees table.tree) → Executes text params old new (Ok count)
         → Rewrites table.tree (HoldsKeyedRows (map (λ x. if p x then f x else x) xs)) old new

@@ -1,4 +1,4 @@
--- Proves which command each statement's text means.
+-- The command that each statement's text means.
 use Rattle.std.proofs.Common.{◌≡◌, ℕ, pos, negsuc, List, [], ◌∷◌, codes, refl, None, false}
 use Rattle.sqlite.specs.declared.types.Value.TheVariants.{Null, Int}
 use Rattle.sqlite.specs.Term.{Term, lit, col, op2}
@@ -16,7 +16,7 @@ use Rattle.sqlite.specs.Listing.{understood}
 use Rattle.sqlite.proofs.Callers.{IsPlain, command_of}
 use Rattle.thes_sql.specs.Schema.{store_schema}
 
--- A query of one table with these filters, columns and order, and nothing else.
+-- The query of one table with these filters, columns and order.
 abbrev pub plain_query : ℕ → List Term → List Term → List (Term × Key) → Query
 plain_query tree filter project order = record {
   from = inner tree end;
@@ -36,7 +36,7 @@ whole_program q = record { lets = []; body = q }
 abbrev pub equal_terms : Term → Term → Term
 equal_terms a b = op2 (by.Compare Eq Binary) a b
 
--- In the schema of a store the text is this command, with no inputs but its parameters.
+-- The text is this command in the schema of a store, with no inputs other than its parameters.
 abbrev pub IsCommandText : List ℕ → Command → Type 0
 IsCommandText text command = (command_of (understood store_schema text) ≡ command)
     × IsPlain (understood store_schema text)

@@ -1,4 +1,4 @@
--- Proves facts on lists as sets, and on trees with ascending rowids.
+-- Lists as sets, and trees whose rows are sorted by rowid.
 use Rattle.std.proofs.Common.{arith, ◌≡◌, inl, inr, ℕ, ℤ, pos, ◌==◌, List, [], ◌∷◌, map, Bool, true, false, not}
 use Rattle.std.proofs.Common.{if◌then◌else◌, refl, sym, ap, subst, ◌∙◌, Less, is_eq}
 use Rattle.std.specs.List.{AllByRecursion}
@@ -21,13 +21,9 @@ use Rattle.sqlite_rules.proofs.TableLemmas.{without_all_has}
 use Rattle.sqlite_trees.proofs.TreeLemmas.{IsTable-put_row}
 use Rattle.sqlite_trees.proofs.ListLemmas.{ascending-filter, all-permutation}
 
--- Elements of lists.
-
 pub perm_has : {A : Type 0} (xs ys : List A) → IsPermutation xs ys → (x : A) → Has xs x → Has ys x
 perm_has xs ys same x h = all_has (Has ys) xs x
     (all-permutation (Has ys) ys xs (IsPermutation-sym xs ys same) (all_from (Has ys) ys (λ y k. k))) h
-
--- What holds of all rows holds of all after some are changed.
 
 pub all_turned : {A : Type 0} (P : A → Type 0) (p : A → Bool) (f : A → A) → ((x : A) → P x → P (f x)) → (xs : List A)
     → AllByRecursion P xs → AllByRecursion P (map (λ x. if p x then f x else x) xs)
@@ -38,8 +34,6 @@ all_turned {A} P p f told (x ∷ xs) all = (go (p x), all_turned P p f told xs a
     go true = told x all.0
     go false = all.0
 
--- Two ascending trees with equal sets of rows are equal.
-
 never_both : (a b : Row) → value_cmp (rowid a) (rowid b) ≡ Less → value_cmp (rowid b) (rowid a) ≡ Less → ⊥
 never_both a b p q = let e = value_cmp_total.antisymm (rowid a) (rowid b) ∙ ap ordering_reverse q in cc
 
@@ -48,7 +42,7 @@ not_among_later : (z : Row) (zs : List Row) → AllByRecursion (λ r. value_cmp 
 not_among_later z zs up r h e = let lower = subst (λ x. value_cmp (rowid z) (rowid x) ≡ Less) e (all_has _ zs r up h) in
     never_both z z lower lower
 
--- Two ascending trees are equal if each row of one is in the other.
+-- Two trees sorted by rowid are equal if each has the rows of the other.
 pub same_rows : (xs ys : List Row) → IsTable xs → IsTable ys → ((r : Row) → Has xs r → Has ys r)
     → ((r : Row) → Has ys r → Has xs r) → xs ≡ ys
 same_rows [] [] p q a b = refl
@@ -77,7 +71,7 @@ table_left [] rows up = up
 table_left (id ∷ ids) rows up = table_left ids (without_rowid id rows)
     (ascending-filter _ (λ r. not (has_rowid id r)) rows up)
 
--- A row remains exactly when its rowid isn't among those removed.
+-- A row remains exactly when its rowid isn't one of those removed.
 pub left_not : (ids : List ℤ) (rows : List Row) (x : Row) → Has (without_all rows ids) x → (id : ℤ) → Has ids id
     → has_rowid id x ≡ false
 left_not [] rows x h id m = absurd m

@@ -1,4 +1,4 @@
--- Proves that a transaction makes its changes in order and atomically.
+-- A transaction applies its changes in order and atomically.
 use Rattle.std.proofs.Common.{arith, ◌≡◌, ℕ, ◌+◌, ◌<◌, get_or, true, List, ◌∷◌, length, drop, refl, sym, ap, subst}
 use Rattle.std.proofs.Common.{◌∙◌, IsTrue}
 use Rattle.std.proofs.lemmas.List.{drop_more}
@@ -12,9 +12,11 @@ use Rattle.thes_tables.specs.declared.change.Change.{Change}
 use Rattle.thes_tables.specs.Tables.{Tables}
 use Rattle.thes_tables.specs.Rows.{DeltaFits, tables_after_change, tables_after_delta}
 use Rattle.thes_sql.specs.StoredRows.{Keeps, Hold}
-use Rattle.thes_sql.specs.TransactionEffects.{AppliesChange, AppliesChanges, IsUnderWay}
+use Rattle.thes_sql.specs.OldStore.{KeepsOld, IsOldStore, IsMigratedStore}
+use Rattle.thes_tables.specs.OldRows.{tables_after_migration}
+use Rattle.thes_sql.specs.TransactionEffects.{AppliesChange, AppliesChanges, IsUnderWay, TransformsTables}
 
--- One more change is made, and one fewer remains.
+-- Applying the next change leaves one change fewer.
 pub under_way_next : (changes left more : List Change) (change : Change) (old mid new : State) → left ≡ change ∷ more
     → IsUnderWay changes left old mid → AppliesChange change mid new → IsUnderWay changes more old new
 under_way_next changes left more change old mid new is far did = record {
@@ -40,7 +42,7 @@ pub drop_next_change : {X : Type 0} (xs : List X) (i : ℕ) (x : X) → i < leng
     → drop i xs ≡ x ∷ drop (i + 1) xs
 drop_next_change xs i x low is = drop_more xs i x low ∙ ap (λ y. y ∷ drop (i + 1) xs) (sym is)
 
--- A commit of the changes: a crash leaves the old tables, or those with all changes.
+-- If a crash interrupts a commit of the changes, it leaves the old tables or those with all changes.
 pub committed_later : (changes : List Change) (old mid new : State) → Survives old mid (λ _. ⊥)
     → Survives mid new (λ (db : Trees). db ≡ mid.now.trees)
     → (HasCleanDisk mid → (t : Tables) → Keeps old.now t → DeltaFits changes t
@@ -55,7 +57,7 @@ committed_later changes old mid new first last did =
     (did (omega (arith, last.clean, clean)) t keeps fits).hold)
     first last
 
--- A transaction of the changes: a crash leaves the old tables, or those with all changes.
+-- If a crash interrupts a transaction of the changes, it leaves the old tables or those with all changes.
 pub all_or_old : {S : Type 0} (g : Ghosts S) (start begun : Held S) (changes : List Change) (mid new : State)
     → begun ≡ record start { in_transaction = true } → Survives (state g begun) mid (λ _. ⊥)
     → (HasCleanDisk mid → IsTrue begun.in_transaction → AppliesChanges changes (state g begun) mid)
@@ -68,3 +70,21 @@ all_or_old g start begun changes mid new is first did last =
     (survives_begin g start mid (λ _. ⊥) (subst (λ h. Survives (state g h) mid (λ _. ⊥)) is first)) last
     (λ clean. (subst (λ (h : Held _). IsTrue h.in_transaction → AppliesChanges changes (state g h) mid) is (did clean)
     refl).rows)
+
+-- A migration: a crash leaves the old database, or the migrated tables.
+pub migrated_or_old : {S : Type 0} (g : Ghosts S) (start begun : Held S) (mid new : State)
+    → begun ≡ record start { in_transaction = true } → Survives (state g begun) mid (λ _. ⊥)
+    → (HasCleanDisk mid → IsTrue begun.in_transaction
+    → TransformsTables IsOldStore IsMigratedStore (state g begun) mid)
+    → Survives mid new (λ (db : Trees). db ≡ mid.now.trees)
+    → Survives (state g start) new
+    (λ trees. (t : Tables) → KeepsOld (state g start).now t → Hold trees (tables_after_migration t))
+migrated_or_old g start begun mid new is first did last =
+    survives_then (state g start) mid new _ _
+    (λ trees. (t : Tables) → KeepsOld (state g start).now t → Hold trees (tables_after_migration t))
+    (λ _ db none. absurd none)
+    (λ clean db left t old. subst (λ trees. Hold trees (tables_after_migration t)) (sym left)
+    ((subst (λ (h : Held _). IsTrue h.in_transaction
+    → TransformsTables IsOldStore IsMigratedStore (state g h) mid) is (did (omega (arith, last.clean, clean)))
+    refl).made t old).hold)
+    (survives_begin g start mid (λ _. ⊥) (subst (λ h. Survives (state g h) mid (λ _. ⊥)) is first)) last

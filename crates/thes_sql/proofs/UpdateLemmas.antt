@@ -1,4 +1,4 @@
--- Proves what each UPDATE and DELETE makes of the tables.
+-- The effects of each UPDATE and DELETE on the tables.
 use Rattle.std.proofs.Common.{◌≡◌, ℕ, pos, List, [], ◌∷◌, ◌==◌, map, filter, slice_get, Bool, not, ◌&&◌}
 use Rattle.std.proofs.Common.{if◌then◌else◌, Some, None, Option, Ok, refl, sym, subst}
 use Rattle.std.specs.List.{list_all}
@@ -15,13 +15,13 @@ use Rattle.thes_base.specs.declared.data.Resource.{Resource}
 use Rattle.thes_base.specs.declared.data.Link.{Link}
 use Rattle.thes_base.specs.Labels.{Label, label_cmp}
 use Rattle.thes_base.specs.Links.{link_cmp}
-use Rattle.thes_base.specs.Changes.{dead, resources_after_death}
+use Rattle.thes_base.specs.Changes.{resource_after_death, resources_after_death}
 use Rattle.thes_tables.specs.declared.rows.HierRow.{HierRow}
 use Rattle.thes_tables.specs.declared.rows.PostingRow.{PostingRow}
 use Rattle.thes_tables.specs.declared.change.Change.TheVariants as change
 use Rattle.thes_tables.specs.Tables.{Tables, hier_link}
 use Rattle.thes_tables.specs.Rows.{row_after_withdrawal, row_at_place, without_row, without_hier}
-use Rattle.thes_sql.specs.Schema.{resource, label, link, hier, posting, store_schema}
+use Rattle.thes_sql.specs.Schema.{resource_table, label_table, link_table, hier_table, posting_table, store_schema}
 use Rattle.thes_sql.specs.StoredRows.{Keeps, AreKeyed, AreHidden, hidden_row, stored_resource, stored_posting}
 use Rattle.thes_sql.specs.StoredRows.{label_values, link_values, hier_values, numbered_from, IsSpelledLabel}
 use Rattle.thes_sql.specs.StoredRows.{IsSpelledPosting}
@@ -38,25 +38,23 @@ use Rattle.thes_sql.proofs.TableRowLemmas.{all_turned}
 use Rattle.thes_sql.proofs.WhereLemmas.{by_resource, by_number, by_place, by_label, by_link, by_hier}
 use Rattle.thes_sql.proofs.NumberedChangeLemmas.{dead_is, posting_is, still_numbered}
 
--- Resources.
-
--- An UPDATE that marks a resource as not live makes the change of the tables.
+-- The UPDATE that marks a resource as dead makes the change of its table.
 marks_dead : (sql : List ℕ) (params : Row) (n : ℕ) (by : Option ℕ) (live replaced : Term)
     (is : IsCommandText sql (Update 1
     (whole_program (plain_query 1 text.retire_query.filter (text.resource_columns live replaced) []))))
     → ((row : ℕ × Resource) → output
     (plain_query 1 text.retire_query.filter (text.resource_columns live replaced) [])
     ((Int (pos n) ∷ params) ∷ stored_resource row ∷ []) ≡
-    ([], Int (pos row.0) ∷ stored_resource (row.0, dead by row.1)))
+    ([], Int (pos row.0) ∷ stored_resource (row.0, resource_after_death by row.1)))
     → (old new : State) (t : Tables) (count : ℕ) → Keeps old.now t
     → Executes sql (Int (pos n) ∷ params) old new (Ok count)
     → Keeps new.now (record t { resource = resources_after_death n by t.resource })
 marks_dead sql params n by live replaced is shows old new t count kept h =
     let w = updates (λ (row : ℕ × Resource). row.0) stored_resource (λ row. refl) 1
-    (record resource { tree = 1 }) refl (λ olds news. refl) sql (Int (pos n) ∷ params) text.retire_query.filter
+    (record resource_table { tree = 1 }) refl (λ olds news. refl) sql (Int (pos n) ∷ params) text.retire_query.filter
     (λ row. row.0 == n) (by_resource params n)
-    (text.resource_columns live replaced) is (λ row. (row.0, dead by row.1)) (λ row. refl) shows
-    (λ row. cast_resource (row.0, dead by row.1)) old new
+    (text.resource_columns live replaced) is (λ row. (row.0, resource_after_death by row.1)) (λ row. refl) shows
+    (λ row. cast_resource (row.0, resource_after_death by row.1)) old new
     (numbered_from 1 t.resource) count kept.schema kept.hold.resource h in
     keeps_resource old new t kept (resources_after_death n by t.resource) (rewrites_as 1 old new
     (subst (λ l. AreKeyed stored_resource (λ (row : ℕ × Resource). row.0) l (new.now.trees 1))
@@ -69,8 +67,6 @@ makes_retired n old new t count kept fits h = marks_dead text.retire_text [] n N
 pub makes_replaced : (n by : ℕ) → Makes text.replace_text (Int (pos n) ∷ Int (pos by) ∷ []) (change.Replace n by)
 makes_replaced n by old new t count kept fits h = marks_dead text.replace_text (Int (pos by) ∷ []) n (Some by)
     (lit (Int (pos 0))) (col 0 1) text.replace_is (λ row. refl) old new t count kept h
-
--- Postings.
 
 -- An UPDATE of the postings that pass a test changes exactly these postings.
 updates_posting : (sql : List ℕ) (params : Row) (filters project : List Term)
@@ -85,7 +81,7 @@ updates_posting : (sql : List ℕ) (params : Row) (filters project : List Term)
     → Keeps new.now (record t { posting = map (λ x. if p x then f x else x) t.posting })
 updates_posting sql params filters project is p test f keeps told shows old new t count kept h =
     keeps_posting old new t kept (map (λ x. if p x then f x else x) t.posting)
-    (updates (λ (x : PostingRow). x.number) stored_posting (λ x. refl) 5 (record posting { tree = 8 }) refl
+    (updates (λ (x : PostingRow). x.number) stored_posting (λ x. refl) 5 (record posting_table { tree = 8 }) refl
     (λ olds news. refl) sql params filters p test project is f keeps shows
     (λ x. cast_posting (f x)) old new t.posting count kept.schema kept.hold.posting h)
     (still_numbered f p keeps 1 t.posting kept.hold.numbered)
@@ -116,9 +112,7 @@ makes_moved source target old new t count kept fits h =
     (by_place (Int (pos target) ∷ []) source) (row_at_place target) (λ x. refl) (λ x s. s)
     (λ x. refl) old new t count kept h
 
--- Rows without numbers of their own, which a DELETE removes.
-
--- A DELETE of the row with these values removes exactly this row.
+-- A DELETE of the row with these values deletes exactly this row.
 deletes_hidden : {A : Type 0} (of : A → List Value) (at : ℕ) (table : Table) → slice_get store_schema.tables at
     ≡ Some table
     → IsQuietTable store_schema table → (sql : List ℕ) (x : A) (filters : List Term) (p : A → Bool)
@@ -135,19 +129,19 @@ deletes_hidden {A} of at table is_at quiet sql x filters p test is old new xs co
 
 pub makes_label_gone : (l : Label) → Makes text.drop_label_text (label_values l) (change.DropLabel l)
 makes_label_gone l old new t count kept fits h = keeps_label old new t kept (without_row label_cmp l t.label)
-    (deletes_hidden label_values 3 (record label { tree = 4 }) refl (λ olds news. refl) text.drop_label_text l
+    (deletes_hidden label_values 3 (record label_table { tree = 4 }) refl (λ olds news. refl) text.drop_label_text l
     text.drop_label_query.filter (λ x. eq_by_cmp label_cmp x l) (by_label l) text.drop_label_is old new t.label count
     kept.schema kept.hold.label h)
     (all-filter IsSpelledLabel (λ y. not (eq_by_cmp label_cmp y l)) t.label kept.hold.spelled.1.1.0)
 
 pub makes_link_gone : (l : Link) → Makes text.drop_link_text (link_values l) (change.DropLink l)
 makes_link_gone l old new t count kept fits h = keeps_link old new t kept (without_row link_cmp l t.link)
-    (deletes_hidden link_values 4 (record link { tree = 6 }) refl (λ olds news. refl) text.drop_link_text l
+    (deletes_hidden link_values 4 (record link_table { tree = 6 }) refl (λ olds news. refl) text.drop_link_text l
     text.drop_link_query.filter (λ x. eq_by_cmp link_cmp x l) (by_link l) text.drop_link_is old new t.link count
     kept.schema kept.hold.link h)
 
 pub makes_hier_gone : (l : HierRow) → Makes text.drop_hier_text (hier_values l) (change.DropHier l)
 makes_hier_gone l old new t count kept fits h = keeps_hier old new t kept (without_hier l t.hier)
-    (deletes_hidden hier_values 7 (record hier { tree = 11 }) refl (λ olds news. refl) text.drop_hier_text l
+    (deletes_hidden hier_values 7 (record hier_table { tree = 11 }) refl (λ olds news. refl) text.drop_hier_text l
     text.drop_hier_query.filter (λ x. eq_by_cmp link_cmp (hier_link x) (hier_link l)) (by_hier l) text.drop_hier_is
     old new t.hier count kept.schema kept.hold.hier h)

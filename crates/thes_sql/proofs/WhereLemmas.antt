@@ -1,4 +1,4 @@
--- Proves which rows pass the WHERE clause of each statement.
+-- The rows that pass the WHERE clause of each statement.
 use Rattle.std.proofs.Common.{arith, ◌≡◌, ℕ, pos, List, [], ◌∷◌, ◌==◌, Bool, true, false, not, ◌&&◌, cond, Some, refl}
 use Rattle.std.proofs.Common.{sym, ap, ◌∙◌, is_eq, nat_cmp}
 use Rattle.std.proofs.Math.Bool.{and-true}
@@ -70,7 +70,7 @@ pub by_place : (params : Row) (source : ℕ) (x : PostingRow) →
 by_place params source x = (λ i. same_ints x.place source i && ((same_ints (cond x.withdrawn 1 0) 0
     ∙ flag_is x.withdrawn) i && true)) ∙ and_swap (x.place == source) (not x.withdrawn)
 
--- Exactly the row of this label passes.
+-- The only row that passes is that of this label.
 pub by_label : (l : Label) (row : ℕ × Label) → list_all (holds (label_values l ∷ hidden_row label_values row ∷ []))
     drop_label_query.filter ≡ eq_by_cmp label_cmp row.1 l
 by_label l row =
@@ -109,7 +109,7 @@ last_first true false false = refl
 last_first false b true = refl
 last_first false b false = refl
 
--- Exactly the row of this hierarchical link passes.
+-- The only row that passes is that of this hierarchical link.
 pub by_hier : (l : HierRow) (row : ℕ × HierRow) → list_all (holds (hier_values l ∷ hidden_row hier_values row ∷ []))
     drop_hier_query.filter ≡ eq_by_cmp link_cmp (hier_link row.1) (hier_link l)
 by_hier l row =

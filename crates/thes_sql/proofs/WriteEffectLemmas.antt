@@ -1,4 +1,4 @@
--- Proves the effect of a write in a schema without foreign keys, AUTOINCREMENT and defaults that depend on the time.
+-- The effect of a write in a schema without foreign keys, AUTOINCREMENT and defaults that depend on the time.
 use Rattle.std.proofs.Common.{◌≡◌, ◌⊎◌, inl, inr, ℕ, ℤ, List, [], slice_get, Bool, true, false, cond, Option, Some}
 use Rattle.std.proofs.Common.{None, Ok, Err, Result, refl, sym, ap, subst, ◌∙◌}
 use Rattle.sqlite.specs.declared.types.Value.{Value}
@@ -49,7 +49,7 @@ value_unstopped (inr on) = on
 pub same_value : {B E : Type 0} {a b : B} → ◌≡◌ {A = Result B E} (Ok a) (Ok b) → a ≡ b
 same_value e = cc
 
--- No foreign key acts when rows are removed.
+-- No foreign key acts when rows of the table are removed.
 abbrev pub IsQuietTable : Schema → Table → Type 0
 IsQuietTable schema table = (olds news : List Row) → works schema Enforced 0 table.tree olds news ≡ []
 
@@ -60,7 +60,7 @@ count_same task db next c top uncounted h = let k = rw uncounted at h in same_va
 rowids_chosen : (table : Table) (top : _) → table.is_counted ≡ false → rowids_for table top ≡ Chosen
 rowids_chosen table top uncounted = rw uncounted refl
 
--- An INSERT without AUTOINCREMENT edits the table once, with the rows of its source.
+-- An INSERT without AUTOINCREMENT makes one edit of the table, with the rows of its source.
 pub rows_written : (task : Task) (from : Source) (db : Trees) (w : Written) → task.table.is_counted ≡ false
     → Inserts task from db (Ok w)
     → (rows : List Row) × Sourced task.limit (record { schema = task.schema; trees = db })
@@ -86,7 +86,7 @@ pub conclusion_state : (task : Task) (mode : Mode) (w : Written) (tally : Tally)
 conclusion_state task mode w tally next h =
     ap (λ (p : Tally × Database). p.1) (same_value (value_unstopped (value_unstopped h).2).2)
 
--- A statement runs in an equal schema as in its own.
+-- A statement runs in an equal schema as it does in its own.
 in_schema : (schema : Schema) (command : Command) (params : Row) (text : List ℕ) (old new : State) (count : ℕ)
     → old.now.schema ≡ schema → (w : Writes old new None command text params count)
     → Does old.step_limit (mode_of old) params (record old.now { schema = schema }) text None command
@@ -95,7 +95,7 @@ in_schema schema command params text old new count has w =
     subst (λ s. Does old.step_limit (mode_of old) params (record old.now { schema = s }) text None command
     (Ok (w.tally, new.now))) has w.changed
 
--- The rows that a statement selects, and the one edit made of them.
+-- A statement makes one edit, of the rows that its query selects.
 read_then : (task : Task) (q : Program) (given : Row) (db : Trees) (edit : List Row → Edit)
     (rows : List Row → List Row) (w : Written)
     → Then (Queried task.limit (record { schema = task.schema; trees = db }) q given) (λ read.
@@ -115,7 +115,7 @@ read_then task q given db edit rows w h =
           (sym (ap (λ (it : Written). it.trees) (same_value written.2))) written.1,
     )
 
--- A statement on the rows of the table at this position of the schema.
+-- Assumes a statement on the table at this position of the schema.
 module _ (schema : Schema) (at : ℕ) (table : Table) (params : Row) (text : List ℕ) (old new : State) (count : ℕ)
     (has : old.now.schema ≡ schema) (is : slice_get schema.tables at ≡ Some table)
     (quiet : IsQuietTable schema table) where
@@ -125,11 +125,11 @@ module _ (schema : Schema) (at : ℕ) (table : Table) (params : Row) (text : Lis
   abbrev db : Trees
   db = old.now.trees
 
-  -- The old database, with this schema.
+  -- The database before the statement, with this schema.
   abbrev database_before : Database
   database_before = record { schema = schema; trees = db }
 
-  -- The statement's trees are those of the new database.
+  -- The trees after the statement are those of the new database.
   written_rows : (command : Command) (tally : Tally)
       → AtPlace (λ t. OnRows (record task { table = t }) (mode_of old) None command db) (slice_get schema.tables at)
       (Ok (tally, new.now))
@@ -141,7 +141,7 @@ module _ (schema : Schema) (at : ℕ) (table : Table) (params : Row) (text : Lis
       (Ok (tally, new.now))) is d) in
       (done.0, done.1, conclusion_state task (mode_of old) done.0 tally new.now done.2)
 
-  -- No foreign key extends the edit.
+  -- The edit is applied without further edits by foreign keys.
   edit_applied : (ids : List ℤ) (how : Rowids) (skip : ℕ) (rows : List Row) (next : Trees)
       → Edited schema Enforced db (edit_of db table ids how skip rows) (Ok next)
       → new.now ≡ record { schema = schema; trees = next }

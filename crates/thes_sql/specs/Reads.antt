@@ -25,7 +25,7 @@ use Rattle.thes_tables.specs.Cells.{posting_cells, move_cells}
 use Rattle.thes_sql.specs.Schema.{store_schema}
 use Rattle.thes_sql.specs.StoredRows.{Keeps, values}
 
--- The tree of a table.
+-- The number of the tree in which the database stores a table.
 abbrev pub tree_of : Table → ℕ
 tree_of table.Meta = 0
 tree_of table.Resource = 1
@@ -47,16 +47,16 @@ places_of table.Hier = 1 ∷ 2 ∷ 3 ∷ []
 places_of table.Posting = 0 ∷ 2 ∷ 3 ∷ 4 ∷ 5 ∷ 6 ∷ []
 places_of table.Move = 0 ∷ 2 ∷ 3 ∷ 4 ∷ []
 
--- The rows of a table in these trees, which may hold anything.
+-- The rows of a table in these trees, which may have any rows and values.
 abbrev pub rows_in_trees : Table → Trees → List Row
 rows_in_trees p db = map (λ (row : Row). map (column row) (places_of p)) (db (tree_of p))
 
--- The database has the schema of a store, and each tree is ascending by rowid.
+-- The database has the schema of a store, and the rows of each tree are sorted by rowid.
 pub record IsReadable (db : Database) : Type 0 where
   pub schema : db.schema ≡ store_schema
   pub ordered : (p : Table) → IsTable (db.trees (tree_of p))
 
--- The rows of a table, as cells.
+-- The cells of all rows of a table, in order.
 abbrev pub cells_of_table : Table → Tables → List (List Cell)
 cells_of_table table.Meta t = meta_cells t.base ∷ []
 cells_of_table table.Resource t = resource_rows 1 t.resource
@@ -67,7 +67,7 @@ cells_of_table table.Hier t = map hier_cells t.hier
 cells_of_table table.Posting t = map posting_cells t.posting
 cells_of_table table.Move t = map move_cells t.move
 
--- The query for a table: rows with a number in its order, the others in insertion order.
+-- The query for all rows of a table, sorted by number or, in label, link and hier, in insertion order.
 abbrev pub read_text : Table → List ℕ
 read_text table.Meta = codes "SELECT one, version, base FROM meta ORDER BY one"
 read_text table.Resource = codes "SELECT num, kind, scheme, live, replaced FROM resource ORDER BY num"
@@ -78,54 +78,54 @@ read_text table.Hier = codes "SELECT a, b, typ FROM hier ORDER BY rowid"
 read_text table.Posting = codes "SELECT num, pkey, record, first_at, at, withdrawn FROM posting ORDER BY num"
 read_text table.Move = codes "SELECT num, posting, source, target FROM move ORDER BY num"
 
--- The rows of posting with this key.
+-- The rows of table posting that have the key.
 abbrev pub cells_with_key : List ℕ → Tables → List (List Cell)
 cells_with_key key t = map posting_cells (filter (λ (x : PostingRow). eq_by_cmp (slice_cmp nat_cmp) x.key key)
     t.posting)
 
--- The rows of posting with this number.
+-- The rows of table posting that have the number.
 abbrev pub cells_with_number : ℕ → Tables → List (List Cell)
 cells_with_number n t = map posting_cells (filter (λ (x : PostingRow). x.number == n) t.posting)
 
--- The rows of posting that are assigned to the concept and not withdrawn.
+-- The rows of the postings that are assigned to the concept.
 abbrev pub cells_at_concept : ℕ → Tables → List (List Cell)
 cells_at_concept concept t =
     map posting_cells (filter (λ (x : PostingRow). not x.withdrawn && x.place == concept) t.posting)
 
--- The rows of move of this posting.
+-- The rows of table move that are moves of the posting.
 abbrev pub cells_of_moves : ℕ → Tables → List (List Cell)
 cells_of_moves n t = map move_cells (filter (λ (x : MoveRow). x.posting == n) t.move)
 
--- If the database keeps tables, the query returns exactly these of their rows, in order.
+-- The query returns exactly the wanted rows in order, if the database is a store with tables.
 abbrev pub SelectResult : {S V E : Type 0} → Ghosts S → (Tables → List (List Cell)) → Held S → Held S → Result V E
     → (V → List Row) → Type 0
 SelectResult g wanted old new r rows =
     HasCleanDisk (state g new) → IfOk r (λ out. (t : Tables) → Keeps (state g old).now t
     → rows out ≡ map values (wanted t))
 
--- The query returns exactly the rows of the table's tree, in order.
+-- The query returns exactly the rows of the table's tree in order, if the database is readable.
 abbrev pub TableSelectResult : {S V E : Type 0} → Ghosts S → Table → Held S → Held S → Result V E → (V → List Row)
     → Type 0
 TableSelectResult g p old new r rows =
     HasCleanDisk (state g new) → IsReadable (state g old).now
     → IfOk r (λ out. rows out ≡ rows_in_trees p (state g old).now.trees)
 
--- In the schema of a store the query doesn't fail to compile.
+-- The query doesn't fail to compile in the schema of a store.
 abbrev pub HasNoInputError : {S V : Type 0} → Ghosts S → Held S → Held S → Result V Error → Type 0
 HasNoInputError g old new r =
     HasCleanDisk (state g new) → (state g old).now.schema ≡ store_schema
     → IfErr r (λ e. (fault : CompileError) → e ≢ SqlInputError fault)
 
--- A database with the schema of a store is unchanged if nothing in it was uncommitted.
+-- A call leaves a database with the schema of a store unchanged if nothing in it was uncommitted.
 pub record LeavesTables {S : Type 0} (g : Ghosts S) (old new : Held S) : Type 0 where
   pub mode : old.in_transaction ≡ false → new.in_transaction ≡ false
   pub was : HasCleanDisk (state g new) → IsTrue (state g new).is_open → IsTrue (state g old).is_open
   pub clean : doubt (state g old).is_clean ≤ doubt (state g new).is_clean
-  pub same : (state g old).now.schema ≡ store_schema → HasCleanDisk (state g new) → IsTrue (state g new).is_open
-      → (state g old).now ≡ (state g old).committed
+  pub same : HasCleanDisk (state g new) → IsTrue (state g new).is_open → (state g old).now ≡ (state g old).committed
       → ((state g new).now ≡ (state g old).now) × ((state g new).committed ≡ (state g old).committed)
 
--- The same, and a crash leaves only what it could leave before the call.
+-- A call leaves a store's database unchanged if nothing in it was uncommitted, and a crash leaves only what it could
+-- leave before the call.
 pub record LeavesAlone {S : Type 0} (g : Ghosts S) (old new : Held S) : Type 0 where
   pub tables : LeavesTables g old new
-  pub crash : (state g old).now.schema ≡ store_schema → Survives (state g old) (state g new) (λ _. ⊥)
+  pub crash : Survives (state g old) (state g new) (λ _. ⊥)

@@ -12,26 +12,26 @@ use Rattle.sqlite_schema.specs.declared.schema.Column.{Column}
 use Rattle.sqlite_schema.specs.declared.schema.Index.{Index}
 use Rattle.sqlite_catalog.specs.Change.{created, indexed}
 
--- A column of a strict table, with this kind and name, which may be null unless it is required.
+-- A column of a strict table with this type and name, which may be NULL unless it is required.
 abbrev pub column_of : Kind → Bool → List ℕ → Column
 column_of kind required name =
     record { name = name; kind = kind; is_strict = true; not_null = required; default = Null; collation = Binary }
 
--- A column of integers that may be null.
+-- A column of integers that may be NULL.
 abbrev pub key_column : List ℕ → Column
 key_column = column_of Integer false
 
--- A column of integers that is not null.
+-- A column of integers that mustn't be NULL.
 abbrev pub number_column : List ℕ → Column
 number_column = column_of Integer true
 
--- A column of texts that is not null.
+-- A column of texts that mustn't be NULL.
 abbrev pub text_column : List ℕ → Column
 text_column = column_of Text true
 
--- A table without checks, references and computed columns.
-abbrev pub table_of : List ℕ → List Column → Option ℕ → List ℕ → List (List ℕ) → List Order → Table
-table_of name columns key primary uniques orders = record {
+-- A table without checks, foreign keys and computed columns.
+abbrev pub plain_table : List ℕ → List Column → Option ℕ → List ℕ → List (List ℕ) → List Order → Table
+plain_table name columns key primary uniques orders = record {
   name = name;
   tree = 0;
   columns = columns;
@@ -48,104 +48,105 @@ table_of name columns key primary uniques orders = record {
 
 -- A table whose first column is the rowid.
 abbrev pub numbered_table : List ℕ → List Column → List (List ℕ) → List Order → Table
-numbered_table name columns uniques orders = table_of name columns (Some 0) (0 ∷ []) uniques orders
+numbered_table name columns uniques orders = plain_table name columns (Some 0) (0 ∷ []) uniques orders
 
--- A table whose primary key is all columns together.
+-- A table whose primary key is all its columns together.
 abbrev pub set_table : List ℕ → List Column → List ℕ → Table
-set_table name columns places = table_of name columns None places (places ∷ []) (plain ∷ [])
+set_table name columns places = plain_table name columns None places (places ∷ []) (plain ∷ [])
 
--- Table meta: version and base, in one row.
-abbrev pub meta : Table
-meta = numbered_table (codes "meta") (key_column (codes "one") ∷ number_column (codes "version") ∷ text_column
+-- Table meta: one row with the version and the base.
+abbrev pub meta_table : Table
+meta_table = numbered_table (codes "meta") (key_column (codes "one") ∷ number_column (codes "version") ∷ text_column
     (codes "base") ∷ []) [] []
 
--- Table resource: the schemes, concepts, collections and outside concepts by number.
-abbrev pub resource : Table
-resource = numbered_table (codes "resource")
+-- Table resource: each scheme, concept, collection and outside concept, by number.
+abbrev pub resource_table : Table
+resource_table = numbered_table (codes "resource")
     (key_column (codes "num") ∷ number_column (codes "kind") ∷ key_column (codes "scheme") ∷ number_column
     (codes "live")
     ∷ key_column (codes "replaced") ∷ []) [] []
 
 -- Table outside: the IRI of each outside concept.
-abbrev pub outside : Table
-outside =
+abbrev pub outside_table : Table
+outside_table =
     numbered_table (codes "outside") (key_column (codes "num") ∷ text_column (codes "iri") ∷ []) ((2 ∷ []) ∷ [])
     (plain ∷ [])
 
--- Table label: the labels of resources.
-abbrev pub label : Table
-label = set_table (codes "label")
+-- Table label: the labels and notes of all resources.
+abbrev pub label_table : Table
+label_table = set_table (codes "label")
     (number_column (codes "owner") ∷ number_column (codes "kind") ∷ text_column (codes "tag") ∷ text_column
     (codes "text") ∷ [])
     (1 ∷ 2 ∷ 3 ∷ 4 ∷ [])
 
--- Table link: all links but the hierarchical ones.
-abbrev pub link : Table
-link = set_table (codes "link") (number_column (codes "kind") ∷ number_column (codes "a") ∷ number_column
+-- Table link: all links except the hierarchical ones.
+abbrev pub link_table : Table
+link_table = set_table (codes "link") (number_column (codes "kind") ∷ number_column (codes "a") ∷ number_column
     (codes "b") ∷ []) (1 ∷ 2 ∷ 3 ∷ [])
 
 -- Table hier: the hierarchical links, with their types.
-abbrev pub hier : Table
-hier = set_table (codes "hier") (number_column (codes "a") ∷ number_column (codes "b") ∷ number_column
+abbrev pub hier_table : Table
+hier_table = set_table (codes "hier") (number_column (codes "a") ∷ number_column (codes "b") ∷ number_column
     (codes "typ") ∷ []) (1 ∷ 2 ∷ 3 ∷ [])
 
--- Table posting: the postings by number, with their keys, records and places.
-abbrev pub posting : Table
-posting = numbered_table (codes "posting")
+-- Table posting: the postings by number, with their keys, records, first concepts and places, and whether they are
+-- withdrawn.
+abbrev pub posting_table : Table
+posting_table = numbered_table (codes "posting")
     (key_column (codes "num") ∷ text_column (codes "pkey") ∷ text_column (codes "record") ∷ number_column
     (codes "first_at")
     ∷ number_column (codes "at") ∷ number_column (codes "withdrawn") ∷ []) ((2 ∷ []) ∷ []) (plain ∷ [])
 
--- Table move: the moves of postings.
-abbrev pub move : Table
-move = numbered_table (codes "move")
+-- Table move: the moves of all postings, by number.
+abbrev pub move_table : Table
+move_table = numbered_table (codes "move")
     (key_column (codes "num") ∷ number_column (codes "posting") ∷ number_column (codes "source") ∷ number_column
     (codes "target") ∷ []) [] []
 
--- A plain index of the table in this tree.
+-- A plain index of columns of the table in this tree.
 abbrev pub index_of : List ℕ → ℕ → List ℕ → Index
 index_of name table columns =
     record { name = name; tree = 0; table = table; columns = columns; order = plain; is_unique = false }
 
--- The index of postings by place.
+-- The index of postings by place, for look-ups of a concept's postings.
 abbrev pub posting_at : Index
 posting_at = index_of (codes "posting_at") 8 (5 ∷ [])
 
--- The index of moves by posting.
+-- The index of moves by posting, for look-ups of a posting's moves.
 abbrev pub move_posting : Index
 move_posting = index_of (codes "move_posting") 10 (2 ∷ [])
 
--- The schemas after each of the ten statements that define it, from the empty one on.
-abbrev pub schema_0 : Schema
-schema_0 = record { tables = []; indexes = []; views = [] }
+-- The schemas after each of the ten statements that create a store, beginning with the empty schema.
+abbrev pub empty_schema : Schema
+empty_schema = record { tables = []; indexes = []; views = [] }
 
 abbrev pub schema_1 : Schema
-schema_1 = created schema_0 meta
+schema_1 = created empty_schema meta_table
 
 abbrev pub schema_2 : Schema
-schema_2 = created schema_1 resource
+schema_2 = created schema_1 resource_table
 
 abbrev pub schema_3 : Schema
-schema_3 = created schema_2 outside
+schema_3 = created schema_2 outside_table
 
 abbrev pub schema_4 : Schema
-schema_4 = created schema_3 label
+schema_4 = created schema_3 label_table
 
 abbrev pub schema_5 : Schema
-schema_5 = created schema_4 link
+schema_5 = created schema_4 link_table
 
 abbrev pub schema_6 : Schema
-schema_6 = created schema_5 posting
+schema_6 = created schema_5 posting_table
 
 abbrev pub schema_7 : Schema
-schema_7 = created schema_6 move
+schema_7 = created schema_6 move_table
 
-abbrev pub schema_8 : Schema
-schema_8 = created schema_7 hier
+abbrev pub schema_without_indexes : Schema
+schema_without_indexes = created schema_7 hier_table
 
 abbrev pub schema_9 : Schema
-schema_9 = indexed schema_8 (record posting { tree = 8 }) posting_at
+schema_9 = indexed schema_without_indexes (record posting_table { tree = 8 }) posting_at
 
--- The schema of a store of version 2.
+-- The schema of a store of version 2: eight tables and two indexes.
 abbrev pub store_schema : Schema
-store_schema = indexed schema_9 (record move { tree = 10 }) move_posting
+store_schema = indexed schema_9 (record move_table { tree = 10 }) move_posting

@@ -1,4 +1,4 @@
--- The tables as a database stores them.
+-- The rows of the tables as a database stores them.
 use Rattle.std.specs.Prelude.{◌≡◌, ◌<◌, ◌+◌, ℕ, pos, List, [], ◌∷◌, map, ⊤, IsUtf8}
 use Rattle.std.specs.List.{AllByRecursion}
 use Rattle.sqlite.specs.declared.types.Value.{Value}
@@ -30,90 +30,90 @@ value_of cells.Null = Null
 abbrev pub values : List Cell → List Value
 values row = map value_of row
 
--- The stored row of a table whose first cell is the rowid: the column itself is null.
+-- The stored row for values of which the first is the rowid: the rowid, NULL for its own column, and the other values.
 abbrev pub keyed_row : List Value → Row
 keyed_row [] = []
 keyed_row (id ∷ rest) = id ∷ Null ∷ rest
 
--- The stored row of meta.
+-- The stored row of table meta, under its key 1 as rowid.
 abbrev pub stored_meta : List ℕ → Row
 stored_meta base = keyed_row (values (meta_cells base))
 
--- The stored row of a resource.
+-- The stored row of a resource, under its number as rowid.
 abbrev pub stored_resource : ℕ × Resource → Row
 stored_resource row = keyed_row (values (resource_cells row.0 row.1))
 
--- The stored row of an outside concept.
+-- The stored row of an outside concept, under its number as rowid.
 abbrev pub stored_outside : ℕ × List ℕ → Row
 stored_outside row = keyed_row (values (outside_cells row))
 
--- The stored row of a posting.
+-- The stored row of a posting, under its number as rowid.
 abbrev pub stored_posting : PostingRow → Row
 stored_posting row = keyed_row (values (posting_cells row))
 
--- The stored row of a move.
+-- The stored row of a move, under its number as rowid.
 abbrev pub stored_move : MoveRow → Row
 stored_move row = keyed_row (values (move_cells row))
 
--- The values of a label.
+-- The SQL values of a label.
 abbrev pub label_values : Label → List Value
 label_values l = values (label_cells l)
 
--- The values of a link.
+-- The SQL values of a link.
 abbrev pub link_values : Link → List Value
 link_values l = values (link_cells l)
 
--- The values of a hierarchical link.
+-- The SQL values of a hierarchical link.
 abbrev pub hier_values : HierRow → List Value
 hier_values row = values (hier_cells row)
 
--- The numbers of these elements ascend, and the first one is greater than `above`.
-abbrev pub NumbersRiseAbove : {A : Type 0} → (A → ℕ) → ℕ → List A → Type 0
-NumbersRiseAbove num above [] = ⊤
-NumbersRiseAbove num above (x ∷ xs) = (above < num x) × NumbersRiseAbove num (num x) xs
+-- The numbers of the elements are strictly increasing, and the first is greater than `above`.
+abbrev pub AreIncreasingAbove : {A : Type 0} → (A → ℕ) → ℕ → List A → Type 0
+AreIncreasingAbove num above [] = ⊤
+AreIncreasingAbove num above (x ∷ xs) = (above < num x) × AreIncreasingAbove num (num x) xs
 
--- The tree holds these rows, in ascending order of their numbers.
+-- The tree has exactly the rows of these elements, sorted by number.
 pub record AreKeyed {A : Type 0} (stored : A → Row) (num : A → ℕ) (xs : List A) (tree : List Row) : Type 0 where
-  pub rises : NumbersRiseAbove num 0 xs
+  pub rises : AreIncreasingAbove num 0 xs
   pub rows : tree ≡ map stored xs
 
--- The stored row of a table without a number of its own, under a rowid that the database chose.
+-- The stored row of a table without numbers, under a rowid that the database chose.
 abbrev pub hidden_row : {A : Type 0} → (A → List Value) → ℕ × A → Row
 hidden_row of row = Int (pos row.0) ∷ of row.1
 
--- The tree holds these rows under ascending rowids that the database chose.
+-- The tree has exactly the rows of these elements in their order, under increasing rowids that the database chose.
 pub record AreHidden {A : Type 0} (of : A → List Value) (xs : List A) (tree : List Row) : Type 0 where
   pub given : List (ℕ × A)
   pub same : map (λ (row : ℕ × A). row.1) given ≡ xs
   pub held : AreKeyed (hidden_row of) (λ (row : ℕ × A). row.0) given tree
 
--- The elements with their numbers, from `n` on.
+-- Pairs of the elements and their numbers, from `n` on.
 abbrev pub numbered_from : {A : Type 0} → ℕ → List A → List (ℕ × A)
 numbered_from n [] = []
 numbered_from n (x ∷ xs) = (n, x) ∷ numbered_from (n + 1) xs
 
--- The postings are numbered without gaps, from `n` on.
+-- The postings are numbered from `n` on without gaps.
 abbrev pub ArePostingsNumbered : ℕ → List PostingRow → Type 0
 ArePostingsNumbered n [] = ⊤
 ArePostingsNumbered n (row ∷ rows) = (row.number ≡ n) × ArePostingsNumbered (n + 1) rows
 
--- The tree holds these resources, numbered from 1.
+-- The tree has exactly these resources, numbered from 1.
 abbrev pub HoldResources : List Resource → List Row → Type 0
 HoldResources rs tree = AreKeyed stored_resource (λ (row : ℕ × Resource). row.0) (numbered_from 1 rs) tree
 
--- The tree holds these outside concepts.
+-- The tree has exactly these outside concepts.
 abbrev pub HoldOutside : List (ℕ × List ℕ) → List Row → Type 0
 HoldOutside rows tree = AreKeyed stored_outside (λ (row : ℕ × List ℕ). row.0) rows tree
 
--- The tree holds these postings.
+-- The tree has exactly these postings.
 abbrev pub HoldPostings : List PostingRow → List Row → Type 0
 HoldPostings rows tree = AreKeyed stored_posting (λ (row : PostingRow). row.number) rows tree
 
--- The tree holds these moves.
+-- The tree has exactly these moves.
 abbrev pub HoldMoves : List MoveRow → List Row → Type 0
 HoldMoves rows tree = AreKeyed stored_move (λ (row : MoveRow). row.number) rows tree
 
--- The IRI is UTF-8.
+-- The IRI of the outside concept is UTF-8.
 abbrev pub IsSpelledOutside : ℕ × List ℕ → Type 0
 IsSpelledOutside row = IsUtf8 row.1
 
@@ -131,7 +131,7 @@ AreSpelled t =
     IsUtf8 t.base × (AllByRecursion IsSpelledOutside t.outside × (AllByRecursion IsSpelledLabel t.label
     × AllByRecursion IsSpelledPosting t.posting))
 
--- The trees hold these tables.
+-- The trees hold exactly these tables, with texts in UTF-8 and postings numbered from 1.
 pub record Hold (db : Trees) (t : Tables) : Type 0 where
   pub meta : db 0 ≡ stored_meta t.base ∷ []
   pub resource : HoldResources t.resource (db 1)
@@ -144,7 +144,7 @@ pub record Hold (db : Trees) (t : Tables) : Type 0 where
   pub move : HoldMoves t.move (db 10)
   pub spelled : AreSpelled t
 
--- The database has the schema of a store, and holds these tables.
+-- The database is a store with these tables: it has the schema of version 2, and its trees hold them.
 pub record Keeps (db : Database) (t : Tables) : Type 0 where
   pub schema : db.schema ≡ store_schema
   pub hold : Hold db.trees t

@@ -1,4 +1,4 @@
--- The effect of calls inside a transaction, and of a transaction as a whole.
+-- The effects of calls inside a transaction, and of whole transactions.
 use Rattle.std.specs.Prelude.{◌≡◌, ◌⊎◌, ℕ, List, [], Bool, true, false, Result, Ok, Err, OnOk, OnErr, IfOk, IsTrue}
 use Rattle.std.specs.List.{AllByRecursion}
 use Rattle.std.specs.Borrow.{MutBor}
@@ -16,18 +16,18 @@ use Rattle.thes_tables.specs.Tables.{Tables}
 use Rattle.thes_tables.specs.Rows.{tables_after_change, tables_after_delta, ChangeFits, DeltaFits}
 use Rattle.thes_sql.specs.StoredRows.{Keeps}
 
--- If the database keeps tables that the change fits, it keeps them with the change.
+-- The call applies the change: a store with tables that the change fits becomes one with the tables after the change.
 pub record AppliesChange (change : Change) (old new : State) : Type 0 where
   pub rows : (t : Tables) → Keeps old.now t → ChangeFits change t → Keeps new.now (tables_after_change change t)
   pub inside : IsTrue new.in_transaction
   pub is_open : IsTrue new.is_open
 
--- If the database keeps tables that the changes fit, it keeps them with all changes.
+-- The call applies the changes: a store with tables that they fit becomes one with the tables after all of them.
 pub record AppliesChanges (changes : List Change) (old new : State) : Type 0 where
   pub rows : (t : Tables) → Keeps old.now t → DeltaFits changes t → Keeps new.now (tables_after_delta changes t)
   pub inside : IsTrue new.in_transaction
 
--- A prefix of the changes is made, and these remain.
+-- A prefix of the changes was applied, and the changes `left` remain.
 pub record IsUnderWay (changes left : List Change) (old now : State) : Type 0 where
   pub rows : (t : Tables) → Keeps old.now t → DeltaFits changes t → (mid : Tables) × Keeps now.now mid
       × DeltaFits left mid
@@ -38,30 +38,31 @@ pub record IsUnderWay (changes left : List Change) (old now : State) : Type 0 wh
 abbrev pub IsEmpty : Schema → Database → Type 0
 IsEmpty schema db = (db.schema ≡ schema) × AllByRecursion (λ (t : Table). db.trees t.tree ≡ []) schema.tables
 
--- A database that satisfied `From` satisfies `To`.
+-- The call leads from each database that satisfies `From` to one that satisfies `To`.
 pub record Transforms (From To : Database → Type 0) (old new : State) : Type 0 where
   pub made : From old.now → To new.now
   pub inside : IsTrue new.in_transaction
 
--- A database that satisfied `From` for some tables satisfies `To` for them.
+-- The call leads from each database that satisfies `From` for some tables to one that satisfies `To` for them.
 pub record TransformsTables (From To : Tables → Database → Type 0) (old new : State) : Type 0 where
   pub made : (t : Tables) → From t old.now → To t new.now
   pub inside : IsTrue new.in_transaction
 
--- A database with the schema `from` has the schema `to` with its rows unchanged, and the trees in `fresh` are empty.
+-- The call extends the schema `from` to the schema `to`, leaves all rows unchanged, and creates the trees in `fresh`
+-- empty.
 pub record ExtendsSchema (from to : Schema) (fresh : List ℕ) (old new : State) : Type 0 where
   pub made : old.now.schema ≡ from → (new.now.schema ≡ to) × KeepsRows from.tables old.now.trees new.now.trees
       × AllByRecursion (λ tree. new.now.trees tree ≡ []) fresh
   pub inside : IsTrue new.in_transaction
 
--- The statement ran, or it failed because it doesn't compile.
+-- The statement ran, or it failed to compile.
 pub record RunsOrFailsToCompile (text : List ℕ) (old new : State) : Type 0 where
   pub ran : ((count : ℕ) × Executes text [] old new (Ok count))
       ⊎ ((fault : CompileError) × Executes text [] old new (Err (SqlInputError fault)))
   pub inside : IsTrue new.in_transaction
 
--- Inside a transaction and without a disk failure, a successful call leads from the old state to the new one by
--- `Leads`.
+-- Inside a transaction, and if the disk hasn't failed silently, a successful call leads from the old state to the new
+-- one by `Leads`.
 abbrev pub SucceedsInside : {S V E : Type 0} → Ghosts S → (State → State → Type 0) → MutBor (Held S) → MutBor (Held S)
     → Result V E → Type 0
 SucceedsInside g Leads old new r =
@@ -75,7 +76,7 @@ StaysInside g old new =
     → KeepsCommit (state g old.now) (state g new.now))
     × Survives (state g old.now) (state g new.now) (λ _. ⊥)
 
--- The call is a transaction of its own; inside another one it returns false and changes nothing.
+-- The call is a transaction of its own; if one is open already, it returns false and changes nothing.
 pub record IsOwnTransaction {S E : Type 0} (g : Ghosts S) (old new : Held S) (r : Result Bool E) : Type 0 where
   pub busy : old.in_transaction ≡ true → (r ≡ Ok false) × (new ≡ old)
   pub begins : old.in_transaction ≡ false → IfOk r (λ done. IsTrue done)

@@ -1,7 +1,7 @@
-//! Creates the tables of a store.
+//! Creates the tables and indexes of a store in a database.
 ghost use Rattle.std.specs.Prelude.{◌≡◌, ◌∷◌, [], IfOk, IsTrue};
 ghost use Rattle.thes_tables.specs.Tables.{empty_tables};
-ghost use Rattle.thes_sql.specs.Schema.{schema_0, schema_8, store_schema};
+ghost use Rattle.thes_sql.specs.Schema.{empty_schema, schema_without_indexes, store_schema};
 ghost use Rattle.thes_sql.specs.StoredRows.{Keeps, Hold};
 ghost use Rattle.thes_sql.specs.OldStore.{old_schema, IsOldStore, HasEmptyHier};
 ghost use Rattle.thes_sql.specs.TransactionEffects.{IsEmpty, Transforms, TransformsTables, ExtendsSchema, RunsOrFailsToCompile, SucceedsInside, StaysInside, IsOwnTransaction};
@@ -11,10 +11,10 @@ ghost use Rattle.sqlite.specs.Held.{state};
 use sqlite::{Alter, Connection, Error, Transaction, params};
 use thes_base::text::Base;
 
-// Creates the seven tables that a store of version 1 has already.
+// Creates the seven tables of version 1, which version 2 also has.
 fn define_tables<S: Alter>(tx: &mut Transaction<'_, S>) -> Result<(), Error>
     ensures same_reference { tx.new.conn.ghost_name ≡ tx.old.conn.ghost_name }
-    ensures does { SucceedsInside S.Store (Transforms (IsEmpty schema_0) (IsEmpty old_schema))
+    ensures does { SucceedsInside S.Store (Transforms (IsEmpty empty_schema) (IsEmpty old_schema))
         tx.old.conn tx.new.conn result }
     ensures stays { StaysInside S.Store tx.old.conn tx.new.conn }
 {
@@ -35,11 +35,11 @@ target INTEGER NOT NULL) STRICT;",
     )
 }
 
-// Creates table hier.
+// Creates table hier, which version 1 lacks.
 fn define_hier<S: Alter>(tx: &mut Transaction<'_, S>) -> Result<(), Error>
     ensures same_reference { tx.new.conn.ghost_name ≡ tx.old.conn.ghost_name }
-    ensures does { SucceedsInside S.Store (ExtendsSchema old_schema schema_8 (11 ∷ []))
-        tx.old.conn tx.new.conn result }
+    ensures does { SucceedsInside S.Store (ExtendsSchema old_schema schema_without_indexes
+        (11 ∷ [])) tx.old.conn tx.new.conn result }
     ensures stays { StaysInside S.Store tx.old.conn tx.new.conn }
 {
     tx.execute_batch(
@@ -49,7 +49,7 @@ PRIMARY KEY (a, b, typ)) STRICT;",
     )
 }
 
-// Creates an index, unless its statement doesn't compile.
+// Creates an index; a statement that doesn't compile is no error, and creates none.
 fn try_index<S: Alter>(tx: &mut Transaction<'_, S>, sql: &str) -> Result<(), Error>
     ensures same_reference { tx.new.conn.ghost_name ≡ tx.old.conn.ghost_name }
     ensures does { SucceedsInside S.Store (RunsOrFailsToCompile sql.now)
@@ -63,11 +63,11 @@ fn try_index<S: Alter>(tx: &mut Transaction<'_, S>, sql: &str) -> Result<(), Err
     }
 }
 
-// Creates the indexes of postings by place and of moves by posting; each is optional, since a store of version 1 may
-// lack its table.
+// Creates the indexes of postings by place and of moves by posting. Skips an index whose table is missing, as it may be
+// in a faulty store of version 1.
 fn define_indexes<S: Alter>(tx: &mut Transaction<'_, S>) -> Result<(), Error>
     ensures same_reference { tx.new.conn.ghost_name ≡ tx.old.conn.ghost_name }
-    ensures does { SucceedsInside S.Store (ExtendsSchema schema_8 store_schema [])
+    ensures does { SucceedsInside S.Store (ExtendsSchema schema_without_indexes store_schema [])
         tx.old.conn tx.new.conn result }
     ensures stays { StaysInside S.Store tx.old.conn tx.new.conn }
 {
@@ -79,7 +79,7 @@ fn define_indexes<S: Alter>(tx: &mut Transaction<'_, S>) -> Result<(), Error>
     Ok(())
 }
 
-/// Creates table hier and the two indexes, which version 1 lacks.
+/// Creates table hier and the two indexes, all of which version 1 lacks.
 pub(crate) fn define_newer<S: Alter>(tx: &mut Transaction<'_, S>) -> Result<(), Error>
     ensures same_reference { tx.new.conn.ghost_name ≡ tx.old.conn.ghost_name }
     ensures does { SucceedsInside S.Store (Transforms (IsEmpty old_schema) (IsEmpty store_schema))
@@ -93,7 +93,7 @@ pub(crate) fn define_newer<S: Alter>(tx: &mut Transaction<'_, S>) -> Result<(), 
     Ok(())
 }
 
-// Inserts the row of table meta.
+// Inserts the row of table meta: key 1, version 2, and the base.
 fn add_meta<S: Alter>(tx: &mut Transaction<'_, S>, base: &Base) -> Result<usize, Error>
     ensures same_reference { tx.new.conn.ghost_name ≡ tx.old.conn.ghost_name }
     ensures does { SucceedsInside S.Store
@@ -107,11 +107,11 @@ fn add_meta<S: Alter>(tx: &mut Transaction<'_, S>, base: &Base) -> Result<usize,
     )
 }
 
-// Creates all tables and indexes, and inserts the row of meta.
+// Creates all tables and indexes, and inserts the row of table meta.
 fn create_all<S: Alter>(tx: &mut Transaction<'_, S>, base: &Base) -> Result<(), Error>
     ensures same_reference { tx.new.conn.ghost_name ≡ tx.old.conn.ghost_name }
     ensures does { SucceedsInside S.Store
-        (Transforms (IsEmpty schema_0) (λ db. Keeps db (empty_tables base.now)))
+        (Transforms (IsEmpty empty_schema) (λ db. Keeps db (empty_tables base.now)))
         tx.old.conn tx.new.conn result }
     ensures stays { StaysInside S.Store tx.old.conn tx.new.conn }
 {
@@ -121,15 +121,15 @@ fn create_all<S: Alter>(tx: &mut Transaction<'_, S>, base: &Base) -> Result<(), 
     Ok(())
 }
 
-/// Creates the tables of a new store in one transaction, atomically even if a crash interrupts it. Returns false and
-/// changes nothing inside another transaction.
+/// Creates the tables of a new store in one transaction, atomically even if a crash interrupts it. Returns false, and
+/// changes nothing, if the connection is in a transaction already.
 pub fn create_tables<S: Alter>(conn: &mut Connection<S>, base: &Base) -> Result<bool, Error>
     ensures all { HasCleanDisk (state S.Store conn.new) → IfOk result (λ done. IsTrue done
-        → IsEmpty schema_0 (state S.Store conn.old).now
+        → IsEmpty empty_schema (state S.Store conn.old).now
         → Keeps (state S.Store conn.new).committed (empty_tables base.now)
         × Keeps (state S.Store conn.new).now (empty_tables base.now)) }
     ensures own { IsOwnTransaction S.Store conn.old conn.new result }
-    ensures crash { IsEmpty schema_0 (state S.Store conn.old).now
+    ensures crash { IsEmpty empty_schema (state S.Store conn.old).now
         → Survives (state S.Store conn.old) (state S.Store conn.new)
         (λ trees. Hold trees (empty_tables base.now)) }
 {

@@ -3,7 +3,9 @@
 
 pub mod commit;
 pub mod create;
+pub mod declarations;
 pub mod migrate;
+pub mod outcome;
 pub mod reads;
 mod values;
 pub mod versions;

@@ -1,4 +1,4 @@
-//! Migrates a store of version 1 to version 2.
+//! Migrates the tables of a store from version 1 to version 2.
 ghost use Rattle.std.specs.Prelude.{◌≡◌, ◌≤◌, IfOk, IsTrue};
 ghost use Rattle.thes_tables.specs.OldRows.{tables_after_migration};
 ghost use Rattle.thes_tables.specs.Tables.{Tables};
@@ -12,7 +12,7 @@ ghost use Rattle.sqlite_trees.specs.View.{doubt};
 use crate::create::define_newer;
 use sqlite::{Alter, Connection, Error, Transaction};
 
-// Copies the links of kind broader into the empty table hier, untyped and in their order.
+// Copies the links of kind broader into the empty table hier, untyped and in insertion order.
 fn copy_links<S: Alter>(tx: &mut Transaction<'_, S>) -> Result<usize, Error>
     ensures same_reference { tx.new.conn.ghost_name ≡ tx.old.conn.ghost_name }
     ensures does { SucceedsInside S.Store (TransformsTables HasEmptyHier HasCopiedLinks)
@@ -25,7 +25,7 @@ fn copy_links<S: Alter>(tx: &mut Transaction<'_, S>) -> Result<usize, Error>
     )
 }
 
-// Removes the links of kind broader from table link.
+// Deletes the links of kind broader from table link.
 fn drop_copied<S: Alter>(tx: &mut Transaction<'_, S>) -> Result<usize, Error>
     ensures same_reference { tx.new.conn.ghost_name ≡ tx.old.conn.ghost_name }
     ensures does { SucceedsInside S.Store (TransformsTables HasCopiedLinks HasMovedLinks)
@@ -47,7 +47,7 @@ fn move_links<S: Alter>(tx: &mut Transaction<'_, S>) -> Result<(), Error>
     Ok(())
 }
 
-// Sets the version to 2.
+// Sets the version in table meta to 2.
 fn set_version<S: Alter>(tx: &mut Transaction<'_, S>) -> Result<usize, Error>
     ensures same_reference { tx.new.conn.ghost_name ≡ tx.old.conn.ghost_name }
     ensures does { SucceedsInside S.Store (TransformsTables HasMovedLinks IsMigratedStore)
@@ -57,7 +57,7 @@ fn set_version<S: Alter>(tx: &mut Transaction<'_, S>) -> Result<usize, Error>
     tx.execute("UPDATE meta SET version = 2", &[])
 }
 
-// Makes all steps of the migration, inside the transaction.
+// Performs all steps of the migration, inside the transaction.
 fn migrate_all<S: Alter>(tx: &mut Transaction<'_, S>) -> Result<(), Error>
     ensures same_reference { tx.new.conn.ghost_name ≡ tx.old.conn.ghost_name }
     ensures does { SucceedsInside S.Store (TransformsTables IsOldStore IsMigratedStore)
@@ -71,7 +71,7 @@ fn migrate_all<S: Alter>(tx: &mut Transaction<'_, S>) -> Result<(), Error>
 }
 
 /// Migrates the tables of version 1 to version 2 in one transaction, atomically even if a crash interrupts it. Returns
-/// false and changes nothing inside another transaction.
+/// false, and changes nothing, if the connection is in a transaction already.
 pub fn migrate_tables<S: Alter>(conn: &mut Connection<S>) -> Result<bool, Error>
     ensures all { HasCleanDisk (state S.Store conn.new) → IfOk result (λ done. IsTrue done
         → (t : Tables) → KeepsOld (state S.Store conn.old).now t
@@ -80,9 +80,9 @@ pub fn migrate_tables<S: Alter>(conn: &mut Connection<S>) -> Result<bool, Error>
     ensures own { IsOwnTransaction S.Store conn.old conn.new result }
     ensures clean { doubt (state S.Store conn.old).is_clean
         ≤ doubt (state S.Store conn.new).is_clean }
-    ensures crash { (t : Tables) → KeepsOld (state S.Store conn.old).now t
-        → Survives (state S.Store conn.old) (state S.Store conn.new)
-        (λ trees. Hold trees (tables_after_migration t)) }
+    ensures crash { Survives (state S.Store conn.old) (state S.Store conn.new)
+        (λ trees. (t : Tables) → KeepsOld (state S.Store conn.old).now t
+        → Hold trees (tables_after_migration t)) }
 {
     if !conn.is_autocommit() {
         return Ok(false);

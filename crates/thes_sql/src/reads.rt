@@ -1,4 +1,4 @@
-//! Queries on the tables.
+//! Queries that read rows of the tables.
 ghost use Rattle.std.specs.Prelude.{◌≡◌};
 ghost use Rattle.thes_sql.specs.Reads.{cells_of_table, read_text, cells_with_key, cells_with_number, cells_at_concept, cells_of_moves};
 ghost use Rattle.thes_sql.specs.Reads.{SelectResult, TableSelectResult, HasNoInputError, LeavesAlone};
@@ -8,7 +8,7 @@ use thes_base::fault::Table;
 use thes_base::number::{PostNo, ResNo};
 use thes_base::text::Key;
 
-// Returns the query for a table.
+// Returns the query for all rows of a table.
 fn table_text(table: Table) -> &'static str
     ensures { result.now ≡ read_text table }
 {
@@ -25,7 +25,7 @@ fn table_text(table: Table) -> &'static str
     }
 }
 
-/// Reads a table: rows with a number in its order, the others in insertion order.
+/// Reads all rows of a table, sorted by number or, in label, link and hier, in insertion order.
 pub fn table_rows<S: Alter>(conn: &mut Connection<S>, table: Table) -> Result<Vec<Row>, Error>
     ensures shows { SelectResult S.Store (cells_of_table table) conn.old conn.new result
         (λ rows. rows.items) }
@@ -37,7 +37,7 @@ pub fn table_rows<S: Alter>(conn: &mut Connection<S>, table: Table) -> Result<Ve
     conn.query_all(table_text(table), &[])
 }
 
-/// Reads the rows of posting with this key.
+/// Reads the rows of table posting that have the key: one row, or none.
 pub fn posting_rows_with_key<S: Alter>(
     conn: &mut Connection<S>,
     key: &Key,
@@ -52,7 +52,7 @@ pub fn posting_rows_with_key<S: Alter>(
     )
 }
 
-/// Reads the rows of posting with this number.
+/// Reads the rows of table posting that have the number: one row, or none.
 pub fn posting_rows_with_number<S: Alter>(
     conn: &mut Connection<S>,
     n: PostNo,
@@ -67,7 +67,7 @@ pub fn posting_rows_with_number<S: Alter>(
     )
 }
 
-/// Reads the rows of posting that are assigned to a concept and not withdrawn, in the order of their numbers.
+/// Reads the rows of the postings that are assigned to the concept, sorted by number.
 pub fn posting_rows_at<S: Alter>(
     conn: &mut Connection<S>,
     concept: ResNo,
@@ -82,7 +82,7 @@ pub fn posting_rows_at<S: Alter>(
     )
 }
 
-/// Reads the rows of move of a posting, in the order of their numbers.
+/// Reads the rows of the posting's moves, oldest first.
 pub fn move_rows_of_posting<S: Alter>(
     conn: &mut Connection<S>,
     posting: PostNo,

@@ -1,4 +1,4 @@
-//! Rows as the parameters of statements.
+//! Rows of the tables as parameters of statements.
 ghost use Rattle.std.specs.Prelude.{◌≡◌, ◌<◌, IsUtf8};
 ghost use Rattle.thes_tables.specs.Cells.{resource_cells, outside_cells};
 ghost use Rattle.thes_tables.specs.Cells.{label_cells, link_cells, hier_cells, posting_cells, move_cells};
@@ -13,7 +13,7 @@ use thes_base::text::Iri;
 use thes_tables::numbers::{flag_number, resource_number, type_number};
 use thes_tables::rows::{HierRow, LabelRow, MoveRow, PostingRow};
 
-// Returns a resource's number as an integer, if there is one.
+// Returns the number of a resource as an integer, None for NULL.
 fn number_of(n: Option<ResNo>) -> Option<u32>
     ensures { result ≡ n }
 {
@@ -23,7 +23,7 @@ fn number_of(n: Option<ResNo>) -> Option<u32>
     }
 }
 
-// Returns the values of a row of resource.
+// Returns the five values of a row of table resource.
 pub(crate) fn resource_values(n: ResNo, resource: &Resource) -> [ValueRef<'static>; 5]
     ensures { bound result ≡ values (resource_cells n resource.now) }
 {
@@ -36,7 +36,7 @@ pub(crate) fn resource_values(n: ResNo, resource: &Resource) -> [ValueRef<'stati
     ]
 }
 
-// Returns the values of a row of outside.
+// Returns the two values of a row of table outside.
 pub(crate) fn outside_values(n: ResNo, iri: &Iri) -> [ValueRef<'_>; 2]
     ensures cells { bound result ≡ values (outside_cells (n, iri.now)) }
     ensures spelled { IsUtf8 iri.now }
@@ -44,7 +44,7 @@ pub(crate) fn outside_values(n: ResNo, iri: &Iri) -> [ValueRef<'_>; 2]
     *params![n.get(), iri.as_str()]
 }
 
-// Returns the values of a row of label.
+// Returns the four values of a row of table label.
 pub(crate) fn label_values(row: &LabelRow) -> [ValueRef<'_>; 4]
     ensures cells { bound result ≡ values (label_cells row.now) }
     ensures spelled { IsSpelledLabel row.now }
@@ -57,21 +57,21 @@ pub(crate) fn label_values(row: &LabelRow) -> [ValueRef<'_>; 4]
     ]
 }
 
-// Returns the values of a row of link.
+// Returns the three values of a row of table link.
 pub(crate) fn link_values(link: &Link) -> [ValueRef<'static>; 3]
     ensures { bound result ≡ values (link_cells link.now) }
 {
     *params![link.kind.number(), link.a.get(), link.b.get()]
 }
 
-// Returns the values of a row of hier.
+// Returns the three values of a row of table hier.
 pub(crate) fn hier_values(row: &HierRow) -> [ValueRef<'static>; 3]
     ensures { bound result ≡ values (hier_cells row.now) }
 {
     *params![row.a.get(), row.b.get(), type_number(row.typ)]
 }
 
-// Returns the values of a row of posting.
+// Returns the six values of a row of table posting.
 pub(crate) fn posting_values(row: &PostingRow) -> [ValueRef<'_>; 6]
     ensures cells { bound result ≡ values (posting_cells row.now) }
     ensures spelled { IsSpelledPosting row.now }
@@ -86,7 +86,7 @@ pub(crate) fn posting_values(row: &PostingRow) -> [ValueRef<'_>; 6]
     ]
 }
 
-// Returns the values of a row of move.
+// Returns the four values of a row of table move.
 pub(crate) fn move_values(row: &MoveRow) -> [ValueRef<'static>; 4]
     ensures cells { bound result ≡ values (move_cells row.now) }
     ensures numbered { 0 < row.now.number }

@@ -1,64 +1,60 @@
-//! Queries on a database that may be a store of version 1.
-ghost use Rattle.std.specs.Prelude.{◌≡◌, ◌∷◌, [], ℕ, List, IfOk, OnOk};
+//! Queries on a database that may be a store of version 1, or hold anything.
+ghost use Rattle.std.specs.Prelude.{◌≡◌};
 ghost use Rattle.thes_base.specs.declared.fault.Table.TheVariants as table;
-ghost use Rattle.thes_sql.specs.OldStore.{HasVersion, version_row, AnswersIsUnderstood, links_text, hier_text, KeepsKnown, LeavesKnown};
-ghost use Rattle.thes_sql.specs.Reads.{read_text};
-ghost use Rattle.sqlite.specs.State.{HasCleanDisk, Shown};
-ghost use Rattle.sqlite.specs.Held.{state};
+ghost use Rattle.thes_sql.specs.OldStore.{links_text, hier_text};
+ghost use Rattle.thes_sql.specs.Reads.{read_text, LeavesAlone};
+ghost use Rattle.thes_sql.specs.Queries.{FindResult, CompileResult, KeepsDatabase, IsWholeQuery, answer_of_error};
 
 use sqlite::{Alter, Connection, Error, Row};
 
-/// Reads the rows of meta, of which a store has one.
+/// Reads the rows of table meta, of which a store of either version has one.
 pub fn version_rows<S: Alter>(conn: &mut Connection<S>) -> Result<Vec<Row>, Error>
-    ensures shown { HasCleanDisk (state S.Store conn.new) → IfOk result (λ rows.
-        Shown (read_text table.Meta) []
-        (state S.Store conn.old) (state S.Store conn.new) rows.items) }
-    ensures shows { HasCleanDisk (state S.Store conn.new)
-        → IfOk result (λ rows. (version : ℕ) (base : List ℕ)
-        → HasVersion version base (state S.Store conn.old).now
-        → rows.items ≡ version_row version base ∷ []) }
-    ensures kept { OnOk result (KeepsKnown S.Store conn.old conn.new) }
-    ensures leaves { LeavesKnown S.Store conn.old conn.new }
+    ensures finds { FindResult S.Store (read_text table.Meta) conn.old conn.new result
+        (λ rows. rows.items) }
+    ensures kept { KeepsDatabase S.Store conn.old conn.new result }
+    ensures leaves { LeavesAlone S.Store conn.old conn.new }
 {
     conn.query_all("SELECT one, version, base FROM meta ORDER BY one", &[])
 }
 
-// Returns whether a query compiles.
-fn understands<S: Alter>(conn: &mut Connection<S>, sql: &str) -> Result<bool, Error>
-    ensures reports { AnswersIsUnderstood S.Store sql.now conn.old conn.new result }
-    ensures kept { OnOk result (KeepsKnown S.Store conn.old conn.new) }
-    ensures leaves { LeavesKnown S.Store conn.old conn.new }
+// Maps the error of a preparation to the answer whether the query compiles: it doesn't, or the error says nothing of
+// it.
+fn answer_of(error: Error) -> Result<bool, Error>
+    ensures { result ≡ answer_of_error error }
 {
-    match conn.prepare(sql) {
-        Ok(_) => Ok(true),
-        Err(Error::SqlInputError(_)) => Ok(false),
-        Err(error) => Err(error),
+    match error {
+        Error::SqlInputError(_) => Ok(false),
+        other => Err(other),
     }
 }
 
-/// Returns whether meta can be queried.
-pub fn has_meta<S: Alter>(conn: &mut Connection<S>) -> Result<bool, Error>
-    ensures reports { AnswersIsUnderstood S.Store (read_text table.Meta) conn.old conn.new result }
-    ensures kept { OnOk result (KeepsKnown S.Store conn.old conn.new) }
-    ensures leaves { LeavesKnown S.Store conn.old conn.new }
+// Returns whether a query compiles.
+fn understands<S: Alter>(conn: &mut Connection<S>, sql: &str) -> Result<bool, Error>
+    requires { IsWholeQuery sql.now }
+    ensures reports { CompileResult S.Store sql.now conn.old conn.new result }
+    ensures kept { KeepsDatabase S.Store conn.old conn.new result }
+    ensures leaves { LeavesAlone S.Store conn.old conn.new }
 {
-    understands(conn, "SELECT one, version, base FROM meta ORDER BY one")
+    match conn.prepare(sql) {
+        Ok(_) => Ok(true),
+        Err(error) => answer_of(error),
+    }
 }
 
-/// Returns whether the links can be queried.
+/// Checks whether table link can be queried.
 pub fn has_links<S: Alter>(conn: &mut Connection<S>) -> Result<bool, Error>
-    ensures reports { AnswersIsUnderstood S.Store links_text conn.old conn.new result }
-    ensures kept { OnOk result (KeepsKnown S.Store conn.old conn.new) }
-    ensures leaves { LeavesKnown S.Store conn.old conn.new }
+    ensures reports { CompileResult S.Store links_text conn.old conn.new result }
+    ensures kept { KeepsDatabase S.Store conn.old conn.new result }
+    ensures leaves { LeavesAlone S.Store conn.old conn.new }
 {
     understands(conn, "SELECT kind, a, b FROM link")
 }
 
-/// Returns whether there is a table hier.
+/// Checks whether the database has a table hier, which a store of version 1 lacks.
 pub fn has_hier<S: Alter>(conn: &mut Connection<S>) -> Result<bool, Error>
-    ensures reports { AnswersIsUnderstood S.Store hier_text conn.old conn.new result }
-    ensures kept { OnOk result (KeepsKnown S.Store conn.old conn.new) }
-    ensures leaves { LeavesKnown S.Store conn.old conn.new }
+    ensures reports { CompileResult S.Store hier_text conn.old conn.new result }
+    ensures kept { KeepsDatabase S.Store conn.old conn.new result }
+    ensures leaves { LeavesAlone S.Store conn.old conn.new }
 {
     understands(conn, "SELECT 1 FROM hier")
 }

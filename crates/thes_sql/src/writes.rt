@@ -1,4 +1,4 @@
-//! One statement for each kind of change.
+//! The statement that performs each kind of change.
 ghost use Rattle.std.specs.Prelude.{◌≡◌};
 ghost use Rattle.thes_tables.specs.declared.change.Change.TheVariants as change;
 ghost use Rattle.thes_sql.specs.TransactionEffects.{AppliesChange, SucceedsInside, StaysInside};
@@ -14,7 +14,7 @@ use thes_base::text::Iri;
 use thes_tables::change::Change;
 use thes_tables::rows::{HierRow, LabelRow, MoveRow, PostingRow};
 
-// Inserts a resource.
+// Inserts the row of a resource.
 fn add_resource<S: Alter>(
     tx: &mut Transaction<'_, S>,
     n: ResNo,
@@ -31,7 +31,7 @@ fn add_resource<S: Alter>(
     )
 }
 
-// Marks a resource as not live, without a replacement.
+// Marks the resource with the number as dead, without a replacement.
 fn retire<S: Alter>(tx: &mut Transaction<'_, S>, n: ResNo) -> Result<usize, Error>
     ensures same_reference { tx.new.conn.ghost_name ≡ tx.old.conn.ghost_name }
     ensures does { SucceedsInside S.Store (AppliesChange (change.Retire n))
@@ -44,7 +44,7 @@ fn retire<S: Alter>(tx: &mut Transaction<'_, S>, n: ResNo) -> Result<usize, Erro
     )
 }
 
-// Marks a resource as not live, with its replacement.
+// Marks the resource with the number as dead, with its replacement.
 fn replace<S: Alter>(tx: &mut Transaction<'_, S>, n: ResNo, by: ResNo) -> Result<usize, Error>
     ensures same_reference { tx.new.conn.ghost_name ≡ tx.old.conn.ghost_name }
     ensures does { SucceedsInside S.Store (AppliesChange (change.Replace n by))
@@ -57,7 +57,7 @@ fn replace<S: Alter>(tx: &mut Transaction<'_, S>, n: ResNo, by: ResNo) -> Result
     )
 }
 
-// Inserts the IRI of an outside concept.
+// Inserts the row of an outside concept: its number and its IRI.
 fn add_outside<S: Alter>(tx: &mut Transaction<'_, S>, n: ResNo, iri: &Iri) -> Result<usize, Error>
     ensures same_reference { tx.new.conn.ghost_name ≡ tx.old.conn.ghost_name }
     ensures does { SucceedsInside S.Store (AppliesChange (change.AddOutside n iri.now))
@@ -70,7 +70,7 @@ fn add_outside<S: Alter>(tx: &mut Transaction<'_, S>, n: ResNo, iri: &Iri) -> Re
     )
 }
 
-// Inserts a label.
+// Inserts the row of a label.
 fn add_label<S: Alter>(tx: &mut Transaction<'_, S>, row: &LabelRow) -> Result<usize, Error>
     ensures same_reference { tx.new.conn.ghost_name ≡ tx.old.conn.ghost_name }
     ensures does { SucceedsInside S.Store (AppliesChange (change.AddLabel row.now))
@@ -83,7 +83,7 @@ fn add_label<S: Alter>(tx: &mut Transaction<'_, S>, row: &LabelRow) -> Result<us
     )
 }
 
-// Removes a label.
+// Deletes the row of a label.
 fn drop_label<S: Alter>(tx: &mut Transaction<'_, S>, row: &LabelRow) -> Result<usize, Error>
     ensures same_reference { tx.new.conn.ghost_name ≡ tx.old.conn.ghost_name }
     ensures does { SucceedsInside S.Store (AppliesChange (change.DropLabel row.now))
@@ -96,7 +96,7 @@ fn drop_label<S: Alter>(tx: &mut Transaction<'_, S>, row: &LabelRow) -> Result<u
     )
 }
 
-// Inserts a link.
+// Inserts the row of a link that isn't hierarchical.
 fn add_link<S: Alter>(tx: &mut Transaction<'_, S>, link: &Link) -> Result<usize, Error>
     ensures same_reference { tx.new.conn.ghost_name ≡ tx.old.conn.ghost_name }
     ensures does { SucceedsInside S.Store (AppliesChange (change.AddLink link.now))
@@ -109,7 +109,7 @@ fn add_link<S: Alter>(tx: &mut Transaction<'_, S>, link: &Link) -> Result<usize,
     )
 }
 
-// Removes a link.
+// Deletes the row of a link that isn't hierarchical.
 fn drop_link<S: Alter>(tx: &mut Transaction<'_, S>, link: &Link) -> Result<usize, Error>
     ensures same_reference { tx.new.conn.ghost_name ≡ tx.old.conn.ghost_name }
     ensures does { SucceedsInside S.Store (AppliesChange (change.DropLink link.now))
@@ -122,7 +122,7 @@ fn drop_link<S: Alter>(tx: &mut Transaction<'_, S>, link: &Link) -> Result<usize
     )
 }
 
-// Inserts a hierarchical link.
+// Inserts the row of a hierarchical link.
 fn add_hier<S: Alter>(tx: &mut Transaction<'_, S>, row: &HierRow) -> Result<usize, Error>
     ensures same_reference { tx.new.conn.ghost_name ≡ tx.old.conn.ghost_name }
     ensures does { SucceedsInside S.Store (AppliesChange (change.AddHier row.now))
@@ -135,7 +135,7 @@ fn add_hier<S: Alter>(tx: &mut Transaction<'_, S>, row: &HierRow) -> Result<usiz
     )
 }
 
-// Removes a hierarchical link.
+// Deletes the row of a hierarchical link.
 fn drop_hier<S: Alter>(tx: &mut Transaction<'_, S>, row: &HierRow) -> Result<usize, Error>
     ensures same_reference { tx.new.conn.ghost_name ≡ tx.old.conn.ghost_name }
     ensures does { SucceedsInside S.Store (AppliesChange (change.DropHier row.now))
@@ -148,7 +148,7 @@ fn drop_hier<S: Alter>(tx: &mut Transaction<'_, S>, row: &HierRow) -> Result<usi
     )
 }
 
-// Inserts a posting.
+// Inserts the row of a posting.
 fn add_posting<S: Alter>(tx: &mut Transaction<'_, S>, row: &PostingRow) -> Result<usize, Error>
     ensures same_reference { tx.new.conn.ghost_name ≡ tx.old.conn.ghost_name }
     ensures does { SucceedsInside S.Store (AppliesChange (change.AddPosting row.now))
@@ -161,7 +161,7 @@ fn add_posting<S: Alter>(tx: &mut Transaction<'_, S>, row: &PostingRow) -> Resul
     )
 }
 
-// Marks a posting as withdrawn.
+// Marks the posting with the number as withdrawn.
 fn withdraw<S: Alter>(tx: &mut Transaction<'_, S>, n: PostNo) -> Result<usize, Error>
     ensures same_reference { tx.new.conn.ghost_name ≡ tx.old.conn.ghost_name }
     ensures does { SucceedsInside S.Store (AppliesChange (change.Withdraw n))
@@ -174,7 +174,7 @@ fn withdraw<S: Alter>(tx: &mut Transaction<'_, S>, n: PostNo) -> Result<usize, E
     )
 }
 
-// Sets the place of a posting.
+// Sets the place of the posting with the number.
 fn set_place<S: Alter>(tx: &mut Transaction<'_, S>, n: PostNo, place: ResNo) -> Result<usize, Error>
     ensures same_reference { tx.new.conn.ghost_name ≡ tx.old.conn.ghost_name }
     ensures does { SucceedsInside S.Store (AppliesChange (change.SetPlace n place))
@@ -187,7 +187,7 @@ fn set_place<S: Alter>(tx: &mut Transaction<'_, S>, n: PostNo, place: ResNo) -> 
     )
 }
 
-// Moves all postings from the source to the target that aren't withdrawn.
+// Assigns each posting that is assigned to the source, and isn't withdrawn, to the target.
 fn move_all<S: Alter>(
     tx: &mut Transaction<'_, S>,
     source: ResNo,
@@ -204,7 +204,7 @@ fn move_all<S: Alter>(
     )
 }
 
-// Inserts a move.
+// Inserts the row of a move.
 fn add_move<S: Alter>(tx: &mut Transaction<'_, S>, row: &MoveRow) -> Result<usize, Error>
     ensures same_reference { tx.new.conn.ghost_name ≡ tx.old.conn.ghost_name }
     ensures does { SucceedsInside S.Store (AppliesChange (change.AddMove row.now))
@@ -217,7 +217,7 @@ fn add_move<S: Alter>(tx: &mut Transaction<'_, S>, row: &MoveRow) -> Result<usiz
     )
 }
 
-/// Makes one change, inside the transaction.
+/// Performs one change by one statement, inside the transaction, and returns the number of rows changed.
 pub(crate) fn apply<S: Alter>(tx: &mut Transaction<'_, S>, change: &Change) -> Result<usize, Error>
     ensures same_reference { tx.new.conn.ghost_name ≡ tx.old.conn.ghost_name }
     ensures does { SucceedsInside S.Store (AppliesChange change.now)

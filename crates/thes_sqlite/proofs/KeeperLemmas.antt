@@ -1,4 +1,4 @@
--- Proves that each call of a `SqlKeeper` keeps its invariant, and what a commit makes of its rows.
+-- Each call of the storage keeps its invariant, and a commit applies its changes to the rows.
 use Rattle.std.proofs.Common.{arith, inl, inr, ◌≡◌, ℕ, ◌+◌, List, [], ◌∷◌, map, Bool, Option, None, Some, Result}
 use Rattle.std.proofs.Common.{refl, sym, ap, subst, ◌∙◌, IsTrue}
 use Rattle.std.specs.Prelude.{IsUtf8}
@@ -32,12 +32,11 @@ use Rattle.thes_sql.specs.StoredRows.{hier_values, stored_meta, IsSpelledOutside
 use Rattle.thes_sql.specs.TransactionEffects.{IsOwnTransaction}
 use Rattle.thes_sql.specs.Reads.{tree_of, places_of, IsReadable, LeavesTables}
 use Rattle.thes_sql.proofs.KeyedRowLemmas.{is_table}
-use Rattle.thes_sqlite.specs.KeeperView.{raw_in, raw_of_keeper, KeeperView, IsServing, IsUp, IsServed, IsStore}
+use Rattle.thes_sqlite.specs.KeeperView.{raw_in, raw_of_keeper, KeeperView, IsKeeperUp, IsUp, HasCommittedTables}
+use Rattle.thes_sqlite.specs.KeeperView.{IsStore}
 use Rattle.thes_sqlite.specs.KeeperView.{IsKeeperState, RawAfterChanges, LeavesEither, LeavesAfter}
 use Rattle.thes_sqlite.specs.ValueCells.{cell_of}
 use Rattle.thes_sqlite.proofs.ValueLemmas.{text_cell}
-
--- The cells read from trees that hold tables are the cells of these tables.
 
 abbrev tree_columns : List ℕ → List Row → List (List Cell)
 tree_columns places rows = map (map cell_of) (map (λ (row : Row). map (column row) places) rows)
@@ -77,7 +76,7 @@ hidden_tree_back : {A : Type 0} (places : List ℕ) (of : A → List Value) (cel
 hidden_tree_back places of cells P is xs tree h all = ap (tree_columns places) h.held.rows
     ∙ hidden_back places of cells P is h.given (subst (AllByRecursion P) (sym h.same) all) ∙ ap (map cells) h.same
 
--- Cells of UTF-8 texts are read back unchanged.
+-- A text in UTF-8 is read back as the cell that was stored.
 meta_back : (base : List ℕ) → IsUtf8 base → tree_columns (places_of table.Meta) (stored_meta base ∷ [])
     ≡ meta_cells base ∷ []
 meta_back base is = λ i. (number_cell 1 ∷ number_cell 2 ∷ text_cell base is i ∷ []) ∷ []
@@ -96,7 +95,7 @@ posting_back : (x : PostingRow) → IsSpelledPosting x
 posting_back x is = λ i. number_cell x.number ∷ text_cell x.key is.0 i ∷ text_cell x.rec is.1 i ∷ number_cell x.first
     ∷ number_cell x.place ∷ flag_cell x.withdrawn ∷ []
 
--- The rows of cells in trees that hold tables are the cells of the tables.
+-- The cells read from trees that hold tables are the cells of the tables.
 pub raw_of : (db : Trees) (t : Tables) → Hold db t → raw_in db ≡ cells_of_tables t
 raw_of db t h =
     let spelled = h.spelled in
@@ -131,7 +130,7 @@ raw_of db t h =
       move = Some (move i);
     }
 
--- A database that keeps tables is readable.
+-- A database that is a store is readable.
 pub readable_of : (db : Database) (t : Tables) → Keeps db t → IsReadable db
 readable_of db t k = record { schema = k.schema; ordered = ordered }
   where
@@ -152,13 +151,11 @@ readable_of db t k = record { schema = k.schema; ordered = ordered }
     ordered table.Move = subst IsTable (sym k.hold.move.rows) (is_table (λ (row : MoveRow). row.number)
         stored_move (λ x. refl) 0 t.move k.hold.move.rises)
 
--- Reads.
-
 pub before_read : {S : Type 0} (g : Ghosts S) (old new : Held S) → LeavesTables g old new → IsUp (state g new)
     → IsUp (state g old)
 before_read g old new leaves up = (omega (arith, leaves.clean, up.0), leaves.was up.0 up.1)
 
--- What holds of the tables that the database keeps holds of the tables whose cells its rows are.
+-- A property of the store's tables is one of the tables whose cells its rows are.
 pub holds_of_raw : {S : Type 0} (g : Ghosts S) (first : State) (start old new : Held S) → start ≡ old
     → IsKeeperState first (state g start) → LeavesTables g start new → {P : Tables → Type 0}
     → ((t : Tables) → Keeps (state g start).now t → (state g start).now ≡ (state g start).committed → P t)
@@ -170,25 +167,23 @@ holds_of_raw g first start old new same kept leaves {P} holds known up t is =
     ap (λ h. raw_in (state g h).now.trees) same ∙ is in
     subst P (listed_one k.0 t (sym (raw_of (state g start).now.trees k.0 k.1.hold) ∙ shown)) (holds k.0 k.1 s.settled)
 
--- Commits.
-
 pub up_before : (old new : State) {C : Trees → Type 0} → Survives old new C
     → (HasCleanDisk new → IsTrue new.is_open → IsTrue old.is_open) → IsUp new → IsUp old
 up_before old new s was up = (omega (arith, s.clean, up.0), was up.0 up.1)
 
--- The changes fit any tables that the storage holds.
+-- The changes fit the tables of the storage, whatever tables its rows encode.
 abbrev pub FitsKeeper : State → List Change → State → Type 0
 FitsKeeper first changes old = IsStore first → IsUp old → (t : Tables) → raw_in old.now.trees ≡ cells_of_tables t
     → DeltaFits changes t
 
--- Rows of cells are those of at most one list of tables, so the new rows are the old ones with the changes.
+-- Rows encode at most one list of tables, so the new rows are those of the old tables after the changes.
 raw_after_changes : (old : State) (t : Tables) (changes : List Change) (db : Trees) → Keeps old.now t
     → Hold db (tables_after_delta changes t) → RawAfterChanges changes (raw_in old.now.trees) (raw_in db)
 raw_after_changes old t changes db kept made u e = raw_of db (tables_after_delta changes t) made
     ∙ ap (λ (k : Tables). cells_of_tables (tables_after_delta changes k))
     (listed_one t u (sym (raw_of old.now.trees t kept.hold) ∙ e))
 
--- A transaction of fitting changes keeps the invariant, and makes the changes of the rows.
+-- A transaction of fitting changes keeps the invariant, and applies the changes to the rows.
 pub keeper_state_after_commit : (first : State) (old new : State) (changes : List Change) → IsKeeperState first old
     → (IsUp new → IsUp old) → new.in_transaction ≡ old.in_transaction → FitsKeeper first changes old
     → (IsUp new → (t : Tables) → Keeps old.now t → DeltaFits changes t → Keeps new.now (tables_after_delta changes t))
@@ -210,21 +205,19 @@ keeper_state_after_commit first old new changes kept before mode fits did settle
     made : IsStore first → IsUp new → (t : Tables) → Keeps old.now t → Keeps new.now (tables_after_delta changes t)
     made known up t keeps = did up t keeps (fits known (before up) t (raw_of old.now.trees t keeps.hold))
 
--- Crashes of an open store.
-
 abbrev pub IsSettled : State → Type 0
 IsSettled s = (db : Trees) → IsTrue s.is_open → s.may_leave db → db ≡ s.committed.trees
 
 left_trees : (s : State) → s.now ≡ s.committed → IsUp s → IsSettled s → (db : Trees) → s.may_leave db → db ≡ s.now.trees
 left_trees s settled up law db may = law db up.1 may ∙ sym (ap (λ (d : Database). d.trees) settled)
 
--- An open store keeps the tables whose cells its rows are.
-holds_shown : (s : State) → IsServed s → (t : Tables) → raw_in s.now.trees ≡ cells_of_tables t → Keeps s.now t
+-- An open store has the tables whose cells its rows are.
+holds_shown : (s : State) → HasCommittedTables s → (t : Tables) → raw_in s.now.trees ≡ cells_of_tables t → Keeps s.now t
 holds_shown s served t is =
     let k = served.keeps in
     subst (Keeps s.now) (listed_one k.0 t (sym (raw_of s.now.trees k.0 k.1.hold) ∙ is)) k.1
 
--- A crash during a commit leaves the tables without the changes or with all of them.
+-- A crash during a commit leaves the tables without the changes, or those with all changes.
 pub leaves_either : (first : State) (old new : State) (changes : List Change) → IsKeeperState first old
     → IsSettled old → FitsKeeper first changes old
     → Survives old new
@@ -247,7 +240,7 @@ leaves_after first old new changes kept law done known up t is db may =
     subst (λ trees. Hold trees (tables_after_delta changes t)) (sym (left_trees new served.settled up law db may))
     (holds_shown new served (tables_after_delta changes t) (done known up t is)).hold
 
--- The result of a successful commit, for the view that the caller has.
+-- The result of a successful commit, as the caller sees it.
 pub record IsDone {S : Type 0} (g : Ghosts S) (view old : KeeperView S) (changes : List Change) (new : Held S) : Type
     0 where
   pub kept : IsKeeperState (state g view.first) (state g new)
@@ -257,7 +250,7 @@ pub record IsDone {S : Type 0} (g : Ghosts S) (view old : KeeperView S) (changes
 
 module _ {S : Type 0} (g : Ghosts S) (view old : KeeperView S) (same : view ≡ old) (new : Held S)
     (changes : List Change) (kept : IsKeeperState (state g view.first) (state g view.conn))
-    (fits : IsServing g old → (t : Tables) → raw_of_keeper g old ≡ cells_of_tables t → DeltaFits changes t)
+    (fits : IsKeeperUp g old → (t : Tables) → raw_of_keeper g old ≡ cells_of_tables t → DeltaFits changes t)
     (crash : Survives (state g view.conn) (state g new)
     (λ trees. (t : Tables) → Keeps (state g view.conn).now t → DeltaFits changes t
     → Hold trees (tables_after_delta changes t)))
@@ -266,7 +259,7 @@ module _ {S : Type 0} (g : Ghosts S) (view old : KeeperView S) (same : view ≡ 
   fits_keeper = subst (λ (k : KeeperView S). FitsKeeper (state g k.first) changes (state g k.conn)) (sym same)
       (λ known up. fits (known, up))
 
-  -- A successful transaction keeps the invariant and makes the changes, durably.
+  -- A successful transaction keeps the invariant and applies the changes, durably.
   pub is_done : {r : Result Bool Error} → IsOwnTransaction g view.conn new r
       → (HasCleanDisk (state g new) → (t : Tables) → Keeps (state g view.conn).now t → DeltaFits changes t
       → Keeps (state g new).now (tables_after_delta changes t))

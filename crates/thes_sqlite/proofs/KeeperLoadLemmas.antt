@@ -1,4 +1,4 @@
--- Proves that a load passes the rows of all tables to the sink, table after table.
+-- A load passes the rows of all tables to the sink, table after table.
 use Rattle.std.proofs.Common.{◌≡◌, ◌<◌, ◌+◌, ℕ, List, [], ◌∷◌, length, take, get_or, append-nil, Option, Result, Ok}
 use Rattle.std.proofs.Common.{Err, refl, sym, ap, subst, ◌∙◌}
 use Rattle.sqlite.specs.Tree.{Trees}
@@ -14,7 +14,7 @@ use Rattle.thes_store.specs.Causes.{HasCause}
 use Rattle.thes_store.specs.Sinks.{SinkAcceptsAll, SinkAcceptsPrefix, SinkOutcome, sink_rows_of_table}
 use Rattle.thes_store.specs.Loading.{raw_rows_of, sink_rows_of_tables}
 use Rattle.thes_store.proofs.SinkLemmas.{tables_append, part_accepted, part_refused}
-use Rattle.thes_sqlite.specs.KeeperView.{KeeperView, raw_in, raw_table, raw_of_keeper, IsUp, IsServing, IsStore}
+use Rattle.thes_sqlite.specs.KeeperView.{KeeperView, raw_in, raw_table, raw_of_keeper, IsUp, IsKeeperUp, IsStore}
 use Rattle.thes_sqlite.specs.KeeperView.{IsKeeperState}
 use Rattle.thes_sqlite.proofs.KeeperLemmas.{before_read, readable_of}
 
@@ -28,7 +28,7 @@ raw_at table.Hier db = refl
 raw_at table.Posting db = refl
 raw_at table.Move db = refl
 
--- If a readable table's rows are passed to the sink, the storage that serves the tables passes them.
+-- If the rows of a readable table are passed to the sink, so are the rows of the storage's table.
 pub table_yielded : {S R : Type 0} (g : Ghosts S) (first : State) (start old new : Held S) → start ≡ old
     → IsKeeperState first (state g start) → LeavesTables g start new
     → (gives : R → Table × Option (List Cell) → Result (Unit {0}) Fault → R → Type 0) (p : Table)
@@ -46,9 +46,9 @@ table_yielded g first start old new same kept leaves gives p before after r yiel
 pub record LoadProgress {S R : Type 0} (g : Ghosts S) (gives : R → Table × Option (List Cell)
     → Result (Unit {0}) Fault → R → Type 0)
     (names : List Table) (start now : KeeperView S) (before after : R) : Type 0 where
-  pub was : IsServing g now → IsServing g start
-  pub same : IsServing g now → raw_of_keeper g now ≡ raw_of_keeper g start
-  pub sink_accepts : IsServing g now → SinkAcceptsAll gives before (sink_rows_of_tables (raw_of_keeper g start) names)
+  pub was : IsKeeperUp g now → IsKeeperUp g start
+  pub same : IsKeeperUp g now → raw_of_keeper g now ≡ raw_of_keeper g start
+  pub sink_accepts : IsKeeperUp g now → SinkAcceptsAll gives before (sink_rows_of_tables (raw_of_keeper g start) names)
       after
   pub failures : now.failures ≡ start.failures
   pub first : now.first ≡ start.first
@@ -57,11 +57,11 @@ module _ {S R : Type 0} (g : Ghosts S) (gives : R → Table × Option (List Cell
     (names : List Table) (i : ℕ) (name : Table) (start mid new : KeeperView S) (before between after : R)
     (r : Result (Unit {0}) Fault) (lt : i < length names) (is : name ≡ get_or names i name)
     (p : LoadProgress g gives (take i names) start mid before between)
-    (yields : IsServing g new → SinkOutcome gives between
+    (yields : IsKeeperUp g new → SinkOutcome gives between
     (sink_rows_of_table name (raw_table name (state g mid.conn).now.trees)) r after)
-    (same : IsServing g new → raw_of_keeper g new ≡ raw_of_keeper g mid) (was : IsServing g new → IsServing g mid)
+    (same : IsKeeperUp g new → raw_of_keeper g new ≡ raw_of_keeper g mid) (was : IsKeeperUp g new → IsKeeperUp g mid)
     (cause : HasCause mid.failures new.failures r) (known : new.first ≡ mid.first) where
-  one : IsServing g new → SinkOutcome gives between (sink_rows_of_tables (raw_of_keeper g start) (name ∷ [])) r after
+  one : IsKeeperUp g new → SinkOutcome gives between (sink_rows_of_tables (raw_of_keeper g start) (name ∷ [])) r after
   one up = subst (λ l. SinkOutcome gives between l r after)
       (ap (sink_rows_of_table name) (sym (raw_at name (state g mid.conn).now.trees)
       ∙ ap (raw_rows_of name) (p.same (was up)))
@@ -81,9 +81,9 @@ module _ {S R : Type 0} (g : Ghosts S) (gives : R → Table × Option (List Cell
 
   -- A fault at one table ends the load with a prefix of the rows in the sink.
   pub load_progress_fault : (fault : Fault) → r ≡ Err fault
-      → (IsServing g new → SinkAcceptsPrefix gives fault before (sink_rows_of_tables (raw_of_keeper g start) names)
+      → (IsKeeperUp g new → SinkAcceptsPrefix gives fault before (sink_rows_of_tables (raw_of_keeper g start) names)
       after)
-      × (IsServing g new → raw_of_keeper g new ≡ raw_of_keeper g start) × (IsServing g new → IsServing g start)
+      × (IsKeeperUp g new → raw_of_keeper g new ≡ raw_of_keeper g start) × (IsKeeperUp g new → IsKeeperUp g start)
       × HasCause {T = Unit {0}} start.failures new.failures (Err fault)
   load_progress_fault fault err = (
     λ up. part_refused gives (sink_rows_of_tables (raw_of_keeper g start)) (tables_append (raw_of_keeper g start))

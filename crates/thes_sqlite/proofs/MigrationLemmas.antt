@@ -1,177 +1,394 @@
--- Proves which stores a migration rejects, and the state that it leaves.
-use Rattle.std.proofs.Common.{arith, inl, inr, ◌≡◌, ◌⊎◌, ◌≤◌, ℕ, List, [], ◌∷◌, map, refl, sym, ap, subst, ◌∙◌}
-use Rattle.std.proofs.Common.{Result, Ok, Err, OnOk, IfErr, Bool, true, false, cond}
+-- Proves what a migration finds in a database, and the state that it leaves.
+use Rattle.std.proofs.Common.{◌<◌, IsTrue, arith, inl, inr, ◌≡◌, ◌⊎◌, ◌≤◌, ℕ, List, [], ◌∷◌, map, refl, sym, ap, subst}
+use Rattle.std.proofs.Common.{◌∙◌}
+use Rattle.std.proofs.Common.{Result, Ok, Err, OnOk, IfOk, IfErr, IsErrAnd, Bool, true, false, Some, None, Option}
+use Rattle.std.proofs.Common.{IsSome}
+use Rattle.std.proofs.lemmas.Bool.{cases_Bool}
 use Rattle.sqlite.specs.Order.{Row}
+use Rattle.sqlite.specs.Tree.{Trees}
 use Rattle.sqlite.specs.Effect.{Database}
-use Rattle.sqlite.specs.State.{HasCleanDisk, Shown}
+use Rattle.sqlite.specs.Schema.{Schema}
+use Rattle.sqlite.specs.State.{State, HasCleanDisk, Survives}
 use Rattle.sqlite.specs.Held.{Held, state}
+use Rattle.sqlite.specs.declared.error.Error.{Error}
 use Rattle.sqlite.specs.declared.types.Value.TheVariants as values
+use Rattle.sqlite.proofs.StateLemmas.{survives_then, survives_weaker}
 use Rattle.sqlite_trees.specs.View.{doubt}
+use Rattle.sqlite_trees.specs.declared.error.StoreError.TheVariants as cause
 use Rattle.sqlite_trees.specs.declared.store.Store.{Ghosts}
 use Rattle.thes_base.specs.declared.fault.Fault.{Fault}
 use Rattle.thes_base.specs.declared.fault.Fault.TheVariants as faults
 use Rattle.thes_base.specs.declared.fault.Table.TheVariants as table
-use Rattle.thes_base.specs.Legal.{Legal}
-use Rattle.thes_base.specs.State.{State}
-use Rattle.thes_tables.specs.declared.cells.Cell.TheVariants as cells
+use Rattle.thes_base.specs.Legal.{IsLegalState}
+use Rattle.thes_base.specs.State.{State as Content}
 use Rattle.thes_tables.specs.Tables.{Tables, IsRowsOf}
+use Rattle.thes_tables.specs.Cells.{cells_of_tables}
 use Rattle.thes_tables.proofs.CellLemmas.{head_one, tail_one, number_one}
 use Rattle.thes_load_rules.specs.Rules.{state_of}
 use Rattle.thes_load_rules.specs.Verdicts.{HasVerdict}
 use Rattle.thes_load_rules.proofs.LegalTableLemmas.{held_loads}
-use Rattle.thes_sql.specs.StoredRows.{Keeps}
-use Rattle.thes_sql.specs.OldStore.{KeepsOld, HasKnownSchema, HasVersion, KeepsKnown, LeavesKnown, version_row}
-use Rattle.thes_sql.specs.OldStore.{old_schema}
+use Rattle.thes_sql.specs.StoredRows.{Keeps, Hold}
+use Rattle.thes_sql.specs.OldStore.{KeepsOld, version_row, links_text, hier_text}
+use Rattle.thes_sql.specs.Queries.{compiles, Finds, IsStoreFault, FailsToFind}
 use Rattle.thes_tables.specs.OldRows.{tables_after_migration}
-use Rattle.thes_sql.specs.Reads.{read_text}
+use Rattle.thes_sql.specs.Reads.{read_text, LeavesAlone}
+use Rattle.thes_sql.specs.TransactionEffects.{IsOwnTransaction}
+use Rattle.thes_sql.proofs.SelectLemmas.{version_found}
+use Rattle.thes_sql.proofs.KnownSchemaLemmas.{knows_links, misses_hier}
 use Rattle.thes_tables.proofs.OldRowLemmas.{migration_law}
-use Rattle.thes_sqlite.specs.Faults.{IsKeeperFault}
-use Rattle.thes_sqlite.specs.KeeperView.{raw_in}
-use Rattle.thes_sqlite.specs.MigrationEffects.{IsMigrateFault, IsMetaFault, IsTableFault, IsMigrateCause}
-use Rattle.thes_sqlite.specs.MigrationEffects.{IsKnownStore, Migrates}
+use Rattle.thes_sqlite.specs.Faults.{IsKeeperFault, HasFailed, HasDeviceFailed, error_fault}
+use Rattle.thes_sqlite.specs.KeeperView.{IsUp, raw_in, IsStore}
+use Rattle.thes_sqlite.specs.MigrationEffects.{IsMigrateFault, HasMetaVersion, IsMetaVerdict, IsLinkVerdict}
+use Rattle.thes_sqlite.specs.MigrationEffects.{IsVerdictOn}
+use Rattle.thes_sqlite.specs.MigrationEffects.{IsVersionVerdict, IsMigrationVerdict, Judges, meta_fault_of}
+use Rattle.thes_sqlite.specs.MigrationEffects.{links_verdict_of}
+use Rattle.thes_sqlite.specs.MigrationEffects.{hier_verdict_of, IsUnwritten, Migrates}
 use Rattle.thes_sqlite.specs.MigrationLaws.{HoldsOldState, HoldsState, MigratesState, MigratesStates}
 use Rattle.thes_sqlite.specs.ValueCells.{cell_of}
 use Rattle.thes_sqlite.proofs.KeeperLemmas.{raw_of}
 
--- The row of meta in a store of version 1 or 2.
+-- The verdict on a store of version 1 is that it is to be migrated; on one of version 2, that it is current.
 
-abbrev IsKnownVersion : ℕ → Type 0
-IsKnownVersion version = (version ≡ 1) ⊎ (version ≡ 2)
+module _ (version : ℕ) (base : List ℕ) (found : Option (List Row))
+    (is : found ≡ Some (version_row version base ∷ [])) where
+  -- A row of this version has no other one.
+  version_is : (Is : ℕ → Type 0) → HasMetaVersion Is found → Is version
+  version_is Is had =
+      let h = subst (HasMetaVersion Is) is had in
+      let cells = ap (map cell_of) (head_one h.1) ∙ h.4.1 in
+      subst Is (sym (number_one (head_one (tail_one cells)))) h.3
 
-module _ (rows : List Row) (version : ℕ) (base : List ℕ) (is : rows ≡ version_row version base ∷ [])
-    (right : IsKnownVersion version) where
-  not_newer : IsMetaFault rows faults.NewerStore → ⊥
-  not_newer h =
-      let row : version_row version base ≡ h.0 = head_one (sym is ∙ h.1) in
-      let cells = ap (map cell_of) row ∙ h.4.1 in
-      let same : version ≡ h.2 = number_one (head_one (tail_one cells)) in
-      let above = h.3 in
-      elim right [ inl one ↦ omega (arith, same, above, one) | inr two ↦ omega (arith, same, above, two) ]
+  has_version : (Is : ℕ → Type 0) → Is version → HasMetaVersion Is found
+  has_version Is so =
+      subst (HasMetaVersion Is) (sym is)
+      (version_row version base, refl, version, so, (cell_of (values.Text base), refl))
 
-  is_known : IsMetaFault rows (faults.BadStore table.Meta) → ⊥
-  is_known h = h (
-    version_row version base,
-    is,
-    version,
-    elim right [ inl one ↦ omega (arith, one) | inr two ↦ omega (arith, two) ],
-    (cell_of (values.Text base), refl),
-  )
+module _ (db : Database) (t : Tables) where
+  pub verdict_of_old : KeepsOld db t → (verdict : Result Bool Fault) → IsMigrationVerdict db verdict → verdict ≡ Ok true
+  verdict_of_old old verdict (found, finds, is) = go verdict is
+    where
+      so : found ≡ Some (version_row 1 t.base ∷ [])
+      so = version_found 1 t.base db found (inr old.schema, old.hold.meta) finds
 
-  pub whole_meta : (fault : Fault) → IsMetaFault rows fault → IsKeeperFault fault
-  whole_meta faults.OutOfMemory h = inl refl
-  whole_meta faults.NewerStore h = absurd (not_newer h)
-  whole_meta (faults.BadStore table.Meta) h = absurd (is_known h)
-  whole_meta other h = absurd h
+      two : HasMetaVersion (λ v. v ≡ 2) found → ⊥
+      two h = let e : 1 ≡ 2 = version_is 1 t.base found so (λ v. v ≡ 2) h in omega (arith, e)
 
-pub version_of : (db : Database) (t : Tables) → IsKnownStore db t
-    → (version : ℕ) × HasVersion version t.base db × IsKnownVersion version
-version_of db t (inl old) = (1, (inr old.schema, old.hold.meta), inl refl)
-version_of db t (inr now) = (2, (inl now.schema, now.hold.meta), inr refl)
+      newer : HasMetaVersion (λ v. 2 < v) found → ⊥
+      newer h = let e : 2 < 1 = version_is 1 t.base found so (λ v. 2 < v) h in omega (arith, e)
 
-pub known_of : (db : Database) (t : Tables) → IsKnownStore db t → HasKnownSchema db
-known_of db t (inl old) = inr old.schema
-known_of db t (inr now) = inl now.schema
+      go : (verdict : Result Bool Fault) → IsVerdictOn db.schema found verdict → verdict ≡ Ok true
+      go (Ok true) h = refl
+      go (Ok false) h = absurd (two h)
+      go (Err faults.NewerStore) h = absurd (newer h)
+      go (Err (faults.BadStore table.Meta)) h = absurd (h (has_version 1 t.base found so (λ v. 1 ≤ v) (omega arith)))
+      go (Err (faults.BadStore table.Link)) h = let e = sym h.1 ∙ knows_links db.schema old.schema in cc
+      go (Err (faults.BadStore table.Hier)) h = let e = sym h.1.1 ∙ misses_hier db.schema old.schema in cc
+      go other h = absurd h
 
--- The rows of meta, read after the check that they can be.
-module _ {S : Type 0} (g : Ghosts S) (old mid new : Held S) (rows : List Row)
-    (same : HasCleanDisk (state g new) → (state g mid).now ≡ (state g old).now)
-    (shown : HasCleanDisk (state g new) → Shown (read_text table.Meta) [] (state g mid) (state g new) rows)
-    (shows : HasCleanDisk (state g new) → (version : ℕ) (base : List ℕ) → HasVersion version base (state g mid).now
-    → rows ≡ version_row version base ∷ []) where
-  meta_cause : (fault : Fault) → IsMetaFault rows fault → HasCleanDisk (state g new) → IsMigrateCause g old new fault
-  meta_cause faults.OutOfMemory h clean = tt
-  meta_cause faults.NewerStore h clean = (rows, (mid, same clean, shown clean), h)
-  meta_cause (faults.BadStore table.Meta) h clean = inr (rows, (mid, same clean, shown clean), h)
-  meta_cause other h clean = absurd h
+  pub verdict_of_new : Keeps db t → (verdict : Result Bool Fault) → IsMigrationVerdict db verdict → verdict ≡ Ok false
+  verdict_of_new kept verdict (found, finds, is) = go verdict is
+    where
+      so : found ≡ Some (version_row 2 t.base ∷ [])
+      so = version_found 2 t.base db found (inl kept.schema, kept.hold.meta) finds
 
-  pub meta_causes : {V : Type 0} (r : Result V Fault) → IfErr r (IsMetaFault rows)
-      → IfErr r (λ fault. HasCleanDisk (state g new) → IsMigrateCause g old new fault)
-  meta_causes (Ok v) h = tt
-  meta_causes (Err fault) h = meta_cause fault h
+      one : HasMetaVersion (λ v. v ≡ 1) found → ⊥
+      one h = let e : 2 ≡ 1 = version_is 2 t.base found so (λ v. v ≡ 1) h in omega (arith, e)
 
-  pub meta_whole : {V : Type 0} (r : Result V Fault) → IfErr r (IsMetaFault rows)
-      → IfErr r (λ fault. HasCleanDisk (state g new) → (t : Tables) → IsKnownStore (state g old).now t
-      → IsKeeperFault fault)
-  meta_whole (Ok v) h = tt
-  meta_whole (Err fault) h = λ clean t whole.
-      let v = version_of (state g old).now t whole in
-      whole_meta rows v.0 t.base (shows clean v.0 t.base (subst (HasVersion v.0 t.base) (sym (same clean)) v.1)) v.2
-      fault h
+      newer : HasMetaVersion (λ v. 2 < v) found → ⊥
+      newer h = let e : 2 < 2 = version_is 2 t.base found so (λ v. 2 < v) h in omega (arith, e)
 
--- A migration that fails.
+      go : (verdict : Result Bool Fault) → IsVerdictOn db.schema found verdict → verdict ≡ Ok false
+      go (Ok true) h = absurd (one h.0)
+      go (Ok false) h = refl
+      go (Err faults.NewerStore) h = absurd (newer h)
+      go (Err (faults.BadStore table.Meta)) h = absurd (h (has_version 2 t.base found so (λ v. 1 ≤ v) (omega arith)))
+      go (Err (faults.BadStore table.Link)) h = absurd (one h.0)
+      go (Err (faults.BadStore table.Hier)) h = absurd (one h.0)
+      go other h = absurd h
 
-pub table_cause : {S : Type 0} (g : Ghosts S) (old new : Held S) (fault : Fault)
-    → IsTableFault (state g new).now.schema fault → IsMigrateCause g old new fault
-table_cause g old new faults.NewerStore h = absurd h
-table_cause g old new (faults.BadStore table.Meta) h = absurd h
-table_cause g old new other h = h
+-- The version of a database.
 
-module _ {S : Type 0} (g : Ghosts S) (old mid new : Held S) where
-  clean_before : doubt (state g mid).is_clean ≤ doubt (state g new).is_clean → HasCleanDisk (state g new)
-      → HasCleanDisk (state g mid)
-  clean_before less clean = omega (arith, less, clean)
+failed_so : (old new : State) (e : Error) → IsStoreFault old new e → HasFailed old new (error_fault e)
+failed_so old new e (cause.OutOfMemory, is, why) = inl (ap error_fault is)
+failed_so old new e (cause.Io, is, why) = inr (ap error_fault is, inl why)
+failed_so old new e (cause.Corrupt, is, why) = inr (ap error_fault is, inl why)
+failed_so old new e (cause.Full, is, why) = inr (ap error_fault is, inl why)
+failed_so old new e (cause.Broken, is, why) = inr (ap error_fault is, inr (inl why))
+failed_so old new e (cause.Unstorable, is, why) = absurd why
 
-  pub known_on : KeepsKnown g old mid → HasKnownSchema (state g old).now → HasCleanDisk (state g mid)
-      → HasKnownSchema (state g mid).now
-  known_on keeps known clean = subst HasKnownSchema (sym (keeps known clean).0) known
+module _ {S : Type 0} (g : Ghosts S) (old new : Held S) where
+  -- The rows of meta decide.
+  pub rows_judged : (rows : List Row) (r : Result Bool Fault)
+      → (HasCleanDisk (state g new) → Finds (read_text table.Meta) (state g old).now (Some rows))
+      → (r ≡ Err faults.OutOfMemory) ⊎ IsMetaVerdict (Some rows) r → Judges g IsVersionVerdict old new r
+  rows_judged rows r finds (inl spent) clean =
+      inl (subst (λ k. IsErrAnd k (HasFailed (state g old) (state g new))) (sym spent) (inl refl))
+  rows_judged rows r finds (inr is) clean = inr (Some rows, finds clean, is)
 
-  pub keeps_on : KeepsKnown g old mid → LeavesKnown g mid new → KeepsKnown g mid new → KeepsKnown g old new
-  keeps_on keeps second kept known clean =
-      let here = keeps known (clean_before second.clean clean) in
-      let there = kept (known_on keeps known (clean_before second.clean clean)) clean in
-      (there.0 ∙ here.0, there.1 ∙ here.1)
+  unread : (e : Error) → FailsToFind (read_text table.Meta) (state g old) (state g new) e
+      → HasFailed (state g old) (state g new) (meta_fault_of e)
+      ⊎ IsVersionVerdict (state g old).now (Err (meta_fault_of e))
+  unread e (inl nothing) = rw nothing.0 (inr (None, nothing.1, λ h. h))
+  unread e (inr failed) = rw failed.0 (inl (elim failed.1 [
+    | inl store ↦ failed_so (state g old) (state g new) e store
+    | inr limit ↦ inr (ap error_fault limit.0, inr (inr limit.1))
+  ]))
 
-  -- One more query leaves the database as it is.
-  pub leaves_on : KeepsKnown g old mid → LeavesKnown g old mid → LeavesKnown g mid new → LeavesKnown g old new
-  leaves_on keeps first second = record {
-    mode = λ idle. second.mode (first.mode idle);
-    was = λ clean still_open. first.was (clean_before second.clean clean) (second.was clean still_open);
-    clean = (let a = first.clean in let b = second.clean in omega (arith, a, b));
-    same = λ known clean still_open settled.
-        let here = keeps known (clean_before second.clean clean) in
-        let there = second.same (known_on keeps known (clean_before second.clean clean)) clean still_open
-        (here.0 ∙ settled ∙ sym here.1) in
-        (there.0 ∙ here.0, there.1 ∙ here.1);
-    crash = λ known clean db leave. first.crash known (clean_before second.clean clean) db
-        (second.crash (known_on keeps known (clean_before second.clean clean)) clean db leave);
+  -- Meta that can't be read is a fault, unless the store has failed.
+  pub meta_unread : (e : Error) (fault : Fault) → fault ≡ meta_fault_of e
+      → (HasCleanDisk (state g new) → FailsToFind (read_text table.Meta) (state g old) (state g new) e)
+      → Judges {V = Bool} g IsVersionVerdict old new (Err fault)
+  meta_unread e fault is fails clean = subst (λ f. HasFailed (state g old) (state g new) f
+      ⊎ IsVersionVerdict (state g old).now (Err f)) (sym is) (unread e (fails clean))
+
+-- A failure of the second of two calls is one of both.
+module _ {S : Type 0} (g : Ghosts S) (old mid new : Held S) (first : LeavesAlone g old mid)
+    (second : LeavesAlone g mid new) where
+  pub clean_before : HasCleanDisk (state g new) → HasCleanDisk (state g mid)
+  clean_before clean = let less = second.tables.clean in omega (arith, less, clean)
+
+  device_failed : HasCleanDisk (state g new) → HasDeviceFailed (state g mid) (state g new)
+      → HasDeviceFailed (state g old) (state g new)
+  device_failed clean (inl more) = let up = first.crash.counts in inl (omega (arith, more, up))
+  device_failed clean (inr (inl shut)) = elim (cases_Bool (state g old).is_open) [
+    | inl opened ↦ elim (first.crash.closes (clean_before clean) opened) [
+      | inl still ↦ absurd (let e = sym shut ∙ still in cc)
+      | inr more ↦ let up = second.crash.counts in inl (omega (arith, more, up))
+    ]
+    | inr was_shut ↦ inr (inl was_shut)
+  ]
+  device_failed clean (inr (inr limit)) = inr (inr (subst IsSome first.crash.limit limit))
+
+  pub failed_since : HasCleanDisk (state g new) → (fault : Fault) → HasFailed (state g mid) (state g new) fault
+      → HasFailed (state g old) (state g new) fault
+  failed_since clean fault (inl spent) = inl spent
+  failed_since clean fault (inr h) = inr (h.0, device_failed clean h.1)
+
+  pub failed_before : HasCleanDisk (state g new) → (fault : Fault) → HasFailed (state g old) (state g mid) fault
+      → HasFailed (state g old) (state g new) fault
+  failed_before clean fault (inl spent) = inl spent
+  failed_before clean fault (inr (is, inl more)) = let up = second.crash.counts in inr
+      (is, inl (omega (arith, more, up)))
+  failed_before clean fault (inr (is, inr other)) = inr (is, inr other)
+
+  pub leaves_then : LeavesAlone g old new
+  leaves_then = record {
+    tables = record {
+      mode = λ idle. second.tables.mode (first.tables.mode idle);
+      was = λ clean still_open. first.tables.was (clean_before clean) (second.tables.was clean still_open);
+      clean = (let a = first.tables.clean in let b = second.tables.clean in omega (arith, a, b));
+      same = λ clean still_open settled.
+          let here = first.tables.same (clean_before clean) (second.tables.was clean still_open) settled in
+          let there = second.tables.same clean still_open (here.0 ∙ settled ∙ sym here.1) in
+          (there.0 ∙ here.0, there.1 ∙ here.1);
+    };
+    crash = survives_then (state g old) (state g mid) (state g new) _ _ (λ _. ⊥) (λ _ db none. none)
+        (λ _ db none. none) first.crash second.crash;
   }
 
--- A store found to be of version 1 isn't one of version 2.
-older_only : (older : Bool) → older ≡ true → ◌≡◌ {A = ℕ} 2 (cond older 1 2) → ⊥
-older_only true is e = cc
-older_only false is e = cc
+-- The tables of links.
 
-pub old_schema_of : {S : Type 0} (g : Ghosts S) (old mid : Held S) (older : Bool) → KeepsKnown g old mid → older ≡ true
-    → ((version : ℕ) (base : List ℕ) → HasVersion version base (state g old).now → version ≡ cond older 1 2)
-    → HasCleanDisk (state g mid) → (t : Tables) → IsKnownStore (state g old).now t → (state g mid).now.schema
-    ≡ old_schema
-old_schema_of g old mid older keeps is reports clean t (inl was) =
-    ap (λ (db : Database). db.schema) (keeps (inr was.schema) clean).0 ∙ was.schema
-old_schema_of g old mid older keeps is reports clean t (inr now) =
-    absurd (older_only older is (reports 2 t.base (inl now.schema, now.hold.meta)))
+abbrev fault_or : {V : Type 0} → Fault → Result V Fault → Fault
+fault_or other (Ok v) = other
+fault_or other (Err fault) = fault
 
--- A call that fails with a migration's fault, and leaves the store as it is, satisfies the contract.
-pub migration_refused : {S : Type 0} (g : Ghosts S) (old new : Held S) (fault : Fault) → old.in_transaction ≡ false
-    → LeavesKnown g old new
-    → IsMigrateFault fault → (HasCleanDisk (state g new) → IsMigrateCause g old new fault)
-    → (HasCleanDisk (state g new) → (t : Tables) → IsKnownStore (state g old).now t → IsKeeperFault fault)
-    → Migrates g old new (Err fault)
-migration_refused g old new fault idle leaves named cause whole = record {
-  idle = leaves.mode idle;
-  version = tt;
-  faults = named;
-  causes = cause;
-  whole = whole;
-  was = λ up. leaves.was up.0 up.1;
-  made = tt;
-  current = tt;
-  none = λ up known settled. leaves.same known up.0 up.1 settled;
-  crash = λ clean t kept db leave. inl (leaves.crash (inr kept.schema) clean db leave);
-}
+-- The verdict on the answer whether the links can be queried.
+module _ (old new : State) (schema : Schema) where
+  abbrev IsAnswer : List ℕ → Result Bool Error → Type 0
+  IsAnswer text there = IfOk there (λ b. b ≡ compiles schema text) × IfErr there (IsStoreFault old new)
+
+  -- The links can't be queried, or the store has failed.
+  pub links_stop : (there : Result Bool Error) → IsAnswer links_text there → (fault : Fault)
+      → links_verdict_of there ≡ Err fault → HasFailed old new fault ⊎ IsLinkVerdict schema (Err fault)
+  links_stop (Ok true) is fault e = absurd (cc)
+  links_stop (Ok false) is fault e =
+      inr (subst (λ f. IsLinkVerdict schema (Err f)) (ap (fault_or fault) e) (sym is.0))
+  links_stop (Err error) is fault e =
+      inl (subst (HasFailed old new) (ap (fault_or fault) e) (failed_so old new error is.1))
+
+  pub links_there : (there : Result Bool Error) → IsAnswer links_text there → (done : Unit {0})
+      → links_verdict_of there ≡ Ok done → compiles schema links_text ≡ true
+  links_there (Ok true) is done e = sym is.0
+  links_there (Ok false) is done e = absurd (cc)
+  links_there (Err error) is done e = absurd (cc)
+
+  -- There is a table hier or not, or the store has failed.
+  pub hier_judged : compiles schema links_text ≡ true → (there : Result Bool Error) → IsAnswer hier_text there
+      → IsErrAnd (hier_verdict_of there) (HasFailed old new) ⊎ IsLinkVerdict schema (hier_verdict_of there)
+  hier_judged links (Ok true) is = inr (links, sym is.0)
+  hier_judged links (Ok false) is = inr (links, sym is.0)
+  hier_judged links (Err error) is = inl (failed_so old new error is.1)
+
+-- A whole database.
+
+module _ (db : Database) where
+  pub newer_or_other : (fault : Fault) → IsVersionVerdict db (Err fault) → IsMigrationVerdict db (Err fault)
+  newer_or_other faults.NewerStore h = h
+  newer_or_other (faults.BadStore table.Meta) h = h
+  newer_or_other fault h = absurd (h.2)
+
+  pub links_decide : IsVersionVerdict db (Ok true) → (fault : Fault) → IsLinkVerdict db.schema (Err fault)
+      → IsMigrationVerdict db (Err fault)
+  links_decide h (faults.BadStore table.Link) links = (h.0, h.1, (h.2, links))
+  links_decide h (faults.BadStore table.Hier) links = (h.0, h.1, (h.2, links))
+  links_decide h fault links = absurd links
+
+pub migrate_fault_of_keeper : (fault : Fault) → IsKeeperFault fault → IsMigrateFault fault
+migrate_fault_of_keeper fault (inl spent) = inl spent
+migrate_fault_of_keeper fault (inr store) = inr (inl store)
+
+-- A migration that is refused or has nothing to do.
+
+module _ {S : Type 0} (g : Ghosts S) (old new : Held S) (idle : old.in_transaction ≡ false)
+    (settled : IsTrue (state g old).is_open → (state g old).now ≡ (state g old).committed)
+    (leaves : LeavesAlone g old new) where
+  unwritten : IsUp (state g new) → IsUnwritten (state g old) (state g new)
+  unwritten up = leaves.tables.same up.0 up.1 (settled (leaves.tables.was up.0 up.1))
+
+  still_settled : IsUp (state g new) → (state g new).now ≡ (state g new).committed
+  still_settled up =
+      let same = unwritten up in
+      same.0 ∙ settled (leaves.tables.was up.0 up.1) ∙ sym same.1
+
+  no_crash : {P : Trees → Type 0} → Survives (state g old) (state g new) P
+  no_crash = survives_weaker (state g old) (state g new) _ _ (λ _ db none. absurd none) leaves.crash
+
+  -- The verdict, or a failure of the store, ends the call with a fault.
+  pub migration_refused : (fault : Fault) → IsMigrateFault fault → Judges {V = Bool} g IsMigrationVerdict old new
+      (Err fault) → Migrates g old new (Err fault)
+  migration_refused fault named judged = record {
+    idle = leaves.tables.mode idle;
+    version = tt;
+    faults = named;
+    follows = λ clean. elim (judged clean) [ inl failed ↦ inl failed | inr is ↦ inr (Err fault, is, refl) ];
+    whole = λ clean t known. elim (judged clean) [
+      | inl failed ↦ keeper_fault failed
+      | inr is ↦ elim known [
+        | inl was ↦ let e = verdict_of_old (state g old).now t was (Err fault) is in absurd (cc)
+        | inr now ↦ let e = verdict_of_new (state g old).now t now (Err fault) is in absurd (cc)
+      ]
+    ];
+    was = λ up. leaves.tables.was up.0 up.1;
+    made = tt;
+    current = tt;
+    settled = still_settled;
+    none = unwritten;
+    crash = no_crash;
+  }
+    where
+      keeper_fault : {f : Fault} → HasFailed (state g old) (state g new) f → IsKeeperFault f
+      keeper_fault (inl spent) = inl spent
+      keeper_fault (inr h) = inr h.0
+
+  -- A database of version 2 is unchanged.
+  pub migration_current : (HasCleanDisk (state g new) → IsUnwritten (state g old) (state g new))
+      → Judges {V = Bool} g IsMigrationVerdict old new (Ok false) → Migrates g old new (Ok 2)
+  migration_current same judged = record {
+    idle = leaves.tables.mode idle;
+    version = refl;
+    faults = tt;
+    follows = λ clean. elim (judged clean) [
+      | inl failed ↦ absurd failed
+      | inr is ↦ inr (Ok false, is, (refl, same clean))
+    ];
+    whole = tt;
+    was = λ up. leaves.tables.was up.0 up.1;
+    made = λ clean t was. elim (judged clean) [
+      | inl failed ↦ absurd failed
+      | inr is ↦ let e = verdict_of_old (state g old).now t was (Ok false) is in absurd (cc)
+    ];
+    current = λ clean t now. same clean;
+    settled = still_settled;
+    none = tt;
+    crash = no_crash;
+  }
+
+-- A migration that is made, or that fails at a statement.
+
+module _ {S : Type 0} (g : Ghosts S) (old mid new : Held S) (idle : old.in_transaction ≡ false)
+    (leaves : LeavesAlone g old mid)
+    (kept : HasCleanDisk (state g mid) → IsUnwritten (state g old) (state g mid))
+    (judged : Judges {V = Bool} g IsMigrationVerdict old mid (Ok true))
+    (less : doubt (state g mid).is_clean ≤ doubt (state g new).is_clean)
+    (crash : Survives (state g mid) (state g new)
+    (λ trees. (t : Tables) → KeepsOld (state g mid).now t → Hold trees (tables_after_migration t))) where
+  clean_mid : HasCleanDisk (state g new) → HasCleanDisk (state g mid)
+  clean_mid clean = omega (arith, less, clean)
+
+  to_migrate : HasCleanDisk (state g new) → IsMigrationVerdict (state g old).now (Ok true)
+  to_migrate clean = elim (judged (clean_mid clean)) [ inl failed ↦ absurd failed | inr is ↦ is ]
+
+  old_at_mid : HasCleanDisk (state g new) → (t : Tables) → KeepsOld (state g old).now t → KeepsOld (state g mid).now t
+  old_at_mid clean t was = subst (λ (db : Database). KeepsOld db t) (sym (kept (clean_mid clean)).0) was
+
+  whole_crash : Survives (state g old) (state g new) (λ trees. IsMigrationVerdict (state g old).now (Ok true)
+      × ((t : Tables) → KeepsOld (state g old).now t → Hold trees (tables_after_migration t)))
+  whole_crash = survives_then (state g old) (state g mid) (state g new) _ _ _ (λ _ db none. absurd none)
+      (λ clean db made. (to_migrate clean, λ t was. made t (old_at_mid clean t was))) leaves.crash crash
+
+  module _ {E : Type 0} {done : Result Bool E} (own : IsOwnTransaction g mid new done) where
+    was_open : IsUp (state g new) → IsTrue (state g old).is_open
+    was_open up = leaves.tables.was (clean_mid up.0) (own.was up.0 up.1)
+
+    mid_idle : mid.in_transaction ≡ false
+    mid_idle = leaves.tables.mode idle
+
+    pub migration_succeeds : (HasCleanDisk (state g new) → (t : Tables) → KeepsOld (state g mid).now t
+        → Keeps (state g new).committed (tables_after_migration t) × Keeps (state g new).now (tables_after_migration t))
+        → Migrates g old new (Ok 2)
+    migration_succeeds made = record {
+      idle = own.mode ∙ mid_idle;
+      version = refl;
+      faults = tt;
+      follows = λ clean. inr (Ok true, to_migrate clean, tt);
+      whole = tt;
+      was = was_open;
+      made = λ clean t was. made clean t (old_at_mid clean t was);
+      current = λ clean t now.
+          let e = verdict_of_new (state g old).now t now (Ok true) (to_migrate clean) in absurd (cc);
+      settled = λ up. own.settled up.0 up.1 mid_idle;
+      none = tt;
+      crash = whole_crash;
+    }
+
+    pub migration_failed : (fault : Fault) → IsKeeperFault fault → IsMigrateFault fault
+        → (IsUp (state g new) → IsUnwritten (state g mid) (state g new)) → Migrates g old new (Err fault)
+    migration_failed fault keepers named none = record {
+      idle = own.mode ∙ mid_idle;
+      version = tt;
+      faults = named;
+      follows = λ clean. inr (Ok true, to_migrate clean, keepers);
+      whole = λ clean t known. keepers;
+      was = was_open;
+      made = tt;
+      current = tt;
+      settled = λ up. own.settled up.0 up.1 mid_idle;
+      none = λ up.
+          let here = kept (clean_mid up.0) in
+          let there = none up in
+          (there.0 ∙ here.0, there.1 ∙ here.1);
+      crash = whole_crash;
+    }
+
+-- A store of version 1 is served as one of version 2 from then on.
+pub serves_migrated : {S : Type 0} (g : Ghosts S) (old new first : Held S) → first ≡ new → (version : ℕ)
+    → Migrates g old new (Ok version) → IsUp (state g new) → (t : Tables) → KeepsOld (state g old).now t
+    → (IsStore (state g first) × IsUp (state g new))
+    × (raw_in (state g new).now.trees ≡ cells_of_tables (tables_after_migration t))
+serves_migrated g old new first is version m up t was = (
+  (
+    subst (λ h. IsStore (state g h)) (sym is) (λ open_now. record {
+      settled = m.settled open_now;
+      keeps = (tables_after_migration t, (m.made open_now.0 t was).1);
+    }),
+    up,
+  ),
+  raw_of (state g new).now.trees (tables_after_migration t) (m.made up.0 t was).1.hold,
+)
 
 -- The state that a store holds.
-module _ {S : Type 0} (g : Ghosts S) (base : List ℕ) (s : State) (old new : Held S) (clean : HasCleanDisk (state g new))
-    (was : HoldsOldState base s (state g old).now) where
+module _ {S : Type 0} (g : Ghosts S) (base : List ℕ) (s : Content) (old new : Held S)
+    (clean : HasCleanDisk (state g new)) (was : HoldsOldState base s (state g old).now) where
   abbrev t : Tables
   t = tables_after_migration was.0
 
@@ -186,7 +403,8 @@ module _ {S : Type 0} (g : Ghosts S) (base : List ℕ) (s : State) (old new : He
 
   loads : (r : Result ℕ Fault) → OnOk r (HasCleanDisk (state g new) → (t : Tables) → KeepsOld (state g old).now t
       → Keeps (state g new).committed (tables_after_migration t) × Keeps (state g new).now (tables_after_migration t))
-      → OnOk r (Legal base s → (t : Tables) × HasVerdict (raw_in (state g new).now.trees) (Ok t) × (state_of t ≡ s))
+      → OnOk r (IsLegalState base s → (t : Tables) × HasVerdict (raw_in (state g new).now.trees) (Ok t)
+      × (state_of t ≡ s))
   loads (Err e) made = tt
   loads (Ok v) made = λ legal.
       let both = made clean was.0 was.1 in
@@ -197,9 +415,9 @@ module _ {S : Type 0} (g : Ghosts S) (base : List ℕ) (s : State) (old new : He
   state_migrated r m = record {
     holds = holds r m.made;
     loads = loads r m.made;
-    crash = λ db may. elim (m.crash clean was.0 was.1 db may) [
+    crash = λ db may. elim (m.crash.crash clean db may) [
       | inl before ↦ inl before
-      | inr made ↦ inr (t, made, rows)
+      | inr made ↦ inr (t, made.1 was.0 was.1, rows)
     ];
   }
 

@@ -1,4 +1,4 @@
--- Proves that look-ups find the postings and moves that the tables have.
+-- Look-ups in the database return the postings and moves that the tables have.
 use Rattle.std.proofs.Common.{◌≡◌, inl, inr, ℕ, List, [], ◌∷◌, ◌++◌, ◌<◌, length, map, filter, take, suc, Bool, true}
 use Rattle.std.proofs.Common.{false, cond, None, Some, slice_get, get_or, refl, sym, ap, subst, ◌∙◌, arith, zero, ◌+◌}
 use Rattle.std.proofs.Common.{◌-◌, ◌≤◌, ◌==◌}
@@ -29,15 +29,13 @@ use Rattle.thes_sql.specs.Reads.{cells_with_number, cells_of_moves}
 use Rattle.thes_sql.proofs.TableRowLemmas.{filter_has, has_filter, num_same}
 use Rattle.thes_sql.proofs.InsertLemmas.{in_has}
 use Rattle.thes_store.specs.Reading.{IsPostingOfKey, IsPostingOfNumber}
-use Rattle.thes_store.proofs.IndexPlaceLemmas.{take_one}
+use Rattle.thes_store.proofs.IndexPositionLemmas.{take_one}
 
--- One more value of a row is read.
+-- The cells read so far and that of the next value are those of a longer prefix of the row.
 pub one_more : (row : List Value) (n : ℕ) (cs : List Cell) (c : Cell) → values cs ≡ take n row → n < length row
     → value_of c ≡ column row n → values (cs ++ c ∷ []) ≡ take (suc n) row
 one_more row n cs c so_far low is = map-append value_of cs (c ∷ []) ∙ (λ i. so_far i ++ is i ∷ [])
     ∙ sym (take-suc row n Null low)
-
--- The values of a posting determine it.
 
 abbrev cell_of_value : Value → Cell
 cell_of_value Null = cells.Null
@@ -70,7 +68,7 @@ has_in [] x h = absurd h
 has_in (y ∷ ys) x (inl e) = inl e
 has_in (y ∷ ys) x (inr h) = inr (has_in ys x h)
 
--- The first row with a key is its posting; without a row there is none.
+-- The first row with a key is that of its posting; without such a row there is no posting.
 pub found_first : (key : List ℕ) (ps : List PostingRow) (items : List Row) (row : Row) (x : PostingRow)
     → items ≡ map values (map posting_cells (filter (has_key key) ps)) → slice_get items 0 ≡ Some row
     → row ≡ values (posting_cells x) → IsPostingOfKey key ps (Some x)
@@ -97,8 +95,6 @@ found_none key ps items is none row there same = go (filter (has_key key) ps)
     go : (qs : List PostingRow) → Has qs row → slice_get (map values (map posting_cells qs)) 0 ≡ None → ⊥
     go [] h e = h
     go (q ∷ qs) h e = cc
-
--- The posting of a number.
 
 -- The first posting with number `n` is the one at position `n - k`.
 numbered_head : (n k : ℕ) (ps : List PostingRow) → ArePostingsNumbered k ps → k ≤ n
@@ -175,8 +171,6 @@ finds_posting_with_moves n t rows steps row x moves num is first told shown read
   read (filter (λ (m : MoveRow). m.posting == n) t.move) shown,
 )
 
--- Rows that are read one by one.
-
 -- The values of a move determine it.
 move_of_values : (x y : MoveRow) → values (move_cells x) ≡ values (move_cells y) → x ≡ y
 move_of_values x y e = move_one x y (map_one value_of (λ a b same. sym (value_back a) ∙ ap cell_of_value same
@@ -203,7 +197,7 @@ row_at cells (x ∷ xs) rows (suc i) row is lt at =
     let l = h.1 in
     (h.0, omega (arith, l), h.2, h.3)
 
--- One more move is read.
+-- The moves read so far and the next one are those of a longer prefix of the rows.
 pub one_step : (steps : List MoveRow) (rows : List Row) (i : ℕ) (row : Row) (x : MoveRow) (moves : List Move)
     → rows ≡ map values (map move_cells steps) → i < length rows → row ≡ get_or rows i row
     → row ≡ values (move_cells x) → moves ≡ map recorded_move (take i steps)

@@ -15,7 +15,7 @@ use Rattle.thes_sql.specs.StoredRows.{Keeps, Hold}
 use Rattle.thes_sql.specs.Reads.{rows_in_trees}
 use Rattle.thes_sqlite.specs.ValueCells.{cell_of}
 
--- The rows of a table in a database's trees, as cells.
+-- The rows of a table in a database's trees, as cells; the table can be queried.
 abbrev pub raw_table : Table → Trees → RawTable
 raw_table p db = Some (map (map cell_of) (rows_in_trees p db))
 
@@ -32,56 +32,57 @@ raw_in db = record {
   move = raw_table table.Move db;
 }
 
--- The disk hasn't failed silently, and the store is open.
+-- The disk hasn't failed silently, and the database is open.
 abbrev pub IsUp : State → Type 0
 IsUp s = HasCleanDisk s × IsTrue s.is_open
 
--- Nothing is uncommitted, and the database keeps some tables.
-pub record IsServed (s : State) : Type 0 where
+-- The database serves a store: nothing is uncommitted, and it is a store with some tables.
+pub record HasCommittedTables (s : State) : Type 0 where
   pub settled : s.now ≡ s.committed
   pub keeps : (t : Tables) × Keeps s.now t
 
--- If the disk hasn't failed silently and the store is open, the database is that of a store.
+-- The database is that of a store, if the disk hasn't failed silently and the database is open.
 abbrev pub IsStore : State → Type 0
-IsStore s = IsUp s → IsServed s
+IsStore s = IsUp s → HasCommittedTables s
 
--- Between calls no transaction is open, and a database that was a store's at the start is one now.
+-- The invariant between calls: no transaction is open, and a database that was a store's at the start is one now.
 pub record IsKeeperState (first now : State) : Type 0 where
   pub autocommit : now.in_transaction ≡ false
   pub served : IsStore first → IsStore now
 
--- A `SqlKeeper` as contracts see it: its connection, its count of failures, and its connection at the start.
+-- Storage in a database as contracts see it: its connection, its count of failures, and its connection at the start.
 pub record KeeperView (S : Type 0) : Type 0 where
   pub conn : Held S
   pub failures : ℕ
   pub first : Held S
 
--- The coding of this view as a triple.
+-- The coding of a view as a triple, by which the prover finds a `KeeperView` determined by its parts.
 abbrev pub keeper_view_code : {S : Type 0} → Coded S → Coded (KeeperView S)
 keeper_view_code {S} store =
     code_by (Held S × (ℕ × Held S)) (coded× (held_code store) (coded× coded_ℕ (held_code store)))
     (λ k. (k.conn, (k.failures, k.first))) (λ p. record { conn = p.0; failures = p.1.0; first = p.1.1 }) (λ _. refl)
 
--- The rows that the storage holds, as cells.
+-- The rows of the storage's tables, as cells.
 abbrev pub raw_of_keeper : {S : Type 0} → Ghosts S → KeeperView S → Raw
 raw_of_keeper g k = raw_in (state g k.conn).now.trees
 
--- The database was that of a store at the start, the disk hasn't failed silently, and the store is open.
-abbrev pub IsServing : {S : Type 0} → Ghosts S → KeeperView S → Type 0
-IsServing g k = IsStore (state g k.first) × IsUp (state g k.conn)
+-- The storage serves its tables: its database was a store's at the start and is open, and the disk hasn't failed
+-- silently.
+abbrev pub IsKeeperUp : {S : Type 0} → Ghosts S → KeeperView S → Type 0
+IsKeeperUp g k = IsStore (state g k.first) × IsUp (state g k.conn)
 
--- If `old` encodes tables, `new` encodes these tables with the changes.
+-- The new rows encode the tables after the changes, if the old rows encode tables.
 abbrev pub RawAfterChanges : List Change → Raw → Raw → Type 0
 RawAfterChanges changes old new = (t : Tables) → old ≡ cells_of_tables t → new
     ≡ cells_of_tables (tables_after_delta changes t)
 
--- A crash leaves the tables without the changes, or with all of them.
+-- A crash leaves the tables without the changes, or those with all changes.
 abbrev pub LeavesEither : List Change → State → State → Type 0
 LeavesEither changes old new = HasCleanDisk new → IsTrue old.is_open → (t : Tables) → raw_in old.now.trees
     ≡ cells_of_tables t
     → (db : Trees) → new.may_leave db → Hold db t ⊎ Hold db (tables_after_delta changes t)
 
--- A crash leaves the tables with all changes.
+-- A crash leaves exactly the tables with all changes.
 abbrev pub LeavesAfter : List Change → State → State → Type 0
 LeavesAfter changes old new = IsUp new → (t : Tables) → raw_in old.now.trees ≡ cells_of_tables t
     → (db : Trees) → new.may_leave db → Hold db (tables_after_delta changes t)

@@ -1,87 +1,142 @@
--- The outcome of a migration.
-use Rattle.std.specs.Prelude.{◌≡◌, ◌⊎◌, ◌≤◌, ◌<◌, ⊤, ℕ, List, [], ◌∷◌, map, true, false, Result, OnOk, OnErr, IfOk}
-use Rattle.std.specs.Prelude.{IfErr, IsTrue}
+-- Which databases are migrated, and what a migration makes of them.
+use Rattle.std.specs.Prelude.{◌≡◌, ◌⊎◌, ◌≤◌, ◌<◌, ℕ, List, [], ◌∷◌, map, true, false, Bool, Option, Some, None, Result}
+use Rattle.std.specs.Prelude.{Ok, Err, OnOk, OnErr, IfOk, IfErr, IsErrAnd, IsTrue, if◌then◌else◌}
 use Rattle.sqlite.specs.Order.{Row}
-use Rattle.sqlite.specs.Tree.{Trees}
 use Rattle.sqlite.specs.Effect.{Database}
 use Rattle.sqlite.specs.Schema.{Schema}
-use Rattle.sqlite.specs.State.{State, HasCleanDisk, Shown}
+use Rattle.sqlite.specs.State.{State, HasCleanDisk, Survives}
 use Rattle.sqlite.specs.Held.{Held, state}
+use Rattle.sqlite.specs.declared.error.Error.{Error}
 use Rattle.sqlite_trees.specs.declared.store.Store.{Ghosts}
 use Rattle.thes_base.specs.declared.fault.Fault.{Fault}
 use Rattle.thes_base.specs.declared.fault.Fault.TheVariants.{OutOfMemory, Store, BadStore, NewerStore}
 use Rattle.thes_base.specs.declared.fault.Table.TheVariants as table
+use Rattle.thes_store.specs.Causes.{max_failures}
 use Rattle.thes_tables.specs.declared.cells.Cell.{Cell}
 use Rattle.thes_tables.specs.Tables.{Tables}
-use Rattle.thes_tables.specs.Cells.{number_cell}
+use Rattle.thes_tables.specs.Cells.{number_cell, cells_of_tables}
 use Rattle.thes_sql.specs.StoredRows.{Keeps, Hold}
 use Rattle.thes_sql.specs.Reads.{read_text}
-use Rattle.thes_sql.specs.OldStore.{KeepsOld, HasKnownSchema, IsUnderstood, links_text, hier_text}
+use Rattle.thes_sql.specs.Queries.{compiles, Finds, finds_nothing}
+use Rattle.thes_sql.specs.OldStore.{KeepsOld, links_text, hier_text}
 use Rattle.thes_tables.specs.OldRows.{tables_after_migration}
-use Rattle.thes_sqlite.specs.KeeperView.{IsUp}
-use Rattle.thes_sqlite.specs.Faults.{IsKeeperFault}
+use Rattle.thes_sqlite.specs.KeeperView.{IsUp, KeeperView, IsKeeperUp, raw_of_keeper}
+use Rattle.thes_sqlite.specs.Faults.{IsKeeperFault, HasFailed, error_fault}
 use Rattle.thes_sqlite.specs.ValueCells.{cell_of}
 
--- The fault is OutOfMemory, Store, NewerStore, or BadStore of meta, link or hier.
+-- The fault is one that a migration returns: OutOfMemory, Store, NewerStore, or BadStore of meta, link or hier.
 abbrev pub IsMigrateFault : Fault → Type 0
 IsMigrateFault fault =
     (fault ≡ OutOfMemory) ⊎ ((fault ≡ Store) ⊎ ((fault ≡ NewerStore) ⊎ ((fault ≡ BadStore table.Meta)
     ⊎ ((fault ≡ BadStore table.Link) ⊎ (fault ≡ BadStore table.Hier)))))
 
--- These are the cells of a row of meta with this version and any base.
+-- The cells are those of a row of table meta with this version, whatever its base.
 abbrev pub IsVersionRow : ℕ → List Cell → Type 0
 IsVersionRow version cells = (base : Cell) × (cells ≡ number_cell 1 ∷ number_cell version ∷ base ∷ [])
 
--- The rows of meta are a single one, whose version satisfies `Is`.
-abbrev pub AreOfVersion : (ℕ → Type 0) → List Row → Type 0
-AreOfVersion Is rows = (row : Row) × (rows ≡ row ∷ []) × (version : ℕ) × Is version
+-- Meta has a single row, whose version satisfies `Is`.
+abbrev pub HasMetaVersion : (ℕ → Type 0) → Option (List Row) → Type 0
+HasMetaVersion Is None = ⊥
+HasMetaVersion Is (Some rows) = (row : Row) × (rows ≡ row ∷ []) × (version : ℕ) × Is version
     × IsVersionRow version (map cell_of row)
 
--- The fault that these rows of meta cause: a newer version, or no row with a version.
-abbrev pub IsMetaFault : List Row → Fault → Type 0
-IsMetaFault rows OutOfMemory = ⊤
-IsMetaFault rows NewerStore = AreOfVersion (λ version. 2 < version) rows
-IsMetaFault rows (BadStore table.Meta) = AreOfVersion (λ version. 1 ≤ version) rows → ⊥
-IsMetaFault rows _ = ⊥
+-- The verdict on what meta holds: version 1 (true) or version 2, a newer version, or no version.
+abbrev pub IsMetaVerdict : Option (List Row) → Result Bool Fault → Type 0
+IsMetaVerdict found (Ok true) = HasMetaVersion (λ version. version ≡ 1) found
+IsMetaVerdict found (Ok false) = HasMetaVersion (λ version. version ≡ 2) found
+IsMetaVerdict found (Err NewerStore) = HasMetaVersion (λ version. 2 < version) found
+IsMetaVerdict found (Err (BadStore table.Meta)) = HasMetaVersion (λ version. 1 ≤ version) found → ⊥
+IsMetaVerdict found (Err _) = ⊥
 
--- These are the rows of meta that a query returns.
-abbrev pub MetaReadResult : {S : Type 0} → Ghosts S → Held S → Held S → List Row → Type 0
-MetaReadResult {S} g old new rows =
-    (mid : Held S) × ((state g mid).now ≡ (state g old).now) × Shown (read_text table.Meta) [] (state g mid)
-    (state g new) rows
+-- The verdict on the tables of links: Ok if they are as in version 1, so that table link can be queried and there is no
+-- table hier; otherwise the fault names the first that differs.
+abbrev pub IsLinkVerdict : Schema → Result (Unit {0}) Fault → Type 0
+IsLinkVerdict schema (Ok done) = (compiles schema links_text ≡ true) × (compiles schema hier_text ≡ false)
+IsLinkVerdict schema (Err (BadStore table.Link)) = compiles schema links_text ≡ false
+IsLinkVerdict schema (Err (BadStore table.Hier)) =
+    (compiles schema links_text ≡ true) × (compiles schema hier_text ≡ true)
+IsLinkVerdict schema (Err _) = ⊥
 
--- The fault that this schema causes: the links can't be queried, or there is a table hier already.
-abbrev pub IsTableFault : Schema → Fault → Type 0
-IsTableFault schema OutOfMemory = ⊤
-IsTableFault schema Store = ⊤
-IsTableFault schema (BadStore table.Link) = IsUnderstood schema links_text false
-IsTableFault schema (BadStore table.Hier) = IsUnderstood schema hier_text true
-IsTableFault schema _ = ⊥
+-- The verdict on a database by its meta and its schema: it is to be migrated (true), it has version 2, or the first of
+-- its faults. The tables of links are judged in a database of version 1.
+abbrev pub IsVerdictOn : Schema → Option (List Row) → Result Bool Fault → Type 0
+IsVerdictOn schema found (Ok true) = IsMetaVerdict found (Ok true) × IsLinkVerdict schema (Ok tt)
+IsVerdictOn schema found (Err (BadStore table.Link)) =
+    IsMetaVerdict found (Ok true) × IsLinkVerdict schema (Err (BadStore table.Link))
+IsVerdictOn schema found (Err (BadStore table.Hier)) =
+    IsMetaVerdict found (Ok true) × IsLinkVerdict schema (Err (BadStore table.Hier))
+IsVerdictOn schema found other = IsMetaVerdict found other
 
--- The fault is true of the database: its version is newer, meta can't be queried or has no row with a version, or the
--- tables of links aren't those of version 1.
-abbrev pub IsMigrateCause : {S : Type 0} → Ghosts S → Held S → Held S → Fault → Type 0
-IsMigrateCause g old new NewerStore = (rows : List Row) × MetaReadResult g old new rows × IsMetaFault rows NewerStore
-IsMigrateCause g old new (BadStore table.Meta) =
-    IsUnderstood (state g new).now.schema (read_text table.Meta) false
-    ⊎ ((rows : List Row) × MetaReadResult g old new rows × IsMetaFault rows (BadStore table.Meta))
-IsMigrateCause g old new fault = IsTableFault (state g new).now.schema fault
+-- The verdict on the version of a database.
+abbrev pub IsVersionVerdict : Database → Result Bool Fault → Type 0
+IsVersionVerdict db r = (found : Option (List Row)) × Finds (read_text table.Meta) db found × IsMetaVerdict found r
+
+-- The verdict on a database.
+abbrev pub IsMigrationVerdict : Database → Result Bool Fault → Type 0
+IsMigrationVerdict db r = (found : Option (List Row)) × Finds (read_text table.Meta) db found
+    × IsVerdictOn db.schema found r
+
+-- The result is the verdict on the database, unless the store has failed.
+abbrev pub Judges : {S V : Type 0} → Ghosts S → (Database → Result V Fault → Type 0) → Held S → Held S → Result V Fault
+    → Type 0
+Judges g Is old new r =
+    HasCleanDisk (state g new) → IsErrAnd r (HasFailed (state g old) (state g new)) ⊎ Is (state g old).now r
+
+-- The fault of a query for meta that failed.
+abbrev pub meta_fault_of : Error → Fault
+meta_fault_of e = if finds_nothing e then BadStore table.Meta else error_fault e
+
+-- The links must be there: the verdict on the answer whether they are.
+abbrev pub links_verdict_of : Result Bool Error → Result (Unit {0}) Fault
+links_verdict_of (Ok true) = Ok tt
+links_verdict_of (Ok false) = Err (BadStore table.Link)
+links_verdict_of (Err e) = Err (error_fault e)
+
+-- Table hier must not be there: the verdict on the answer whether it is.
+abbrev pub hier_verdict_of : Result Bool Error → Result (Unit {0}) Fault
+hier_verdict_of (Ok true) = Err (BadStore table.Hier)
+hier_verdict_of (Ok false) = Ok tt
+hier_verdict_of (Err e) = Err (error_fault e)
 
 -- The database is a store of version 1 or of version 2.
 abbrev pub IsKnownStore : Database → Tables → Type 0
 IsKnownStore db t = KeepsOld db t ⊎ Keeps db t
 
--- The database is unchanged, and so is what is committed.
+-- Neither the database nor what is committed of it has changed.
 abbrev pub IsUnwritten : State → State → Type 0
 IsUnwritten old new = (new.now ≡ old.now) × (new.committed ≡ old.committed)
 
--- A store of version 1 is migrated to version 2 with the same tables, or unchanged after a fault; a store of version 2
--- is unchanged.
+-- Of all faults only Store is counted; the count of failures saturates.
+abbrev pub IsStoreCounted : ℕ → ℕ → Fault → Type 0
+IsStoreCounted before now Store = (before < now) ⊎ ((before ≡ max_failures) × (now ≡ before))
+IsStoreCounted before now other = now ≡ before
+
+-- A migration that succeeds leaves the count of failures unchanged, and a fault Store is counted.
+abbrev pub HasCountedCause : ℕ → ℕ → Result ℕ Fault → Type 0
+HasCountedCause before now (Ok version) = now ≡ before
+HasCountedCause before now (Err fault) = IsStoreCounted before now fault
+
+-- The database of version 1 is one of version 2 with the same state, which the storage serves.
+abbrev pub ServesMigrated : {S : Type 0} → Ghosts S → KeeperView S → KeeperView S → Type 0
+ServesMigrated g old new = IsUp (state g new.conn) → (t : Tables) → KeepsOld (state g old.conn).now t
+    → IsKeeperUp g new × (raw_of_keeper g new ≡ cells_of_tables (tables_after_migration t))
+
+-- What follows from a verdict: a database of version 1 is migrated, unless a statement fails; one of version 2 is
+-- unchanged; any other is refused.
+abbrev pub Follows : Result Bool Fault → State → State → Result ℕ Fault → Type 0
+Follows (Ok true) old new r = IfErr r IsKeeperFault
+Follows (Ok false) old new r = (r ≡ Ok 2) × IsUnwritten old new
+Follows (Err fault) old new r = r ≡ Err fault
+
+-- The migration of a database, which may hold anything.
 pub record Migrates {S : Type 0} (g : Ghosts S) (old new : Held S) (r : Result ℕ Fault) : Type 0 where
   pub idle : new.in_transaction ≡ false
   pub version : IfOk r (λ version. version ≡ 2)
   pub faults : IfErr r IsMigrateFault
-  pub causes : IfErr r (λ fault. HasCleanDisk (state g new) → IsMigrateCause g old new fault)
+  -- The result follows from the verdict on the database, unless the store has failed.
+  pub follows : HasCleanDisk (state g new) → IsErrAnd r (HasFailed (state g old) (state g new))
+      ⊎ ((verdict : Result Bool Fault) × IsMigrationVerdict (state g old).now verdict
+      × Follows verdict (state g old) (state g new) r)
   -- The migration of a store of version 1 or 2 fails only by running out of memory, or by a fault of the store.
   pub whole : IfErr r (λ fault. HasCleanDisk (state g new) → (t : Tables) → IsKnownStore (state g old).now t
       → IsKeeperFault fault)
@@ -90,9 +145,10 @@ pub record Migrates {S : Type 0} (g : Ghosts S) (old new : Held S) (r : Result �
       → Keeps (state g new).committed (tables_after_migration t) × Keeps (state g new).now (tables_after_migration t))
   pub current : OnOk r (HasCleanDisk (state g new) → (t : Tables) → Keeps (state g old).now t
       → IsUnwritten (state g old) (state g new))
-  pub none : OnErr r (IsUp (state g new) → HasKnownSchema (state g old).now → (state g old).now
-      ≡ (state g old).committed
-      → IsUnwritten (state g old) (state g new))
-  -- A crash at any exit leaves what it could leave before the call, or the migrated tables.
-  pub crash : HasCleanDisk (state g new) → (t : Tables) → KeepsOld (state g old).now t → (db : Trees)
-      → (state g new).may_leave db → (state g old).may_leave db ⊎ Hold db (tables_after_migration t)
+  pub settled : IsUp (state g new) → (state g new).now ≡ (state g new).committed
+  -- After any fault nothing is changed.
+  pub none : OnErr r (IsUp (state g new) → IsUnwritten (state g old) (state g new))
+  -- Whatever the result, a crash then leaves what it could have left before the call or, if the database was to be
+  -- migrated, the migrated tables.
+  pub crash : Survives (state g old) (state g new) (λ trees. IsMigrationVerdict (state g old).now (Ok true)
+      × ((t : Tables) → KeepsOld (state g old).now t → Hold trees (tables_after_migration t)))

@@ -1,4 +1,4 @@
--- The cells of SQL values, in a database that may hold anything.
+-- The cells of SQL values, in a database that may have any rows and values.
 use Rattle.std.specs.Prelude.{negsuc, if◌then◌else◌}
 use Rattle.std.specs.Str.{is_utf8}
 use Rattle.sqlite.specs.declared.types.Value.{Value}
@@ -10,7 +10,7 @@ use Rattle.thes_tables.specs.declared.cells.Cell.TheVariants as cells
 abbrev pub no_cell : Cell
 no_cell = cells.Int (negsuc 0)
 
--- An integer, a UTF-8 text and null are cells; any other value is the placeholder.
+-- The cell of a value: an integer, a text in UTF-8 or NULL is its own cell, and any other value has the placeholder.
 abbrev pub cell_of : Value → Cell
 cell_of Null = cells.Null
 cell_of (Int n) = cells.Int n

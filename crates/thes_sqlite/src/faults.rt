@@ -1,17 +1,19 @@
-//! Faults of storage in a database.
+//! The faults of storage in a database, and their count.
 ghost use Rattle.std.specs.Prelude.{◌≡◌, ◌≢◌, ◌≤◌, ◌+◌};
 ghost use Rattle.thes_store.specs.Causes.{IsCounted};
-ghost use Rattle.thes_sqlite.specs.Faults.{IsKeeperFault};
+ghost use Rattle.thes_sqlite.specs.MigrationEffects.{IsStoreCounted};
+ghost use Rattle.thes_sqlite.specs.Faults.{IsKeeperFault, error_fault};
 
 use sqlite::{Error, ErrorCode};
 use thes_base::fault::Fault;
 
-/// Maps an error to a fault: `OutOfMemory` or `Store`.
+/// Maps an error of SQLite to a fault: `OutOfMemory` to itself, and any other error to `Store`.
 pub fn fault_of(error: Error) -> Fault
     ensures memory { error ≡ Error.SqliteFailure ErrorCode.OutOfMemory
         → result ≡ Fault.OutOfMemory }
     ensures store { error ≢ Error.SqliteFailure ErrorCode.OutOfMemory → result ≡ Fault.Store }
     ensures kind { IsKeeperFault result }
+    ensures is { result ≡ error_fault error }
 {
     match error {
         Error::SqliteFailure(ErrorCode::OutOfMemory) => Fault::OutOfMemory,
@@ -19,7 +21,7 @@ pub fn fault_of(error: Error) -> Fault
     }
 }
 
-/// Counts a fault unless it is `OutOfMemory`, and returns it. The count saturates.
+/// Counts a fault unless it is `OutOfMemory`, and returns it; the count saturates.
 pub(crate) fn count_fault(failures: &mut u64, fault: Fault) -> Fault
     requires { IsKeeperFault fault }
     ensures same { result ≡ fault }
@@ -28,6 +30,18 @@ pub(crate) fn count_fault(failures: &mut u64, fault: Fault) -> Fault
 {
     if fault == Fault::Store {
         *failures = failures.saturating_add(1);
+    }
+    fault
+}
+
+/// Counts a fault if it is `Store`, and returns it. The count saturates.
+pub(crate) fn count_if_store(failures: &mut u64, fault: Fault) -> Fault
+    ensures same { result ≡ fault }
+    ensures counted { IsStoreCounted failures.old failures.new fault }
+{
+    let is_store = fault == Fault::Store;
+    if is_store {
+        *failures = (*failures).saturating_add(1);
     }
     fault
 }

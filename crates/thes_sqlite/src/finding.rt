@@ -17,7 +17,7 @@ use thes_sql::reads::{move_rows_of_posting, posting_rows_with_key, posting_rows_
 use thes_store::keeper::Posting;
 use thes_tables::rows::PostingRow;
 
-/// Looks up a posting by its key.
+/// Returns the posting that has the key, if there is one.
 pub(crate) fn find_posting<S: Alter>(
     alloc: Global,
     conn: &mut Connection<S>,
@@ -34,7 +34,7 @@ pub(crate) fn find_posting<S: Alter>(
     Ok(Some(read_posting(alloc, row)?))
 }
 
-/// Looks up a posting by its number, with its moves.
+/// Returns the posting that has the number with its moves, if there is one.
 pub(crate) fn find_with_moves<S: Alter>(
     alloc: Global,
     conn: &mut Connection<S>,

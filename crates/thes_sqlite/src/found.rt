@@ -1,4 +1,4 @@
-//! Cells of rows in a database that may hold anything.
+//! Reads cells from a database that may have any rows and values.
 ghost use Rattle.std.specs.Prelude.{◌≡◌, map, IfOk};
 ghost use Rattle.sqlite_value.specs.Value.{owned};
 ghost use Rattle.thes_sqlite.specs.ValueCells.{cell_of};
@@ -8,7 +8,8 @@ use sqlite::types::ValueRef;
 use std::alloc::{AllocError, Global};
 use thes_tables::cells::{Cell, CellText};
 
-// Returns a value as a cell. A value that no row of a store has becomes -1, which no column accepts.
+// Returns a value as a cell. A value that no row of a store has becomes -1, which no column
+// accepts.
 fn any_cell_of(alloc: Global, value: ValueRef<'_>) -> Result<Cell, AllocError>
     ensures { IfOk result (λ cell. cell ≡ cell_of (owned value.entry)) }
 {
@@ -23,7 +24,7 @@ fn any_cell_of(alloc: Global, value: ValueRef<'_>) -> Result<Cell, AllocError>
     }
 }
 
-/// Reads the cells of a row with any values.
+/// Reads the cells of a row that may have any values.
 pub(crate) fn any_cells_of(alloc: Global, row: &Row) -> Result<Vec<Cell>, AllocError>
     ensures { IfOk result (λ cells. cells.items ≡ map cell_of row.now) }
 {

@@ -1,21 +1,23 @@
-//! Storage in a database.
+//! Storage of the tables in a database.
 ghost use Rattle.std.specs.Prelude.{◌≡◌, ◌⊎◌, ◌<◌, false, OnOk, OnErr, IfOk, IfErr};
 ghost use Rattle.thes_tables.specs.Tables.{Tables, empty_tables};
 ghost use Rattle.thes_tables.specs.Rows.{DeltaFits};
 ghost use Rattle.thes_tables.specs.Cells.{cells_of_tables};
-ghost use Rattle.thes_sql.specs.Schema.{schema_0};
+ghost use Rattle.thes_sql.specs.Schema.{empty_schema};
 ghost use Rattle.thes_sql.specs.TransactionEffects.{IsEmpty};
 ghost use Rattle.thes_base.specs.declared.fault.Table.{Table};
 ghost use Rattle.thes_store.specs.Causes.{HasCause};
 ghost use Rattle.thes_store.specs.Sinks.{SinkOutcome, sink_rows_of_table, sink_rows};
-ghost use Rattle.thes_store.specs.Reading.{IsPostingOfKey, IsPostingOfNumber, standing_rows};
+ghost use Rattle.thes_store.specs.Reading.{IsPostingOfKey, IsPostingOfNumber, assigned_posting_rows};
 ghost use Rattle.thes_store.specs.Loading.{sink_rows_of_tables};
-ghost use Rattle.thes_sqlite.specs.KeeperView.{IsUp, IsStore, IsServing, RawAfterChanges, LeavesEither, LeavesAfter};
+ghost use Rattle.thes_sqlite.specs.KeeperView.{IsUp, IsStore, IsKeeperUp, RawAfterChanges, LeavesEither, LeavesAfter};
 ghost use Rattle.thes_sqlite.specs.KeeperView.{raw_table, raw_of_keeper};
+ghost use Rattle.thes_sqlite.specs.MigrationEffects.{Migrates, HasCountedCause, ServesMigrated};
 ghost use Rattle.sqlite.specs.Held.{state};
 
-use crate::faults::{count_fault, fault_of};
+use crate::faults::{count_fault, count_if_store, fault_of};
 use crate::finding::{find_posting, find_with_moves};
+use crate::migrating::migrate_database;
 use crate::row_output::{yield_postings, yield_table_rows};
 use sqlite::{Alter, Connection};
 use std::alloc::Global;
@@ -26,6 +28,7 @@ use thes_base::number::{PostNo, ResNo};
 use thes_base::text::{Base, Key};
 use thes_sql::commit::commit_all;
 use thes_sql::create::create_tables;
+use thes_sql::outcome::is_shut;
 use thes_sql::reads::posting_rows_at;
 use thes_store::keeper::{Keeper, Posting};
 use thes_store::row_output::tables_in_order;
@@ -34,11 +37,11 @@ use thes_tables::change::Change;
 use thes_tables::delta::Delta;
 use thes_tables::rows::PostingRow;
 
-/// A `Keeper` with its tables in a database.
+/// Storage with its tables in a database, over one connection.
 pub struct SqlKeeper<S: Alter> {
     conn: Connection<S>,
     failures: u64,
-    // The connection at the start.
+    // The connection at the start, which only contracts use.
     first: Snapshot<Connection<S>>,
     alloc: Global,
 }
@@ -57,17 +60,18 @@ impl<S: Alter> Model for SqlKeeper<S> {
 }
 
 impl<S: Alter> SqlKeeper<S> {
-    /// Creates the tables of a new store in a database without tables. After a fault the database is unchanged.
+    /// Creates the tables of a new store in a database without tables. A fault comes with the connection, and leaves
+    /// the database unchanged.
     pub fn create(
         alloc: Global,
         mut conn: Connection<S>,
         base: &Base,
     ) -> Result<SqlKeeper<S>, (Fault, Connection<S>)>
         requires idle { conn.in_transaction ≡ false }
-        ensures made { IsEmpty schema_0 (state S.Store conn).now
+        ensures made { IsEmpty empty_schema (state S.Store conn).now
             → IfOk result (λ k. IsUp (state S.Store k.conn)
             → raw_of_keeper S.Store k ≡ cells_of_tables (empty_tables base.now)) }
-        ensures serves { IsEmpty schema_0 (state S.Store conn).now
+        ensures serves { IsEmpty empty_schema (state S.Store conn).now
             → IfOk result (λ k. (k.failures ≡ 0) × IsStore (state S.Store k.first)) }
         ensures back { IfErr result (λ e. IsUp (state S.Store e.1)
             → (state S.Store e.1).now ≡ (state S.Store conn).now) }
@@ -79,13 +83,12 @@ impl<S: Alter> SqlKeeper<S> {
         }
     }
 
-    /// Takes over a database that may hold anything, without reading it. If it is that of a store, the `SqlKeeper`
-    /// serves its tables; if not, a load passes on what is there.
+    /// Takes a database over without reading it. If it isn't that of a store, a load passes on whatever rows it has.
     pub fn adopt(alloc: Global, conn: Connection<S>) -> SqlKeeper<S>
         requires { conn.in_transaction ≡ false }
         ensures is { result ≡ record { conn = conn; failures = 0; first = conn } }
         ensures serves { IsStore (state S.Store conn) → IsUp (state S.Store conn)
-            → IsServing S.Store result }
+            → IsKeeperUp S.Store result }
     {
         let first = Snapshot::of(&conn);
         SqlKeeper {
@@ -93,6 +96,25 @@ impl<S: Alter> SqlKeeper<S> {
             failures: 0,
             first,
             alloc,
+        }
+    }
+
+    /// Migrates the database from version 1 of the tables to version 2, and returns its version, 2. A database of
+    /// version 2 is left unchanged, and so is one that can't be migrated. From then on a store of version 2 is served.
+    pub fn migrate(&mut self) -> Result<u32, Fault>
+        ensures migrates { Migrates S.Store self.old.conn self.new.conn result }
+        ensures serves { IsKeeperUp S.Store self.old → IsUp (state S.Store self.new.conn)
+            → IsKeeperUp S.Store self.new
+            × (raw_of_keeper S.Store self.new ≡ raw_of_keeper S.Store self.old) }
+        ensures made { OnOk result (ServesMigrated S.Store self.old self.new) }
+        ensures first { self.new.first ≡ self.new.conn }
+        ensures cause { HasCountedCause self.old.failures self.new.failures result }
+    {
+        let ended = migrate_database(self.alloc, &mut self.conn);
+        self.first = Snapshot::of(&self.conn);
+        match ended {
+            Ok(version) => Ok(version),
+            Err(fault) => Err(count_if_store(&mut self.failures, fault)),
         }
     }
 
@@ -109,22 +131,33 @@ impl<S: Alter> SqlKeeper<S> {
         conn
     }
 
-    /// Makes the changes atomically, even if a crash interrupts the call.
-    pub fn make(&mut self, changes: &[Change]) -> Result<(), Fault>
-        requires { IsServing S.Store self.old
+    /// Queries the database to check whether a failure has shut it.
+    pub(crate) fn is_shut(&mut self) -> bool
+        ensures same { IsKeeperUp S.Store self.new
+            → raw_of_keeper S.Store self.new ≡ raw_of_keeper S.Store self.old }
+        ensures was { IsKeeperUp S.Store self.new → IsKeeperUp S.Store self.old }
+        ensures failures { self.new.failures ≡ self.old.failures }
+        ensures first { self.new.first ≡ self.old.first }
+    {
+        is_shut(&mut self.conn)
+    }
+
+    /// Applies all changes, or none of them and returns a fault, even if a crash interrupts the call.
+    pub fn commit_changes(&mut self, changes: &[Change]) -> Result<(), Fault>
+        requires { IsKeeperUp S.Store self.old
             → (t : Tables) → raw_of_keeper S.Store self.old ≡ cells_of_tables t
             → DeltaFits changes.now t }
-        ensures ok { OnOk result (IsServing S.Store self.new
+        ensures ok { OnOk result (IsKeeperUp S.Store self.new
             → RawAfterChanges changes.now
             (raw_of_keeper S.Store self.old) (raw_of_keeper S.Store self.new)) }
-        ensures err { OnErr result (IsServing S.Store self.new
+        ensures err { OnErr result (IsKeeperUp S.Store self.new
             → raw_of_keeper S.Store self.new ≡ raw_of_keeper S.Store self.old) }
-        ensures was { IsServing S.Store self.new → IsServing S.Store self.old }
+        ensures was { IsKeeperUp S.Store self.new → IsKeeperUp S.Store self.old }
         ensures cause { HasCause self.old.failures self.new.failures result }
         ensures first { self.new.first ≡ self.old.first }
 
-        // A crash at any exit leaves the tables without the changes or with all of them; after success, only the
-        // latter.
+        // Whether the call succeeds or fails, a crash then leaves the tables without the changes or with all of them;
+        // if it succeeds, with all of them.
         ensures crash { IsStore (state S.Store self.old.first)
             → LeavesEither changes.now (state S.Store self.old.conn) (state S.Store self.new.conn) }
         ensures durable { OnOk result (IsStore (state S.Store self.old.first)
@@ -136,14 +169,14 @@ impl<S: Alter> SqlKeeper<S> {
         }
     }
 
-    // Passes the rows of a table to a sink.
+    // Passes the rows of a table to a sink, in their order.
     fn yield_table<R: RowSink>(&mut self, name: Table, sink: &mut R) -> Result<(), Fault>
-        ensures yields { IsServing S.Store self.new → SinkOutcome R.gives sink.old
+        ensures yields { IsKeeperUp S.Store self.new → SinkOutcome R.gives sink.old
             (sink_rows_of_table name (raw_table name (state S.Store self.old.conn).now.trees))
             result sink.new }
-        ensures same { IsServing S.Store self.new
+        ensures same { IsKeeperUp S.Store self.new
             → raw_of_keeper S.Store self.new ≡ raw_of_keeper S.Store self.old }
-        ensures was { IsServing S.Store self.new → IsServing S.Store self.old }
+        ensures was { IsKeeperUp S.Store self.new → IsKeeperUp S.Store self.old }
         ensures cause { HasCause self.old.failures self.new.failures result }
         ensures first { self.new.first ≡ self.old.first }
     {
@@ -153,14 +186,14 @@ impl<S: Alter> SqlKeeper<S> {
         }
     }
 
-    // Passes the rows of some tables to a sink, table after table.
+    // Passes the rows of these tables to a sink, table after table.
     fn yield_tables<R: RowSink>(&mut self, names: &[Table], sink: &mut R) -> Result<(), Fault>
-        ensures yields { IsServing S.Store self.new → SinkOutcome R.gives sink.old
+        ensures yields { IsKeeperUp S.Store self.new → SinkOutcome R.gives sink.old
             (sink_rows_of_tables (raw_of_keeper S.Store self.old) names.now)
             result sink.new }
-        ensures same { IsServing S.Store self.new
+        ensures same { IsKeeperUp S.Store self.new
             → raw_of_keeper S.Store self.new ≡ raw_of_keeper S.Store self.old }
-        ensures was { IsServing S.Store self.new → IsServing S.Store self.old }
+        ensures was { IsKeeperUp S.Store self.new → IsKeeperUp S.Store self.old }
         ensures cause { HasCause self.old.failures self.new.failures result }
         ensures first { self.new.first ≡ self.old.first }
     {
@@ -174,11 +207,11 @@ impl<S: Alter> SqlKeeper<S> {
 }
 
 impl<S: Alter> Keeper for SqlKeeper<S> {
-    ghost use Rattle.thes_sqlite.specs.KeeperView.{raw_of_keeper, IsServing};
+    ghost use Rattle.thes_sqlite.specs.KeeperView.{raw_of_keeper, IsKeeperUp};
 
     ghost rows = { λ k. raw_of_keeper S.Store k };
 
-    ghost is_up = { λ k. IsServing S.Store k };
+    ghost is_up = { λ k. IsKeeperUp S.Store k };
 
     ghost failed = { λ k. k.failures };
 
@@ -187,12 +220,12 @@ impl<S: Alter> Keeper for SqlKeeper<S> {
     }
 
     fn load<R: RowSink>(&mut self, sink: &mut R) -> Result<(), Fault>
-        ensures yields { IsServing S.Store self.new
+        ensures yields { IsKeeperUp S.Store self.new
             → SinkOutcome R.gives sink.old
             (sink_rows (raw_of_keeper S.Store self.old)) result sink.new }
-        ensures same { IsServing S.Store self.new
+        ensures same { IsKeeperUp S.Store self.new
             → raw_of_keeper S.Store self.new ≡ raw_of_keeper S.Store self.old }
-        ensures was { IsServing S.Store self.new → IsServing S.Store self.old }
+        ensures was { IsKeeperUp S.Store self.new → IsKeeperUp S.Store self.old }
         ensures cause { HasCause self.old.failures self.new.failures result }
         ensures first { self.new.first ≡ self.old.first }
     {
@@ -200,27 +233,35 @@ impl<S: Alter> Keeper for SqlKeeper<S> {
     }
 
     fn commit(&mut self, delta: Delta) -> Result<(), Fault>
-        requires fits { IsServing S.Store self.old
+        requires fits { IsKeeperUp S.Store self.old
             → (t : Tables) → raw_of_keeper S.Store self.old ≡ cells_of_tables t
             → DeltaFits delta t }
-        ensures ok { OnOk result (IsServing S.Store self.new
+        ensures ok { OnOk result (IsKeeperUp S.Store self.new
             → RawAfterChanges delta
             (raw_of_keeper S.Store self.old) (raw_of_keeper S.Store self.new)) }
-        ensures err { OnErr result (IsServing S.Store self.new
+        ensures err { OnErr result (IsKeeperUp S.Store self.new
             → raw_of_keeper S.Store self.new ≡ raw_of_keeper S.Store self.old) }
-        ensures was { IsServing S.Store self.new → IsServing S.Store self.old }
+        ensures was { IsKeeperUp S.Store self.new → IsKeeperUp S.Store self.old }
         ensures cause { HasCause self.old.failures self.new.failures result }
         ensures first { self.new.first ≡ self.old.first }
+
+        // Whether the call succeeds or fails, a crash then leaves the tables without the changes or with
+        // all of them; if it succeeds, with all of them.
+        ensures crash { IsStore (state S.Store self.old.first)
+            → LeavesEither delta (state S.Store self.old.conn) (state S.Store self.new.conn) }
+        ensures durable { OnOk result (IsStore (state S.Store self.old.first)
+            → LeavesAfter delta (state S.Store self.old.conn) (state S.Store self.new.conn)) }
     {
-        self.make(delta.as_slice())
+        self.commit_changes(delta.as_slice())
     }
 
     fn find(&mut self, key: &Key) -> Result<Option<PostingRow>, Fault>
-        ensures ok { IfOk result (λ found. IsServing S.Store self.new → (t : Tables)
-            → raw_of_keeper S.Store self.old ≡ cells_of_tables t → IsPostingOfKey key.now t.posting found) }
-        ensures same { IsServing S.Store self.new
+        ensures ok { IfOk result (λ found. IsKeeperUp S.Store self.new → (t : Tables)
+            → raw_of_keeper S.Store self.old ≡ cells_of_tables t
+            → IsPostingOfKey key.now t.posting found) }
+        ensures same { IsKeeperUp S.Store self.new
             → raw_of_keeper S.Store self.new ≡ raw_of_keeper S.Store self.old }
-        ensures was { IsServing S.Store self.new → IsServing S.Store self.old }
+        ensures was { IsKeeperUp S.Store self.new → IsKeeperUp S.Store self.old }
         ensures cause { HasCause self.old.failures self.new.failures result }
         ensures first { self.new.first ≡ self.old.first }
     {
@@ -231,11 +272,11 @@ impl<S: Alter> Keeper for SqlKeeper<S> {
     }
 
     fn posting(&mut self, number: PostNo) -> Result<Option<Posting>, Fault>
-        ensures ok { IfOk result (λ told. IsServing S.Store self.new → (t : Tables)
+        ensures ok { IfOk result (λ told. IsKeeperUp S.Store self.new → (t : Tables)
             → raw_of_keeper S.Store self.old ≡ cells_of_tables t → IsPostingOfNumber number t told) }
-        ensures same { IsServing S.Store self.new
+        ensures same { IsKeeperUp S.Store self.new
             → raw_of_keeper S.Store self.new ≡ raw_of_keeper S.Store self.old }
-        ensures was { IsServing S.Store self.new → IsServing S.Store self.old }
+        ensures was { IsKeeperUp S.Store self.new → IsKeeperUp S.Store self.old }
         ensures cause { HasCause self.old.failures self.new.failures result }
         ensures first { self.new.first ≡ self.old.first }
     {
@@ -246,12 +287,13 @@ impl<S: Alter> Keeper for SqlKeeper<S> {
     }
 
     fn standing<P: PostingSink>(&mut self, concept: ResNo, sink: &mut P) -> Result<(), Fault>
-        ensures yields { IsServing S.Store self.new
+        ensures yields { IsKeeperUp S.Store self.new
             → (t : Tables) → raw_of_keeper S.Store self.old ≡ cells_of_tables t
-            → SinkOutcome P.gives sink.old (standing_rows concept t.posting) result sink.new }
-        ensures same { IsServing S.Store self.new
+            → SinkOutcome P.gives sink.old (assigned_posting_rows concept t.posting) result
+            sink.new }
+        ensures same { IsKeeperUp S.Store self.new
             → raw_of_keeper S.Store self.new ≡ raw_of_keeper S.Store self.old }
-        ensures was { IsServing S.Store self.new → IsServing S.Store self.old }
+        ensures was { IsKeeperUp S.Store self.new → IsKeeperUp S.Store self.old }
         ensures cause { HasCause self.old.failures self.new.failures result }
         ensures first { self.new.first ≡ self.old.first }
     {

@@ -6,6 +6,7 @@ mod finding;
 mod found;
 pub mod keeper;
 pub mod laws;
-pub mod migrating;
+mod migrating;
+pub mod reopening;
 mod row_output;
 mod rows;

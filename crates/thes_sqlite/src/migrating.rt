@@ -1,31 +1,34 @@
-//! Migrates a store from version 1 of the tables to version 2.
-ghost use Rattle.std.specs.Prelude.{◌≡◌, ◌∷◌, [], ℕ, List, cond, IfOk, IfErr, OnOk, false};
-ghost use Rattle.thes_tables.specs.Tables.{Tables};
-ghost use Rattle.thes_sql.specs.OldStore.{HasVersion, HasKnownSchema, version_row, old_schema, KeepsKnown, LeavesKnown};
-ghost use Rattle.thes_sqlite.specs.Faults.{IsKeeperFault};
-ghost use Rattle.thes_sqlite.specs.MigrationEffects.{IsMigrateFault, IsMetaFault, IsTableFault, IsMigrateCause, IsKnownStore, Migrates};
+//! Migrates a database from version 1 of the tables to version 2.
+ghost use Rattle.std.specs.Prelude.{◌≡◌, ◌⊎◌, Some, Err, IfErr, false};
+ghost use Rattle.thes_sql.specs.Reads.{LeavesAlone};
+ghost use Rattle.thes_sql.specs.Queries.{KeepsDatabase};
+ghost use Rattle.thes_sqlite.specs.MigrationEffects.{IsMigrateFault, IsMetaVerdict, IsVersionVerdict, IsLinkVerdict, IsMigrationVerdict, Judges, Migrates};
+ghost use Rattle.thes_sqlite.specs.MigrationEffects.{meta_fault_of, links_verdict_of, hier_verdict_of};
 ghost use Rattle.thes_sqlite.specs.Versions.{SpellsVersion};
-ghost use Rattle.sqlite.specs.State.{HasCleanDisk};
+ghost use Rattle.sqlite.specs.Effect.{Database};
 ghost use Rattle.sqlite.specs.Held.{state};
 
 use crate::faults::fault_of;
 use crate::found::any_cells_of;
-use sqlite::{Alter, Connection, Row};
+use sqlite::{Alter, Connection, Error, ErrorCode, Row};
 use std::alloc::Global;
 use thes_base::fault::{Fault, Table};
 use thes_sql::migrate::migrate_tables;
-use thes_sql::versions::{has_hier, has_links, has_meta, version_rows};
+use thes_sql::versions::{has_hier, has_links, version_rows};
 use thes_tables::cells::Cell;
 
-// A version of the tables, relative to this one.
+// The version of a store's tables, relative to the current one.
 #[derive(Clone, Copy)]
 enum Version {
+    // Version 1, which can be migrated.
     Older,
+    // Version 2, that of this program.
     Current,
+    // A version after 2, which this program doesn't know.
     Newer,
 }
 
-// Returns the version in a row of meta, with any base.
+// Returns the version that a row of table meta states, whatever its base; None if it states no version of at least 1.
 fn version_in(cells: &[Cell]) -> Option<Version>
     ensures { SpellsVersion cells.now result }
 {
@@ -47,13 +50,10 @@ fn version_in(cells: &[Cell]) -> Option<Version>
     Some(Version::Current)
 }
 
-// Returns whether the rows of meta are those of version 1 rather than version 2; any other version is a fault.
+// Returns whether the rows of table meta state version 1, and not version 2; rows that state neither are a fault.
 fn is_version_1(alloc: Global, rows: &[Row]) -> Result<bool, Fault>
-    ensures reports { IfOk result (λ older. (version : ℕ) (base : List ℕ)
-        → rows.now ≡ version_row version base ∷ []
-        → version ≡ cond older 1 2) }
+    ensures judged { (result ≡ Err Fault.OutOfMemory) ⊎ IsMetaVerdict (Some rows.now) result }
     ensures faults { IfErr result IsMigrateFault }
-    ensures causes { IfErr result (IsMetaFault rows.now) }
 {
     let [row] = rows else {
         return Err(Fault::BadStore(Table::Meta));
@@ -67,90 +67,97 @@ fn is_version_1(alloc: Global, rows: &[Row]) -> Result<bool, Fault>
     }
 }
 
-// Checks that meta can be queried.
-fn check_meta<S: Alter>(conn: &mut Connection<S>) -> Result<(), Fault>
-    ensures same { OnOk result (HasCleanDisk (state S.Store conn.new)
-        → (state S.Store conn.new).now ≡ (state S.Store conn.old).now) }
-    ensures kept { OnOk result (KeepsKnown S.Store conn.old conn.new) }
-    ensures leaves { LeavesKnown S.Store conn.old conn.new }
-    ensures faults { IfErr result IsMigrateFault }
-    ensures causes { IfErr result (λ fault. HasCleanDisk (state S.Store conn.new)
-        → IsMigrateCause S.Store conn.old conn.new fault) }
-    ensures whole { IfErr result (λ fault. HasCleanDisk (state S.Store conn.new)
-        → HasKnownSchema (state S.Store conn.old).now → IsKeeperFault fault) }
+// Maps an error of the query for meta to a fault: meta can't be read, or the store has failed.
+fn meta_fault(error: Error) -> Fault
+    ensures is { result ≡ meta_fault_of error }
+    ensures kind { IsMigrateFault result }
 {
-    match has_meta(conn) {
-        Ok(true) => Ok(()),
-        Ok(false) => Err(Fault::BadStore(Table::Meta)),
-        Err(error) => Err(fault_of(error)),
+    match error {
+        Error::SqlInputError(_) => Fault::BadStore(Table::Meta),
+        Error::SqliteFailure(ErrorCode::TypeMismatch | ErrorCode::IntegerOverflow) => {
+            Fault::BadStore(Table::Meta)
+        }
+        other => fault_of(other),
     }
 }
 
-// Returns whether a database is a store of version 1 rather than version 2; anything else is a fault.
-fn is_old<S: Alter>(alloc: Global, conn: &mut Connection<S>) -> Result<bool, Fault>
-    ensures reports { HasCleanDisk (state S.Store conn.new)
-        → IfOk result (λ older. (version : ℕ) (base : List ℕ)
-        → HasVersion version base (state S.Store conn.old).now → version ≡ cond older 1 2) }
-    ensures kept { OnOk result (KeepsKnown S.Store conn.old conn.new) }
-    ensures leaves { LeavesKnown S.Store conn.old conn.new }
+// Returns whether a database has version 1 rather than version 2, by its table meta; anything else is a fault.
+fn judge_version<S: Alter>(alloc: Global, conn: &mut Connection<S>) -> Result<bool, Fault>
+    ensures judged { Judges S.Store IsVersionVerdict conn.old conn.new result }
+    ensures kept { KeepsDatabase S.Store conn.old conn.new result }
+    ensures leaves { LeavesAlone S.Store conn.old conn.new }
     ensures faults { IfErr result IsMigrateFault }
-    ensures causes { IfErr result (λ fault. HasCleanDisk (state S.Store conn.new)
-        → IsMigrateCause S.Store conn.old conn.new fault) }
-    ensures whole { IfErr result (λ fault. HasCleanDisk (state S.Store conn.new)
-        → (t : Tables) → IsKnownStore (state S.Store conn.old).now t → IsKeeperFault fault) }
 {
-    check_meta(conn)?;
     match version_rows(conn) {
         Ok(rows) => is_version_1(alloc, rows.as_slice()),
-        Err(error) => Err(fault_of(error)),
+        Err(error) => Err(meta_fault(error)),
     }
 }
 
-// Checks that the links can be queried.
-fn check_links<S: Alter>(conn: &mut Connection<S>) -> Result<(), Fault>
-    ensures kept { OnOk result (KeepsKnown S.Store conn.old conn.new) }
-    ensures leaves { LeavesKnown S.Store conn.old conn.new }
+// Checks the answer whether the links can be queried, which they must.
+fn links_verdict(there: Result<bool, Error>) -> Result<(), Fault>
+    ensures is { result ≡ links_verdict_of there }
     ensures faults { IfErr result IsMigrateFault }
-    ensures causes { IfErr result (λ fault. HasCleanDisk (state S.Store conn.new)
-        → IsTableFault (state S.Store conn.new).now.schema fault) }
-    ensures whole { IfErr result (λ fault. HasCleanDisk (state S.Store conn.new)
-        → HasKnownSchema (state S.Store conn.old).now → IsKeeperFault fault) }
 {
-    match has_links(conn) {
+    match there {
         Ok(true) => Ok(()),
         Ok(false) => Err(Fault::BadStore(Table::Link)),
         Err(error) => Err(fault_of(error)),
     }
 }
 
-// Checks that there is no table hier yet.
-fn check_no_hier<S: Alter>(conn: &mut Connection<S>) -> Result<(), Fault>
-    ensures kept { OnOk result (KeepsKnown S.Store conn.old conn.new) }
-    ensures leaves { LeavesKnown S.Store conn.old conn.new }
+// Checks the answer whether there is a table hier, which there must not be.
+fn hier_verdict(there: Result<bool, Error>) -> Result<(), Fault>
+    ensures is { result ≡ hier_verdict_of there }
     ensures faults { IfErr result IsMigrateFault }
-    ensures causes { IfErr result (λ fault. HasCleanDisk (state S.Store conn.new)
-        → IsTableFault (state S.Store conn.new).now.schema fault) }
-    ensures whole { IfErr result (λ fault. HasCleanDisk (state S.Store conn.new)
-        → (state S.Store conn.old).now.schema ≡ old_schema → IsKeeperFault fault) }
 {
-    match has_hier(conn) {
-        Ok(false) => Ok(()),
+    match there {
         Ok(true) => Err(Fault::BadStore(Table::Hier)),
+        Ok(false) => Ok(()),
         Err(error) => Err(fault_of(error)),
     }
 }
 
-/// Migrates a store of version 1 to version 2 in one transaction, and returns its version, 2. A store of version 2 is
-/// left unchanged.
-pub fn migrate<S: Alter>(alloc: Global, conn: &mut Connection<S>) -> Result<u32, Fault>
+// Checks that a database has the tables of links of version 1.
+fn judge_links<S: Alter>(conn: &mut Connection<S>) -> Result<(), Fault>
+    ensures judged { Judges S.Store (λ (db : Database). IsLinkVerdict db.schema) conn.old conn.new
+        result }
+    ensures kept { KeepsDatabase S.Store conn.old conn.new result }
+    ensures leaves { LeavesAlone S.Store conn.old conn.new }
+    ensures faults { IfErr result IsMigrateFault }
+{
+    links_verdict(has_links(conn))?;
+    hier_verdict(has_hier(conn))
+}
+
+// Returns whether a database is to be migrated, rather than of version 2 already; anything else is a fault.
+fn judge<S: Alter>(alloc: Global, conn: &mut Connection<S>) -> Result<bool, Fault>
+    ensures judged { Judges S.Store IsMigrationVerdict conn.old conn.new result }
+    ensures kept { KeepsDatabase S.Store conn.old conn.new result }
+    ensures leaves { LeavesAlone S.Store conn.old conn.new }
+    ensures faults { IfErr result IsMigrateFault }
+{
+    if !judge_version(alloc, conn)? {
+        return Ok(false);
+    }
+    judge_links(conn)?;
+    Ok(true)
+}
+
+/// Migrates a database from version 1 to version 2 in one transaction, and returns its version, 2. A database of
+/// version 2 is left unchanged, and so is one that can't be migrated.
+pub(crate) fn migrate_database<S: Alter>(
+    alloc: Global,
+    conn: &mut Connection<S>,
+) -> Result<u32, Fault>
     requires { conn.old.in_transaction ≡ false }
     ensures { Migrates S.Store conn.old conn.new result }
 {
-    if !is_old(alloc, conn)? {
+    let settled = conn.is_autocommit();
+    prove!(settled);
+    if !judge(alloc, conn)? {
         return Ok(2);
     }
-    check_links(conn)?;
-    check_no_hier(conn)?;
     match migrate_tables(conn) {
         Ok(_) => Ok(2),
         Err(error) => Err(fault_of(error)),

@@ -1,8 +1,9 @@
-//! Rows of the database, passed to a sink.
-ghost use Rattle.std.specs.Prelude.{◌≡◌, ◌∷◌, [], List, Some, map, IfErr};
+//! Reads rows of the database as cells, and passes them to a sink.
+ghost use Rattle.std.specs.Prelude.{◌≡◌, ◌∷◌, [], List, None, Some, false, map, IfErr};
 ghost use Rattle.thes_tables.specs.declared.rows.PostingRow.{PostingRow};
 ghost use Rattle.thes_tables.specs.Cells.{posting_cells};
 ghost use Rattle.thes_store.specs.Sinks.{SinkOutcome, sink_rows_of_table};
+ghost use Rattle.thes_sql.specs.Declarations.{declares};
 ghost use Rattle.thes_sql.specs.StoredRows.{values};
 ghost use Rattle.thes_sqlite.specs.Faults.{IsKeeperFault};
 ghost use Rattle.thes_sql.specs.Reads.{IsReadable, LeavesTables};
@@ -17,10 +18,11 @@ use crate::rows::read_posting;
 use sqlite::{Alter, Connection, Error, Row};
 use std::alloc::Global;
 use thes_base::fault::{Fault, Table};
+use thes_sql::declarations::declares;
 use thes_sql::reads::table_rows;
 use thes_store::sink::{PostingSink, RowSink};
 
-// Passes a row to a sink, as a row of this table.
+// Passes a row to a sink as a row of this table.
 fn yield_row<R: RowSink>(alloc: Global, name: Table, row: &Row, sink: &mut R) -> Result<(), Fault>
     ensures yields { SinkOutcome R.gives sink.old
         ((name, Some (map cell_of row.now)) ∷ []) result sink.new }
@@ -30,7 +32,7 @@ fn yield_row<R: RowSink>(alloc: Global, name: Table, row: &Row, sink: &mut R) ->
     sink.row(name, cells.as_slice())
 }
 
-// Passes rows to a sink, as rows of this table.
+// Passes rows to a sink as rows of this table, in their order.
 fn yield_rows<R: RowSink>(
     alloc: Global,
     name: Table,
@@ -50,7 +52,8 @@ fn yield_rows<R: RowSink>(
     Ok(())
 }
 
-/// Passes the rows of a table to a sink, or the notice that the table can't be queried.
+/// Passes the rows of a table to a sink. If the table can't be queried, or isn't declared as in a store, reports that
+/// to the sink instead.
 pub(crate) fn yield_table_rows<S: Alter, R: RowSink>(
     alloc: Global,
     conn: &mut Connection<S>,
@@ -61,17 +64,22 @@ pub(crate) fn yield_table_rows<S: Alter, R: RowSink>(
         → SinkOutcome R.gives sink.old
         (sink_rows_of_table name (raw_table name (state S.Store conn.old).now.trees))
         result sink.new }
+    ensures differs { declares (state S.Store conn.old).now.schema name ≡ false
+        → SinkOutcome R.gives sink.old (sink_rows_of_table name None) result sink.new }
     ensures err { IfErr result IsKeeperFault }
     ensures leaves { LeavesTables S.Store conn.old conn.new }
 {
+    if !declares(conn, name) {
+        return sink.report_unqueried(name);
+    }
     match table_rows(conn, name) {
         Ok(rows) => yield_rows(alloc, name, rows.as_slice(), sink),
-        Err(Error::SqlInputError(_)) => sink.unqueried(name),
+        Err(Error::SqlInputError(_)) => sink.report_unqueried(name),
         Err(error) => Err(fault_of(error)),
     }
 }
 
-// Passes a row of posting to a sink.
+// Passes a row of table posting to a sink as a posting.
 fn yield_posting<P: PostingSink>(alloc: Global, row: &Row, sink: &mut P) -> Result<(), Fault>
     ensures yields { (x : PostingRow) → row.now ≡ values (posting_cells x)
         → SinkOutcome P.gives sink.old (x ∷ []) result sink.new }
@@ -83,7 +91,7 @@ fn yield_posting<P: PostingSink>(alloc: Global, row: &Row, sink: &mut P) -> Resu
     }
 }
 
-/// Passes rows of posting to a sink.
+/// Passes rows of table posting to a sink as postings, in their order.
 pub(crate) fn yield_postings<P: PostingSink>(
     alloc: Global,
     rows: &[Row],

@@ -1,4 +1,4 @@
-//! Rows of the database as rows of the tables.
+//! Parses rows of the database as rows of the tables.
 ghost use Rattle.std.specs.Prelude.{◌≡◌, List, map, IfOk, IfSome};
 ghost use Rattle.thes_tables.specs.declared.rows.MoveRow.{MoveRow};
 ghost use Rattle.thes_tables.specs.Cells.{posting_cells, move_cells};
@@ -14,7 +14,7 @@ use thes_load_rows::rows::{move_in, posting_in};
 use thes_tables::cells::{Cell, CellText};
 use thes_tables::rows::{MoveRow, PostingRow};
 
-// Returns a value as a cell, or None for a value that no table holds: a real, a blob, or a text that isn't UTF-8.
+// Returns a value as a cell; None for a value that no table has (a real, a blob, or a text that isn't UTF-8).
 fn cell_of(alloc: Global, value: ValueRef<'_>) -> Result<Option<Cell>, AllocError>
     ensures { IfOk result (λ cell. IfSome cell (λ c. value_of c ≡ owned value.entry)) }
 {
@@ -29,7 +29,7 @@ fn cell_of(alloc: Global, value: ValueRef<'_>) -> Result<Option<Cell>, AllocErro
     }
 }
 
-// Reads the cells of a row, or None if one of its values isn't a cell.
+// Reads the cells of a row; None if one of its values is a real, a blob, or a text that isn't UTF-8.
 fn cells_of(alloc: Global, row: &Row) -> Result<Option<Vec<Cell>>, AllocError>
     ensures { IfOk result (λ cells. IfSome cells (λ c. values c.items ≡ row.now)) }
 {
@@ -46,7 +46,8 @@ fn cells_of(alloc: Global, row: &Row) -> Result<Option<Vec<Cell>>, AllocError>
     Ok(Some(cells))
 }
 
-/// Reads a row of posting. A row of another form is an error; another program may have written it.
+/// Parses a row of table posting. A row of another form, which another program may have written, is the error
+/// `DatabaseCorrupt`.
 pub(crate) fn read_posting(alloc: Global, row: &Row) -> Result<PostingRow, Error>
     ensures { IfOk result (λ x. row.now ≡ values (posting_cells x)) }
 {
@@ -58,7 +59,7 @@ pub(crate) fn read_posting(alloc: Global, row: &Row) -> Result<PostingRow, Error
     Err(Error::SqliteFailure(ErrorCode::DatabaseCorrupt))
 }
 
-// Reads a row of move. A row of another form is an error.
+// Parses a row of table move. A row of another form is the error `DatabaseCorrupt`.
 fn read_move(alloc: Global, row: &Row) -> Result<MoveRow, Error>
     ensures { IfOk result (λ x. row.now ≡ values (move_cells x)) }
 {
@@ -70,7 +71,7 @@ fn read_move(alloc: Global, row: &Row) -> Result<MoveRow, Error>
     Err(Error::SqliteFailure(ErrorCode::DatabaseCorrupt))
 }
 
-/// Reads rows of move, as the moves of a posting.
+/// Parses rows of table move as the moves of a posting, in their order.
 pub(crate) fn read_moves(alloc: Global, rows: &[Row]) -> Result<Moves, Error>
     ensures { IfOk result (λ moves. (steps : List MoveRow)
         → rows.now ≡ map values (map move_cells steps) → moves ≡ map recorded_move steps) }

@@ -1,4 +1,4 @@
--- Proves how the rows that changes insert add up, change after change.
+-- The rows that changes insert, counted change by change.
 use Rattle.std.proofs.Common.{◌≡◌, ◌+◌, ◌<◌, ◌≤◌, ◌∙◌, ℕ, suc, List, [], ◌∷◌, ◌++◌, length, true, false, take, get_or}
 use Rattle.std.proofs.Common.{refl, sym, ap, subst, arith, ⊎_elim, append-nil, length-append}
 use Rattle.std.specs.Prelude.{Option, None, Some, slice_get, is_some, vec_len}
@@ -6,10 +6,10 @@ use Rattle.std.specs.List.{cons_option}
 use Rattle.std.proofs.lemmas.List.Elements.{filter_map-append}
 use Rattle.thes_base.proofs.NumberedLemmas.{push_cases}
 use Rattle.thes_tables.specs.declared.change.Change.{Change}
-use Rattle.thes_store.proofs.IndexPlaceLemmas.{take_one}
+use Rattle.thes_store.proofs.IndexPositionLemmas.{take_one}
 use Rattle.thes_store.specs.declared.slots.Slots.{Slots}
 use Rattle.thes_store.specs.AddedRow.{rows_added_by}
-use Rattle.thes_store.specs.Index.{HasPlace, KeepsPlaces}
+use Rattle.thes_store.specs.Index.{HasPosition, KeepsPositions}
 use Rattle.thes_store.specs.Slots.{AreExpected}
 
 module _ {A : Type 0} where
@@ -37,17 +37,17 @@ module _ {A : Type 0} where
   at_most_one None = omega arith
   at_most_one (Some x) = omega arith
 
-  -- If one more row is expected at the next position, the longer list is expected.
+  -- If the coming rows are expected and one further row is indexed after them, the longer list is expected.
   pub expected_more : (number : A → ℕ) (old new : Slots A) (coming : List A) (o : Option A) → AreExpected number old
-      coming → KeepsPlaces old.places new.places → new.rows ≡ old.rows
-      → ((row : A) → o ≡ Some row → HasPlace new.places (number row) (vec_len old.rows + length coming))
+      coming → KeepsPositions old.places new.places → new.rows ≡ old.rows
+      → ((row : A) → o ≡ Some row → HasPosition new.places (number row) (vec_len old.rows + length coming))
       → AreExpected number new (coming ++ cons_option o [])
   expected_more number old new coming o expected keeps rows comes k row e =
-      subst (λ n. HasPlace new.places (number row) (n + k)) (sym (ap (λ (v : _). vec_len v) rows)) (go o comes e)
+      subst (λ n. HasPosition new.places (number row) (n + k)) (sym (ap (λ (v : _). vec_len v) rows)) (go o comes e)
     where
       go : (o : Option A)
-          → ((row : A) → o ≡ Some row → HasPlace new.places (number row) (vec_len old.rows + length coming))
-          → slice_get (coming ++ cons_option o []) k ≡ Some row → HasPlace new.places (number row)
+          → ((row : A) → o ≡ Some row → HasPosition new.places (number row) (vec_len old.rows + length coming))
+          → slice_get (coming ++ cons_option o []) k ≡ Some row → HasPosition new.places (number row)
           (vec_len old.rows + k)
       go None comes e = keeps (number row) (vec_len old.rows + k)
           (expected k row (sym (ap (λ l. slice_get l k) (append-nil coming)) ∙ e))
@@ -57,7 +57,7 @@ module _ {A : Type 0} where
           (λ (last : (suc k ≡ length coming + 1) × (row ≡ x)).
           let here = last.0 in
           let at : length coming ≡ k = omega (arith, here) in
-          subst (λ n. HasPlace new.places (number row) (vec_len old.rows + n))
+          subst (λ n. HasPosition new.places (number row) (vec_len old.rows + n))
           at (comes row (ap (λ y. Some y) (sym last.1))))
           (push_cases coming x row (suc k) e)
 

@@ -1,4 +1,4 @@
--- Proves that a bulk move by an index moves exactly the postings assigned to the source.
+-- A bulk move by an index moves exactly the postings assigned to the source.
 use Rattle.std.proofs.Common.{◌≡◌, ◌≢◌, ◌⊎◌, ◌∙◌, inl, inr, ℕ, zero, suc, List, [], ◌∷◌, ◌++◌, map, Bool, true, false}
 use Rattle.std.proofs.Common.{cond, refl, sym, ap, subst}
 use Rattle.std.specs.Prelude.{Option, None, Some, slice_get, slice_set, not, ◌&&◌, ◌==◌}
@@ -10,13 +10,11 @@ use Rattle.std.proofs.lemmas.Bool.{eqb-true}
 use Rattle.thes_tables.specs.declared.rows.PostingRow.{PostingRow}
 use Rattle.thes_tables.specs.Tables.{IsIn}
 use Rattle.thes_tables.specs.Rows.{row_at_place, row_after_move_all}
-use Rattle.thes_store.proofs.IndexPlaceLemmas.{in_keys}
+use Rattle.thes_store.proofs.IndexPositionLemmas.{in_keys}
 use Rattle.thes_store.specs.declared.index.Index.{Index}
 use Rattle.thes_store.specs.Covers.{IndexesByPlace}
-use Rattle.thes_store.specs.RowsAtPlaces.{rows_after_change_at, rows_after_changes_at}
+use Rattle.thes_store.specs.RowsAtPositions.{rows_after_change_at, rows_after_changes_at}
 use Rattle.thes_base.proofs.NumberedLemmas.{slice_set_cases}
-
--- Rows changed at some positions.
 
 module _ {A : Type 0} (f : A → A) where
   pub changed_append : (places more : List ℕ) (rows : List A) → rows_after_changes_at f (places ++ more) rows
@@ -24,7 +22,7 @@ module _ {A : Type 0} (f : A → A) where
   changed_append [] more rows = refl
   changed_append (i ∷ places) more rows = changed_append places more (rows_after_change_at f i rows)
 
-  -- Each row outside these positions is a fixed point of the function.
+  -- The function leaves each row outside these positions unchanged.
   abbrev StayBut : List ℕ → List A → Type 0
   StayBut places rows = (i : ℕ) (row : A) → slice_get rows i ≡ Some row → (f row ≡ row) ⊎ IsIn i places
 
@@ -51,7 +49,7 @@ module _ {A : Type 0} (f : A → A) where
         go None e = refl
         go (Some row) e = map_set rows i row e
 
-    -- After the row at a position is changed, only rows at the remaining positions may still change.
+    -- After the row at a position is changed, the function changes only rows at the remaining positions.
     stay_with : (i : ℕ) (places : List ℕ) (rows : List A) → StayBut (i ∷ places) rows
         → StayBut places (rows_after_change_at f i rows)
     stay_with i places rows stay = go (slice_get rows i) refl
@@ -70,14 +68,13 @@ module _ {A : Type 0} (f : A → A) where
           | inr other ↦ left j row other.0 (stay j row other.1)
         ]
 
-    -- If the positions include each row that changes, changing them changes all rows.
+    -- Changing the rows at these positions changes all rows, if the positions include each row that the function
+    -- changes.
     pub all_changed_at : (places : List ℕ) (rows : List A) → StayBut places rows → rows_after_changes_at f places rows
         ≡ map f rows
     all_changed_at [] rows stay = sym (all_stay rows stay)
     all_changed_at (i ∷ places) rows stay = all_changed_at places (rows_after_change_at f i rows)
         (stay_with i places rows stay) ∙ map_with i rows
-
--- Postings that are moved.
 
 moved_again : (source target : ℕ) (row : PostingRow) → row_after_move_all source target
     (row_after_move_all source target row) ≡ row_after_move_all source target row
@@ -103,10 +100,10 @@ moved_or_stays source target row = go (not row.withdrawn) (row.place == source) 
     go true false is = inl refl
     go false d is = inl refl
 
-pub moved_at_places : (index : Index) (source target : ℕ) (set : BTreeSet ℕ) (rows : List PostingRow)
+pub moved_at_positions : (index : Index) (source target : ℕ) (set : BTreeSet ℕ) (rows : List PostingRow)
     → IndexesByPlace index rows → slice_get index.sets.items source ≡ Some set → rows_after_changes_at
     (row_after_move_all source target) set.keys rows ≡ map (row_after_move_all source target) rows
-moved_at_places index source target set rows standing found =
+moved_at_positions index source target set rows standing found =
     all_changed_at (row_after_move_all source target) (moved_again source target) set.keys rows
     (λ i row at. elim (moved_or_stays source target row) [
       | inl stays ↦ inl stays

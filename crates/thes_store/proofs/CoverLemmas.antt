@@ -1,4 +1,4 @@
--- Proves that the indexes still cover the tables after each change of a commit.
+-- The indexes have each row of the tables after each change of a commit.
 use Rattle.std.proofs.Common.{◌≡◌, ◌⊎◌, ◌+◌, ◌-◌, ◌<◌, ◌≤◌, ◌∙◌, inl, inr, ℕ, zero, suc, List, [], ◌∷◌, length, map}
 use Rattle.std.proofs.Common.{Bool, true, false, cond, take, get_or, refl, sym, ap, subst, arith, length-append}
 use Rattle.std.specs.Prelude.{Option, None, Some, Result, slice_get, slice_set, not, ◌&&◌, ◌==◌}
@@ -17,16 +17,14 @@ use Rattle.thes_tables.specs.Rows.{tables_after_change, tables_after_delta, with
 use Rattle.thes_tables.specs.Rows.{row_at_place, row_after_move_all, ChangeFits, DeltaFits}
 use Rattle.thes_tables.proofs.RowSetLemmas.{append_left, map_in}
 use Rattle.thes_tables.proofs.DeltaAppendLemmas.{all_append}
-use Rattle.thes_store.proofs.IndexPlaceLemmas.{take_one}
+use Rattle.thes_store.proofs.IndexPositionLemmas.{take_one}
 use Rattle.thes_store.specs.declared.indexes.Indexes.{Indexes}
-use Rattle.thes_store.specs.Index.{HasPlace}
-use Rattle.thes_store.specs.Keys.{KeyHasPlace}
+use Rattle.thes_store.specs.Index.{HasPosition}
+use Rattle.thes_store.specs.Keys.{KeyHasPosition}
 use Rattle.thes_store.specs.Covers.{Covers, CoversAll, CoversBoth, IndexesByPlace, IndexesGrow, IsOtherKey}
 use Rattle.thes_store.specs.Covers.{CoversChange, added_move_count}
 
--- A list with one element replaced.
-
--- A row after one is changed is a row from before, or the changed row under its number.
+-- A row after one was changed is a row from before, or the changed row under its number.
 with_cases : (f : PostingRow → PostingRow) (n : ℕ) (rows : List PostingRow) (m : ℕ) (y : PostingRow)
     → entry_at (with_posting f n rows) m ≡ Some y
     → (row : PostingRow) × (entry_at rows m ≡ Some row) × ((y ≡ row) ⊎ ((m ≡ n) × (y ≡ f row)))
@@ -48,7 +46,7 @@ map_cases f [] (suc m) y e = absurd (cc)
 map_cases f (x ∷ xs) (suc zero) y e = (x, refl, sym (same_Some _ _ e))
 map_cases f (x ∷ xs) (suc (suc m)) y e = map_cases f xs (suc m) y e
 
--- A moved row has the target as its place if it had the source, and else the place that it had.
+-- A bulk move gives a row the target as its place, or leaves it its place.
 moved_cases : (source target : ℕ) (row : PostingRow)
     → ((row.place ≡ source) × ((row_after_move_all source target row).place ≡ target))
     ⊎ ((row_after_move_all source target row).place ≡ row.place)
@@ -68,15 +66,14 @@ moved_key source target row = go (not row.withdrawn && row.place == source)
     go true = refl
     go false = refl
 
--- Changes of the table of postings.
-
 abbrev KeyIs : Indexes → List ℕ → ℕ → Type 0
-KeyIs x key i = KeyHasPlace x.keys key i
+KeyIs x key i = KeyHasPosition x.keys key i
 
--- Changing one posting keeps the tables covered if the index has its new place.
+-- The indexes have each row after one posting is changed, if they have its new place.
 covers_after_posting_change : (x : Indexes) (t : Tables) (f : PostingRow → PostingRow) (n : ℕ)
     → ((row : PostingRow) → (f row).key ≡ row.key)
-    → ((i : ℕ) (row : PostingRow) → suc i ≡ n → HasPlace x.standing row.place i → HasPlace x.standing (f row).place i)
+    → ((i : ℕ) (row : PostingRow) → suc i ≡ n → HasPosition x.standing row.place i
+    → HasPosition x.standing (f row).place i)
     → Covers x t → Covers x (record t { posting = with_posting f n t.posting })
 covers_after_posting_change x t f n key place covers = record {
   keys = λ i y e. let r = with_cases f n t.posting (suc i) y e in elim r.2 [
@@ -85,16 +82,17 @@ covers_after_posting_change x t f n key place covers = record {
         (sym (ap (λ (z : PostingRow). z.key) tables_after_change.1 ∙ key r.0)) (covers.keys i r.0 r.1)
   ];
   standing = λ i y e. let r = with_cases f n t.posting (suc i) y e in elim r.2 [
-    | inl same ↦ subst (λ (z : PostingRow). HasPlace x.standing z.place i) (sym same) (covers.standing i r.0 r.1)
-    | inr tables_after_change ↦ subst (λ (z : PostingRow). HasPlace x.standing z.place i) (sym tables_after_change.1)
+    | inl same ↦ subst (λ (z : PostingRow). HasPosition x.standing z.place i) (sym same) (covers.standing i r.0 r.1)
+    | inr tables_after_change ↦ subst (λ (z : PostingRow). HasPosition x.standing z.place i) (sym tables_after_change.1)
         (place i r.0 tables_after_change.0 (covers.standing i r.0 r.1))
   ];
   moves = covers.moves;
 }
 
--- A bulk move keeps the tables covered if the index has the moved postings under the target.
+-- The indexes have each row after a bulk move, if they have the moved postings under the target.
 covers_after_move : (x : Indexes) (t : Tables) (source target : ℕ)
-    → ((i : ℕ) (row : PostingRow) → slice_get t.posting i ≡ Some row → row.place ≡ source → HasPlace x.standing target
+    → ((i : ℕ) (row : PostingRow) → slice_get t.posting i ≡ Some row → row.place ≡ source
+    → HasPosition x.standing target
     i) → Covers x t → Covers x (record t { posting = map (row_after_move_all source target) t.posting })
 covers_after_move x t source target along covers = record {
   keys = λ i y e. let r = map_cases (row_after_move_all source target) t.posting (suc i) y e in
@@ -103,14 +101,15 @@ covers_after_move x t source target along covers = record {
   standing = λ i y e.
       let r = map_cases (row_after_move_all source target) t.posting (suc i) y e in
       let at = covers.standing i r.0 r.1 in
-      subst (λ (z : PostingRow). HasPlace x.standing z.place i) (sym r.2) (elim (moved_cases source target r.0) [
-        | inl moves ↦ subst (λ p. HasPlace x.standing p i) (sym moves.1) (along i r.0 r.1 moves.0)
-        | inr stays ↦ subst (λ p. HasPlace x.standing p i) (sym stays) at
+      subst (λ (z : PostingRow). HasPosition x.standing z.place i) (sym r.2) (elim (moved_cases source target r.0) [
+        | inl moves ↦ subst (λ p. HasPosition x.standing p i) (sym moves.1) (along i r.0 r.1 moves.0)
+        | inr stays ↦ subst (λ p. HasPosition x.standing p i) (sym stays) at
       ]);
   moves = covers.moves;
 }
 
--- Indexes that cover the tables and the row of a change cover the tables after the change.
+-- The indexes have each row of the tables after a change, if they had each row before it and have the rows of the
+-- change.
 pub covers_after_change : (x : Indexes) (c : Change) (t : Tables) (step : ℕ) → length t.move ≡ step
     → CoversChange x c t step → Covers x t → Covers x (tables_after_change c t)
 covers_after_change x (change.AddResource n r) t step len reached covers =
@@ -142,8 +141,8 @@ covers_after_change x (change.AddPosting row) t step len reached covers = record
   standing = λ i y e. elim (push_cases t.posting row y (suc i) e) [
     | inl old ↦ covers.standing i y old
     | inr new ↦ let at : length t.posting ≡ i = (let n = new.0 in omega (arith, n)) in
-        subst (λ (z : PostingRow). HasPlace x.standing z.place i) (sym new.1) (subst (HasPlace x.standing row.place)
-        at reached.1)
+        subst (λ (z : PostingRow). HasPosition x.standing z.place i) (sym new.1)
+        (subst (HasPosition x.standing row.place) at reached.1)
   ];
   moves = covers.moves;
 }
@@ -151,7 +150,7 @@ covers_after_change x (change.Withdraw n) t step len reached covers =
     covers_after_posting_change x t row_after_withdrawal n (λ row. refl) (λ i row e at. at) covers
 covers_after_change x (change.SetPlace n place) t step len reached covers =
     covers_after_posting_change x t (row_at_place place) n (λ row. refl)
-    (λ i row e at. subst (HasPlace x.standing place) (let s : n - 1 ≡ i = omega (arith, e) in s) reached) covers
+    (λ i row e at. subst (HasPosition x.standing place) (let s : n - 1 ≡ i = omega (arith, e) in s) reached) covers
 covers_after_change x (change.MoveAll source target) t step len reached covers =
     covers_after_move x t source target reached covers
 covers_after_change x (change.AddMove row) t step len reached covers = record {
@@ -160,12 +159,10 @@ covers_after_change x (change.AddMove row) t step len reached covers = record {
   moves = λ i y e. elim (push_cases t.move row y (suc i) e) [
     | inl old ↦ covers.moves i y old
     | inr new ↦ let at : step ≡ i = (let n = new.0 in omega (arith, n, len)) in
-        subst (λ (z : MoveRow). HasPlace x.moves z.posting i) (sym new.1) (subst (HasPlace x.moves row.posting)
+        subst (λ (z : MoveRow). HasPosition x.moves z.posting i) (sym new.1) (subst (HasPosition x.moves row.posting)
         at reached)
   ];
 }
-
--- No change removes the key of a posting.
 
 set_in : (xs : List PostingRow) (k : ℕ) (row r y : PostingRow) → slice_get xs k ≡ Some r → y.key ≡ r.key → IsIn row xs
     → (z : PostingRow) × IsIn z (slice_set xs k y) × (z.key ≡ row.key)
@@ -188,7 +185,7 @@ with_in f (suc n) rows row key h = go (slice_get rows n) refl
     go (Some r) at = set_in rows (suc n - 1) row r (f r) (ap (slice_get rows) (let e : suc n - 1 ≡ n = omega arith in
         e) ∙ at) (key r) h
 
--- A posting's key is still in the table after a change.
+-- The key of each posting is in the table after a change.
 key_stays : (c : Change) (t : Tables) (row : PostingRow) → IsIn row t.posting → (z : PostingRow)
     × IsIn z (tables_after_change c t).posting × (z.key ≡ row.key)
 key_stays (change.AddResource n r) t row h = (row, h, refl)
@@ -219,7 +216,7 @@ keys_stay (c ∷ changes) t row h =
     let z = keys_stay changes (tables_after_change c t) y.0 y.1 in
     (z.0, z.1, z.2 ∙ y.2)
 
--- A change that fits the tables inserts no key that they have.
+-- A change that fits the tables inserts no key that a posting of theirs has.
 other_key : (c : Change) (t : Tables) (row : PostingRow) → ChangeFits c t → IsIn row t.posting → IsOtherKey c row.key
 other_key (change.AddResource n r) t row fits h = tt
 other_key (change.Retire n) t row fits h = tt
@@ -236,8 +233,6 @@ other_key (change.Withdraw n) t row fits h = tt
 other_key (change.SetPlace n place) t row fits h = tt
 other_key (change.MoveAll source target) t row fits h = tt
 other_key (change.AddMove r) t row fits h = tt
-
--- The loop over the changes of a commit.
 
 pub get_in : (xs : List PostingRow) (i : ℕ) (row : PostingRow) → slice_get xs i ≡ Some row → IsIn row xs
 get_in [] i row e = absurd (cc)
@@ -258,8 +253,8 @@ fit_at [] i c t lt e fits = absurd (omega arith)
 fit_at (x ∷ changes) zero c t lt e fits = subst (λ y. ChangeFits y t) (sym e) fits.0
 fit_at (x ∷ changes) (suc i) c t lt e fits = fit_at changes i c (tables_after_change x t) (omega arith) e fits.1
 
--- The state of the loop after the first i changes: the indexes cover the tables before and after them, and have each
--- posting by its place in between.
+-- The state of the loop after the first i changes: the indexes have each row of the tables before and after these
+-- changes, and each posting under its place in between.
 pub record SoFar (x : Indexes) (changes : List Change) (i : ℕ) (t : Tables) (step : ℕ) : Type 0 where
   pub first : Covers x t
   pub last : Covers x (tables_after_delta (take i changes) t)
@@ -277,7 +272,7 @@ so_far_begins x changes t moves len covers = record {
   moves = len;
 }
 
--- A change appends as many moves as `added_move_count` says.
+-- A change appends `added_move_count` moves.
 moves_grow : (c : Change) (t : Tables) → length (tables_after_change c t).move ≡ length t.move + added_move_count c
 moves_grow (change.AddResource n r) t = omega arith
 moves_grow (change.Retire n) t = omega arith
@@ -321,7 +316,7 @@ covers_when_stopped old new changes i c t step lt is fits so_far grows =
     covers_after_growth c old new t grows (λ row h. let z = keys_stay (take i changes) t row h in
     subst (IsOtherKey c) z.2 (other_key c s z.0 (fit_at changes i c t lt is fits) z.1)) so_far.first
 
--- The loop's state after one more change.
+-- The loop keeps its state in one iteration.
 pub so_far_continues : (old new : Indexes) (changes : List Change) (i : ℕ) (c : Change) (t : Tables) (step next : ℕ)
     → i < length changes → c ≡ get_or changes i c → DeltaFits changes t → SoFar old changes i t step
     → IndexesGrow c old new → ((s : Tables) → ChangeFits c s → Covers old s → CoversChange new c s step)
@@ -361,8 +356,8 @@ so_far_ends x changes i t step all so_far =
       ];
     }
 
--- The result of `cover_all` in a commit: the tables that the caller sees are those in memory, and reserving memory
--- doesn't change them.
+-- The result of `cover_all` in a commit holds of the tables that the caller sees, which are those in memory, since
+-- reserving memory doesn't change them.
 pub covers_both : (x y : Indexes) (changes given : List Change) (moves : ℕ) (room inside seen : Tables)
     (result : Result (Unit {0}) AllocError) → ((t : Tables) → DeltaFits given t → length t.move ≡ moves → Covers x t
     → CoversBoth y given t result)

@@ -1,4 +1,4 @@
--- Proves that look-ups by the indexes find the rows that the tables have.
+-- Look-ups by the indexes find the rows that the tables have.
 use Rattle.std.proofs.Common.{◌≡◌, inl, inr, ◌∙◌, ℕ, suc, List, [], ◌∷◌, true, sym, ap, subst}
 use Rattle.std.proofs.lemmas.Bool.{eqb-true, and_parts}
 use Rattle.std.specs.Borrow.{Bor}
@@ -11,59 +11,59 @@ use Rattle.thes_tables.specs.declared.rows.PostingRow.{PostingRow}
 use Rattle.thes_tables.specs.Tables.{Tables, IsIn, is_assigned_row}
 use Rattle.thes_store.specs.declared.indexes.Indexes.{Indexes}
 use Rattle.thes_store.specs.declared.keys.Keys.{Keys}
-use Rattle.thes_store.specs.Index.{HasPlace, ArePlaces}
+use Rattle.thes_store.specs.Index.{HasPosition, ArePositions}
 use Rattle.thes_store.specs.Covers.{Covers}
-use Rattle.thes_store.specs.Keys.{KeyHasPlace, digest_of}
-use Rattle.thes_store.specs.RowsAtPlaces.{is_move_of, rows_at_places}
-use Rattle.thes_store.specs.Reading.{IsPostingOfKey, standing_rows}
-use Rattle.thes_store.proofs.IndexPlaceLemmas.{picked_all}
+use Rattle.thes_store.specs.Keys.{KeyHasPosition, digest_of}
+use Rattle.thes_store.specs.RowsAtPositions.{is_move_of, rows_at_positions}
+use Rattle.thes_store.specs.Reading.{IsPostingOfKey, assigned_posting_rows}
+use Rattle.thes_store.proofs.IndexPositionLemmas.{picked_all}
 
 in_get : (xs : List PostingRow) (row : PostingRow) → IsIn row xs → (i : ℕ) × (slice_get xs i ≡ Some row)
 in_get [] row h = absurd h
 in_get (x ∷ xs) row (inl same) = (0, ap (λ y. Some y) (sym same))
 in_get (x ∷ xs) row (inr later) = let g = in_get xs row later in (suc g.0, g.1)
 
--- No row has a key if neither the position of its digest nor that of its text has one.
+-- No row has a key if neither the position under its digest nor that under its text has a row with it.
 none_found : (x : Keys) (rows : List PostingRow) (key : List ℕ) → ((i : ℕ) (row : PostingRow) → slice_get rows i
-    ≡ Some row → KeyHasPlace x row.key i)
+    ≡ Some row → KeyHasPosition x row.key i)
     → ((i : ℕ) (row : PostingRow) → get nat_cmp x.numbers (digest_of key) ≡ Some i → slice_get rows i ≡ Some row
     → row.key ≡ key → ⊥)
     → ((i : ℕ) (row : PostingRow) → get (slice_cmp nat_cmp) x.rest key ≡ Some i → slice_get rows i ≡ Some row
     → row.key ≡ key → ⊥)
     → (row : PostingRow) → IsIn row rows → row.key ≡ key → ⊥
-none_found x rows key leads place_by_number place_by_text row h same =
+none_found x rows key leads position_by_digest position_by_text row h same =
     let p = in_get rows row h in
-    elim (subst (λ k. KeyHasPlace x k p.0) same (leads p.0 row p.1)) [
-      | inl number ↦ place_by_number p.0 row number p.1 same
-      | inr text ↦ place_by_text p.0 row text p.1 same
+    elim (subst (λ k. KeyHasPosition x k p.0) same (leads p.0 row p.1)) [
+      | inl number ↦ position_by_digest p.0 row number p.1 same
+      | inr text ↦ position_by_text p.0 row text p.1 same
     ]
 
 pub found_by_text : (x : Keys) (rows : List PostingRow) (key : List ℕ) (place : Option ℕ)
     (found : Option (Bor PostingRow)) → place ≡ get (slice_cmp nat_cmp) x.rest key
-    → ((i : ℕ) (row : PostingRow) → slice_get rows i ≡ Some row → KeyHasPlace x row.key i)
+    → ((i : ℕ) (row : PostingRow) → slice_get rows i ≡ Some row → KeyHasPosition x row.key i)
     → ((i : ℕ) (row : PostingRow) → get nat_cmp x.numbers (digest_of key) ≡ Some i → slice_get rows i ≡ Some row
     → row.key ≡ key → ⊥)
     → IfSome found (λ row. IsIn row.now rows × (row.now.key ≡ key))
     → IfNone found ((i : ℕ) (row : PostingRow) → place ≡ Some i → slice_get rows i ≡ Some row → row.key ≡ key → ⊥)
     → IsPostingOfKey key rows (option_copied found)
-found_by_text x rows key place None is leads place_by_number some none = none_found x rows key leads place_by_number
-    (λ i row at. none i row (is ∙ at))
-found_by_text x rows key place (Some row) is leads place_by_number some none = some
+found_by_text x rows key place None is leads position_by_digest some none = none_found x rows key leads
+    position_by_digest (λ i row at. none i row (is ∙ at))
+found_by_text x rows key place (Some row) is leads position_by_digest some none = some
 
 place_of_standing : (concept : ℕ) (row : PostingRow) → is_assigned_row concept row ≡ true → row.place ≡ concept
 place_of_standing concept row e = eqb-true row.place concept (and_parts (not row.withdrawn) (row.place == concept) e).1
 
 pub standing_all : (x : Indexes) (t : Tables) (concept : ℕ) (places : List ℕ) → Covers x t
-    → ArePlaces x.standing concept places → rows_at_places (is_assigned_row concept) t.posting places
-    ≡ standing_rows concept t.posting
+    → ArePositions x.standing concept places → rows_at_positions (is_assigned_row concept) t.posting places
+    ≡ assigned_posting_rows concept t.posting
 standing_all x t concept places covers are =
     picked_all (is_assigned_row concept) t.posting places are.rises
-    (λ i row at passes. are.complete i (subst (λ n. HasPlace x.standing n i) (place_of_standing concept row passes)
+    (λ i row at passes. are.complete i (subst (λ n. HasPosition x.standing n i) (place_of_standing concept row passes)
     (covers.standing i row at)))
 
-pub moves_all : (x : Indexes) (t : Tables) (n : ℕ) (places : List ℕ) → Covers x t → ArePlaces x.moves n places
-    → rows_at_places (is_move_of n) t.move places ≡ filter (is_move_of n) t.move
+pub moves_all : (x : Indexes) (t : Tables) (n : ℕ) (places : List ℕ) → Covers x t → ArePositions x.moves n places
+    → rows_at_positions (is_move_of n) t.move places ≡ filter (is_move_of n) t.move
 moves_all x t n places covers are =
     picked_all (is_move_of n) t.move places are.rises
-    (λ i row at passes. are.complete i (subst (λ m. HasPlace x.moves m i) (eqb-true row.posting n passes)
+    (λ i row at passes. are.complete i (subst (λ m. HasPosition x.moves m i) (eqb-true row.posting n passes)
     (covers.moves i row at)))

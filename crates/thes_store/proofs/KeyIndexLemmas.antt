@@ -1,4 +1,4 @@
--- Proves that a new position for one key leaves those of other keys as they are.
+-- Inserting a position under one key keeps the positions under all other keys.
 use Rattle.std.proofs.Common.{◌≡◌, ◌∙◌, inl, inr, ℕ, List, true, false, sym, ⊎_elim}
 use Rattle.std.specs.Prelude.{Some}
 use Rattle.std.specs.Ordering.{nat_cmp}
@@ -9,7 +9,7 @@ use Rattle.std.proofs.lemmas.Bool.{cases_Bool}
 use Rattle.std.proofs.lemmas.Map.Text.{is_eq-slice_cmp}
 use Rattle.std.proofs.lemmas.Slice.Eq.{bytes_eq-Decides}
 use Rattle.thes_store.specs.declared.keys.Keys.{Keys}
-use Rattle.thes_store.specs.Keys.{digest_of, KeepsNumbers, KeepsOtherKeys}
+use Rattle.thes_store.specs.Keys.{digest_of, KeepsDigests, KeepsOtherKeys}
 
 get_others : (old new : BTreeMap (List ℕ) ℕ) (key : List ℕ) (n : ℕ) → UpdatesBy (slice_cmp nat_cmp)
     (slice_cmp nat_cmp key) old new (Some n) → (q : List ℕ) → (key ≡ q → ⊥) → get (slice_cmp nat_cmp) new q
@@ -18,9 +18,9 @@ get_others old new key n updates q apart = updates.2 q (is_eq-slice_cmp key q �
     (λ (hit : bytes_eq key q ≡ true). absurd (apart ((bytes_eq-Decides key q).0 hit)))
     (λ (miss : bytes_eq key q ≡ false). miss) (cases_Bool (bytes_eq key q)))
 
--- A key that is entered by its text keeps the positions of other keys.
+-- Inserting a key by its text keeps the positions under all other keys.
 pub kept_by_text : (old : Keys) (numbers : BTreeMap ℕ ℕ) (rest : BTreeMap (List ℕ) ℕ) (key copy : List ℕ) (n : ℕ)
-    → KeepsNumbers old.numbers numbers → copy ≡ key → UpdatesBy (slice_cmp nat_cmp) (slice_cmp nat_cmp copy) old.rest
+    → KeepsDigests old.numbers numbers → copy ≡ key → UpdatesBy (slice_cmp nat_cmp) (slice_cmp nat_cmp copy) old.rest
     rest (Some n)
     → KeepsOtherKeys key old (record { numbers = numbers; rest = rest })
 kept_by_text old numbers rest key copy n keeps same updates = λ other place apart leads. elim leads [

@@ -1,4 +1,4 @@
-pub mod IndexPlaceLemmas
+pub mod IndexPositionLemmas
 pub mod RowEqualityLemmas
 pub mod CoverLemmas
 pub mod SinkLemmas

@@ -1,4 +1,4 @@
--- Proves that room for some changes is room for the first of them.
+-- Room for the rows of some changes is room for those of the first of them.
 use Rattle.std.proofs.Common.{◌≡◌, ◌+◌, ◌<◌, ◌≤◌, ◌∙◌, ℕ, zero, suc, List, [], ◌∷◌, length, drop, get_or, refl, sym}
 use Rattle.std.proofs.Common.{ap, arith}
 use Rattle.std.specs.Prelude.{Option, None, Some, slice_get, vec_len}
@@ -8,10 +8,10 @@ use Rattle.std.proofs.lemmas.List.{drop_more}
 use Rattle.thes_tables.specs.declared.change.Change.{Change}
 use Rattle.thes_store.specs.declared.slots.Slots.{Slots}
 use Rattle.thes_store.specs.declared.tables.MemTables.{MemTables}
-use Rattle.thes_store.specs.AddedRow.{rows_added_by, added_resource, added_outside, added_label, added_link}
+use Rattle.thes_store.specs.AddedRow.{rows_added_by, added_resource, added_outside, added_label, inserted_link}
 use Rattle.thes_store.specs.AddedRow.{added_hier, added_posting, added_move}
 use Rattle.thes_store.specs.Numbers.{owner_of, indexed_end_of, narrower_end_of}
-use Rattle.thes_store.specs.Index.{HasPlace}
+use Rattle.thes_store.specs.Index.{HasPosition}
 use Rattle.thes_store.specs.Room.{HasRoomForRows}
 use Rattle.thes_store.specs.Slots.{IsReady}
 
@@ -29,7 +29,8 @@ module _ {A : Type 0} where
   }
   ready_first number s (Some x) rest ready = record { room = let r = ready.room in omega (arith, r); expected = first }
     where
-      first : (k : ℕ) (row : A) → slice_get (x ∷ []) k ≡ Some row → HasPlace s.places (number row) (vec_len s.rows + k)
+      first : (k : ℕ) (row : A) → slice_get (x ∷ []) k ≡ Some row → HasPosition s.places (number row)
+          (vec_len s.rows + k)
       first zero row e = ready.expected zero row e
       first (suc k) row e = absurd (cc)
 
@@ -51,7 +52,7 @@ room_first m c rest room = record {
   outside = fewer_fit (vec_len m.outside) _ _ (vec_capacity m.outside)
       (count_first (added_outside c) (rows_added_by added_outside rest)) room.outside;
   label = ready_first owner_of m.label (added_label c) (rows_added_by added_label rest) room.label;
-  link = ready_first indexed_end_of m.link (added_link c) (rows_added_by added_link rest) room.link;
+  link = ready_first indexed_end_of m.link (inserted_link c) (rows_added_by inserted_link rest) room.link;
   hier = ready_first narrower_end_of m.hier (added_hier c) (rows_added_by added_hier rest) room.hier;
   posting = fewer_fit (vec_len m.posting) _ _ (vec_capacity m.posting)
       (count_first (added_posting c) (rows_added_by added_posting rest)) room.posting;

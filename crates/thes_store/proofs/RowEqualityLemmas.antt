@@ -1,4 +1,4 @@
--- Proves that tests are equal to true exactly when they hold.
+-- Tests of rows for equality return true exactly when the rows are equal.
 use Rattle.std.proofs.Common.{◌≡◌, refl, Bool, true, false, IsTrue}
 
 pub true_of : (b : Bool) → IsTrue b → b ≡ true

@@ -1,4 +1,4 @@
--- Proves what a sink accepts of lists that are passed to it in parts.
+-- What a sink accepts of a list that is passed to it in parts.
 use Rattle.std.proofs.Common.{◌≡◌, ◌<◌, ◌+◌, ◌++◌, ◌∙◌, inl, inr, ℕ, zero, suc, List, [], ◌∷◌, length, map, take}
 use Rattle.std.proofs.Common.{get_or, refl, sym, ap, subst, arith, append_assoc, append-nil}
 use Rattle.std.proofs.lemmas.List.{map-append}
@@ -14,10 +14,10 @@ use Rattle.thes_tables.specs.declared.cells.Cell.{Cell}
 use Rattle.thes_tables.specs.Cells.{Raw, resource_cells, resource_rows}
 use Rattle.thes_store.specs.Sinks.{SinkAcceptsAll, SinkAcceptsPrefix, SinkOutcome, sink_rows_of_table, sink_rows}
 use Rattle.thes_store.specs.Loading.{raw_rows_of, sink_rows_of_tables, table_order}
-use Rattle.thes_store.proofs.IndexPlaceLemmas.{take_one, split_at}
+use Rattle.thes_store.proofs.IndexPositionLemmas.{take_one, split_at}
 
 module _ {S A : Type 0} (gives : S → A → Result (Unit {0}) Fault → S → Type 0) where
-  -- One row passed to a sink.
+  -- Passing one row gives the outcome of a list of one row.
   pub one_sink_row : (old new : S) (x : A) (result : Result (Unit {0}) Fault) → gives old x result new
       → SinkOutcome gives old (x ∷ []) result new
   one_sink_row old new x (Ok tt) g = (new, g, refl)
@@ -41,7 +41,7 @@ module _ {S A : Type 0} (gives : S → A → Result (Unit {0}) Fault → S → T
   some_more (x ∷ xs) ys fault old new (inr (inl refused)) = inr (inl refused)
   some_more (x ∷ xs) ys fault old new (inr (inr (mid, g, t))) = inr (inr (mid, g, some_more xs ys fault mid new t))
 
-  -- A loop that passes a list's elements to a sink, one by one.
+  -- Assumes a loop that passes the elements of a list to a sink, one by one.
   module _ {R : Type 0} (f : R → A) where
     pub accepts_next : (xs : List R) (i : ℕ) (x : R) (old mid new : S) → i < length xs → x ≡ get_or xs i x
         → SinkAcceptsAll gives old (map f (take i xs)) mid → SinkAcceptsAll gives mid (f x ∷ []) new
@@ -69,8 +69,6 @@ module _ {S A : Type 0} (gives : S → A → Result (Unit {0}) Fault → S → T
             (subst (λ z. SinkAcceptsPrefix gives fault mid (f z ∷ []) new) is u))
         go (y ∷ xs) (suc i) old lt is t = inr (inr (t.0, t.1, go xs i t.0 (omega arith) is t.2))
 
--- Lists of rows with gaps.
-
 abbrev pub sink_rows_of_slots : {R : Type 0} → Table → (R → List Cell) → List (Option R)
     → List (Table × Option (List Cell))
 sink_rows_of_slots name cells slots = sink_rows_of_table name (Some (map cells (filter_map (λ slot. slot) slots)))
@@ -84,8 +82,6 @@ slots_append {R = R} name cells xs ys =
     (map-append cells (filter_map slot xs) (filter_map slot ys))
     ∙ map-append (λ (row : List Cell). (name, Some row)) (map cells (filter_map slot xs))
     (map cells (filter_map slot ys))
-
--- The rows of table resource, which have their numbers by position.
 
 abbrev as_resource : List Cell → Table × Option (List Cell)
 as_resource row = (table.Resource, Some row)
@@ -140,8 +136,6 @@ module _ {S : Type 0} (gives : S → Table × Option (List Cell) → Result (Uni
       ∷ map as_resource h.0) fault old mid new t
       (some_more gives (as_resource (resource_cells (1 + i) r) ∷ []) (map as_resource h.0) fault mid new u))
 
--- Tables in their order.
-
 pub tables_append : (raw : Raw) (names more : List Table) → sink_rows_of_tables raw (names ++ more)
     ≡ sink_rows_of_tables raw names ++ sink_rows_of_tables raw more
 tables_append raw [] more = refl
@@ -162,11 +156,9 @@ after_tables before raw (name ∷ names) =
     sym (append_assoc before (sink_rows_of_table name (raw_rows_of name raw)) (sink_rows_of_tables raw names))
     ∙ after_tables (before ++ sink_rows_of_table name (raw_rows_of name raw)) raw names
 
--- All tables in their order are the whole store.
+-- The rows of all tables in their order are the rows of the store.
 pub all_tables : (raw : Raw) (names : List Table) → names ≡ table_order → sink_rows_of_tables raw names ≡ sink_rows raw
 all_tables raw names is = ap (sink_rows_of_tables raw) is ∙ after_tables [] raw table_order
-
--- A loop that passes parts to a sink, where each part is several rows.
 
 module _ {S A X : Type 0} (gives : S → A → Result (Unit {0}) Fault → S → Type 0) (parts : List X → List A)
     (splits : (xs ys : List X) → parts (xs ++ ys) ≡ parts xs ++ parts ys) where
@@ -189,8 +181,6 @@ module _ {S A X : Type 0} (gives : S → A → Result (Unit {0}) Fault → S →
       (some_then gives (parts (take i xs)) (parts (x ∷ []) ++ parts rest.0) fault old mid new t
       (some_more gives (parts (x ∷ [])) (parts rest.0) fault mid new
       (subst (λ q. SinkOutcome gives mid (parts (x ∷ [])) q new) err h)))
-
--- Calls that fail before they pass anything.
 
 module _ {S A : Type 0} (gives : S → A → Result (Unit {0}) Fault → S → Type 0) where
   pub none_accepted : (xs : List A) (fault : Fault) (old : S) → SinkAcceptsPrefix gives fault old xs old

@@ -1,4 +1,4 @@
--- Proves that lists with gaps keep their index and their reserved room after a change.
+-- Lists with gaps keep their index and their reserved room at each change.
 use Rattle.std.proofs.Common.{◌≡◌, ◌≢◌, ◌+◌, ◌<◌, ◌∙◌, inl, inr, ℕ, zero, suc, List, [], ◌∷◌, ◌++◌, length, Bool}
 use Rattle.std.proofs.Common.{true, false, cond, refl, sym, ap, subst, arith, ⊎_elim}
 use Rattle.std.specs.Prelude.{Option, None, Some, slice_get, slice_set, filter, not, vec_len}
@@ -12,36 +12,34 @@ use Rattle.std.specs.Ordering.{nat_cmp}
 use Rattle.std.specs.BTreeSet.{BTreeSet, contains}
 use Rattle.thes_base.proofs.NumberedLemmas.{push_cases, slice_set_cases}
 use Rattle.thes_tables.specs.Tables.{IsIn}
-use Rattle.thes_store.proofs.IndexPlaceLemmas.{in_keys}
+use Rattle.thes_store.proofs.IndexPositionLemmas.{in_keys}
 use Rattle.thes_store.specs.declared.slots.Slots.{Slots}
-use Rattle.thes_store.specs.Index.{HasPlace, KeepsOthers}
-use Rattle.thes_store.specs.RowsAtPlaces.{rows_after_change_at}
+use Rattle.thes_store.specs.Index.{HasPosition, KeepsOthers}
+use Rattle.thes_store.specs.RowsAtPositions.{rows_after_change_at}
 use Rattle.thes_store.specs.Slots.{rows_in, AreIndexedBy, IsReady, is_same_row}
 
 module _ {A : Type 0} where
   abbrev rows_without_gaps : List (Option A) → List A
   rows_without_gaps slots = filter_map (λ slot. slot) slots
 
-  -- A row appended.
-
   pub rows_pushed : (slots : List (Option A)) (x : A) → rows_without_gaps (slots ++ Some x ∷ [])
       ≡ rows_without_gaps slots ++ x ∷ []
   rows_pushed slots x = filter_map-append (λ (slot : Option A). slot) slots (Some x ∷ [])
 
   module _ (number : A → ℕ) (old new : Slots A) where
-    -- An appended row is indexed if its position was expected.
+    -- An appended row is indexed if its position was.
     pub found_pushed : (x : A) → new.rows.items ≡ old.rows.items ++ Some x ∷ [] → new.places ≡ old.places
-        → HasPlace old.places (number x) (vec_len old.rows) → AreIndexedBy number old → AreIndexedBy number new
+        → HasPosition old.places (number x) (vec_len old.rows) → AreIndexedBy number old → AreIndexedBy number new
     found_pushed x items places at found i row e =
-        subst (λ p. HasPlace p (number row) i) (sym places)
+        subst (λ p. HasPosition p (number row) i) (sym places)
         (⊎_elim
         (λ (before : slice_get old.rows.items i ≡ Some (Some row)). found i row before)
         (λ (last : (suc i ≡ length old.rows.items + 1) × (Some row ≡ Some x)).
         let here = last.0 in
         let len = old.rows.ok.0 in
         let same : vec_len old.rows ≡ i = omega (arith, here, len) in
-        subst (λ n. HasPlace old.places n i) (ap number (sym (same_Some _ _ last.1)))
-        (subst (HasPlace old.places (number x)) same at))
+        subst (λ n. HasPosition old.places n i) (ap number (sym (same_Some _ _ last.1)))
+        (subst (HasPosition old.places (number x)) same at))
         (push_cases old.rows.items (Some x) (Some row) (suc i) (sym (ap (λ l. slice_get l i) items) ∙ e)))
 
     pub ready_pushed : (x : A) (rest : List A) → new.places ≡ old.places → vec_len new.rows ≡ vec_len old.rows + 1
@@ -50,24 +48,22 @@ module _ {A : Type 0} where
       room = let r = ready.room in omega (arith, r, len, capacity);
       expected = λ k row e.
           let at : vec_len old.rows + suc k ≡ vec_len new.rows + k = omega (arith, len) in
-          subst (λ p. HasPlace p (number row) (vec_len new.rows + k)) (sym places)
-          (subst (HasPlace old.places (number row)) at (ready.expected (suc k) row e));
+          subst (λ p. HasPosition p (number row) (vec_len new.rows + k)) (sym places)
+          (subst (HasPosition old.places (number row)) at (ready.expected (suc k) row e));
     }
 
-    -- A row removed.
-
-    -- The other rows stay indexed after one is removed.
+    -- The other rows are indexed after one is removed.
     pub found_emptied : (i : ℕ) → new.rows.items ≡ rows_after_change_at (λ slot. None) i old.rows.items
         → KeepsOthers i old.places new.places → AreIndexedBy number old → AreIndexedBy number new
     found_emptied i items keeps found j row e = go (slice_get old.rows.items i) refl
         (sym (ap (λ l. slice_get l j) items) ∙ e)
       where
-        other : j ≢ i → slice_get old.rows.items j ≡ Some (Some row) → HasPlace new.places (number row) j
+        other : j ≢ i → slice_get old.rows.items j ≡ Some (Some row) → HasPosition new.places (number row) j
         other apart at = keeps (number row) j apart (found j row at)
 
         go : (o : Option (Option A)) → slice_get old.rows.items i ≡ o
             → slice_get (elim o [ None ↦ old.rows.items | Some slot ↦ slice_set old.rows.items i None ]) j
-            ≡ Some (Some row) → HasPlace new.places (number row) j
+            ≡ Some (Some row) → HasPosition new.places (number row) j
         go None none at = other (λ same. let no = sym none ∙ ap (slice_get old.rows.items) (sym same) ∙ at in
             absurd (cc)) at
         go (Some slot) row_there at = elim (slice_set_cases old.rows.items None (Some row) i j at) [
@@ -81,13 +77,13 @@ module _ {A : Type 0} where
     ready_emptied i rest place_in_bounds len capacity keeps ready = record {
       room = let r = ready.room in omega (arith, r, len, capacity);
       expected = λ k row e.
-          subst (λ n. HasPlace new.places (number row) (n + k)) (sym len)
+          subst (λ n. HasPosition new.places (number row) (n + k)) (sym len)
           (keeps (number row) (vec_len old.rows + k) (λ same. absurd (omega (arith, place_in_bounds, same)))
           (ready.expected k row e));
     }
 
   module _ (p : A → Bool) where
-    -- A gap in place of a row that fails a test leaves the passing rows as they are.
+    -- A gap in place of a row that fails the test leaves the passing rows unchanged.
     pub filter_emptied : (slots : List (Option A)) (i : ℕ) (x : A) → slice_get slots i ≡ Some (Some x) → p x ≡ false
         → filter p (rows_without_gaps (slice_set slots i None)) ≡ filter p (rows_without_gaps slots)
     filter_emptied [] i x e fails = absurd (cc)
@@ -116,8 +112,6 @@ module _ {A : Type 0} where
   fewer_emptied (None ∷ slots) (suc i) x e = fewer_emptied slots i x e
   fewer_emptied (Some y ∷ slots) (suc i) x e = let h = fewer_emptied slots i x e in omega (arith, h)
 
-  -- Rows that are equal.
-
   module _ (same : A → A → Bool) (row : A) where
     pub row_there : (o : Option (Option A)) → is_same_row same o row ≡ true → (x : A) × (o ≡ Some (Some x))
         × (same x row ≡ true)
@@ -132,9 +126,9 @@ module _ {A : Type 0} where
     module _ (number : A → ℕ) (agree : (x y : A) → same x y ≡ true → number x ≡ number y) (s : Slots A)
         (found : AreIndexedBy number s) where
       found_same : (place : ℕ) → is_same_row same (slice_get s.rows.items place) row ≡ true
-          → HasPlace s.places (number row) place
+          → HasPosition s.places (number row) place
       found_same place e = let h = row_there (slice_get s.rows.items place) e in
-          subst (λ n. HasPlace s.places n place) (agree h.0 row h.2) (found place h.0 h.1)
+          subst (λ n. HasPosition s.places n place) (agree h.0 row h.2) (found place h.0 h.1)
 
       pub none_same : slice_get s.places.sets.items (number row) ≡ None → (place : ℕ)
           → is_same_row same (slice_get s.rows.items place) row ≡ false
@@ -157,7 +151,7 @@ module _ {A : Type 0} where
           (λ (miss : is_same_row same (slice_get s.rows.items place) row ≡ false). miss)
           (cases_Bool (is_same_row same (slice_get s.rows.items place) row))
 
-    -- The row at this position is equal to the given one.
+    -- Assumes that the row at this position is equal to the given one, and is removed.
     module _ (old new : Slots A) (place : ℕ) (held : is_same_row same (slice_get old.rows.items place) row ≡ true)
         (emptied : new.rows.items ≡ rows_after_change_at (λ slot. None) place old.rows.items) where
       h : (x : A) × (slice_get old.rows.items place ≡ Some (Some x)) × (same x row ≡ true)
@@ -183,7 +177,7 @@ module _ {A : Type 0} where
       place_in_bounds = let w = slice_get_within old.rows.items place (Some h.0) h.1 in let len = old.rows.ok.0 in
           omega (arith, w, len)
 
-    -- No row that is equal to the given one remains.
+    -- If no slot has a row equal to the given one, the rows are those that differ from it.
     pub none_left : (s : Slots A) → ((place : ℕ) → is_same_row same (slice_get s.rows.items place) row ≡ false)
         → rows_in s ≡ filter (λ x. not (same x row)) (rows_in s)
     none_left s apart = sym (filter_whole (λ x. not (same x row)) s.rows.items (differs s.rows.items apart))

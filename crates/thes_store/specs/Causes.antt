@@ -1,4 +1,4 @@
--- Faults of the storage, and the count of failures.
+-- Faults of the storage, and the count of its failures.
 use Rattle.std.specs.Prelude.{◌≡◌, ◌⊎◌, ◌<◌, ℕ, Result, Ok, Err}
 use Rattle.thes_base.specs.declared.fault.Fault.{Fault}
 use Rattle.thes_base.specs.declared.fault.Fault.TheVariants as faults
@@ -7,14 +7,15 @@ use Rattle.thes_base.specs.declared.fault.Fault.TheVariants as faults
 abbrev pub max_failures : ℕ
 max_failures = 18446744073709551615
 
--- The fault is OutOfMemory and the count is unchanged, or the fault is Store and the count rose, unless it had its
--- greatest value.
+-- The fault agrees with the count of failures: it is OutOfMemory and the count is unchanged, or it is Store and the
+-- count has grown, unless it had its greatest value.
 abbrev pub IsCounted : ℕ → ℕ → Fault → Type 0
 IsCounted before now fault =
     ((fault ≡ faults.OutOfMemory) × (now ≡ before))
     ⊎ ((fault ≡ faults.Store) × ((before < now) ⊎ ((before ≡ max_failures) × (now ≡ before))))
 
--- A successful call leaves the count of failures unchanged, and a fault is counted.
+-- The result agrees with the count of failures: after success the count is unchanged, and after a fault it is as
+-- IsCounted states.
 abbrev pub HasCause : {T : Type 0} → ℕ → ℕ → Result T Fault → Type 0
 HasCause before now (Ok x) = now ≡ before
 HasCause before now (Err fault) = IsCounted before now fault

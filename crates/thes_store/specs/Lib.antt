@@ -6,7 +6,7 @@ pub mod Index
 pub mod Keys
 pub mod Loading
 pub mod Numbers
-pub mod RowsAtPlaces
+pub mod RowsAtPositions
 pub mod Reading
 pub mod Room
 pub mod SameRows

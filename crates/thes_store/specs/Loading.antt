@@ -17,13 +17,13 @@ raw_rows_of table.Hier raw = raw.hier
 raw_rows_of table.Posting raw = raw.posting
 raw_rows_of table.Move raw = raw.move
 
--- All tables, in the order in which a load yields them.
+-- The eight tables, in the order in which a load yields them.
 abbrev pub table_order : List Table
 table_order =
     table.Meta ∷ table.Resource ∷ table.Outside ∷ table.Label ∷ table.Link ∷ table.Hier ∷ table.Posting ∷ table.Move
     ∷ []
 
--- The rows of the tables with these names, in order.
+-- The rows of the tables with these names, table after table.
 abbrev pub sink_rows_of_tables : Raw → List Table → List (Table × Option (List Cell))
 sink_rows_of_tables raw [] = []
 sink_rows_of_tables raw (name ∷ names) = sink_rows_of_table name (raw_rows_of name raw) ++ sink_rows_of_tables raw names

@@ -1,4 +1,4 @@
--- The number under which a row is indexed.
+-- The numbers under which rows are indexed.
 use Rattle.std.specs.Prelude.{ℕ, Bool}
 use Rattle.std.specs.Ordering.{eq_by_cmp}
 use Rattle.thes_base.specs.Labels.{Label, label_cmp}
@@ -13,8 +13,8 @@ use Rattle.thes_tables.specs.Tables.{hier_link}
 abbrev pub owner_of : Label → ℕ
 owner_of l = l.owner
 
--- The end under which a link is indexed, the one with fewer links of its kind: the member of a membership, and else the
--- first.
+-- The end under which a link of the kind from a to b is indexed, as a rule the one with fewer links of the kind: the
+-- member of a membership, or else the first end.
 abbrev pub chosen_end : LinkKind → ℕ → ℕ → ℕ
 chosen_end kinds.Member a b = b
 chosen_end _ a b = a
@@ -27,14 +27,14 @@ indexed_end_of l = chosen_end l.kind l.a l.b
 abbrev pub narrower_end_of : HierRow → ℕ
 narrower_end_of row = row.a
 
--- Two labels are equal.
+-- The test of whether two labels are equal.
 abbrev pub is_same_label : Label → Label → Bool
 is_same_label x y = eq_by_cmp label_cmp x y
 
--- Two links are equal.
+-- The test of whether two links are equal.
 abbrev pub is_same_link : Link → Link → Bool
 is_same_link x y = eq_by_cmp link_cmp x y
 
--- Two rows of hier encode the same link.
+-- The test of whether two rows of table hier encode the same link.
 abbrev pub is_same_hier : HierRow → HierRow → Bool
 is_same_hier x y = eq_by_cmp link_cmp (hier_link x) (hier_link y)

@@ -1,31 +1,31 @@
--- A list of rows with gaps where rows were removed, and its index.
+-- A list of rows, with gaps where rows were removed, and its index.
 use Rattle.std.specs.Prelude.{◌≡◌, ◌≤◌, ◌+◌, ℕ, List, Bool, false, Option, Some, length, slice_get, vec_len}
 use Rattle.std.specs.List.{filter_map}
 use Rattle.std.specs.Vec.{vec_capacity}
 use Rattle.thes_store.specs.declared.slots.Slots.{Slots}
-use Rattle.thes_store.specs.Index.{HasPlace}
+use Rattle.thes_store.specs.Index.{HasPosition}
 
 module _ {A : Type 0} where
-  -- The rows, without the gaps.
+  -- The rows in their order, without the gaps.
   abbrev pub rows_in : Slots A → List A
   rows_in s = filter_map (λ slot. slot) s.rows.items
 
-  -- Each row is indexed under its number.
+  -- The index has each row's position under its number.
   abbrev pub AreIndexedBy : (A → ℕ) → Slots A → Type 0
   AreIndexedBy number s = (i : ℕ) (row : A) → slice_get s.rows.items i ≡ Some (Some row)
-      → HasPlace s.places (number row) i
+      → HasPosition s.places (number row) i
 
-  -- The index has the positions that the next rows get when they are appended.
+  -- The index has the positions that the coming rows will get, under their numbers.
   abbrev pub AreExpected : (A → ℕ) → Slots A → List A → Type 0
-  AreExpected number s coming = (k : ℕ) (row : A) → slice_get coming k ≡ Some row → HasPlace s.places (number row)
+  AreExpected number s coming = (k : ℕ) (row : A) → slice_get coming k ≡ Some row → HasPosition s.places (number row)
       (vec_len s.rows + k)
 
-  -- Memory is reserved for the next rows, and their positions are in the index.
+  -- The coming rows can be appended without failing: memory is reserved, and the index has their positions.
   pub record IsReady (number : A → ℕ) (s : Slots A) (coming : List A) : Type 0 where
     pub room : vec_len s.rows + length coming ≤ vec_capacity s.rows
     pub expected : AreExpected number s coming
 
-  -- There is a row, and it is equal to this one.
+  -- The test of whether the slot has a row that is equal to this one.
   abbrev pub is_same_row : (A → A → Bool) → Option (Option A) → A → Bool
   is_same_row same (Some (Some there)) row = same there row
   is_same_row same _ row = false

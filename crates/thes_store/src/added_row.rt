@@ -1,4 +1,4 @@
-//! The rows that changes insert, and room for them.
+//! The rows that changes insert into each table, and room for them.
 ghost use Rattle.std.specs.Prelude.{◌≡◌, ◌≤◌, ◌+◌, List, Option, length, vec_len, is_some, OnOk};
 ghost use Rattle.std.specs.Vec.{vec_capacity};
 ghost use Rattle.thes_tables.specs.declared.change.Change.{Change};
@@ -9,12 +9,12 @@ use thes_base::data::{Link, Resource};
 use thes_tables::change::Change;
 use thes_tables::rows::{HierRow, LabelRow, MoveRow, OutsideRow, PostingRow};
 
-/// A row of a table, as a change may insert one.
+/// A row of one table, which some kind of change inserts.
 pub trait AddedRow {
     // The row that the change inserts into this table, if any.
     ghost added_row: { Change → Option Self };
 
-    /// Returns whether the change inserts a row into this table.
+    /// Checks whether the change inserts a row into this table.
     fn is_added(change: &Change) -> bool
         ensures { result ≡ is_some (added_row change.now) };
 }
@@ -50,9 +50,9 @@ impl AddedRow for LabelRow {
 }
 
 impl AddedRow for Link {
-    ghost use Rattle.thes_store.specs.AddedRow.{added_link};
+    ghost use Rattle.thes_store.specs.AddedRow.{inserted_link};
 
-    ghost added_row = { added_link };
+    ghost added_row = { inserted_link };
 
     fn is_added(change: &Change) -> bool {
         matches!(change, Change::AddLink(_))
@@ -89,7 +89,7 @@ impl AddedRow for MoveRow {
     }
 }
 
-/// Counts the rows that changes insert into a table.
+/// Returns the number of rows that the changes insert into this table.
 pub fn count_added<T: AddedRow>(changes: &[Change]) -> usize
     ensures { result ≡ length (rows_added_by T.added_row changes.now) }
 {
@@ -102,7 +102,8 @@ pub fn count_added<T: AddedRow>(changes: &[Change]) -> usize
     count
 }
 
-/// Reserves memory in a table for the rows that changes insert.
+/// Reserves memory in a table for all rows that the changes insert, so that inserting them can't
+/// fail.
 pub fn make_room<T: AddedRow>(rows: &mut Vec<T>, changes: &[Change]) -> Result<(), AllocError>
     ensures items { rows.new.items ≡ rows.old.items }
     ensures room { OnOk result

@@ -1,4 +1,4 @@
-//! A `Keeper` for tests, of which one call fails.
+//! Storage for tests, of which one call fails.
 ghost use Rattle.std.specs.Prelude.{◌≡◌};
 ghost use Rattle.thes_base.specs.declared.fault.Fault.{Fault};
 ghost use Rattle.thes_store.specs.Causes.{IsCounted};
@@ -12,18 +12,24 @@ use thes_base::text::Key;
 use thes_tables::delta::Delta;
 use thes_tables::rows::PostingRow;
 
-/// The call that fails next.
+/// The kind of call that fails next, with the fault `Store`.
 #[derive(Clone, Copy, Debug, PartialEq, Eq)]
 pub enum Next {
+    /// No call fails from now on.
     Nothing,
+    /// The next `load` fails.
     Load,
+    /// The next `commit` fails.
     Commit,
+    /// The next `find` fails.
     Find,
+    /// The next `posting` fails.
     Posting,
+    /// The next `standing` fails.
     Standing,
 }
 
-/// A `MemKeeper` of which the next call of one kind fails, and no call after it.
+/// Storage in memory of which the next call of one kind fails, and no call after it.
 #[derive(Drop)]
 pub struct FailOnce {
     pub keeper: MemKeeper,
@@ -32,7 +38,7 @@ pub struct FailOnce {
 }
 
 impl FailOnce {
-    // Counts a failure, and lets no later call fail.
+    // Counts a failure, and makes all later calls succeed.
     fn fail(&mut self) -> Fault
         ensures fault { result ≡ Fault.Store }
         ensures same { self.new.keeper ≡ self.old.keeper }

@@ -1,17 +1,17 @@
-//! An index from numbers to positions of rows.
+//! An index from numbers to the positions of rows in a table.
 ghost use Rattle.std.specs.Prelude.{◌≡◌, ℕ, slice_get, IfOk, OnOk};
 ghost use Rattle.std.specs.List.Sorted.{IsStrictlySortedBy};
 ghost use Rattle.std.specs.Option.{option_copied};
 ghost use Rattle.std.specs.Ordering.{nat_cmp};
 ghost use Rattle.thes_tables.specs.Tables.{IsIn};
-ghost use Rattle.thes_store.specs.Index.{HasPlace, HasSet, KeepsPlaces, KeepsOthers, ArePlaces};
+ghost use Rattle.thes_store.specs.Index.{HasPosition, HasSet, KeepsPositions, KeepsOthers, ArePositions};
 
 use std::alloc::{AllocError, Global};
 use std::collections::BTreeSet;
 
-/// For each number, the positions in a list at which rows of this number may be. Extra positions do no harm, since a
-/// look-up checks the row. The sets are in a vector by number, so an index takes memory for the greatest number that it
-/// has; resources and postings are numbered without gaps.
+/// The positions at which rows of a number may be, for each number. A look-up checks the row at a position, so further
+/// positions do no harm. The sets are in a vector by number, so memory grows with the greatest number in use; resources
+/// and postings are numbered without gaps.
 #[derive(Drop)]
 pub struct Index {
     alloc: Global,
@@ -19,7 +19,7 @@ pub struct Index {
 }
 
 impl Index {
-    /// Creates an empty index.
+    /// Creates an empty index without allocating.
     pub fn new(alloc: Global) -> Index {
         Index {
             alloc,
@@ -27,18 +27,18 @@ impl Index {
         }
     }
 
-    /// Inserts a position under a number.
+    /// Inserts a position under a number, unless it is there.
     pub fn insert(&mut self, n: u32, place: usize) -> Result<(), AllocError>
-        ensures keeps { KeepsPlaces self.old self.new }
-        ensures ok { OnOk result (HasPlace self.new n place) }
+        ensures keeps { KeepsPositions self.old self.new }
+        ensures ok { OnOk result (HasPosition self.new n place) }
     {
         self.open(n)?;
         self.insert_in(n, place)
     }
 
-    // Grows the index to have a set for the number `n`.
+    // Adds empty sets until the number has one; does nothing if it has one already.
     fn open(&mut self, n: u32) -> Result<(), AllocError>
-        ensures keeps { KeepsPlaces self.old self.new }
+        ensures keeps { KeepsPositions self.old self.new }
         ensures set { OnOk result (HasSet self.new n) }
     {
         'opening: while self.sets.len() <= n as usize {
@@ -47,11 +47,11 @@ impl Index {
         Ok(())
     }
 
-    // Inserts a position into the set of a number, which must exist.
+    // Inserts a position into the set of a number that has one.
     fn insert_in(&mut self, n: u32, place: usize) -> Result<(), AllocError>
         requires { HasSet self.old n }
-        ensures keeps { KeepsPlaces self.old self.new }
-        ensures ok { OnOk result (HasPlace self.new n place) }
+        ensures keeps { KeepsPositions self.old self.new }
+        ensures ok { OnOk result (HasPosition self.new n place) }
     {
         if let Some(set) = self.sets.get_mut(n as usize) {
             set.insert(place)?;
@@ -59,10 +59,11 @@ impl Index {
         Ok(())
     }
 
-    /// Inserts positions under a number.
+    /// Inserts several positions under a number; if memory runs out, perhaps only some of them.
     pub fn insert_all(&mut self, n: u32, places: &[usize]) -> Result<(), AllocError>
-        ensures keeps { KeepsPlaces self.old self.new }
-        ensures ok { OnOk result ((place : ℕ) → IsIn place places.now → HasPlace self.new n place) }
+        ensures keeps { KeepsPositions self.old self.new }
+        ensures ok { OnOk result ((place : ℕ) → IsIn place places.now
+            → HasPosition self.new n place) }
     {
         for place in places {
             self.insert(n, *place)?;
@@ -70,10 +71,10 @@ impl Index {
         Ok(())
     }
 
-    /// Removes a position from those under a number.
+    /// Removes a position from the set of a number, if it is there.
     pub fn remove(&mut self, n: u32, place: usize)
         ensures keeps { KeepsOthers place self.old self.new }
-        ensures gone { ¬ HasPlace self.new n place }
+        ensures gone { ¬ HasPosition self.new n place }
     {
         if let Some(set) = self.sets.get_mut(n as usize) {
             set.remove(&place);
@@ -87,13 +88,13 @@ impl Index {
         self.sets.get(n as usize)
     }
 
-    /// Collects the positions under a number, in ascending order.
+    /// Returns the positions under a number in ascending order, as a list.
     pub fn places(&self, n: u32) -> Result<Vec<usize>, AllocError>
-        ensures { IfOk result (λ places. ArePlaces self.now n places.items) }
+        ensures { IfOk result (λ places. ArePositions self.now n places.items) }
     {
         match self.set(n) {
             Some(set) => {
-                let places = collect_places(self.alloc, set)?;
+                let places = collect_positions(self.alloc, set)?;
                 Ok(places)
             }
             None => Ok(Vec::new(self.alloc)),
@@ -101,8 +102,8 @@ impl Index {
     }
 }
 
-// Collects the elements of a set.
-fn collect_places(alloc: Global, set: &BTreeSet<usize>) -> Result<Vec<usize>, AllocError>
+// Returns the elements of a set in ascending order, as a list.
+fn collect_positions(alloc: Global, set: &BTreeSet<usize>) -> Result<Vec<usize>, AllocError>
     ensures places { IfOk result (λ places. places.items ≡ set.now.keys) }
     ensures rises { IsStrictlySortedBy nat_cmp set.now.keys }
 {

@@ -1,4 +1,4 @@
-//! The numbers under which labels and links are indexed.
+//! The numbers under which labels and links are indexed: an owner, or one end of a link.
 ghost use Rattle.std.specs.Prelude.{◌≡◌};
 ghost use Rattle.std.specs.Ordering.{eq_by_cmp};
 ghost use Rattle.thes_base.specs.Labels.{label_cmp};
@@ -10,7 +10,7 @@ use thes_base::data::{Link, LinkKind};
 use thes_tables::change::Change;
 use thes_tables::rows::{HierRow, LabelRow};
 
-// Returns the end under which a link is indexed.
+// Returns the end under which a link is indexed: the member of a membership, or else the first end.
 fn indexed_end_of(link: &Link) -> u32
     ensures { result ≡ indexed_end_of link.now }
 {
@@ -30,11 +30,11 @@ impl IndexedRow for LabelRow {
 
     ghost agree = { owners_agree };
 
-    fn number(&self) -> u32 {
+    fn index_number(&self) -> u32 {
         self.owner.get()
     }
 
-    fn added_number(change: &Change) -> Option<u32> {
+    fn number_of_added_row(change: &Change) -> Option<u32> {
         match change {
             Change::AddLabel(row) => Some(row.owner.get()),
             _ => None,
@@ -56,11 +56,11 @@ impl IndexedRow for Link {
 
     ghost agree = { ends_agree };
 
-    fn number(&self) -> u32 {
+    fn index_number(&self) -> u32 {
         indexed_end_of(self)
     }
 
-    fn added_number(change: &Change) -> Option<u32> {
+    fn number_of_added_row(change: &Change) -> Option<u32> {
         match change {
             Change::AddLink(link) => Some(indexed_end_of(link)),
             _ => None,
@@ -82,11 +82,11 @@ impl IndexedRow for HierRow {
 
     ghost agree = { narrower_agree };
 
-    fn number(&self) -> u32 {
+    fn index_number(&self) -> u32 {
         self.a.get()
     }
 
-    fn added_number(change: &Change) -> Option<u32> {
+    fn number_of_added_row(change: &Change) -> Option<u32> {
         match change {
             Change::AddHier(row) => Some(row.a.get()),
             _ => None,

@@ -1,4 +1,4 @@
-//! The indexes of the tables in memory.
+//! The indexes of the tables in memory, by which look-ups find postings and moves.
 ghost use Rattle.std.specs.Prelude.{◌≡◌, ◌≢◌, ◌+◌, ◌<◌, ◌^◌, ℕ, length, IfOk, OnOk};
 ghost use Rattle.thes_tables.specs.Tables.{Tables};
 ghost use Rattle.thes_tables.specs.Rows.{ChangeFits, DeltaFits};
@@ -10,7 +10,7 @@ use std::alloc::{AllocError, Global};
 use thes_tables::change::Change;
 use thes_tables::rows::PostingRow;
 
-/// Positions of rows in their tables: postings by key and by place, moves by posting.
+/// The positions of postings by key and by place, and of moves by posting.
 #[derive(Drop)]
 pub struct Indexes {
     pub keys: Keys,
@@ -19,7 +19,7 @@ pub struct Indexes {
 }
 
 impl Indexes {
-    /// Creates the indexes of empty tables.
+    /// Creates empty indexes without allocating.
     pub fn new(alloc: Global) -> Indexes {
         Indexes {
             keys: Keys::new(alloc),
@@ -28,8 +28,8 @@ impl Indexes {
         }
     }
 
-    /// Inserts the positions of the rows that a change will insert or move, where the next move gets position `step`.
-    /// Returns the position of the move after this change.
+    /// Inserts the positions of the posting or move that a change will insert, and of the postings that it will assign
+    /// to another concept. A move that it inserts will have position `step`. Returns the position of the next move.
     pub fn cover(
         &mut self,
         alloc: Global,
@@ -60,7 +60,7 @@ impl Indexes {
         Ok(step)
     }
 
-    // Inserts the position of a new posting, by its key and by its place.
+    // Inserts the position of a new posting, under its key and under its place.
     fn cover_posting(&mut self, alloc: Global, row: &PostingRow) -> Result<(), AllocError>
         ensures grows { IndexesGrowBy (λ key. key ≢ row.now.key) self.old self.new }
         ensures reaches { OnOk result ((i : ℕ) → row.now.number ≡ i + 1
@@ -72,8 +72,9 @@ impl Indexes {
     }
 }
 
-/// Inserts the positions of the rows that changes will insert or move, where `moves` is the number of moves in the
-/// table. Running out of memory leaves at most extra positions.
+/// Inserts the positions of the postings and moves that the changes will insert, and of the postings that they will
+/// assign to other concepts. Table move has `moves` rows. If memory runs out, some of these positions remain, which do
+/// no harm.
 pub fn cover_all(
     indexes: &mut Indexes,
     alloc: Global,

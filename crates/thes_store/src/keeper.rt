@@ -1,11 +1,11 @@
-//! The storage interface: what each `Keeper` guarantees.
+//! The interface of the storage: which calls it has, and what each guarantees.
 ghost use Rattle.std.specs.Prelude.{◌≡◌, ℕ, OnOk, OnErr, IfOk};
 ghost use Rattle.thes_tables.specs.Tables.{Tables};
 ghost use Rattle.thes_tables.specs.Rows.{tables_after_delta, DeltaFits};
 ghost use Rattle.thes_tables.specs.Cells.{Raw, cells_of_tables};
 ghost use Rattle.thes_store.specs.Causes.{HasCause};
 ghost use Rattle.thes_store.specs.Sinks.{SinkOutcome, sink_rows};
-ghost use Rattle.thes_store.specs.Reading.{IsPostingOfKey, IsPostingOfNumber, standing_rows};
+ghost use Rattle.thes_store.specs.Reading.{IsPostingOfKey, IsPostingOfNumber, assigned_posting_rows};
 
 use crate::sink::{PostingSink, RowSink};
 use std::marker::Model;
@@ -16,7 +16,7 @@ use thes_base::text::Key;
 use thes_tables::delta::Delta;
 use thes_tables::rows::PostingRow;
 
-/// A posting with its moves, in order.
+/// A posting as the storage has it, with its moves, oldest first.
 #[derive(Debug, Drop)]
 pub struct Posting {
     pub row: PostingRow,
@@ -31,22 +31,24 @@ impl Model for Posting {
     ghost view = { λ a. record { row = a.row; moves = a.moves } };
 }
 
-/// Storage for the tables. The contract of each call holds if `is_up` holds when it returns.
+/// Storage for the tables. What a contract says of the rows holds if `is_up` holds when the call returns; what it says
+/// of the failures always holds.
 pub trait Keeper {
-    // The rows that the tables hold.
+    // The rows of all tables, as cells.
     ghost rows: { Self → Raw };
 
-    // The storage works, and its reads are true.
+    // The storage works, and what it reads is what was committed. If this is false once, it stays false.
     ghost is_up: { Self → Type 0 };
 
-    // The number of failures, except by running out of memory.
+    // The number of failures other than running out of memory.
     ghost failed: { Self → ℕ };
 
-    /// Returns the number of failures, except by running out of memory. The count saturates.
+    /// Returns the number of failures other than running out of memory, which saturates.
     fn failures(&self) -> u64
         ensures { result ≡ failed self.now };
 
-    /// Passes all rows to a sink, table after table, and in each table in the order of its rows.
+    /// Passes all rows to a sink, table after table, and within a table in its order; reports a table that can't be
+    /// queried in place of its rows.
     fn load<S: RowSink>(&mut self, sink: &mut S) -> Result<(), Fault>
         ensures yields { is_up self.new
             → SinkOutcome S.gives sink.old (sink_rows (rows self.old)) result sink.new }
@@ -54,35 +56,37 @@ pub trait Keeper {
         ensures was { is_up self.new → is_up self.old }
         ensures cause { HasCause (failed self.old) (failed self.new) result };
 
-    /// Makes the changes atomically.
+    /// Applies all changes, or none of them and returns a fault.
     fn commit(&mut self, delta: Delta) -> Result<(), Fault>
-        requires fits { is_up self.old → (t : Tables) → rows self.old ≡ cells_of_tables t → DeltaFits delta t }
+        requires fits { is_up self.old → (t : Tables) → rows self.old ≡ cells_of_tables t
+            → DeltaFits delta t }
         ensures ok { OnOk result (is_up self.new → (t : Tables) → rows self.old ≡ cells_of_tables t
             → rows self.new ≡ cells_of_tables (tables_after_delta delta t)) }
         ensures err { OnErr result (is_up self.new → rows self.new ≡ rows self.old) }
         ensures was { is_up self.new → is_up self.old }
         ensures cause { HasCause (failed self.old) (failed self.new) result };
 
-    /// Looks up a posting by its key.
+    /// Returns the posting that has the key, if there is one.
     fn find(&mut self, key: &Key) -> Result<Option<PostingRow>, Fault>
-        ensures ok { IfOk result (λ found. is_up self.new → (t : Tables) → rows self.old ≡ cells_of_tables t
-            → IsPostingOfKey key.now t.posting found) }
+        ensures ok { IfOk result (λ found. is_up self.new → (t : Tables)
+            → rows self.old ≡ cells_of_tables t → IsPostingOfKey key.now t.posting found) }
         ensures same { is_up self.new → rows self.new ≡ rows self.old }
         ensures was { is_up self.new → is_up self.old }
         ensures cause { HasCause (failed self.old) (failed self.new) result };
 
-    /// Looks up a posting by its number, with its moves.
+    /// Returns the posting that has the number with its moves, if there is one.
     fn posting(&mut self, number: PostNo) -> Result<Option<Posting>, Fault>
-        ensures ok { IfOk result (λ told. is_up self.new → (t : Tables) → rows self.old ≡ cells_of_tables t
-            → IsPostingOfNumber number t told) }
+        ensures ok { IfOk result (λ told. is_up self.new → (t : Tables)
+            → rows self.old ≡ cells_of_tables t → IsPostingOfNumber number t told) }
         ensures same { is_up self.new → rows self.new ≡ rows self.old }
         ensures was { is_up self.new → is_up self.old }
         ensures cause { HasCause (failed self.old) (failed self.new) result };
 
-    /// Passes the postings assigned to a concept that aren't withdrawn to a sink, in the order of their numbers.
+    /// Passes the postings assigned to a concept to a sink, in the order of their numbers.
     fn standing<S: PostingSink>(&mut self, concept: ResNo, sink: &mut S) -> Result<(), Fault>
         ensures yields { is_up self.new → (t : Tables) → rows self.old ≡ cells_of_tables t
-            → SinkOutcome S.gives sink.old (standing_rows concept t.posting) result sink.new }
+            → SinkOutcome S.gives sink.old (assigned_posting_rows concept t.posting) result
+            sink.new }
         ensures same { is_up self.new → rows self.new ≡ rows self.old }
         ensures was { is_up self.new → is_up self.old }
         ensures cause { HasCause (failed self.old) (failed self.new) result };

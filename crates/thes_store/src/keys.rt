@@ -1,9 +1,9 @@
-//! An index from keys to positions of rows.
+//! An index from keys to the positions of postings.
 ghost use Rattle.std.specs.Prelude.{◌≡◌, Some, true, IfOk, OnOk};
 ghost use Rattle.std.specs.BTreeMap.{get};
 ghost use Rattle.std.specs.Cmp.Lexicographic.{slice_cmp};
 ghost use Rattle.std.specs.Ordering.{nat_cmp};
-ghost use Rattle.thes_store.specs.Keys.{digest_of, KeyHasPlace, KeepsNumbers, KeepsOtherKeys};
+ghost use Rattle.thes_store.specs.Keys.{digest_of, KeyHasPosition, KeepsDigests, KeepsOtherKeys};
 
 use std::alloc::{AllocError, Global};
 use std::collections::BTreeMap;
@@ -11,9 +11,9 @@ use std::collections::btree_map::Entry;
 use std::hash::{FoldHasher, Hasher};
 use thes_base::text::Key;
 
-/// For each key, a position in a list at which the row of this key may be. Extra positions do no harm, since a look-up
-/// checks the row. A key is entered by its digest, since comparing texts costs cache misses, and by its text if another
-/// key has the digest already.
+/// A position at which the posting of a key may be, for each key. A look-up checks the row at a position, so further
+/// positions do no harm. A key is entered under its digest, since comparing texts costs cache misses, or under its text
+/// if another key has that digest.
 #[derive(Drop)]
 pub struct Keys {
     numbers: BTreeMap<u64, usize>,
@@ -21,7 +21,7 @@ pub struct Keys {
 }
 
 impl Keys {
-    /// Creates an empty index.
+    /// Creates an empty index without allocating.
     pub fn new(alloc: Global) -> Keys {
         Keys {
             numbers: BTreeMap::new(alloc),
@@ -29,39 +29,39 @@ impl Keys {
         }
     }
 
-    /// Enters a position under a key.
+    /// Inserts a position under a key, by its digest if that is free and else by its text.
     pub fn insert(&mut self, alloc: Global, key: &Key, place: usize) -> Result<(), AllocError>
         ensures keeps { KeepsOtherKeys key.now self.old self.new }
-        ensures ok { OnOk result (KeyHasPlace self.new key.now place) }
+        ensures ok { OnOk result (KeyHasPosition self.new key.now place) }
     {
-        if !insert_number(&mut self.numbers, digest(key), place)? {
+        if !insert_digest(&mut self.numbers, digest(key), place)? {
             self.rest.insert(key.try_clone(alloc)?, place)?;
         }
         Ok(())
     }
 
-    /// Returns the position under the key's digest.
-    pub fn place_by_number(&self, key: &Key) -> Option<usize>
+    /// Returns the position under the key's digest, which may be that of another key.
+    pub fn position_by_digest(&self, key: &Key) -> Option<usize>
         ensures { result ≡ get nat_cmp self.now.numbers (digest_of key.now) }
     {
         self.numbers.get(&digest(key)).copied()
     }
 
-    /// Returns the position under the key's text.
-    pub fn place_by_text(&self, key: &Key) -> Option<usize>
+    /// Returns the position under the key's text, if another key has its digest.
+    pub fn position_by_text(&self, key: &Key) -> Option<usize>
         ensures { result ≡ get (slice_cmp nat_cmp) self.now.rest key.now }
     {
         self.rest.get(key).copied()
     }
 }
 
-// Enters a position under a digest, unless it has one. Returns whether it was entered.
-fn insert_number(
+// Inserts a position under the digest if it has none yet, and returns whether it was inserted.
+fn insert_digest(
     numbers: &mut BTreeMap<u64, usize>,
     number: u64,
     place: usize,
 ) -> Result<bool, AllocError>
-    ensures keeps { KeepsNumbers numbers.old numbers.new }
+    ensures keeps { KeepsDigests numbers.old numbers.new }
     ensures ok { IfOk result (λ leads. leads ≡ true → get nat_cmp numbers.new number ≡ Some place) }
 {
     match numbers.entry(number)? {
@@ -73,7 +73,7 @@ fn insert_number(
     }
 }
 
-// Returns a 64-bit digest of a key; different keys may have the same one.
+// Returns a 64-bit digest of a key. Different keys may have the same digest.
 #[tactic(auto, unfolding(crate::specs::Keys::digest_of))]
 fn digest(key: &Key) -> u64
     ensures { result ≡ digest_of key.now }

@@ -1,10 +1,10 @@
-//! Storage in memory.
+//! Storage of the tables in memory, without a file.
 ghost use Rattle.std.specs.Prelude.{◌≡◌, ◌≢◌, ◌++◌, ℕ, map, slice_get, option_copied, Some, IfSome, IfNone, IfOk, IfErr, OnOk};
 ghost use Rattle.thes_base.specs.declared.fault.Fault.{Fault};
 ghost use Rattle.thes_tables.specs.declared.rows.PostingRow.{PostingRow};
 ghost use Rattle.thes_tables.specs.Tables.{IsIn, is_assigned_row, empty_tables, recorded_move};
-ghost use Rattle.thes_store.specs.Keys.{KeyHasPlace};
-ghost use Rattle.thes_store.specs.RowsAtPlaces.{is_move_of, filtered_option, rows_at_places};
+ghost use Rattle.thes_store.specs.Keys.{KeyHasPosition};
+ghost use Rattle.thes_store.specs.RowsAtPositions.{is_move_of, filtered_option, rows_at_positions};
 ghost use Rattle.thes_store.specs.Reading.{IsPostingOfKey};
 ghost use Rattle.thes_store.specs.Sinks.{SinkOutcome};
 
@@ -23,7 +23,7 @@ use thes_base::text::{Base, Key};
 use thes_tables::delta::Delta;
 use thes_tables::rows::{MoveRow, PostingRow};
 
-/// A `Keeper` with its tables in memory. Running out of memory is its only fault.
+/// Storage with its tables and indexes in memory. Its only fault is running out of memory.
 #[derive(Drop)]
 pub struct MemKeeper {
     alloc: Global,
@@ -47,7 +47,7 @@ impl Model for MemKeeper {
 }
 
 impl MemKeeper {
-    /// Creates the tables of a new store.
+    /// Creates the storage of a new store: the base, and tables without rows.
     pub fn new(alloc: Global, base: Base) -> MemKeeper
         ensures { result ≡ empty_tables base }
     {
@@ -59,14 +59,14 @@ impl MemKeeper {
     }
 }
 
-// Returns the posting at a position.
+// Returns the posting at a position, None past the end.
 fn posting_at(rows: &[PostingRow], place: usize) -> Option<&PostingRow>
     ensures { option_copied result ≡ slice_get rows.now place }
 {
     rows.get(place)
 }
 
-// Returns the posting at a position if it has the key.
+// Returns the posting at a position if it has the key; under a digest, the index may have the position of another key.
 fn row_with_key<'a>(
     rows: &'a [PostingRow],
     place: Option<usize>,
@@ -80,18 +80,19 @@ fn row_with_key<'a>(
     if row.key == *key { Some(row) } else { None }
 }
 
-// Returns the posting of a key, if the index has the keys of all rows.
+// Returns the posting that has the key, if there is one. The index must have the key of each row.
 fn row_of_key<'a>(rows: &'a [PostingRow], keys: &Keys, key: &Key) -> Option<&'a PostingRow>
     ensures { ((i : ℕ) (row : PostingRow) → slice_get rows.now i ≡ Some row
-        → KeyHasPlace keys.now row.key i) → IsPostingOfKey key.now rows.now (option_copied result) }
+        → KeyHasPosition keys.now row.key i) → IsPostingOfKey key.now rows.now
+        (option_copied result) }
 {
-    match row_with_key(rows, keys.place_by_number(key), key) {
+    match row_with_key(rows, keys.position_by_digest(key), key) {
         Some(row) => Some(row),
-        None => row_with_key(rows, keys.place_by_text(key), key),
+        None => row_with_key(rows, keys.position_by_text(key), key),
     }
 }
 
-// Copies a posting, if there is one.
+// Allocates a copy of a posting, if there is one.
 fn copy_row(alloc: Global, row: Option<&PostingRow>) -> Result<Option<PostingRow>, AllocError>
     ensures { IfOk result (λ copy. copy ≡ option_copied row.entry) }
 {
@@ -101,14 +102,14 @@ fn copy_row(alloc: Global, row: Option<&PostingRow>) -> Result<Option<PostingRow
     }
 }
 
-// Returns the move at a position.
+// Returns the move at a position, None past the end.
 fn move_at(rows: &[MoveRow], place: usize) -> Option<&MoveRow>
     ensures { option_copied result ≡ slice_get rows.now place }
 {
     rows.get(place)
 }
 
-// Collects those of the moves at some positions that belong to a posting.
+// Returns the moves at these positions that are moves of the posting, in the order of the positions.
 fn moves_at(
     alloc: Global,
     rows: &[MoveRow],
@@ -116,7 +117,7 @@ fn moves_at(
     posting: PostNo,
 ) -> Result<Moves, AllocError>
     ensures { IfOk result (λ moves. moves
-        ≡ map recorded_move (rows_at_places (is_move_of posting) rows.now places.now)) }
+        ≡ map recorded_move (rows_at_positions (is_move_of posting) rows.now places.now)) }
 {
     let mut moves = Moves::new(alloc);
     for place in places {
@@ -125,7 +126,7 @@ fn moves_at(
     Ok(moves)
 }
 
-// Appends a move if it belongs to the posting.
+// Appends a move, if there is one and it is a move of the posting.
 fn push_move(moves: &mut Moves, row: Option<&MoveRow>, posting: PostNo) -> Result<(), AllocError>
     ensures { OnOk result (moves.new
         ≡ moves.old
@@ -141,8 +142,8 @@ fn push_move(moves: &mut Moves, row: Option<&MoveRow>, posting: PostNo) -> Resul
     }
 }
 
-// Passes a posting to a sink if it is assigned to the concept and not withdrawn.
-fn yield_standing<S: PostingSink>(
+// Passes a posting to a sink, if there is one and it is assigned to the concept.
+fn yield_if_assigned<S: PostingSink>(
     row: Option<&PostingRow>,
     concept: ResNo,
     sink: &mut S,
@@ -158,7 +159,7 @@ fn yield_standing<S: PostingSink>(
     }
 }
 
-// Passes those of the postings at some positions to a sink that are assigned to the concept.
+// Passes the postings at these positions that are assigned to the concept to a sink, in the order of the positions.
 fn yield_postings<S: PostingSink>(
     rows: &[PostingRow],
     places: &[usize],
@@ -166,12 +167,12 @@ fn yield_postings<S: PostingSink>(
     sink: &mut S,
 ) -> Result<(), Fault>
     ensures yields { SinkOutcome S.gives sink.old
-        (rows_at_places (is_assigned_row concept) rows.now places.now)
+        (rows_at_positions (is_assigned_row concept) rows.now places.now)
         result sink.new }
     ensures err { IfErr result (λ fault. fault ≡ Fault.OutOfMemory) }
 {
     for place in places {
-        if let Err(fault) = yield_standing(posting_at(rows, *place), concept, sink) {
+        if let Err(fault) = yield_if_assigned(posting_at(rows, *place), concept, sink) {
             return Err(fault);
         }
     }
@@ -201,7 +202,7 @@ impl Keeper for MemKeeper {
         self.tables.make_room(given)?;
         let moves = self.tables.steps.len();
         cover_all(&mut self.indexes, self.alloc, given, moves)?;
-        self.tables.make_all(changes, &self.indexes.standing);
+        self.tables.apply_changes(changes, &self.indexes.standing);
         Ok(())
     }
 

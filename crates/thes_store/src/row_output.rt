@@ -1,4 +1,4 @@
-//! Rows as cells, passed to a sink.
+//! Encodes rows of the tables in memory as cells, and passes them to a sink.
 ghost use Rattle.std.specs.Prelude.{◌≡◌, ◌∷◌, ◌+◌, ◌<◌, ◌^◌, ℕ, [], List, Some, IfOk, IfErr, map};
 ghost use Rattle.std.specs.List.{cons_option};
 ghost use Rattle.thes_base.specs.declared.fault.Fault.{Fault};
@@ -23,11 +23,11 @@ use thes_tables::cells::{Cell, CellText};
 use thes_tables::numbers::{flag_number, resource_number, type_number};
 use thes_tables::rows::{HierRow, LabelRow, MoveRow, OutsideRow, PostingRow};
 
-/// A row that is encoded as cells.
+/// A row that can be encoded as cells.
 pub trait AsCells {
     ghost cells_of: { Self → List Cell };
 
-    /// Passes the row to a sink, as a row of this table.
+    /// Encodes the row as cells, and passes them to a sink as a row of the table `name`.
     fn yield_to<S: RowSink>(&self, alloc: Global, name: Table, sink: &mut S) -> Result<(), Fault>
         ensures yields { SinkOutcome S.gives sink.old
             ((name, Some (cells_of self.now)) ∷ [])
@@ -35,14 +35,14 @@ pub trait AsCells {
         ensures err { IfErr result (λ fault. fault ≡ Fault.OutOfMemory) };
 }
 
-// Returns a number as a cell.
+// Returns the integer cell of a number.
 fn int(n: u32) -> Cell
     ensures { result ≡ number_cell n }
 {
     Cell::Int(i64::from(n))
 }
 
-// Returns a resource's number as a cell, or null.
+// Returns the cell of a resource's number, or Null if there is none.
 fn optional(n: Option<ResNo>) -> Cell
     ensures { result ≡ optional_cell n }
 {
@@ -52,14 +52,14 @@ fn optional(n: Option<ResNo>) -> Cell
     }
 }
 
-// Copies a text into a cell.
+// Returns a cell with a copy of a text.
 fn text(alloc: Global, text: &str) -> Result<Cell, AllocError>
     ensures { IfOk result (λ cell. cell ≡ Text text.now) }
 {
     Ok(Cell::Text(CellText::new(alloc, text)?))
 }
 
-// Passes one row to a sink.
+// Passes one row of cells to a sink.
 fn yield_row<S: RowSink>(name: Table, row: &[Cell], sink: &mut S) -> Result<(), Fault>
     ensures yields { SinkOutcome S.gives sink.old ((name, Some row.now) ∷ []) result sink.new }
     ensures err { IfErr result (λ fault. fault ≡ Fault.OutOfMemory) }
@@ -151,7 +151,7 @@ impl AsCells for MoveRow {
     }
 }
 
-/// Passes the rows of a table to a sink, in order.
+/// Passes the rows of a table to a sink, in their order.
 pub fn yield_rows<R: AsCells, S: RowSink>(
     alloc: Global,
     name: Table,
@@ -171,7 +171,7 @@ pub fn yield_rows<R: AsCells, S: RowSink>(
     Ok(())
 }
 
-// Passes the rows of a table with gaps to a sink, in order.
+// Passes the rows of a table with gaps to a sink, in their order and without the gaps.
 fn yield_slots<R: AsCells + IndexedRow + Drop, S: RowSink>(
     alloc: Global,
     name: Table,
@@ -192,7 +192,7 @@ fn yield_slots<R: AsCells + IndexedRow + Drop, S: RowSink>(
     Ok(())
 }
 
-// Passes a row to a sink, unless the slot is a gap.
+// Passes the row in a slot to a sink, or nothing if the slot is a gap.
 fn yield_slot<R: AsCells, S: RowSink>(
     alloc: Global,
     name: Table,
@@ -210,7 +210,7 @@ fn yield_slot<R: AsCells, S: RowSink>(
     }
 }
 
-/// Passes the row of meta to a sink.
+/// Passes the only row of table meta to a sink: the version of the schema and the base.
 pub fn yield_meta<S: RowSink>(alloc: Global, base: &Base, sink: &mut S) -> Result<(), Fault>
     ensures yields { SinkOutcome S.gives sink.old
         (sink_rows_of_table table.Meta (Some (meta_cells base.now ∷ [])))
@@ -221,7 +221,7 @@ pub fn yield_meta<S: RowSink>(alloc: Global, base: &Base, sink: &mut S) -> Resul
     yield_row(Table::Meta, &[int(1), int(2), base], sink)
 }
 
-// Returns the number of the row at position `i`, which is `i` + 1, as a cell.
+// Returns the cell of the number of the row at position `i`: `i + 1`.
 fn place_cell(i: usize) -> Cell
     requires { i + 1 < 2 ^ 63 }
     ensures { result ≡ number_cell (i + 1) }
@@ -229,7 +229,7 @@ fn place_cell(i: usize) -> Cell
     Cell::Int(i as i64 + 1)
 }
 
-// Passes a resource to a sink, with its number as a cell.
+// Passes the row of a resource to a sink, given the cell of its number.
 fn yield_resource<S: RowSink>(number: Cell, resource: &Resource, sink: &mut S) -> Result<(), Fault>
     ensures yields { (n : ℕ) → number ≡ number_cell n
         → SinkOutcome S.gives sink.old
@@ -248,7 +248,7 @@ fn yield_resource<S: RowSink>(number: Cell, resource: &Resource, sink: &mut S) -
     )
 }
 
-/// Passes the rows of resource to a sink, numbered from 1.
+/// Passes the rows of table resource to a sink, numbered from 1 by their positions.
 pub fn yield_resources<S: RowSink>(rows: &[Resource], sink: &mut S) -> Result<(), Fault>
     ensures yields { SinkOutcome S.gives sink.old
         (sink_rows_of_table table.Resource (Some (resource_rows 1 rows.now)))
@@ -263,7 +263,7 @@ pub fn yield_resources<S: RowSink>(rows: &[Resource], sink: &mut S) -> Result<()
     Ok(())
 }
 
-// Passes the rows of one table to a sink.
+// Passes the rows of the table `name` to a sink.
 fn yield_table<S: RowSink>(
     alloc: Global,
     tables: &MemTables,
@@ -287,7 +287,7 @@ fn yield_table<S: RowSink>(
     }
 }
 
-/// Returns all tables, in the order in which a load yields them.
+/// Returns the eight tables, in the order in which a load yields them.
 pub fn tables_in_order() -> [Table; 8]
     ensures { result ≡ table_order }
 {
@@ -303,7 +303,7 @@ pub fn tables_in_order() -> [Table; 8]
     ]
 }
 
-// Passes the rows of some tables to a sink, table after table.
+// Passes the rows of these tables to a sink, table after table.
 fn yield_tables<S: RowSink>(
     alloc: Global,
     tables: &MemTables,
@@ -323,7 +323,7 @@ fn yield_tables<S: RowSink>(
     Ok(())
 }
 
-/// Passes the rows of all tables to a sink, table after table.
+/// Passes the rows of all tables to a sink, in the order in which a load yields them.
 pub fn yield_all<S: RowSink>(alloc: Global, tables: &MemTables, sink: &mut S) -> Result<(), Fault>
     ensures yields { SinkOutcome S.gives sink.old
         (sink_rows (cells_of_tables (tables_in_memory tables.now)))

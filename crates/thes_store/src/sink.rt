@@ -1,4 +1,4 @@
-//! Sinks for the rows that storage reads.
+//! Consumers of the rows that the storage reads.
 ghost use Rattle.std.specs.Prelude.{◌≡◌, List, Option, None, Some, Result, IfErr};
 ghost use Rattle.thes_base.specs.declared.fault.Fault.{Fault};
 ghost use Rattle.thes_base.specs.declared.fault.Table.{Table};
@@ -9,28 +9,30 @@ use thes_base::fault::{Fault, Table};
 use thes_tables::cells::Cell;
 use thes_tables::rows::PostingRow;
 
-/// A consumer of rows of the tables, one at a time. Running out of memory is its only fault.
+/// A consumer of rows of the tables, which gets them one at a time. Its only fault is running out
+/// of memory.
 pub trait RowSink {
-    // Its state after it consumes a row of a table, or the notice (None) that the table can't be queried.
+    // How the sink consumes a row of a table: the state before, the row or None for a table that the database can't
+    // query, the result, and the state after.
     ghost gives: { Self → Table × Option (List Cell) → Result (Unit {0}) Fault → Self → Type 0 };
 
-    /// Consumes a row of a table.
+    /// Consumes one row of a table.
     fn row(&mut self, table: Table, row: &[Cell]) -> Result<(), Fault>
         ensures gives { gives self.old (table, Some row.now) result self.new }
         ensures err { IfErr result (λ fault. fault ≡ Fault.OutOfMemory) };
 
-    /// Consumes the notice that a table can't be queried.
-    fn unqueried(&mut self, table: Table) -> Result<(), Fault>
+    /// Records that a table can't be queried, or is declared otherwise, in place of its rows.
+    fn report_unqueried(&mut self, table: Table) -> Result<(), Fault>
         ensures gives { gives self.old (table, None) result self.new }
         ensures err { IfErr result (λ fault. fault ≡ Fault.OutOfMemory) };
 }
 
-/// A consumer of postings, one at a time. Running out of memory is its only fault.
+/// A consumer of postings, which gets them one at a time. Its only fault is running out of memory.
 pub trait PostingSink {
-    // Its state after it consumes a posting.
+    // How the sink consumes a posting: the state before, the posting, the result, and the state after.
     ghost gives: { Self → PostingRow → Result (Unit {0}) Fault → Self → Type 0 };
 
-    /// Consumes a posting.
+    /// Consumes one posting.
     fn posting(&mut self, row: &PostingRow) -> Result<(), Fault>
         ensures gives { gives self.old row.now result self.new }
         ensures err { IfErr result (λ fault. fault ≡ Fault.OutOfMemory) };

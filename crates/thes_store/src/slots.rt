@@ -1,9 +1,9 @@
-//! A list of rows in insertion order, with an index by number.
+//! A list of rows in insertion order, with an index by number, from which rows can be removed.
 ghost use Rattle.std.specs.Prelude.{◌≡◌, ◌≤◌, ◌<◌, ◌+◌, ◌^◌, ◌++◌, ◌∷◌, [], ℕ, List, Option, Bool, None, true, false, not, length, filter, slice_get, vec_len, option_map, Some, IfSome, IfNone, IfOk, OnOk};
 ghost use Rattle.std.specs.Vec.{vec_capacity};
 ghost use Rattle.thes_store.specs.AddedRow.{rows_added_by};
-ghost use Rattle.thes_store.specs.Index.{HasPlace, KeepsPlaces, KeepsOthers};
-ghost use Rattle.thes_store.specs.RowsAtPlaces.{rows_after_change_at};
+ghost use Rattle.thes_store.specs.Index.{HasPosition, KeepsPositions, KeepsOthers};
+ghost use Rattle.thes_store.specs.RowsAtPositions.{rows_after_change_at};
 ghost use Rattle.thes_store.specs.Slots.{rows_in, AreIndexedBy, AreExpected, IsReady, is_same_row};
 
 use crate::added_row::{AddedRow, count_added};
@@ -11,23 +11,24 @@ use crate::index::Index;
 use std::alloc::{AllocError, Global};
 use thes_tables::change::Change;
 
-/// A row that is indexed under a number.
+/// A row that is indexed under a number, such as a label under that of its owner.
 pub trait IndexedRow: AddedRow {
-    // The number under which it is indexed.
+    // The number under which the row is indexed.
     ghost number_of: { Self → ℕ };
 
-    // Whether two rows are equal.
+    // The test of whether two rows are equal.
     ghost same: { Self → Self → Bool };
 
     /// Returns the number under which the row is indexed.
-    fn number(&self) -> u32
+    fn index_number(&self) -> u32
         ensures { result ≡ number_of self.now };
 
-    /// Returns the number of the row that the change inserts into this table, if any.
-    fn added_number(change: &Change) -> Option<u32>
+    /// Returns the number under which the row that the change inserts into this table is indexed, or None if it inserts
+    /// none.
+    fn number_of_added_row(change: &Change) -> Option<u32>
         ensures { result ≡ option_map number_of (Self.added_row change.now) };
 
-    /// Returns whether the rows are equal.
+    /// Checks whether both rows are equal.
     fn is_same(&self, other: &Self) -> bool
         ensures { result ≡ same self.now other.now };
 
@@ -35,7 +36,8 @@ pub trait IndexedRow: AddedRow {
     ghost agree: { (x y : Self) → same x y ≡ true → number_of x ≡ number_of y };
 }
 
-/// Rows in insertion order. A removed row leaves a gap, so that the others keep their positions.
+/// Rows in insertion order, with an index. A removed row leaves a gap, so that the positions of other rows don't
+/// change.
 #[derive(Drop)]
 pub struct Slots<T> {
     rows: Vec<Option<T>>,
@@ -43,7 +45,7 @@ pub struct Slots<T> {
 }
 
 impl<T: IndexedRow + Drop> Slots<T> {
-    /// Creates an empty list.
+    /// Creates an empty list without allocating.
     pub fn new(alloc: Global) -> Slots<T>
         ensures rows { rows_in result ≡ [] }
         ensures found { AreIndexedBy T.number_of result }
@@ -54,14 +56,15 @@ impl<T: IndexedRow + Drop> Slots<T> {
         }
     }
 
-    /// Returns the rows and the gaps.
+    /// Returns the rows in their order, with None for each gap.
     pub fn as_slice(&self) -> &[Option<T>]
         ensures { result.now ≡ self.now.rows.items }
     {
         self.rows.as_slice()
     }
 
-    /// Reserves memory for the rows that changes insert, and enters their positions in the index.
+    /// Reserves memory for the rows that the changes insert, and indexes their positions, so that inserting them can't
+    /// fail.
     pub fn make_room(&mut self, changes: &[Change]) -> Result<(), AllocError>
         requires { vec_len self.old.rows + length changes.now < 2 ^ 64 }
         ensures rows { rows_in self.new ≡ rows_in self.old }
@@ -73,11 +76,11 @@ impl<T: IndexedRow + Drop> Slots<T> {
         self.expect(changes)
     }
 
-    // Enters the positions that the rows of changes will get.
+    // Indexes the positions that the rows of the changes will get.
     fn expect(&mut self, changes: &[Change]) -> Result<(), AllocError>
         requires { vec_len self.old.rows + length changes.now < 2 ^ 64 }
         ensures rows { self.new.rows ≡ self.old.rows }
-        ensures keeps { KeepsPlaces self.old.places self.new.places }
+        ensures keeps { KeepsPositions self.old.places self.new.places }
         ensures ok { OnOk result
             (AreExpected T.number_of self.new (rows_added_by T.added_row changes.now)) }
     {
@@ -88,24 +91,25 @@ impl<T: IndexedRow + Drop> Slots<T> {
         Ok(())
     }
 
-    // Enters the position that the row of a change will get, if it inserts one. Returns the next position.
+    // Indexes `place` as the position of the row that a change will insert, and returns `place + 1`; does nothing and
+    // returns `place` if the change inserts no row into this table.
     fn expect_one(&mut self, change: &Change, place: usize) -> Result<usize, AllocError>
         requires { place + 1 < 2 ^ 64 }
         ensures rows { self.new.rows ≡ self.old.rows }
-        ensures keeps { KeepsPlaces self.old.places self.new.places }
+        ensures keeps { KeepsPositions self.old.places self.new.places }
         ensures ok { OnOk result ((row : T) → T.added_row change.now ≡ Some row
-            → HasPlace self.new.places (T.number_of row) place) }
+            → HasPosition self.new.places (T.number_of row) place) }
         ensures next { IfOk result (λ next. next
             ≡ place + length (rows_added_by T.added_row (change.now ∷ []))) }
     {
-        let Some(number) = T::added_number(change) else {
+        let Some(number) = T::number_of_added_row(change) else {
             return Ok(place);
         };
         self.places.insert(number, place)?;
         Ok(place + 1)
     }
 
-    /// Appends a row, whose position is in the index and whose memory is reserved.
+    /// Appends a row whose memory is reserved and whose position is indexed; it can't fail.
     pub fn push(&mut self, row: T)
         requires { IsReady T.number_of self.old (row ∷ []) }
         ensures rows { rows_in self.new ≡ rows_in self.old ++ row ∷ [] }
@@ -116,7 +120,7 @@ impl<T: IndexedRow + Drop> Slots<T> {
         self.rows.push_reserved(Some(row));
     }
 
-    /// Removes all rows that are equal to this one.
+    /// Removes all rows that are equal to this one, and leaves gaps in their places.
     pub fn remove(&mut self, row: &T)
         requires { AreIndexedBy T.number_of self.old }
         ensures rows { rows_in self.new ≡ filter (λ x. not (T.same x row.now)) (rows_in self.old) }
@@ -125,18 +129,18 @@ impl<T: IndexedRow + Drop> Slots<T> {
             → IsReady T.number_of self.new rest }
     {
         'removing: while let Some(place) = self.place_of(row) {
-            self.empty(row.number(), place);
+            self.empty(row.index_number(), place);
         }
     }
 
-    // Returns the position of a row that is equal to this one.
+    // Returns the position of a row that is equal to this one, if there is one.
     fn place_of(&self, row: &T) -> Option<usize>
         ensures some { IfSome result
             (λ place. is_same_row T.same (slice_get self.now.rows.items place) row.now ≡ true) }
         ensures none { IfNone result (AreIndexedBy T.number_of self.now → (place : ℕ)
             → is_same_row T.same (slice_get self.now.rows.items place) row.now ≡ false) }
     {
-        let Some(places) = self.places.set(row.number()) else {
+        let Some(places) = self.places.set(row.index_number()) else {
             return None;
         };
         for place in places.iter() {
@@ -147,7 +151,7 @@ impl<T: IndexedRow + Drop> Slots<T> {
         None
     }
 
-    // Returns whether the row at a position is equal to this one.
+    // Checks whether the row at a position is equal to this one; a gap isn't.
     fn has(&self, place: usize, row: &T) -> bool
         ensures { result ≡ is_same_row T.same (slice_get self.now.rows.items place) row.now }
     {
@@ -157,7 +161,7 @@ impl<T: IndexedRow + Drop> Slots<T> {
         }
     }
 
-    // Removes the row at a position, which is indexed under this number.
+    // Removes the row at a position, and its position from the index under this number.
     fn empty(&mut self, number: u32, place: usize)
         ensures rows { self.new.rows.items
             ≡ rows_after_change_at (λ slot. None) place self.old.rows.items }

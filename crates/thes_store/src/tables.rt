@@ -1,4 +1,4 @@
-//! The tables in memory.
+//! The tables in memory, and how changes are applied to them.
 ghost use Rattle.std.specs.Prelude.{◌≡◌, ◌∷◌, [], List, map, vec_len, OnOk};
 ghost use Rattle.std.specs.Vec.{vec_capacity};
 ghost use Rattle.thes_base.specs.Changes.{resources_after_death};
@@ -6,7 +6,7 @@ ghost use Rattle.thes_tables.specs.declared.change.Change.{Change};
 ghost use Rattle.thes_tables.specs.Tables.{empty_tables};
 ghost use Rattle.thes_tables.specs.Rows.{tables_after_change, tables_after_delta, with_posting, row_after_withdrawal, row_at_place, row_after_move_all};
 ghost use Rattle.thes_store.specs.Covers.{IndexesByPlace, IndexesByPlaceThroughout};
-ghost use Rattle.thes_store.specs.RowsAtPlaces.{rows_after_change_at, rows_after_changes_at};
+ghost use Rattle.thes_store.specs.RowsAtPositions.{rows_after_change_at, rows_after_changes_at};
 ghost use Rattle.thes_store.specs.Room.{tables_in_memory, AllIndexed, HasRoomForRows};
 
 use crate::added_row::make_room;
@@ -20,7 +20,7 @@ use thes_base::text::Base;
 use thes_tables::change::Change;
 use thes_tables::rows::{HierRow, LabelRow, MoveRow, OutsideRow, PostingRow};
 
-/// The rows of all tables.
+/// The rows of all tables in memory. Deleted rows of the tables label, link and hier leave gaps.
 #[derive(Drop)]
 pub struct MemTables {
     pub base: Base,
@@ -34,7 +34,7 @@ pub struct MemTables {
 }
 
 impl MemTables {
-    /// Creates the tables of a new store.
+    /// Creates the tables of a new store: the base, and no rows.
     pub fn new(alloc: Global, base: Base) -> MemTables
         ensures tables { tables_in_memory result ≡ empty_tables base }
         ensures found { AllIndexed result }
@@ -51,7 +51,7 @@ impl MemTables {
         }
     }
 
-    /// Reserves memory for the rows that changes insert.
+    /// Reserves memory for all rows that the changes insert, so that `apply_changes` can't fail.
     pub fn make_room(&mut self, changes: &[Change]) -> Result<(), AllocError>
         ensures same { tables_in_memory self.new ≡ tables_in_memory self.old }
         ensures found { AllIndexed self.old → AllIndexed self.new }
@@ -66,12 +66,13 @@ impl MemTables {
         make_room(&mut self.steps, changes)
     }
 
-    /// Makes a change. The index has each posting by its place.
-    pub fn make(&mut self, change: Change, standing: &Index)
+    /// Applies a change. `standing` is an index of the postings by place, as they are before the change.
+    pub fn apply_change(&mut self, change: Change, standing: &Index)
         requires room { HasRoomForRows (change ∷ []) self.old }
         requires found { AllIndexed self.old }
         requires standing { IndexesByPlace standing.now self.old.posting.items }
-        ensures tables { tables_in_memory self.new ≡ tables_after_change change (tables_in_memory self.old) }
+        ensures tables { tables_in_memory self.new ≡ tables_after_change change
+            (tables_in_memory self.old) }
         ensures found { AllIndexed self.new }
         ensures room { (rest : List Change) → HasRoomForRows (change ∷ rest) self.old
             → HasRoomForRows rest self.new }
@@ -99,8 +100,9 @@ impl MemTables {
         }
     }
 
-    /// Makes changes in order. Before each, the index has each posting by its place.
-    pub fn make_all(&mut self, changes: Vec<Change>, standing: &Index)
+    /// Applies changes in order. `standing` is an index that has each posting under its place before each of the
+    /// changes.
+    pub fn apply_changes(&mut self, changes: Vec<Change>, standing: &Index)
         requires room { HasRoomForRows changes.items self.old }
         requires found { AllIndexed self.old }
         requires standing { IndexesByPlaceThroughout
@@ -110,12 +112,12 @@ impl MemTables {
         ensures found { AllIndexed self.new }
     {
         for change in changes {
-            self.make(change, standing);
+            self.apply_change(change, standing);
         }
     }
 }
 
-// Marks a resource as not live, with its replacement if it has one.
+// Marks a resource as dead, with its replacement if it was merged.
 fn mark_dead(resources: &mut Vec<Resource>, n: ResNo, replaced: Option<ResNo>)
     ensures items { resources.new.items ≡ resources_after_death n replaced resources.old.items }
     ensures len { vec_len resources.new ≡ vec_len resources.old }
@@ -127,7 +129,7 @@ fn mark_dead(resources: &mut Vec<Resource>, n: ResNo, replaced: Option<ResNo>)
     }
 }
 
-// Marks a posting as withdrawn.
+// Marks the posting with the number as withdrawn.
 fn withdraw(postings: &mut Vec<PostingRow>, n: PostNo)
     ensures items { postings.new.items ≡ with_posting row_after_withdrawal n postings.old.items }
     ensures len { vec_len postings.new ≡ vec_len postings.old }
@@ -138,7 +140,7 @@ fn withdraw(postings: &mut Vec<PostingRow>, n: PostNo)
     }
 }
 
-// Sets the place of a posting.
+// Assigns the posting with the number to the concept `place`.
 fn set_place(postings: &mut Vec<PostingRow>, n: PostNo, place: ResNo)
     ensures items { postings.new.items ≡ with_posting (row_at_place place) n postings.old.items }
     ensures len { vec_len postings.new ≡ vec_len postings.old }
@@ -149,7 +151,7 @@ fn set_place(postings: &mut Vec<PostingRow>, n: PostNo, place: ResNo)
     }
 }
 
-// Moves a posting to the target if it is assigned to the source and not withdrawn.
+// Assigns a posting to the target if it is assigned to the source.
 fn move_row(row: &mut PostingRow, source: ResNo, target: ResNo)
     ensures { row.new ≡ row_after_move_all source target row.old }
 {
@@ -158,7 +160,7 @@ fn move_row(row: &mut PostingRow, source: ResNo, target: ResNo)
     }
 }
 
-// Moves the posting at a position to the target if it is assigned to the source.
+// Assigns the posting at a position to the target if it is assigned to the source.
 fn move_posting_at(postings: &mut Vec<PostingRow>, place: usize, source: ResNo, target: ResNo)
     ensures items { postings.new.items
         ≡ rows_after_change_at (row_after_move_all source target) place postings.old.items }
@@ -170,15 +172,16 @@ fn move_posting_at(postings: &mut Vec<PostingRow>, place: usize, source: ResNo, 
     }
 }
 
-// Moves those of the postings at some positions to the target that are assigned to the source.
-fn move_at_places(
+// Assigns the postings at these positions to the target if they are assigned to the source.
+fn move_at_positions(
     postings: &mut Vec<PostingRow>,
     places: &BTreeSet<usize>,
     source: ResNo,
     target: ResNo,
 )
     ensures items { postings.new.items
-        ≡ rows_after_changes_at (row_after_move_all source target) places.now.keys postings.old.items }
+        ≡ rows_after_changes_at (row_after_move_all source target) places.now.keys
+        postings.old.items }
     ensures len { vec_len postings.new ≡ vec_len postings.old }
     ensures capacity { vec_capacity postings.new ≡ vec_capacity postings.old }
 {
@@ -187,7 +190,7 @@ fn move_at_places(
     }
 }
 
-// Moves all postings assigned to the source to the target.
+// Assigns all postings of the source to the target. `standing` is an index of the postings by place.
 fn move_all(postings: &mut Vec<PostingRow>, standing: &Index, source: ResNo, target: ResNo)
     requires { IndexesByPlace standing.now postings.old.items }
     ensures items { postings.new.items ≡ map (row_after_move_all source target) postings.old.items }
@@ -195,6 +198,6 @@ fn move_all(postings: &mut Vec<PostingRow>, standing: &Index, source: ResNo, tar
     ensures capacity { vec_capacity postings.new ≡ vec_capacity postings.old }
 {
     if let Some(places) = standing.set(source.get()) {
-        move_at_places(postings, places, source, target);
+        move_at_positions(postings, places, source, target);
     }
 }

@@ -1,4 +1,4 @@
--- Proves that typed rows, and whole tables, are determined by their cells.
+-- Typed rows, and whole tables, are determined by their cells.
 use Rattle.std.proofs.Common.{◌≡◌, ℕ, List, [], ◌∷◌, ◌+◌, map, Bool, true, false, Option, None, Some, refl, sym, ap}
 use Rattle.std.proofs.Common.{◌∙◌, if◌then◌else◌, ◌==◌}
 use Rattle.std.proofs.lemmas.Option.{same_Some}

@@ -1,4 +1,4 @@
--- Proves the law of row changes: those of an accepted request turn the rows of its state into those of the next.
+-- The law of row changes: the changes of an accepted request turn the rows of its state into those of the next state.
 use Rattle.std.proofs.Common.{◌≡◌, ◌≢◌, ◌<◌, ◌≤◌, inl, inr, ℕ, suc, ◌+◌, ◌-◌, length, List, [], ◌∷◌, ◌++◌, refl, sym}
 use Rattle.std.proofs.Common.{ap, ◌∙◌, subst, arith, true, false, Bool, cond, map, append_assoc}
 use Rattle.std.proofs.lemmas.List.{map-append, append-nil, map-set}
@@ -16,10 +16,10 @@ use Rattle.thes_base.specs.declared.request.Command.{Command}
 use Rattle.thes_base.specs.declared.request.Command.TheVariants as request
 use Rattle.thes_base.specs.Resources.{entry_at, set_entry_at, scheme_of, replacements, is_outside, CanOwn}
 use Rattle.thes_base.specs.Labels.{Label, Labels, label_cmp, preferred_label_in, HasLabel}
-use Rattle.thes_base.specs.Links.{Links, normal_form, links_after_deprecation, links_after_merge, HeldIn}
+use Rattle.thes_base.specs.Links.{Links, normal_form, links_after_deprecation, links_after_merge, Holds}
 use Rattle.thes_base.specs.Postings.{is_assigned_to, move_count, history_after_withdrawal}
 use Rattle.thes_base.specs.State.{State}
-use Rattle.thes_base.specs.Legal.{Legal}
+use Rattle.thes_base.specs.Legal.{IsLegalState}
 use Rattle.thes_base.specs.Refusals.{Setting, IsOfKey}
 use Rattle.thes_base.specs.Changes.{label, state_after_creation, state_after_outside, outside_resource}
 use Rattle.thes_base.specs.Changes.{state_after_add_label, state_after_drop_label, state_after_relabel}
@@ -38,12 +38,13 @@ use Rattle.thes_tables.specs.declared.rows.PostingRow.{PostingRow}
 use Rattle.thes_tables.specs.declared.rows.MoveRow.{MoveRow}
 use Rattle.thes_tables.specs.declared.change.Change.{Change}
 use Rattle.thes_tables.specs.declared.change.Change.TheVariants as change
-use Rattle.thes_tables.specs.Tables.{Tables, IsRowsOf, IsIn, IsListingOf, IsLabelOf, AreIris, AreMoves, Ascends}
-use Rattle.thes_tables.specs.Tables.{Rises, posting_row}
+use Rattle.thes_tables.specs.Tables.{Tables, IsRowsOf, IsIn, IsUnsortedListing, IsLabelOf, AreIris, AreMoves}
+use Rattle.thes_tables.specs.Tables.{IriNumbersAscend}
+use Rattle.thes_tables.specs.Tables.{MoveNumbersAscend, posting_row}
 use Rattle.thes_tables.specs.Rows.{tables_after_change, tables_after_delta, DeltaFits, without_row, with_posting}
 use Rattle.thes_tables.specs.Rows.{row_after_withdrawal, row_at_place, row_after_move_all}
 use Rattle.thes_tables.specs.Changes.{changes_of, changes_of_new_resource, changes_of_relabel, new_moves, move_row}
-use Rattle.thes_tables.specs.Changes.{add_link, drop_link, missing_items, without_all, links_to_remove}
+use Rattle.thes_tables.specs.Changes.{add_link, drop_link, missing_items, without_elements, links_to_remove}
 use Rattle.thes_tables.specs.ChangeLaw.{AreChangesBetween}
 use Rattle.std.proofs.lemmas.Bool.{cases_Bool}
 use Rattle.thes_base.proofs.SetMemberLemmas.{inserted_cases, removed_cases}
@@ -59,10 +60,8 @@ use Rattle.thes_tables.proofs.LinkRowLemmas.{links_to_add, links_to_add_absent, 
 use Rattle.thes_tables.proofs.MoveRowLemmas.{number_within_count, rises_new, rises_along, moves_more, moves_posted}
 use Rattle.thes_tables.proofs.MoveRowLemmas.{moves_set, map_numbered, with_at, rows_moved, placed_all, rows_placed}
 
--- Rows of table outside.
-
-ascends_push : (above : ℕ) (rows : List (ℕ × List ℕ)) (row : ℕ × List ℕ) → Ascends above rows → above < row.0
-    → ((other : ℕ × List ℕ) → IsIn other rows → other.0 < row.0) → Ascends above (rows ++ row ∷ [])
+ascends_push : (above : ℕ) (rows : List (ℕ × List ℕ)) (row : ℕ × List ℕ) → IriNumbersAscend above rows → above < row.0
+    → ((other : ℕ × List ℕ) → IsIn other rows → other.0 < row.0) → IriNumbersAscend above (rows ++ row ∷ [])
 ascends_push above [] row up lt below = (lt, tt)
 ascends_push above (r ∷ rows) row up lt below =
     (up.0, ascends_push r.0 rows row up.1 (below r (inl refl)) (λ other h. below other (inr h)))
@@ -80,8 +79,6 @@ found_row (r ∷ rows) row h = elim (cases_Bool (eq_by_cmp nat_cmp row.0 r.0)) [
         (f.0, ap (λ b. cond b (Some r.1) (dict.find nat_cmp row.0 rows)) apart ∙ f.1)
   ]
 ]
-
--- The tables after lists of changes.
 
 labels_added_all : (ls : List Label) (t : Tables) → tables_after_delta (map change.AddLabel ls) t
     ≡ record t { label = t.label ++ ls }
@@ -104,7 +101,7 @@ places_set_all [] t = refl
 places_set_all (r ∷ rows) t =
     places_set_all rows (record t { posting = with_posting (row_at_place r.target) r.posting t.posting })
 
-fit_labels : (ls : List Label) (labels : Labels) (t : Tables) → IsListingOf (IsLabelOf labels) t.label
+fit_labels : (ls : List Label) (labels : Labels) (t : Tables) → IsUnsortedListing (IsLabelOf labels) t.label
     → Absent labels_total labels_exact ls labels → DeltaFits (map change.AddLabel ls) t
 fit_labels [] labels t are a = tt
 fit_labels (l ∷ ls) labels t are a = (
@@ -118,9 +115,9 @@ fit_places [] t = tt
 fit_places (r ∷ rows) t =
     (tt, fit_places rows (record t { posting = with_posting (row_at_place r.target) r.posting t.posting }))
 
--- Rows of moves with increasing numbers that exceed all others can be inserted.
+-- Rows of moves with rising numbers above all others can be inserted.
 fit_moves : (bound : ℕ) (rows : List MoveRow) (t : Tables) → ((row : MoveRow) → IsIn row t.move → row.number ≤ bound)
-    → Rises bound rows → DeltaFits (map change.AddMove rows) t
+    → MoveNumbersAscend bound rows → DeltaFits (map change.AddMove rows) t
 fit_moves bound [] t below rises = tt
 fit_moves bound (row ∷ rows) t below rises = (
   λ other m. (let b = below other m in let lt = rises.0 in omega (arith, b, lt)),
@@ -137,9 +134,7 @@ fit_moves bound (row ∷ rows) t below rises = (
       ]
     ]
 
--- The changes of each request.
-
--- The rows of a state with other histories, from those of the old state.
+-- The rows of a state with other histories are those of the old state, but for the tables posting and move.
 with_histories : (base : List ℕ) (s : State) (t : Tables) → IsRowsOf base s t
     → (hs : List History) (posting : List PostingRow) (move : List MoveRow) → posting ≡ map posting_row hs
     → AreMoves hs move → IsRowsOf base (record s { histories = hs }) (record t { posting = posting; move = move })
@@ -154,7 +149,7 @@ with_histories base s t is hs posting move same moves = record {
   move = moves;
 }
 
-module _ (base : List ℕ) (s : State) (legal : Legal base s) where
+module _ (base : List ℕ) (s : State) (legal : IsLegalState base s) where
   number_free : (l : Label) → l.owner ≡ next_number s → set.contains s.labels l ≡ false
   number_free l own = absent_of_never labels_total labels_exact s.labels l (λ h. go (legal.labels.owners l h))
     where
@@ -163,7 +158,7 @@ module _ (base : List ℕ) (s : State) (legal : Legal base s) where
       go (inr (inl (r, at, _))) = let b = numbered_bound s.resources l.owner r at in omega (arith, own, b)
       go (inr (inr (r, at, _))) = let b = numbered_bound s.resources l.owner r at in omega (arith, own, b)
 
-  -- The rows of a state with a resource marked dead, from those of the old state.
+  -- The rows of a state in which a resource has died are those of the old state, but for its row.
   dead_rows : (n : ℕ) (by : Option ℕ) (t : Tables) → IsRowsOf base s t
       → IsRowsOf base (record s { resources = resources_after_death n by s.resources })
       (record t { resource = resources_after_death n by t.resource })
@@ -178,7 +173,7 @@ module _ (base : List ℕ) (s : State) (legal : Legal base s) where
     move = is.move;
   }
 
-  -- The changes of a new scheme, concept or collection.
+  -- The changes of a new scheme, concept or collection lead to its state.
   pub leads_new_resource : (r : Resource) (tag text : List ℕ) → AreChangesBetween base
       (changes_of_new_resource r tag text s) s (state_after_creation r tag text s)
   leads_new_resource r tag text = record {
@@ -203,7 +198,7 @@ module _ (base : List ℕ) (s : State) (legal : Legal base s) where
     );
   }
 
-  -- The changes of a new outside concept.
+  -- The changes of a new outside concept lead to its state.
   pub leads_outside : (iri : List ℕ) → AreChangesBetween base (change.AddResource (next_number s) outside_resource
       ∷ change.AddOutside (next_number s) iri ∷ []) s (state_after_outside iri s)
   leads_outside iri = record {
@@ -243,8 +238,9 @@ module _ (base : List ℕ) (s : State) (legal : Legal base s) where
 
   with_labels : (changes : List Change) (labels : Labels) (f : List Label → List Label)
       → ((t : Tables) → tables_after_delta changes t ≡ record t { label = f t.label })
-      → ((t : Tables) → IsListingOf (IsLabelOf s.labels) t.label → IsListingOf (IsLabelOf labels) (f t.label))
-      → ((t : Tables) → IsListingOf (IsLabelOf s.labels) t.label → DeltaFits changes t) → AreChangesBetween base
+      → ((t : Tables) → IsUnsortedListing (IsLabelOf s.labels) t.label → IsUnsortedListing (IsLabelOf labels)
+      (f t.label))
+      → ((t : Tables) → IsUnsortedListing (IsLabelOf s.labels) t.label → DeltaFits changes t) → AreChangesBetween base
       changes s (record s { labels = labels })
   with_labels changes labels f is_done lists fits = record {
     rows = λ t is. subst (IsRowsOf base (record s { labels = labels })) (sym (is_done t))
@@ -262,7 +258,7 @@ module _ (base : List ℕ) (s : State) (legal : Legal base s) where
     fit = λ t is. fits t is.label;
   }
 
-  -- The rows of a state with other links, from those of the old state.
+  -- The rows of a state with other links are those of the old state, but for the tables link and hier.
   relinked_rows : (z : State) (t u : Tables) (held : Links) → IsRowsOf base z t → u ≡ with_link_tables t u
       → LinkRows held u → IsRowsOf base (record z { links = held }) u
   relinked_rows z t u held is only rows = subst (IsRowsOf base (record z { links = held })) (sym only) (record {
@@ -286,7 +282,7 @@ module _ (base : List ℕ) (s : State) (legal : Legal base s) where
   leads_drop l = with_labels _ _ (λ ls. without_row label_cmp l ls) (λ t. refl)
       (λ t are. listed_drop labels_total labels_exact s.labels t.label l are) (λ t are. (tt, tt))
 
-  pub leads_link : (l : Link) → (¬ HeldIn s.links l) → AreChangesBetween base (add_link l ∷ []) s
+  pub leads_link : (l : Link) → (¬ Holds s.links l) → AreChangesBetween base (add_link l ∷ []) s
       (record s { links = set.insert s.links l })
   leads_link l new = let out = absent_of_never links_total links.links_exact s.links l new in record {
     rows = λ t is. relinked_rows s t (tables_after_change (add_link l) t) (set.insert s.links l) is (added_only l t)
@@ -302,7 +298,7 @@ module _ (base : List ℕ) (s : State) (legal : Legal base s) where
     fit = λ t is. (drop_fits l t, tt);
   }
 
-  -- A relabel: a preferred label in place of another.
+  -- Assumes a relabelling, which replaces one preferred label by another.
   module _ (owner : ℕ) (tag text : List ℕ) (keep : Bool) where
     -- The owner has one preferred label with the tag (SKOS S14).
     preferred_free : (old : List ℕ) → HasLabel s.labels owner Pref tag old
@@ -312,7 +308,7 @@ module _ (base : List ℕ) (s : State) (legal : Legal base s) where
         (label owner Pref tag text) h in
         c.0 (ap (label owner Pref tag) (legal.labels.one_preferred owner tag text old c.1 has)))
 
-    -- The owner doesn't have it as an alternative label also (SKOS S13).
+    -- The owner doesn't have the old preferred label as an alternative label also (SKOS S13).
     kept_free : (old : List ℕ) → HasLabel s.labels owner Pref tag old
         → set.contains (set.insert (set.remove s.labels (label owner Pref tag old)) (label owner Pref tag text))
         (label owner Alt tag old) ≡ false
@@ -343,22 +339,22 @@ module _ (base : List ℕ) (s : State) (legal : Legal base s) where
     renamed_done old false t = refl
 
     one_more : (old : List ℕ) → HasLabel s.labels owner Pref tag old → (rows : List Label)
-        → IsListingOf (IsLabelOf s.labels) rows
-        → IsListingOf
+        → IsUnsortedListing (IsLabelOf s.labels) rows
+        → IsUnsortedListing
         (IsLabelOf (set.insert (set.remove s.labels (label owner Pref tag old)) (label owner Pref tag text)))
         (without_row label_cmp (label owner Pref tag old) rows ++ label owner Pref tag text ∷ [])
     one_more old has rows are = listed_push labels_total labels_exact _ _ (label owner Pref tag text)
         (listed_drop labels_total labels_exact s.labels rows (label owner Pref tag old) are) (preferred_free old has)
 
     renamed_listed : (old : List ℕ) → HasLabel s.labels owner Pref tag old → (k : Bool) (rows : List Label)
-        → IsListingOf (IsLabelOf s.labels) rows
-        → IsListingOf (IsLabelOf (replace_preferred owner tag text k old s.labels)) (renamed_rows old k rows)
+        → IsUnsortedListing (IsLabelOf s.labels) rows
+        → IsUnsortedListing (IsLabelOf (replace_preferred owner tag text k old s.labels)) (renamed_rows old k rows)
     renamed_listed old has true rows are = listed_push labels_total labels_exact _ _ (label owner Alt tag old)
         (one_more old has rows are) (kept_free old has)
     renamed_listed old has false rows are = one_more old has rows are
 
     renamed_fits : (old : List ℕ) → HasLabel s.labels owner Pref tag old → (k : Bool) (t : Tables)
-        → IsListingOf (IsLabelOf s.labels) t.label → DeltaFits (renamed_changes old k) t
+        → IsUnsortedListing (IsLabelOf s.labels) t.label → DeltaFits (renamed_changes old k) t
     renamed_fits old has true t are = (
       tt,
       (
@@ -395,9 +391,10 @@ module _ (base : List ℕ) (s : State) (legal : Legal base s) where
             _ (renamed_rows old keep) (renamed_done old keep) (λ t are. renamed_listed old has keep t.label are)
             (renamed_fits old has keep)
 
-  -- A deprecation, by the lists of links to delete and to insert.
+  -- Assumes a deprecation, and the lists of links that it deletes and inserts.
   module _ (concept : ℕ) (go come : List Link) (absent_all : Absent links_total links.links_exact come
-      (without_all go s.links)) (same : set_with_list links_total links.links_exact come (without_all go s.links)
+      (without_elements go s.links)) (same : set_with_list links_total links.links_exact come
+      (without_elements go s.links)
       ≡ links_after_deprecation concept s.links) where
     pub leads_deprecate : AreChangesBetween base (change.Retire concept ∷ drops_then_adds go come) s
         (state_after_deprecation concept s)
@@ -422,12 +419,12 @@ module _ (base : List ℕ) (s : State) (legal : Legal base s) where
   abbrev first_move : ℕ
   first_move = move_count s.histories + 1
 
-  -- A merge, by the lists of labels to insert, and of links to delete and to insert.
+  -- Assumes a merge, and the lists of labels that it inserts, and of links that it deletes and inserts.
   module _ (source target : ℕ) (taken : List Label) (taken_absent : Absent labels_total labels_exact taken s.labels)
       (taken_same : set_with_list labels_total labels_exact taken s.labels
       ≡ set.union s.labels (copied_labels source target s.labels))
-      (go come : List Link) (absent_all : Absent links_total links.links_exact come (without_all go s.links))
-      (same : set_with_list links_total links.links_exact come (without_all go s.links)
+      (go come : List Link) (absent_all : Absent links_total links.links_exact come (without_elements go s.links))
+      (same : set_with_list links_total links.links_exact come (without_elements go s.links)
       ≡ links_after_merge (is_outside s.resources) source target s.links) where
     pub leads_merge : AreChangesBetween base (change.Replace source target ∷ map change.AddLabel taken
         ++ drops_then_adds go come ++ change.MoveAll source target
@@ -494,7 +491,7 @@ module _ (base : List ℕ) (s : State) (legal : Legal base s) where
           base_is = d.base_is;
           resource = d.resource;
           outside = d.outside;
-          label = subst (λ x. IsListingOf (IsLabelOf x) (t.label ++ taken)) taken_same
+          label = subst (λ x. IsUnsortedListing (IsLabelOf x) (t.label ++ taken)) taken_same
               (listed_all labels_total labels_exact taken s.labels t.label is.label taken_absent);
           link = d.link;
           hier = d.hier;
@@ -539,7 +536,7 @@ module _ (base : List ℕ) (s : State) (legal : Legal base s) where
   numbers : NumberedFrom 1 s.histories
   numbers = numbered_from 1 s.histories (λ i h e. let n = (legal.postings.sound (suc i) h e).number in omega (arith, n))
 
-  -- The changes of a split.
+  -- The changes of a split lead to its state.
   pub leads_split : (source : ℕ) (tag text : List ℕ) (postings : List ℕ) → AreChangesBetween base
       (changes_of (request.Split source tag text postings) s) s (state_after_split source tag text postings s)
   leads_split source tag text postings = record {
@@ -603,7 +600,7 @@ module _ (base : List ℕ) (s : State) (legal : Legal base s) where
       found (h ∷ hs) (inl same) = (0, h, refl, same)
       found (h ∷ hs) (inr later) = let f = found hs later in (suc f.0, f.1, f.2, f.3)
 
-  -- The changes of a post.
+  -- The changes of a post lead to its state.
   pub leads_post : (key rec : List ℕ) (concept : ℕ) → ((h : History) → ¬ IsOfKey key s.histories h)
       → AreChangesBetween base (changes_of (request.Post key rec concept) s) s (state_after_post key rec concept s)
   leads_post key rec concept fresh = record {
@@ -628,7 +625,7 @@ module _ (base : List ℕ) (s : State) (legal : Legal base s) where
       rows : List MoveRow
       rows = map (move_row new.number) new.moves
 
-      rising : Rises (move_count s.histories) rows
+      rising : MoveNumbersAscend (move_count s.histories) rows
       rising = rises_along new.number (move_count s.histories) first_move concept (replacements s.resources concept)
           (omega arith)
 
@@ -653,8 +650,8 @@ module _ (base : List ℕ) (s : State) (legal : Legal base s) where
         fit = λ t is. (tt, tt);
       })
 
--- The law of row changes, for each request.
-pub changes_of_request_lead : (setting : Setting) (s : State) (command : Command) → Legal setting.base s
+-- The law of row changes, request by request.
+pub changes_of_request_lead : (setting : Setting) (s : State) (command : Command) → IsLegalState setting.base s
     → HasNewKey command s → refusal_rule_of setting s (next_state command s) command None
     → AreChangesBetween setting.base (changes_of command s) s (next_state command s)
 changes_of_request_lead setting s (request.Scheme tag text) legal fresh row = leads_new_resource setting.base s legal

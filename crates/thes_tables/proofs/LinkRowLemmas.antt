@@ -1,4 +1,4 @@
--- Proves what insertions and deletions of links do to the tables link and hier.
+-- The tables link and hier after insertions and deletions of links.
 use Rattle.std.proofs.Common.{◌≡◌, ◌⊎◌, ℕ, List, [], ◌∷◌, ◌++◌, refl, sym, ap, ◌∙◌, subst, inl, inr, false, not, map}
 use Rattle.std.proofs.lemmas.Option.{same_Some}
 use Rattle.std.specs.Prelude.{Option, None, Some}
@@ -8,7 +8,7 @@ use Rattle.std.specs.FinSet as set
 use Rattle.thes_base.specs.declared.data.Link.{Link}
 use Rattle.thes_base.specs.declared.data.LinkKind.{LinkKind}
 use Rattle.thes_base.specs.declared.data.LinkKind.TheVariants as kinds
-use Rattle.thes_base.specs.Links.{Links, HeldIn, link_cmp}
+use Rattle.thes_base.specs.Links.{Links, Holds, link_cmp}
 use Rattle.thes_base.specs.State.{State}
 use Rattle.thes_base.proofs.LinkSetLemmas.{links_total, links_exact}
 use Rattle.thes_tables.specs.declared.rows.HierRow.{HierRow}
@@ -16,16 +16,15 @@ use Rattle.thes_tables.specs.declared.rows.HierType.{HierType}
 use Rattle.thes_tables.specs.declared.rows.HierType.TheVariants as ht
 use Rattle.thes_tables.specs.declared.change.Change.{Change}
 use Rattle.thes_tables.specs.declared.change.Change.TheVariants as change
-use Rattle.thes_tables.specs.Tables.{Tables, IsRowsOf, IsListingOf, IsHierOf, IsLinkOf, hier_kind, hier_link, hier_type}
+use Rattle.thes_tables.specs.Tables.{Tables, IsRowsOf, IsUnsortedListing, IsHierOf, IsLinkOf, hier_kind, hier_link}
+use Rattle.thes_tables.specs.Tables.{hier_type}
 use Rattle.thes_tables.specs.Rows.{tables_after_change, tables_after_delta, DeltaFits, ChangeFits}
-use Rattle.thes_tables.specs.Changes.{hier_row, add_link, drop_link, missing_items, without_all, links_to_remove}
+use Rattle.thes_tables.specs.Changes.{hier_row, add_link, drop_link, missing_items, without_elements, links_to_remove}
 use Rattle.std.proofs.lemmas.Bool.{cases_Bool, not-true, not_from_false}
 use Rattle.thes_base.proofs.SetMemberLemmas.{inserted_cases, inserted_kept, inserted_new, removed_cases, removed_kept}
 use Rattle.thes_tables.proofs.RowSetLemmas.{clash, equal_of_tie, set_with_list, Absent, coming_same, coming_absent}
 use Rattle.thes_tables.proofs.RowSetLemmas.{turn_into, lists_push, lists_filter, lists_drop, lists_same}
 use Rattle.thes_tables.proofs.DeltaAppendLemmas.{all_append, fit_append}
-
--- Rows of table hier, and the links that they encode.
 
 pub type_back : (typ : HierType) → hier_type (hier_kind typ) ≡ Some typ
 type_back ht.Untyped = refl
@@ -33,7 +32,7 @@ type_back ht.Generic = refl
 type_back ht.Partitive = refl
 type_back ht.Instantial = refl
 
--- A hierarchical kind is that of its type.
+-- A hierarchical kind is the kind of its type.
 kind_back : (kind : LinkKind) (typ : HierType) → hier_type kind ≡ Some typ → hier_kind typ ≡ kind
 kind_back kinds.Broader typ e = ap hier_kind (sym (same_Some ht.Untyped typ e))
 kind_back kinds.BroaderGeneric typ e = ap hier_kind (sym (same_Some ht.Generic typ e))
@@ -66,27 +65,27 @@ no_hier_row l row none same = let e = sym (type_back row.typ) ∙ ap (λ (x : Li
 
 -- The tables link and hier encode the links.
 pub record LinkRows (links : Links) (t : Tables) : Type 0 where
-  pub link : IsListingOf (IsLinkOf links) t.link
-  pub hier : IsListingOf (IsHierOf links) t.hier
+  pub link : IsUnsortedListing (IsLinkOf links) t.link
+  pub hier : IsUnsortedListing (IsHierOf links) t.hier
 
 pub link_rows_of_tables : {base : List ℕ} {s : State} {t : Tables} → IsRowsOf base s t → LinkRows s.links t
 link_rows_of_tables is = record { link = is.link; hier = is.hier }
 
--- Insertion of one link.
+-- Assumes that one link is inserted.
 module _ (l : Link) (links : Links) (t : Tables) where
   abbrev more : Links
   more = set.insert links l
 
-  more_cases : (q : Link) → HeldIn more q → (q ≡ l) ⊎ HeldIn links q
+  more_cases : (q : Link) → Holds more q → (q ≡ l) ⊎ Holds links q
   more_cases q h = inserted_cases links_total links_exact links l q h
 
-  more_kept : (q : Link) → HeldIn links q → HeldIn more q
+  more_kept : (q : Link) → Holds links q → Holds more q
   more_kept q h = inserted_kept links_total links_exact links l q h
 
-  more_new : HeldIn more l
+  more_new : Holds more l
   more_new = inserted_new links_total links_exact links l
 
-  -- Into table link.
+  -- A link that isn't hierarchical is inserted into table link.
   link_plain : hier_type l.kind ≡ None → set.contains links l ≡ false → LinkRows links t
       → LinkRows more (record t { link = t.link ++ l ∷ [] })
   link_plain none out are = record {
@@ -98,18 +97,18 @@ module _ (l : Link) (links : Links) (t : Tables) where
         are.hier;
   }
 
-  -- Into table hier.
+  -- A hierarchical link is inserted into table hier.
   link_hier : (typ : HierType) → hier_type l.kind ≡ Some typ → set.contains links l ≡ false → LinkRows links t
       → LinkRows more (record t { hier = t.hier ++ hier_row typ l ∷ [] })
   link_hier typ e out are = record {
     link = lists_same t.link (λ q h. (more_kept q h.0, h.1))
         (λ q h. elim (more_cases q h.0) [ inl same ↦ absurd (other q same h.1) | inr old ↦ (old, h.1) ]) are.link;
     hier = lists_push t.hier (hier_row typ l)
-        (λ h. clash (set.contains links l) (subst (HeldIn links) (link_of_hier_row l typ e) h) out)
+        (λ h. clash (set.contains links l) (subst (Holds links) (link_of_hier_row l typ e) h) out)
         (λ row h. elim (more_cases (hier_link row) h) [
           | inl same ↦ inl (only_row l typ row e same)
           | inr old ↦ inr old
-        ]) (subst (HeldIn more) (sym (link_of_hier_row l typ e)) more_new)
+        ]) (subst (Holds more) (sym (link_of_hier_row l typ e)) more_new)
         (λ row h. more_kept (hier_link row) h) are.hier;
   }
     where
@@ -132,21 +131,21 @@ module _ (l : Link) (links : Links) (t : Tables) where
           → ChangeFits (elim o [ None ↦ change.AddLink l | Some typ ↦ change.AddHier (hier_row typ l) ]) t
       go None e = λ h. clash (set.contains links l) (are.link.sound l h).0 out
       go (Some typ) e =
-          λ h. clash (set.contains links l) (subst (HeldIn links) (link_of_hier_row l typ e)
+          λ h. clash (set.contains links l) (subst (Holds links) (link_of_hier_row l typ e)
           (are.hier.sound (hier_row typ l) h)) out
 
--- Deletion of one link.
+-- Assumes that one link is deleted.
 module _ (l : Link) (links : Links) (t : Tables) where
   abbrev less : Links
   less = set.remove links l
 
-  less_cases : (q : Link) → HeldIn less q → (q ≡ l → ⊥) × HeldIn links q
+  less_cases : (q : Link) → Holds less q → (q ≡ l → ⊥) × Holds links q
   less_cases q h = removed_cases links_total links_exact links l q h
 
-  less_kept : (q : Link) → (q ≡ l → ⊥) → HeldIn links q → HeldIn less q
+  less_kept : (q : Link) → (q ≡ l → ⊥) → Holds links q → Holds less q
   less_kept q ne h = removed_kept links_total links_exact links l q ne h
 
-  -- From table link.
+  -- A link that isn't hierarchical is deleted from table link.
   drop_plain : hier_type l.kind ≡ None → LinkRows links t → LinkRows less (tables_after_change (change.DropLink l) t)
   drop_plain none are = record {
     link = lists_drop links_total links_exact t.link l (λ q h. let c = less_cases q h.0 in (c.0, (c.1, h.1)))
@@ -155,7 +154,7 @@ module _ (l : Link) (links : Links) (t : Tables) where
         (λ row h. (less_cases (hier_link row) h).1) are.hier;
   }
 
-  -- From table hier.
+  -- A hierarchical link is deleted from table hier.
   drop_hier : (typ : HierType) → hier_type l.kind ≡ Some typ → LinkRows links t
       → LinkRows less (tables_after_change (change.DropHier (hier_row typ l)) t)
   drop_hier typ e are = record {
@@ -188,8 +187,6 @@ module _ (l : Link) (links : Links) (t : Tables) where
           (tables_after_change (elim o [ None ↦ change.DropLink l | Some typ ↦ change.DropHier (hier_row typ l) ]) t)
       go None e = drop_plain e are
       go (Some typ) e = drop_hier typ e are
-
--- Insertions and deletions of links change only the tables link and hier.
 
 abbrev pub with_link_tables : Tables → Tables → Tables
 with_link_tables t u = record t { link = u.link; hier = u.hier }
@@ -224,8 +221,6 @@ drop_fits l t = go (hier_type l.kind)
     go None = tt
     go (Some typ) = tt
 
--- Insertions and deletions of several links.
-
 all_added_only : (ls : List Link) (t : Tables) → tables_after_delta (map add_link ls) t
     ≡ with_link_tables t (tables_after_delta (map add_link ls) t)
 all_added_only [] t = refl
@@ -256,7 +251,7 @@ added_fit (l ∷ ls) links t a are = (
       (link_in l links t a.0 are),
 )
 
-dropped_rows : (ls : List Link) (links : Links) (t : Tables) → LinkRows links t → LinkRows (without_all ls links)
+dropped_rows : (ls : List Link) (links : Links) (t : Tables) → LinkRows links t → LinkRows (without_elements ls links)
     (tables_after_delta (map drop_link ls) t)
 dropped_rows [] links t are = are
 dropped_rows (l ∷ ls) links t are = dropped_rows ls (set.remove links l) (tables_after_change (drop_link l) t)
@@ -266,13 +261,11 @@ dropped_fit : (ls : List Link) (t : Tables) → DeltaFits (map drop_link ls) t
 dropped_fit [] t = tt
 dropped_fit (l ∷ ls) t = (drop_fits l t, dropped_fit ls (tables_after_change (drop_link l) t))
 
--- Deletions, then insertions.
-
 abbrev pub drops_then_adds : List Link → List Link → List Change
 drops_then_adds go come = map drop_link go ++ map add_link come
 
 module _ (old new : Links) (go come : List Link) (absent_all : Absent links_total links_exact come
-    (without_all go old)) (same : set_with_list links_total links_exact come (without_all go old) ≡ new)
+    (without_elements go old)) (same : set_with_list links_total links_exact come (without_elements go old) ≡ new)
     (t : Tables) where
   abbrev tables_after_drops : Tables
   tables_after_drops = tables_after_delta (map drop_link go) t
@@ -291,16 +284,16 @@ module _ (old new : Links) (go come : List Link) (absent_all : Absent links_tota
   pub drops_then_adds_rows : LinkRows old t → LinkRows new (tables_after_delta (drops_then_adds go come) t)
   drops_then_adds_rows are = subst (LinkRows new) (sym split_drops_and_adds)
       (subst (λ x. LinkRows x (tables_after_delta (map add_link come) tables_after_drops)) same
-      (added_rows come (without_all go old) tables_after_drops absent_all (dropped_rows go old t are)))
+      (added_rows come (without_elements go old) tables_after_drops absent_all (dropped_rows go old t are)))
 
   pub drops_then_adds_fit : LinkRows old t → DeltaFits (drops_then_adds go come) t
   drops_then_adds_fit are = fit_append (map drop_link go) (map add_link come) t (dropped_fit go t)
-      (added_fit come (without_all go old) tables_after_drops absent_all (dropped_rows go old t are))
+      (added_fit come (without_elements go old) tables_after_drops absent_all (dropped_rows go old t are))
 
--- The deletions and insertions that turn one set of links into another.
+-- Assumes the deletions and insertions that turn one set of links into another.
 module _ (old new : Links) where
   abbrev links_kept : Links
-  links_kept = without_all (links_to_remove old new) old
+  links_kept = without_elements (links_to_remove old new) old
 
   abbrev pub links_to_add : List Link
   links_to_add = missing_items links_kept (set.items new)

@@ -1,4 +1,4 @@
--- Proves what requests do to the rows of the tables move and posting.
+-- The rows of the tables move and posting after requests.
 use Rattle.std.proofs.Common.{◌≡◌, ◌<◌, ◌≤◌, ◌⊎◌, inl, inr, ℕ, zero, suc, ◌+◌, ◌-◌, length, List, [], ◌∷◌, ◌++◌, refl}
 use Rattle.std.proofs.Common.{sym, ap, ◌∙◌, subst, arith, true, false, Bool, cond, map, length-append, append_assoc}
 use Rattle.std.specs.Prelude.{Some, None, slice_get, slice_set}
@@ -7,7 +7,7 @@ use Rattle.thes_base.specs.declared.data.Move.{Move}
 use Rattle.thes_base.specs.Resources.{entry_at, set_entry_at}
 use Rattle.thes_base.specs.Postings.{place, history_after_move, histories_after_moves, moves_along, move_count}
 use Rattle.thes_base.specs.Postings.{is_assigned_to}
-use Rattle.thes_base.specs.Legal.{LegalPostings, AllMoves}
+use Rattle.thes_base.specs.Legal.{AreLegalPostings, AllMoves}
 use Rattle.thes_base.proofs.NumberedLemmas.{push_old, push_new, push_cases, numbered_bound, set_cases, set_same}
 use Rattle.thes_base.proofs.NumberedLemmas.{set_other}
 use Rattle.thes_base.proofs.MoveLemmas.{numbered_moved, slice_forward, IsAfterMoveAt, rank, place_moved}
@@ -15,29 +15,24 @@ use Rattle.std.proofs.lemmas.Option.{same_Some}
 use Rattle.thes_base.proofs.ListedLemmas.{NumberedFrom}
 use Rattle.thes_tables.specs.declared.rows.PostingRow.{PostingRow}
 use Rattle.thes_tables.specs.declared.rows.MoveRow.{MoveRow}
-use Rattle.thes_tables.specs.Tables.{IsIn, IsMoveOf, AreMoves, Rises, recorded_move, posting_row}
+use Rattle.thes_tables.specs.Tables.{IsIn, IsMoveOf, AreMoves, MoveNumbersAscend, recorded_move, posting_row}
 use Rattle.thes_tables.specs.Rows.{with_posting, row_at_place, row_after_move_all}
 use Rattle.thes_tables.specs.Changes.{new_moves, move_row}
 use Rattle.std.proofs.lemmas.Bool.{cases_Bool, cases_eq}
 use Rattle.thes_tables.proofs.RowSetLemmas.{clash, in_append, in_map, map_in, append_left, append_right}
 
--- Increasing numbers.
-
-pub rises_append : (above bound : ℕ) (xs ys : List MoveRow) → Rises above xs → above ≤ bound
-    → ((row : MoveRow) → IsIn row xs → row.number ≤ bound) → Rises bound ys → Rises above (xs ++ ys)
+pub rises_append : (above bound : ℕ) (xs ys : List MoveRow) → MoveNumbersAscend above xs → above ≤ bound
+    → ((row : MoveRow) → IsIn row xs → row.number ≤ bound) → MoveNumbersAscend bound ys
+    → MoveNumbersAscend above (xs ++ ys)
 rises_append above bound [] [] r least most ys = tt
 rises_append above bound [] (y ∷ ys) r least most up = ((let u = up.0 in omega (arith, u, least)), up.1)
 rises_append above bound (x ∷ xs) ys r least most up =
     (r.0, rises_append x.number bound xs ys r.1 (most x (inl refl)) (λ row h. most row (inr h)) up)
 
--- What holds of all moves holds of each.
-
 pub in_all : (P : Move → Type 0) (m : Move) (moves : List Move) → AllMoves P moves → IsIn m moves → P m
 in_all P m [] all h = absurd h
 in_all P m (x ∷ moves) all (inl e) = let Q : Move → Type 0 = P in subst Q (sym e) all.0
 in_all P m (x ∷ moves) all (inr h) = in_all P m moves all.1 h
-
--- The new rows of the histories that pass a test.
 
 module _ (passes : History → Bool) (target : ℕ) where
   abbrev row_at : ℕ → History → MoveRow
@@ -56,15 +51,15 @@ module _ (passes : History → Bool) (target : ℕ) where
       e
 
   pub rises_new : (number bound : ℕ) (hs : List History) → bound < number
-      → Rises bound (new_moves passes target number hs)
+      → MoveNumbersAscend bound (new_moves passes target number hs)
   rises_new number bound [] lt = tt
   rises_new number bound (h ∷ hs) lt = elim (cases_Bool (passes h)) [
-    | inl hit ↦ subst (Rises bound) (sym (rows_yes number h hs hit))
+    | inl hit ↦ subst (MoveNumbersAscend bound) (sym (rows_yes number h hs hit))
         (lt, rises_new (number + 1) number hs (omega arith))
-    | inr miss ↦ subst (Rises bound) (sym (rows_no number h hs miss)) (rises_new number bound hs lt)
+    | inr miss ↦ subst (MoveNumbersAscend bound) (sym (rows_no number h hs miss)) (rises_new number bound hs lt)
   ]
 
-  -- Each new row is that of a history that passes.
+  -- Each new row is the move of a history that passes the test.
   pub new_cases : (number : ℕ) (hs : List History) (row : MoveRow) → IsIn row (new_moves passes target number hs)
       → (i : ℕ) × (h : History) × (slice_get hs i ≡ Some h) × (passes h ≡ true)
       × (row ≡ row_at (number + rank passes hs i) h)
@@ -111,14 +106,14 @@ push_in : (m x : Move) (moves : List Move) → IsIn m (moves ++ x ∷ []) → Is
 push_in m x moves h = elim (in_append m moves (x ∷ []) h)
     [ inl old ↦ inl old | inr new ↦ inr (elim new [ inl e ↦ e | inr h ↦ absurd h ]) ]
 
-module _ (rs : List _) (hs : List History) (legal : LegalPostings rs hs) where
-  -- Numbers of moves are at most their count.
+module _ (rs : List _) (hs : List History) (legal : AreLegalPostings rs hs) where
+  -- The number of a move is at most the number of moves.
   pub number_within_count : (rows : List MoveRow) → AreMoves hs rows → (row : MoveRow) → IsIn row rows → row.number
       ≤ move_count hs
   number_within_count rows are row h = let is = are.sound row h in in_all (λ m. m.number ≤ move_count hs)
       (recorded_move row) is.0.moves (legal.numbers.bounded row.posting is.0 is.1) is.2
 
-  -- The rows of moves after each history that passes gains one.
+  -- The rows of table move stay right when each history that passes the test gains a move.
   pub moves_more : (passes : History → Bool) (target : ℕ) (rows : List MoveRow) → AreMoves hs rows
       → AreMoves (histories_after_moves passes target (move_count hs + 1) hs)
       (rows ++ new_moves passes target (move_count hs + 1) hs)
@@ -224,21 +219,21 @@ module _ (rs : List _) (hs : List History) (legal : LegalPostings rs hs) where
                             (same ∙ is) there,
                       ))
 
--- The moves along a path have increasing numbers.
+-- The rows of moves along a path have rising numbers.
 pub rises_along : (posting above number from : ℕ) (way : List ℕ) → above < number
-    → Rises above (map (move_row posting) (moves_along number from way))
+    → MoveNumbersAscend above (map (move_row posting) (moves_along number from way))
 rises_along posting above number from [] less = tt
 rises_along posting above number from (n ∷ way) less =
     (less, rises_along posting number (number + 1) n way (omega arith))
 
--- The rows of moves after a new history.
-module _ (rs : List _) (hs : List History) (legal : LegalPostings rs hs) (h : History) (is_next : h.number ≡ length hs
-    + 1) where
+-- The rows of table move stay right when a history with the next number is appended.
+module _ (rs : List _) (hs : List History) (legal : AreLegalPostings rs hs) (h : History)
+    (is_next : h.number ≡ length hs + 1) where
   abbrev rows_of : List MoveRow
   rows_of = map (move_row h.number) h.moves
 
   -- The rows of moves with those of the new history appended.
-  pub moves_posted : (rows : List MoveRow) → Rises (move_count hs) rows_of → AreMoves hs rows
+  pub moves_posted : (rows : List MoveRow) → MoveNumbersAscend (move_count hs) rows_of → AreMoves hs rows
       → AreMoves (hs ++ h ∷ []) (rows ++ rows_of)
   moves_posted rows rising are = record {
     rises = rises_append 0 (move_count hs) rows rows_of are.rises (omega arith)
@@ -266,7 +261,7 @@ module _ (rs : List _) (hs : List History) (legal : LegalPostings rs hs) (h : Hi
       mine row e there = subst (λ (n : ℕ). IsIn (record row { posting = n }) rows_of) (sym e)
           (map_in (move_row h.number) (recorded_move row) h.moves there)
 
--- The rows of moves after a history changes, but not its moves.
+-- The rows of table move stay right when a history changes without its moves.
 pub moves_set : (hs : List History) (n : ℕ) (h new : History) (rows : List MoveRow) → entry_at hs n ≡ Some h
     → new.moves ≡ h.moves → AreMoves hs rows → AreMoves (set_entry_at hs n new) rows
 moves_set hs n h new rows e same are = record {
@@ -303,8 +298,6 @@ moves_set hs n h new rows e same are = record {
       | inr other ↦ are.complete row (g, other.1, there)
     ]
 
--- Rows of table posting.
-
 pub map_get : {A B : Type 0} (f : A → B) (xs : List A) (i : ℕ) (x : A) → slice_get xs i ≡ Some x
     → slice_get (map f xs) i ≡ Some (f x)
 map_get f [] i x e = absurd (cc)
@@ -320,7 +313,7 @@ pub with_at : (f : PostingRow → PostingRow) (n : ℕ) (rows : List PostingRow)
     ≡ Some row → with_posting f n rows ≡ set_entry_at rows n (f row)
 with_at f n rows row e = ap (λ o. elim o [ None ↦ rows | Some r ↦ set_entry_at rows n (f r) ]) e
 
--- The rows after all postings assigned to the source go to the target.
+-- The rows of table posting stay right when all postings of the source move to the target.
 pub rows_moved : (source target number : ℕ) (hs : List History) → map (row_after_move_all source target)
     (map posting_row hs) ≡ map posting_row (histories_after_moves (is_assigned_to source) target number hs)
 rows_moved source target number [] = refl
@@ -337,8 +330,6 @@ rows_moved source target number (h ∷ hs) = elim (cases_Bool (is_assigned_to so
       (ap (λ b. cond b (history_after_move number target h ∷ histories_after_moves (is_assigned_to source) target
       (number + 1) hs) (h ∷ histories_after_moves (is_assigned_to source) target number hs)) miss))
 ]
-
--- The rows after several postings change their places.
 
 abbrev pub placed_all : List MoveRow → List PostingRow → List PostingRow
 placed_all [] rows = rows
@@ -363,7 +354,7 @@ with_here f n pre row rest e =
     ∙ set_at pre row (f row) rest
 
 module _ (passes : History → Bool) (target : ℕ) where
-  -- The rows after each history that passes the test goes to the target.
+  -- The rows of table posting stay right when each history that passes the test moves to the target.
   pub rows_placed : (number : ℕ) (pre : List PostingRow) (hs : List History) → NumberedFrom (length pre + 1) hs
       → placed_all (new_moves passes target number hs) (pre ++ map posting_row hs) ≡ pre
       ++ map posting_row (histories_after_moves passes target number hs)

@@ -1,23 +1,22 @@
--- Proves that the migration turns version 1's rows of a state into version 2's rows of it, and of no other state.
+-- The migration turns version 1's rows of a state into version 2's rows of that state, and of no other.
 use Rattle.std.proofs.Common.{arith, inl, inr, ◌≡◌, ◌≤◌, ◌↔◌, ℕ, List, [], ◌∷◌, map, filter, Bool, true, false, not}
 use Rattle.std.proofs.Common.{cond, ◌==◌, Option, None, Some, refl, sym, ap, subst, ◌∙◌}
 use Rattle.std.proofs.lemmas.Bool.{cases_Bool}
 use Rattle.thes_base.specs.declared.data.Link.{Link}
 use Rattle.thes_base.specs.declared.data.LinkKind.{LinkKind}
 use Rattle.thes_base.specs.declared.data.LinkKind.TheVariants as kinds
-use Rattle.thes_base.specs.Links.{Links, HeldIn, link_kind_no}
+use Rattle.thes_base.specs.Links.{Links, Holds, link_kind_no}
 use Rattle.thes_base.specs.State.{State}
 use Rattle.thes_tables.specs.declared.rows.HierRow.{HierRow}
 use Rattle.thes_tables.specs.declared.rows.HierType.{HierType}
 use Rattle.thes_tables.specs.declared.rows.HierType.TheVariants as ht
-use Rattle.thes_tables.specs.Tables.{Tables, IsIn, AreDistinct, IsListingOf, IsRowsOf, IsHierOf, IsLinkOf, hier_link}
+use Rattle.thes_tables.specs.Tables.{Tables, IsIn, AreDistinct, IsUnsortedListing, IsRowsOf, IsHierOf, IsLinkOf}
+use Rattle.thes_tables.specs.Tables.{hier_link}
 use Rattle.thes_tables.specs.Tables.{hier_kind, hier_type}
 use Rattle.thes_tables.specs.Changes.{hier_row}
 use Rattle.thes_tables.proofs.LinkRowLemmas.{link_of_hier_row}
 use Rattle.thes_tables.proofs.RowSetLemmas.{in_filter, filter_in, in_map, map_in, lists_filter, once_map}
 use Rattle.thes_tables.specs.OldRows.{is_broader, untyped_row, tables_after_migration, IsOldRowsOf}
-
--- Elements without duplicates.
 
 once_unmap : {A B : Type 0} (f : A → B) (xs : List A) → AreDistinct (map f xs) → AreDistinct xs
 once_unmap f [] once = tt
@@ -39,9 +38,7 @@ once_parts {A} test (x ∷ xs) those others = go (once_parts test xs) (test x) r
       rest those others.1,
     )
 
--- Kinds of links in version 1.
-
--- Kind 1 is broader.
+-- A kind with number 1 is broader.
 broader_kind : (kind : LinkKind) → (link_kind_no kind == 1) ≡ true → kind ≡ kinds.Broader
 broader_kind kinds.Broader e = refl
 broader_kind kinds.Related e = absurd (cc)
@@ -55,7 +52,7 @@ broader_kind kinds.BroaderGeneric e = absurd (cc)
 broader_kind kinds.BroaderPartitive e = absurd (cc)
 broader_kind kinds.BroaderInstantial e = absurd (cc)
 
--- A kind that isn't hierarchical isn't broader, and is one of version 1.
+-- A kind that isn't hierarchical has a number of version 1 other than 1.
 plain_kind : (kind : LinkKind) → hier_type kind ≡ None → (not (link_kind_no kind == 1) ≡ true) × (link_kind_no kind ≤ 8)
 plain_kind kinds.Broader e = absurd (cc)
 plain_kind kinds.Related e = (refl, omega arith)
@@ -69,7 +66,7 @@ plain_kind kinds.BroaderGeneric e = absurd (cc)
 plain_kind kinds.BroaderPartitive e = absurd (cc)
 plain_kind kinds.BroaderInstantial e = absurd (cc)
 
--- A kind of version 1 other than broader isn't hierarchical.
+-- A kind of version 1 with another number than 1 isn't hierarchical.
 old_plain : (kind : LinkKind) → link_kind_no kind ≤ 8 → not (link_kind_no kind == 1) ≡ true → hier_type kind ≡ None
 old_plain kinds.Broader le e = absurd (cc)
 old_plain kinds.Related le e = refl
@@ -83,7 +80,7 @@ old_plain kinds.BroaderGeneric le e = absurd (omega (arith, le))
 old_plain kinds.BroaderPartitive le e = absurd (omega (arith, le))
 old_plain kinds.BroaderInstantial le e = absurd (omega (arith, le))
 
--- Untyped is the only type whose kind is one of version 1.
+-- A type whose kind has a number of version 1 is untyped.
 old_type : (typ : HierType) → link_kind_no (hier_kind typ) ≤ 8 → typ ≡ ht.Untyped
 old_type ht.Untyped le = refl
 old_type ht.Generic le = absurd (omega (arith, le))
@@ -97,14 +94,12 @@ untyped_tells l e = λ i. record { kind = sym (broader_kind l.kind e) i; a = l.a
 untyped_one : (x y : Link) → is_broader x ≡ true → is_broader y ≡ true → untyped_row x ≡ untyped_row y → x ≡ y
 untyped_one x y ex ey e = sym (untyped_tells x ex) ∙ ap hier_link e ∙ untyped_tells y ey
 
--- A row without a type is that of the link that it encodes.
+-- An untyped row is the row of the link that it encodes.
 untyped_back : (row : HierRow) → row.typ ≡ ht.Untyped → row ≡ untyped_row (hier_link row)
 untyped_back row e = λ i. record { a = row.a; b = row.b; typ = e i }
 
 typed_broader : (row : HierRow) → row.typ ≡ ht.Untyped → is_broader (hier_link row) ≡ true
 typed_broader row e = ap (λ typ. link_kind_no (hier_kind typ) == 1) e
-
--- From version 1 to version 2.
 
 module _ (links : Links) (ls : List Link) where
   abbrev links_not_broader : List Link
@@ -113,19 +108,19 @@ module _ (links : Links) (ls : List Link) where
   abbrev rows_of_broader : List HierRow
   rows_of_broader = map untyped_row (filter is_broader ls)
 
-  module _ (are : IsListingOf (HeldIn links) ls) (old : (l : Link) → HeldIn links l → link_kind_no l.kind ≤ 8) where
-    links_renewed : IsListingOf (IsLinkOf links) links_not_broader
+  module _ (are : IsUnsortedListing (Holds links) ls) (old : (l : Link) → Holds links l → link_kind_no l.kind ≤ 8) where
+    links_renewed : IsUnsortedListing (IsLinkOf links) links_not_broader
     links_renewed = lists_filter (λ l. not (is_broader l)) ls
         (λ l h. (h.0, (plain_kind l.kind h.1).0))
         (λ l h e. (h, old_plain l.kind (old l h) e)) are
 
-    -- Table hier after migration has the links of kind broader.
-    hier_renewed : IsListingOf (IsHierOf links) rows_of_broader
+    -- Table hier has, after the migration, exactly the links of kind broader.
+    hier_renewed : IsUnsortedListing (IsHierOf links) rows_of_broader
     hier_renewed = record {
       sound = λ row h.
           let at = in_map untyped_row row (filter is_broader ls) h in
           let l = in_filter is_broader at.0 ls at.1 in
-          subst (HeldIn links) (sym (ap hier_link at.2 ∙ untyped_tells at.0 l.1)) (are.sound at.0 l.0);
+          subst (Holds links) (sym (ap hier_link at.2 ∙ untyped_tells at.0 l.1)) (are.sound at.0 l.0);
       complete = λ row h.
           let typ = old_type row.typ (old (hier_link row) h) in
           subst (λ r. IsIn r rows_of_broader) (sym (untyped_back row typ))
@@ -133,16 +128,14 @@ module _ (links : Links) (ls : List Link) where
           (filter_in is_broader (hier_link row) ls (are.complete (hier_link row) h) (typed_broader row typ)));
       once = once_map untyped_row (filter is_broader ls)
           (λ x y hx hy. untyped_one x y (in_filter is_broader x ls hx).1 (in_filter is_broader y ls hy).1)
-          (lists_filter {Less = λ l. HeldIn links l × (is_broader l ≡ true)} is_broader ls (λ l h. h)
+          (lists_filter {Less = λ l. Holds links l × (is_broader l ≡ true)} is_broader ls (λ l h. h)
           (λ l h e. (h, e)) are).once;
     }
 
-  -- From version 2 to version 1.
-
-  module _ (link : IsListingOf (IsLinkOf links) links_not_broader)
-      (hier : IsListingOf (IsHierOf links) rows_of_broader) where
+  module _ (link : IsUnsortedListing (IsLinkOf links) links_not_broader)
+      (hier : IsUnsortedListing (IsHierOf links) rows_of_broader) where
     -- Each link of the state is a row of the old table link, and of a kind of version 1.
-    in_table_link : (l : Link) → HeldIn links l → IsIn l ls × (link_kind_no l.kind ≤ 8)
+    in_table_link : (l : Link) → Holds links l → IsIn l ls × (link_kind_no l.kind ≤ 8)
     in_table_link l h = go (hier_type l.kind) refl
       where
         go : (o : Option HierType) → hier_type l.kind ≡ o → IsIn l ls × (link_kind_no l.kind ≤ 8)
@@ -152,28 +145,28 @@ module _ (links : Links) (ls : List Link) where
         )
         go (Some typ) e =
             let at = in_map untyped_row (hier_row typ l) (filter is_broader ls)
-            (hier.complete (hier_row typ l) (subst (HeldIn links) (sym (link_of_hier_row l typ e)) h)) in
+            (hier.complete (hier_row typ l) (subst (Holds links) (sym (link_of_hier_row l typ e)) h)) in
             let there = in_filter is_broader at.0 ls at.1 in
             let same : l ≡ at.0 = sym (link_of_hier_row l typ e) ∙ ap hier_link at.2 ∙ untyped_tells at.0 there.1 in
             let kind : l.kind ≡ kinds.Broader = ap (λ (x : Link). x.kind) same ∙ broader_kind at.0.kind there.1 in
             (subst (λ x. IsIn x ls) (sym same) there.0, subst (λ k. link_kind_no k ≤ 8) (sym kind) (omega arith))
 
     -- Each row of the old table link is a link of the state.
-    member_is_held : (l : Link) → IsIn l ls → HeldIn links l
+    member_is_held : (l : Link) → IsIn l ls → Holds links l
     member_is_held l h = elim (cases_Bool (is_broader l)) [
-      | inl is ↦ subst (HeldIn links) (untyped_tells l is)
+      | inl is ↦ subst (Holds links) (untyped_tells l is)
           (hier.sound (untyped_row l) (map_in untyped_row l (filter is_broader ls) (filter_in is_broader l ls h is)))
       | inr not_so ↦ (link.sound l (filter_in (λ x. not (is_broader x)) l ls h (ap not not_so))).0
     ]
 
-    links_were : IsListingOf (HeldIn links) ls
+    links_were : IsUnsortedListing (Holds links) ls
     links_were = record {
       sound = member_is_held;
       complete = λ l h. (in_table_link l h).0;
       once = once_parts is_broader ls (once_unmap untyped_row (filter is_broader ls) hier.once) link.once;
     }
 
--- The law of the migration.
+-- The law of the migration: both directions.
 pub migration_law : (base : List ℕ) (s : State) (t : Tables) → IsOldRowsOf base s t
     ↔ IsRowsOf base s (tables_after_migration t)
 migration_law base s t = (

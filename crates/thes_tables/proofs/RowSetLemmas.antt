@@ -1,4 +1,4 @@
--- Proves how listings of a set by rows change with the set, element by element.
+-- Listings of a set by rows after each change of the set.
 use Rattle.std.proofs.Common.{◌≡◌, ◌⊎◌, List, [], ◌∷◌, ◌++◌, map, refl, sym, ap, ◌∙◌, subst, inl, inr, Bool, true}
 use Rattle.std.proofs.Common.{false, not, cond, append_assoc}
 use Rattle.std.proofs.lemmas.Bool.{cases_Bool, or_cases, or_left, or_right, not-true, not_from_false}
@@ -12,14 +12,12 @@ use Rattle.std.specs.FinMap.{IsAntisymmetric}
 use Rattle.std.specs.FinSet as set
 use Rattle.std.specs.FinSet.{FinSet}
 use Rattle.thes_base.proofs.SetMemberLemmas.{inserted_cases, inserted_kept, inserted_new, removed_cases, removed_kept}
-use Rattle.thes_tables.specs.Tables.{IsIn, AreDistinct, IsListingOf}
+use Rattle.thes_tables.specs.Tables.{IsIn, AreDistinct, IsUnsortedListing}
 use Rattle.thes_tables.specs.Rows.{without_row}
-use Rattle.thes_tables.specs.Changes.{missing_items, without_all}
+use Rattle.thes_tables.specs.Changes.{missing_items, without_elements}
 
 pub clash : {A : Type 0} (b : Bool) → b ≡ true → b ≡ false → A
 clash b e f = absurd (cc)
-
--- Membership in lists.
 
 pub in_filter : {A : Type 0} (test : A → Bool) (x : A) (xs : List A) → IsIn x (filter test xs) → IsIn x xs
     × (test x ≡ true)
@@ -99,12 +97,10 @@ once_push (y ∷ xs) x new once = (
   once_push xs x (λ h. new (inr h)) once.1,
 )
 
--- Listings of a property, by rows.
-
--- A listing with one more row.
+-- Rows that list a property list it with one further element when that element's row is appended.
 pub lists_push : {K : Type 0} {Has More : K → Type 0} (rows : List K) (k : K) → (Has k → ⊥)
-    → ((q : K) → More q → (q ≡ k) ⊎ Has q) → More k → ((q : K) → Has q → More q) → IsListingOf Has rows
-    → IsListingOf More (rows ++ k ∷ [])
+    → ((q : K) → More q → (q ≡ k) ⊎ Has q) → More k → ((q : K) → Has q → More q) → IsUnsortedListing Has rows
+    → IsUnsortedListing More (rows ++ k ∷ [])
 lists_push {More = More} rows k new cases last kept are = record {
   sound = λ q h. elim (in_append q rows (k ∷ []) h) [
     | inl old ↦ kept q (are.sound q old)
@@ -118,19 +114,20 @@ lists_push {More = More} rows k new cases last kept are = record {
   once = once_push rows k (λ h. new (are.sound k h)) are.once;
 }
 
--- A listing of the rows that pass a test.
+-- Rows that list a property list its part that passes a test when they are filtered.
 pub lists_filter : {K : Type 0} {Has Less : K → Type 0} (test : K → Bool) (rows : List K)
-    → ((q : K) → Less q → Has q × (test q ≡ true)) → ((q : K) → Has q → test q ≡ true → Less q) → IsListingOf Has rows
-    → IsListingOf Less (filter test rows)
+    → ((q : K) → Less q → Has q × (test q ≡ true)) → ((q : K) → Has q → test q ≡ true → Less q)
+    → IsUnsortedListing Has rows
+    → IsUnsortedListing Less (filter test rows)
 lists_filter test rows less more are = record {
   sound = λ q h. let m = in_filter test q rows h in more q (are.sound q m.0) m.1;
   complete = λ q h. let l = less q h in filter_in test q rows (are.complete q l.0) l.1;
   once = once_filter test rows are.once;
 }
 
--- A listing of an equivalent property.
+-- Rows that list a property list each equivalent one.
 pub lists_same : {K : Type 0} {Has Other : K → Type 0} (rows : List K) → ((q : K) → Has q → Other q)
-    → ((q : K) → Other q → Has q) → IsListingOf Has rows → IsListingOf Other rows
+    → ((q : K) → Other q → Has q) → IsUnsortedListing Has rows → IsUnsortedListing Other rows
 lists_same rows to from are = record {
   sound = λ q h. to q (are.sound q h);
   complete =
@@ -138,7 +135,7 @@ lists_same rows to from are = record {
   once = are.once;
 }
 
--- Sets with a total order.
+-- Assumes a total order whose equal elements are the same.
 module _ {K : Type 0} {R : K → K → Ordering} (o : IsTotalOrder R) (exact : IsAntisymmetric R) where
   pub equal_of_tie : (x y : K) → eq_by_cmp R x y ≡ true → x ≡ y
   equal_of_tie x y e = exact x y ((Equal-is (R x y)).0 e)
@@ -164,11 +161,11 @@ module _ {K : Type 0} {R : K → K → Ordering} (o : IsTotalOrder R) (exact : I
   pub item_held : (s : FinSet R) (q : K) → set.contains s q ≡ true → IsIn q (set.items s)
   item_held s q h = in_any q (set.items s) (sym (set.contains-items s q) ∙ h)
 
-  -- The set doesn't contain an element that it can't contain.
+  -- A set of which it is contradictory to contain an element doesn't contain it.
   pub absent_of_never : (s : FinSet R) (q : K) → (set.contains s q ≡ true → ⊥) → set.contains s q ≡ false
   absent_of_never s q never = elim (cases_Bool (set.contains s q)) [ inl h ↦ absurd (never h) | inr h ↦ h ]
 
-  -- The set with all elements of a list.
+  -- The set after all elements of a list are inserted.
   abbrev pub set_with_list : List K → FinSet R → FinSet R
   set_with_list [] s = s
   set_with_list (k ∷ ks) s = set_with_list ks (set.insert s k)
@@ -191,7 +188,7 @@ module _ {K : Type 0} {R : K → K → Ordering} (o : IsTotalOrder R) (exact : I
     | inr at ↦ elim (inserted_cases o exact s k q at) [ inl e ↦ inl (inl e) | inr old ↦ inr old ]
   ]
 
-  gone_cases : (ks : List K) (s : FinSet R) (q : K) → set.contains (without_all ks s) q ≡ true → (IsIn q ks → ⊥)
+  gone_cases : (ks : List K) (s : FinSet R) (q : K) → set.contains (without_elements ks s) q ≡ true → (IsIn q ks → ⊥)
       × (set.contains s q ≡ true)
   gone_cases [] s q h = (λ n. n, h)
   gone_cases (k ∷ ks) s q h =
@@ -200,7 +197,7 @@ module _ {K : Type 0} {R : K → K → Ordering} (o : IsTotalOrder R) (exact : I
       (λ n. elim n [ inl e ↦ here.0 e | inr m ↦ later.0 m ], here.1)
 
   gone_kept : (ks : List K) (s : FinSet R) (q : K) → (IsIn q ks → ⊥) → set.contains s q ≡ true
-      → set.contains (without_all ks s) q ≡ true
+      → set.contains (without_elements ks s) q ≡ true
   gone_kept [] s q out h = h
   gone_kept (k ∷ ks) s q out h = gone_kept ks (set.remove s k) q (λ m. out (inr m))
       (removed_kept o exact s k q (λ e. out (inl e)) h)
@@ -217,7 +214,7 @@ module _ {K : Type 0} {R : K → K → Ordering} (o : IsTotalOrder R) (exact : I
 
   -- Removing what another set lacks, and then inserting all of its elements, gives that set.
   pub turn_into : (s t : FinSet R) → set_with_list (set.items t)
-      (without_all (filter (λ l. not (set.contains t l)) (set.items s)) s) ≡ t
+      (without_elements (filter (λ l. not (set.contains t l)) (set.items s)) s) ≡ t
   turn_into s t = set.same_set o exact _ _ (λ q. both_ways _ _
       (λ h. elim (all_cases (set.items t) _ q h) [
         | inl new ↦ held_item t q new
@@ -240,7 +237,7 @@ module _ {K : Type 0} {R : K → K → Ordering} (o : IsTotalOrder R) (exact : I
         | inr old ↦ old
       ]) (inserted_kept o exact s k q))
 
-  -- Inserting only the missing elements gives the same set as inserting all.
+  -- Inserting only the missing elements of a list gives the same set as inserting all.
   pub coming_same : (ks : List K) (s : FinSet R) → set_with_list (missing_items s ks) s ≡ set_with_list ks s
   coming_same [] s = refl
   coming_same (k ∷ ks) s = elim (cases_Bool (set.contains s k)) [
@@ -250,12 +247,12 @@ module _ {K : Type 0} {R : K → K → Ordering} (o : IsTotalOrder R) (exact : I
         ∙ coming_same ks (set.insert s k)
   ]
 
-  -- Each element of the list is new when it is inserted.
+  -- Each element of the list is new at its insertion.
   abbrev pub Absent : List K → FinSet R → Type 0
   Absent [] s = Unit {0}
   Absent (k ∷ ks) s = (set.contains s k ≡ false) × Absent ks (set.insert s k)
 
-  -- Elements that aren't in the set, without duplicates, are new when they are inserted.
+  -- Elements that the set lacks, each listed once, are new at their insertion.
   pub absent_of : (ks : List K) (s : FinSet R) → ((q : K) → IsIn q ks → set.contains s q ≡ true → ⊥) → AreDistinct ks
       → Absent ks s
   absent_of [] s new once = tt
@@ -266,11 +263,11 @@ module _ {K : Type 0} {R : K → K → Ordering} (o : IsTotalOrder R) (exact : I
         [ inl e ↦ once.0 (let Q : K → Type 0 = λ x. IsIn x ks in subst Q e h) | inr old ↦ new q (inr h) old ]) once.1,
   )
 
-  -- Removing one list and inserting another gives the other set, if the lists are the two differences.
+  -- Removing one list from a set and inserting another gives the second set, if the lists are the two differences.
   pub turn_into_by : (s t : FinSet R) (go come : List K)
-      → IsListingOf (λ q. (set.contains s q ≡ true) × (set.contains t q ≡ true → ⊥)) go
-      → IsListingOf (λ q. (set.contains t q ≡ true) × (set.contains s q ≡ true → ⊥)) come
-      → set_with_list come (without_all go s) ≡ t
+      → IsUnsortedListing (λ q. (set.contains s q ≡ true) × (set.contains t q ≡ true → ⊥)) go
+      → IsUnsortedListing (λ q. (set.contains t q ≡ true) × (set.contains s q ≡ true → ⊥)) come
+      → set_with_list come (without_elements go s) ≡ t
   turn_into_by s t go come goes comes = set.same_set o exact _ _ (λ q. both_ways _ _
       (λ h. elim (all_cases come _ q h) [
         | inl new ↦ (comes.sound q new).0
@@ -287,10 +284,10 @@ module _ {K : Type 0} {R : K → K → Ordering} (o : IsTotalOrder R) (exact : I
       ]))
 
   pub absent_by : (s t : FinSet R) (go come : List K)
-      → IsListingOf (λ q. (set.contains t q ≡ true) × (set.contains s q ≡ true → ⊥)) come
-      → Absent come (without_all go s)
+      → IsUnsortedListing (λ q. (set.contains t q ≡ true) × (set.contains s q ≡ true → ⊥)) come
+      → Absent come (without_elements go s)
   absent_by s t go come comes =
-      absent_of come (without_all go s) (λ q h m. (comes.sound q h).1 (gone_cases go s q m).1) comes.once
+      absent_of come (without_elements go s) (λ q h m. (comes.sound q h).1 (gone_cases go s q m).1) comes.once
 
   pub coming_absent : (ks : List K) (s : FinSet R) → Absent (missing_items s ks) s
   coming_absent [] s = tt
@@ -301,9 +298,10 @@ module _ {K : Type 0} {R : K → K → Ordering} (o : IsTotalOrder R) (exact : I
         (new, coming_absent ks (set.insert s k))
   ]
 
-  -- A listing without one row.
+  -- Rows that list a property list it without one element when that element's row is deleted.
   pub lists_drop : {Has Less : K → Type 0} (rows : List K) (k : K) → ((q : K) → Less q → (q ≡ k → ⊥) × Has q)
-      → ((q : K) → (q ≡ k → ⊥) → Has q → Less q) → IsListingOf Has rows → IsListingOf Less (without_row R k rows)
+      → ((q : K) → (q ≡ k → ⊥) → Has q → Less q) → IsUnsortedListing Has rows
+      → IsUnsortedListing Less (without_row R k rows)
   lists_drop rows k less more are = lists_filter (λ x. not (eq_by_cmp R x k)) rows
       (λ q h. let l = less q h in (
         l.1,
@@ -316,28 +314,26 @@ module _ {K : Type 0} {R : K → K → Ordering} (o : IsTotalOrder R) (exact : I
       (not-true _ passes)) h)
       are
 
-  -- Listings of sets.
-
   abbrev pub IsMember : FinSet R → K → Type 0
   IsMember s q = set.contains s q ≡ true
 
-  pub row_new : (s : FinSet R) (rows : List K) (q : K) → IsListingOf (IsMember s) rows → set.contains s q ≡ false
+  pub row_new : (s : FinSet R) (rows : List K) (q : K) → IsUnsortedListing (IsMember s) rows → set.contains s q ≡ false
       → IsIn q rows → ⊥
   row_new s rows q are new h = clash (set.contains s q) (are.sound q h) new
 
-  pub listed_push : (s : FinSet R) (rows : List K) (k : K) → IsListingOf (IsMember s) rows → set.contains s k ≡ false
-      → IsListingOf (IsMember (set.insert s k)) (rows ++ k ∷ [])
+  pub listed_push : (s : FinSet R) (rows : List K) (k : K) → IsUnsortedListing (IsMember s) rows
+      → set.contains s k ≡ false → IsUnsortedListing (IsMember (set.insert s k)) (rows ++ k ∷ [])
   listed_push s rows k are new = lists_push rows k (λ h. clash (set.contains s k) h new)
       (λ q h. inserted_cases o exact s k q h) (inserted_new o exact s k) (λ q h. inserted_kept o exact s k q h) are
 
-  pub listed_drop : (s : FinSet R) (rows : List K) (k : K) → IsListingOf (IsMember s) rows
-      → IsListingOf (IsMember (set.remove s k)) (without_row R k rows)
+  pub listed_drop : (s : FinSet R) (rows : List K) (k : K) → IsUnsortedListing (IsMember s) rows
+      → IsUnsortedListing (IsMember (set.remove s k)) (without_row R k rows)
   listed_drop s rows k are = lists_drop rows k (λ q h. removed_cases o exact s k q h)
       (λ q ne h. removed_kept o exact s k q ne h) are
 
-  pub listed_all : (ks : List K) (s : FinSet R) (rows : List K) → IsListingOf (IsMember s) rows → Absent ks s
-      → IsListingOf (IsMember (set_with_list ks s)) (rows ++ ks)
-  listed_all [] s rows are a = subst (IsListingOf (IsMember s)) (sym (append-nil rows)) are
-  listed_all (k ∷ ks) s rows are a = subst (IsListingOf (IsMember (set_with_list (k ∷ ks) s)))
+  pub listed_all : (ks : List K) (s : FinSet R) (rows : List K) → IsUnsortedListing (IsMember s) rows → Absent ks s
+      → IsUnsortedListing (IsMember (set_with_list ks s)) (rows ++ ks)
+  listed_all [] s rows are a = subst (IsUnsortedListing (IsMember s)) (sym (append-nil rows)) are
+  listed_all (k ∷ ks) s rows are a = subst (IsUnsortedListing (IsMember (set_with_list (k ∷ ks) s)))
       (append_assoc rows (k ∷ []) ks) (listed_all ks (set.insert s k) (rows ++ k ∷ []) (listed_push s rows k are a.0)
       a.1)

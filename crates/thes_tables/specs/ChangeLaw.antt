@@ -1,8 +1,8 @@
--- The law of row changes: those of an accepted request turn the rows of its state into those of the next.
+-- The law of row changes: the changes of an accepted request turn the rows of its state into those of the next state.
 use Rattle.std.specs.Prelude.{List, ℕ, None}
 use Rattle.thes_base.specs.declared.request.Command.{Command}
 use Rattle.thes_base.specs.State.{State}
-use Rattle.thes_base.specs.Legal.{Legal}
+use Rattle.thes_base.specs.Legal.{IsLegalState}
 use Rattle.thes_base.specs.Refusals.{Setting}
 use Rattle.thes_base.specs.Machine.{HasNewKey, next_state, refusal_rule_of}
 use Rattle.thes_tables.specs.declared.change.Change.{Change}
@@ -18,6 +18,6 @@ pub record AreChangesBetween (base : List ℕ) (changes : List Change) (s t : St
 -- The changes of every request that a legal state accepts turn its rows into those of the next state.
 abbrev pub ChangesLead : Type 0
 ChangesLead =
-    (setting : Setting) (s : State) (command : Command) → Legal setting.base s → HasNewKey command s
+    (setting : Setting) (s : State) (command : Command) → IsLegalState setting.base s → HasNewKey command s
     → refusal_rule_of setting s (next_state command s) command None
     → AreChangesBetween setting.base (changes_of command s) s (next_state command s)

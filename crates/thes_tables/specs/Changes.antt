@@ -1,4 +1,4 @@
--- The row changes of each request.
+-- The changes of rows that each accepted request makes.
 use Rattle.std.specs.Prelude.{ℕ, List, [], ◌∷◌, ◌+◌, ◌++◌, map, filter, Bool, not, Some, None, if◌then◌else◌}
 use Rattle.std.specs.declared.cmp.Ordering.{Ordering}
 use Rattle.std.specs.FinSet as set
@@ -25,55 +25,57 @@ use Rattle.thes_tables.specs.Tables.{hier_type, posting_row}
 use Rattle.thes_tables.specs.declared.change.Change.{Change}
 use Rattle.thes_tables.specs.declared.change.Change.TheVariants as change
 
--- A row of table move, to the target, for each posting that passes the test; they are numbered from `number`.
+-- The rows of table move for the postings that pass the test, in the order of the list: each leads from the posting's
+-- place to the target, and they are numbered from `number` on.
 abbrev pub new_moves : (History → Bool) → ℕ → ℕ → List History → List MoveRow
 new_moves passes target number [] = []
 new_moves passes target number (h ∷ hs) =
     let move : MoveRow = record { number = number; posting = h.number; source = place h; target = target } in
     if passes h then move ∷ new_moves passes target (number + 1) hs else new_moves passes target number hs
 
--- The row of a posting's move.
+-- The row of table move for a move of the posting.
 abbrev pub move_row : ℕ → Move → MoveRow
 move_row posting m = record { number = m.number; posting = posting; source = m.source; target = m.target }
 
--- The row changes that insert a resource with its preferred label.
+-- The changes that insert a resource under the next number, with its preferred label.
 abbrev pub changes_of_new_resource : Resource → List ℕ → List ℕ → State → List Change
 changes_of_new_resource resource tag text s = change.AddResource (next_number s) resource
     ∷ change.AddLabel (label (next_number s) Pref tag text) ∷ []
 
 -- The set without the elements of the list.
-abbrev pub without_all : {K : Type 0} → {R : K → K → Ordering} → List K → FinSet R → FinSet R
-without_all [] s = s
-without_all (k ∷ ks) s = without_all ks (set.remove s k)
+abbrev pub without_elements : {K : Type 0} → {R : K → K → Ordering} → List K → FinSet R → FinSet R
+without_elements [] s = s
+without_elements (k ∷ ks) s = without_elements ks (set.remove s k)
 
--- The elements of the list that the set lacks, without duplicates.
+-- The elements of the list that the set lacks, each once.
 abbrev pub missing_items : {K : Type 0} → {R : K → K → Ordering} → FinSet R → List K → List K
 missing_items s [] = []
 missing_items s (k ∷ ks) = if set.contains s k then missing_items s ks else k ∷ missing_items (set.insert s k) ks
 
--- The row of table hier for a link of a hierarchical kind.
+-- The row of table hier for a link of a hierarchical kind of this type.
 abbrev pub hier_row : HierType → Link → HierRow
 hier_row typ l = record { a = l.a; b = l.b; typ = typ }
 
--- Inserts a link into the table for its kind.
+-- The insertion of a link into the table for its kind.
 abbrev pub add_link : Link → Change
 add_link l = elim (hier_type l.kind) [ None ↦ change.AddLink l | Some typ ↦ change.AddHier (hier_row typ l) ]
 
--- Deletes a link in the table for its kind.
+-- The deletion of a link from the table for its kind.
 abbrev pub drop_link : Link → Change
 drop_link l = elim (hier_type l.kind) [ None ↦ change.DropLink l | Some typ ↦ change.DropHier (hier_row typ l) ]
 
--- The old links that the new set lacks.
+-- The links of the old set that the new set lacks.
 abbrev pub links_to_remove : Links → Links → List Link
 links_to_remove old new = filter (λ l. not (set.contains new l)) (set.items old)
 
--- The row changes that turn the old set of links into the new one: deletions, then insertions.
+-- The changes that turn the old set of links into the new one: deletions, and then insertions.
 abbrev pub link_changes : Links → Links → List Change
 link_changes old new =
     map drop_link (links_to_remove old new)
-    ++ map add_link (missing_items (without_all (links_to_remove old new) old) (set.items new))
+    ++ map add_link (missing_items (without_elements (links_to_remove old new) old) (set.items new))
 
--- The row changes of a relabel, which can keep the old preferred label as an alternative one.
+-- The changes of a relabelling: a new preferred label in place of the old one, which is inserted as an alternative
+-- label if `keep` is set; no changes if there is no old one.
 abbrev pub changes_of_relabel : ℕ → List ℕ → List ℕ → Bool → Labels → List Change
 changes_of_relabel owner tag text keep labels =
     elim (preferred_label_in labels owner tag) [
@@ -83,7 +85,7 @@ changes_of_relabel owner tag text keep labels =
           ∷ (if keep then change.AddLabel (label owner Alt tag old) ∷ [] else [])
     ]
 
--- The row changes of an accepted request in a state.
+-- The changes of a request that is accepted in the state, in the order in which they are applied.
 abbrev pub changes_of : Command → State → List Change
 changes_of (request.Scheme tag text) s = changes_of_new_resource scheme_resource tag text s
 changes_of (request.Concept scheme tag text) s = changes_of_new_resource (concept_resource (Some scheme)) tag text s

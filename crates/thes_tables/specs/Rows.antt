@@ -1,4 +1,4 @@
--- The tables after changes, and which changes can be applied.
+-- The tables after changes of rows, and the conditions on which a change can be applied.
 use Rattle.std.specs.Prelude.{◌≡◌, ◌≢◌, ◌<◌, ◌+◌, ℕ, List, [], ◌∷◌, ◌++◌, map, if◌then◌else◌, ◌==◌, true, not, ◌&&◌}
 use Rattle.std.specs.Prelude.{length, Some, None, filter}
 use Rattle.std.specs.declared.cmp.Ordering.{Ordering}
@@ -14,7 +14,7 @@ use Rattle.thes_tables.specs.declared.change.Change.{Change}
 use Rattle.thes_tables.specs.declared.change.Change.TheVariants as change
 use Rattle.thes_tables.specs.Tables.{Tables, IsIn, hier_link}
 
--- The rows with `f` applied to the row numbered `n`, if there is one.
+-- The rows after `f` is applied to the row numbered `n`; unchanged if there is none.
 abbrev pub with_posting : (PostingRow → PostingRow) → ℕ → List PostingRow → List PostingRow
 with_posting f n rows = elim (entry_at rows n) [ None ↦ rows | Some row ↦ set_entry_at rows n (f row) ]
 
@@ -22,11 +22,12 @@ with_posting f n rows = elim (entry_at rows n) [ None ↦ rows | Some row ↦ se
 abbrev pub row_after_withdrawal : PostingRow → PostingRow
 row_after_withdrawal row = record row { withdrawn = true }
 
--- The row of a posting after it is assigned to `place`.
+-- The row of a posting after the posting is assigned to `place`.
 abbrev pub row_at_place : ℕ → PostingRow → PostingRow
 row_at_place place row = record row { place = place }
 
--- The row of a posting after all postings assigned to the source, but withdrawn ones, go to the target.
+-- The row of a posting after all postings assigned to the source are assigned to the target; that of a withdrawn
+-- posting is unchanged.
 abbrev pub row_after_move_all : ℕ → ℕ → PostingRow → PostingRow
 row_after_move_all source target row = if not row.withdrawn && row.place == source then row_at_place target row else row
 
@@ -34,11 +35,11 @@ row_after_move_all source target row = if not row.withdrawn && row.place == sour
 abbrev pub without_row : {K : Type 0} → (K → K → Ordering) → K → List K → List K
 without_row cmp row rows = filter (λ x. not (eq_by_cmp cmp x row)) rows
 
--- The rows of table hier without those that encode the same link as `row`.
+-- The rows of table hier without those that encode the link that `row` encodes.
 abbrev pub without_hier : HierRow → List HierRow → List HierRow
 without_hier row rows = filter (λ x. not (eq_by_cmp link_cmp (hier_link x) (hier_link row))) rows
 
--- The tables after one change.
+-- The tables after one change: a new row is appended, and a change to a row that doesn't exist changes nothing.
 abbrev pub tables_after_change : Change → Tables → Tables
 tables_after_change (change.AddResource n r) t = record t { resource = t.resource ++ r ∷ [] }
 tables_after_change (change.Retire n) t = record t { resource = resources_after_death n None t.resource }
@@ -57,12 +58,13 @@ tables_after_change (change.MoveAll source target) t =
     record t { posting = map (row_after_move_all source target) t.posting }
 tables_after_change (change.AddMove row) t = record t { move = t.move ++ row ∷ [] }
 
--- The tables after a list of changes.
+-- The tables after the changes of a list, in order.
 abbrev pub tables_after_delta : List Change → Tables → Tables
 tables_after_delta [] t = t
 tables_after_delta (c ∷ changes) t = tables_after_delta changes (tables_after_change c t)
 
--- A change can be applied: a row that it inserts is new, and its number is the next one or above all others.
+-- The change can be applied: a row that it inserts is new, and its number, if it has one, is the next one or greater
+-- than all others. A change that inserts no row can always be applied.
 abbrev pub ChangeFits : Change → Tables → Type 0
 ChangeFits (change.AddResource n r) t = n ≡ length t.resource + 1
 ChangeFits (change.AddOutside n iri) t = (other : ℕ × List ℕ) → IsIn other t.outside → other.0 < n
@@ -74,7 +76,7 @@ ChangeFits (change.AddPosting row) t = (row.number ≡ length t.posting + 1)
 ChangeFits (change.AddMove row) t = (other : MoveRow) → IsIn other t.move → other.number < row.number
 ChangeFits _ t = Unit {0}
 
--- Each change of the list can be applied after those before it.
+-- Each change of the list can be applied after the changes before it.
 abbrev pub DeltaFits : List Change → Tables → Type 0
 DeltaFits [] t = Unit {0}
 DeltaFits (c ∷ changes) t = ChangeFits c t × DeltaFits changes (tables_after_change c t)

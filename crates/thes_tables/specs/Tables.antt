@@ -1,4 +1,4 @@
--- The tables that encode a state.
+-- The tables that encode a state, as typed rows.
 use Rattle.std.specs.Prelude.{◌≡◌, ◌⊎◌, ◌<◌, ℕ, List, [], ◌∷◌, Option, None, Some, map, filter, true, ◌==◌, ◌&&◌}
 use Rattle.std.specs.Prelude.{Bool, not}
 use Rattle.std.specs.FinSet as set
@@ -11,7 +11,7 @@ use Rattle.thes_base.specs.Labels.{Label, Labels}
 use Rattle.thes_base.specs.declared.data.Link.{Link}
 use Rattle.thes_base.specs.declared.data.LinkKind.{LinkKind}
 use Rattle.thes_base.specs.declared.data.LinkKind.TheVariants as kinds
-use Rattle.thes_base.specs.Links.{Links, HeldIn}
+use Rattle.thes_base.specs.Links.{Links, Holds}
 use Rattle.thes_base.specs.Postings.{place}
 use Rattle.thes_base.specs.State.{State}
 use Rattle.thes_tables.specs.declared.rows.HierRow.{HierRow}
@@ -24,7 +24,7 @@ use Rattle.thes_tables.specs.declared.rows.MoveRow.{MoveRow}
 -- n - 1. Rows of outside and move are in the order of their numbers, those of label, link and hier in any order. Table
 -- hier has the hierarchical links, table link all others.
 pub record Tables : Type 0 where
-  -- the base in the row of table meta
+  -- The base, from the row of table meta.
   pub base : List ℕ
   pub resource : List Resource
   pub outside : List (ℕ × List ℕ)
@@ -34,7 +34,7 @@ pub record Tables : Type 0 where
   pub posting : List PostingRow
   pub move : List MoveRow
 
--- The tables of a new store.
+-- The tables of a new store: the base in table meta, and no rows in the other tables.
 abbrev pub empty_tables : List ℕ → Tables
 empty_tables base = record {
   base = base;
@@ -48,18 +48,18 @@ empty_tables base = record {
   move = [];
 }
 
--- The list has this element.
+-- The list has the element.
 abbrev pub IsIn : {A : Type 0} → A → List A → Type 0
 IsIn x [] = ⊥
 IsIn x (y ∷ ys) = (x ≡ y) ⊎ IsIn x ys
 
--- No element occurs twice.
+-- No element occurs twice in the list.
 abbrev pub AreDistinct : {A : Type 0} → List A → Type 0
 AreDistinct [] = Unit {0}
 AreDistinct (x ∷ xs) = (IsIn x xs → ⊥) × AreDistinct xs
 
 -- The rows are exactly the elements with the property, without duplicates, in any order.
-pub record IsListingOf {K : Type 0} (Has : K → Type 0) (rows : List K) : Type 0 where
+pub record IsUnsortedListing {K : Type 0} (Has : K → Type 0) (rows : List K) : Type 0 where
   pub sound : (row : K) → IsIn row rows → Has row
   pub complete : (row : K) → Has row → IsIn row rows
   pub once : AreDistinct rows
@@ -79,7 +79,7 @@ hier_kind typ.Instantial = kinds.BroaderInstantial
 abbrev pub hier_link : HierRow → Link
 hier_link row = record { kind = hier_kind row.typ; a = row.a; b = row.b }
 
--- The type of a hierarchical kind; a link of any other kind is a row of table link.
+-- The type of a hierarchical kind of link; None for other kinds, whose links are rows of table link.
 abbrev pub hier_type : LinkKind → Option HierType
 hier_type kinds.Broader = Some typ.Untyped
 hier_type kinds.BroaderGeneric = Some typ.Generic
@@ -87,25 +87,25 @@ hier_type kinds.BroaderPartitive = Some typ.Partitive
 hier_type kinds.BroaderInstantial = Some typ.Instantial
 hier_type _ = None
 
--- The row of table hier encodes one of the links.
+-- The link that the row of table hier encodes is in the set.
 abbrev pub IsHierOf : Links → HierRow → Type 0
-IsHierOf links row = HeldIn links (hier_link row)
+IsHierOf links row = Holds links (hier_link row)
 
--- The link is one of the links, and not hierarchical.
+-- The link is in the set, and isn't hierarchical.
 abbrev pub IsLinkOf : Links → Link → Type 0
-IsLinkOf links l = HeldIn links l × (hier_type l.kind ≡ None)
+IsLinkOf links l = Holds links l × (hier_type l.kind ≡ None)
 
--- The numbers of the rows of table outside increase, and exceed `above`.
-abbrev pub Ascends : ℕ → List (ℕ × List ℕ) → Type 0
-Ascends above [] = Unit {0}
-Ascends above (row ∷ rows) = (above < row.0) × Ascends row.0 rows
+-- The numbers of the rows of table outside are strictly increasing and greater than `above`.
+abbrev pub IriNumbersAscend : ℕ → List (ℕ × List ℕ) → Type 0
+IriNumbersAscend above [] = Unit {0}
+IriNumbersAscend above (row ∷ rows) = (above < row.0) × IriNumbersAscend row.0 rows
 
 -- The rows are the entries of the map of IRIs, in the order of their numbers.
 pub record AreIris (iris : Iris) (rows : List (ℕ × List ℕ)) : Type 0 where
   pub same : dict.from_entries rows ≡ iris
-  pub ascends : Ascends 0 rows
+  pub ascends : IriNumbersAscend 0 rows
 
--- The row of table posting for a history.
+-- The row of table posting for a history: without its moves, but with its place.
 abbrev pub posting_row : History → PostingRow
 posting_row h = record {
   number = h.number;
@@ -121,11 +121,11 @@ posting_row h = record {
 abbrev pub recorded_move : MoveRow → Move
 recorded_move row = record { number = row.number; source = row.source; target = row.target }
 
--- The moves of a posting, in order.
+-- The moves of a posting, in the order of the rows.
 abbrev pub moves_of : ℕ → List MoveRow → List Move
 moves_of n rows = map recorded_move (filter (λ (row : MoveRow). row.posting == n) rows)
 
--- Whether the posting is assigned to the concept and not withdrawn.
+-- The test of whether the row's posting is assigned to the concept.
 abbrev pub is_assigned_row : ℕ → PostingRow → Bool
 is_assigned_row concept row = not row.withdrawn && row.place == concept
 
@@ -133,14 +133,14 @@ is_assigned_row concept row = not row.withdrawn && row.place == concept
 abbrev pub IsMoveOf : List History → MoveRow → Type 0
 IsMoveOf histories row = (h : History) × (entry_at histories row.posting ≡ Some h) × IsIn (recorded_move row) h.moves
 
--- The numbers of the rows of table move increase, and exceed `above`.
-abbrev pub Rises : ℕ → List MoveRow → Type 0
-Rises above [] = Unit {0}
-Rises above (row ∷ rows) = (above < row.number) × Rises row.number rows
+-- The numbers of the rows of table move are strictly increasing and greater than `above`.
+abbrev pub MoveNumbersAscend : ℕ → List MoveRow → Type 0
+MoveNumbersAscend above [] = Unit {0}
+MoveNumbersAscend above (row ∷ rows) = (above < row.number) × MoveNumbersAscend row.number rows
 
--- The rows encode exactly the moves of the histories, in the order of their numbers.
+-- The rows encode exactly the moves of the histories, sorted by number.
 pub record AreMoves (histories : List History) (rows : List MoveRow) : Type 0 where
-  pub rises : Rises 0 rows
+  pub rises : MoveNumbersAscend 0 rows
   pub sound : (row : MoveRow) → IsIn row rows → IsMoveOf histories row
   pub complete : (row : MoveRow) → IsMoveOf histories row → IsIn row rows
 
@@ -149,8 +149,8 @@ pub record IsRowsOf (base : List ℕ) (s : State) (t : Tables) : Type 0 where
   pub base_is : t.base ≡ base
   pub resource : t.resource ≡ s.resources
   pub outside : AreIris s.iris t.outside
-  pub label : IsListingOf (IsLabelOf s.labels) t.label
-  pub link : IsListingOf (IsLinkOf s.links) t.link
-  pub hier : IsListingOf (IsHierOf s.links) t.hier
+  pub label : IsUnsortedListing (IsLabelOf s.labels) t.label
+  pub link : IsUnsortedListing (IsLinkOf s.links) t.link
+  pub hier : IsUnsortedListing (IsHierOf s.links) t.hier
   pub posting : t.posting ≡ map posting_row s.histories
   pub move : AreMoves s.histories t.move

@@ -1,4 +1,4 @@
-//! Changes of rows.
+//! Changes of rows, which a request makes in the tables.
 ghost use Rattle.thes_tables.specs.ChangeLaw.{ChangesLead};
 
 use crate::rows::{HierRow, LabelRow, MoveRow, PostingRow};
@@ -6,28 +6,45 @@ use thes_base::data::{Link, Resource};
 use thes_base::number::{PostNo, ResNo};
 use thes_base::text::Iri;
 
-/// A change of one row of a table, but for `MoveAll`, which assigns all live postings of one concept to another.
+/// A change of one row of a table; only `MoveAll` changes several rows, those of all postings
+/// assigned to a concept.
 #[derive(Debug, Drop)]
 pub enum Change {
+    /// Inserts the row of a resource; the resource has the next number.
     AddResource(ResNo, Resource),
+    /// Marks a concept as dead, without a replacement.
     Retire(ResNo),
+    /// Marks the first concept as dead, with the second as its replacement.
     Replace(ResNo, ResNo),
+    /// Inserts the row of an outside concept: its number and its IRI.
     AddOutside(ResNo, Iri),
+    /// Inserts the row of a label, with its owner.
     AddLabel(LabelRow),
+    /// Deletes the row of a label, found by owner, kind, tag and text.
     DropLabel(LabelRow),
+    /// Inserts the row of a link that isn't hierarchical.
     AddLink(Link),
+    /// Deletes the row of a link that isn't hierarchical.
     DropLink(Link),
+    /// Inserts the row of a hierarchical link, with its type.
     AddHier(HierRow),
+    /// Deletes the row of a hierarchical link, with its type.
     DropHier(HierRow),
+    /// Inserts the row of a posting; the posting has the next number.
     AddPosting(PostingRow),
+    /// Marks a posting as withdrawn; its place stays.
     Withdraw(PostNo),
+    /// Assigns a posting to the concept, without inserting a row of table move.
     SetPlace(PostNo, ResNo),
+    /// Assigns each posting of the first concept to the second, without inserting rows of table
+    /// move; withdrawn postings are unchanged.
     MoveAll(ResNo, ResNo),
+    /// Inserts the row of a move of a posting; the move has the next number.
     AddMove(MoveRow),
 }
 
-/// No effect; states for the proof that the changes of an accepted request turn the rows of its state into those of
-/// the next.
+/// No effect; states for the proof that the changes of an accepted request turn the rows of its
+/// state into those of the next state.
 pub fn changes_lead()
     ensures { ChangesLead }
 {}

@@ -5,7 +5,7 @@ use crate::change::Change;
 use std::alloc::{AllocError, Global};
 use std::marker::Model;
 
-/// A list of changes, in the order in which they are applied.
+/// The changes of one request, in the order in which the storage applies them.
 #[derive(Debug, Drop)]
 pub struct Delta {
     changes: Vec<Change>,
@@ -21,7 +21,7 @@ impl Model for Delta {
 }
 
 impl Delta {
-    /// Returns an empty list.
+    /// Creates an empty list without allocating.
     pub fn new(alloc: Global) -> Delta
         ensures { result ≡ [] }
     {
@@ -30,14 +30,14 @@ impl Delta {
         }
     }
 
-    /// Returns the changes as a slice.
+    /// Returns the changes in order, without copying them.
     pub fn as_slice(&self) -> &[Change]
         ensures { result.now ≡ self.now }
     {
         self.changes.as_slice()
     }
 
-    /// Unwraps the changes.
+    /// Returns the vector of the changes, without copying them.
     pub fn into_changes(self) -> Vec<Change>
         ensures { result.items ≡ self }
     {
@@ -45,7 +45,7 @@ impl Delta {
         changes
     }
 
-    /// Appends a change. On failure the list is unchanged.
+    /// Appends a change; if memory runs out, the list is unchanged and the change is dropped.
     pub fn push(&mut self, change: Change) -> Result<(), AllocError>
         ensures ok { OnOk result (self.new ≡ self.old ++ change ∷ []) }
         ensures err { OnErr result (self.new ≡ self.old) }

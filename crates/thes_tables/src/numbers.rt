@@ -5,14 +5,14 @@ ghost use Rattle.thes_tables.specs.Cells.{resource_kind_no, hier_type_no};
 use crate::rows::HierType;
 use thes_base::data::ResourceKind;
 
-/// Returns 1 if the flag is set, and 0 otherwise.
+/// Returns the number that encodes a flag: 1 if it is set, and 0 otherwise.
 pub fn flag_number(is_set: bool) -> u32
     ensures { result ≡ cond is_set 1 0 }
 {
     if is_set { 1 } else { 0 }
 }
 
-/// Returns the number that encodes a kind of resource.
+/// Returns the number that encodes a kind of resource in column kind, from 1 to 4.
 pub fn resource_number(kind: ResourceKind) -> u32
     ensures { result ≡ resource_kind_no kind }
 {
@@ -24,7 +24,7 @@ pub fn resource_number(kind: ResourceKind) -> u32
     }
 }
 
-/// Returns the number that encodes a type of hierarchical relationship.
+/// Returns the number that encodes a type of hierarchical relationship in column typ, from 0 to 3.
 pub fn type_number(typ: HierType) -> u32
     ensures { result ≡ hier_type_no typ }
 {

@@ -1,4 +1,4 @@
-//! Typed rows of the tables.
+//! The typed rows of the tables label, posting, move, hier and outside.
 ghost use Rattle.std.specs.Prelude.{◌≡◌, ◌↔◌, IfOk, IsTrue};
 
 use std::alloc::{AllocError, Global};
@@ -7,7 +7,7 @@ use thes_base::data::Label;
 use thes_base::number::{MoveNo, PostNo, ResNo};
 use thes_base::text::{Iri, Key, RecordName};
 
-/// A row of table label.
+/// A row of table label: a label with its owner.
 #[derive(Debug, Drop)]
 pub struct LabelRow {
     pub owner: ResNo,
@@ -23,7 +23,8 @@ impl Model for LabelRow {
     ghost view = { λ a. owned_label a.owner a.label };
 }
 
-/// A row of table posting: the posting as accepted, with its present place.
+/// A row of table posting: the posting as it was accepted, its place after its moves, and whether
+/// it was withdrawn.
 #[derive(Debug, Drop)]
 pub struct PostingRow {
     pub number: PostNo,
@@ -34,7 +35,7 @@ pub struct PostingRow {
     pub withdrawn: bool,
 }
 
-/// A row of table move: one change of a posting's place.
+/// A row of table move: a posting's move from one concept to another.
 #[derive(Clone, Copy, Debug, PartialEq, Eq)]
 pub struct MoveRow {
     pub number: MoveNo,
@@ -43,16 +44,21 @@ pub struct MoveRow {
     pub target: ResNo,
 }
 
-/// The type of a hierarchical relationship (ISO 25964-1, 10.2); untyped is plain broader.
+/// The type of a hierarchical relationship between a narrower and a broader concept (ISO 25964-1,
+/// 10.2).
 #[derive(Clone, Copy, Debug, PartialEq, Eq)]
 pub enum HierType {
+    /// The type isn't stated (BT).
     Untyped,
+    /// The narrower concept is a kind of the broader one (BTG, generic).
     Generic,
+    /// The narrower concept is a part of the broader one (BTP, partitive).
     Partitive,
+    /// The narrower concept is an instance of the broader one (BTI, instantial).
     Instantial,
 }
 
-/// A row of table hier: `b` is broader than `a`, by this type of relationship.
+/// A row of table hier: concept `b` is broader than concept `a`, in a relationship of type `typ`.
 #[derive(Clone, Copy, Debug, PartialEq, Eq)]
 pub struct HierRow {
     pub a: ResNo,
@@ -60,7 +66,7 @@ pub struct HierRow {
     pub typ: HierType,
 }
 
-/// A row of table outside: the IRI of an outside concept.
+/// A row of table outside: the number and the IRI of an outside concept.
 #[derive(Debug, Drop)]
 pub struct OutsideRow {
     pub number: ResNo,
@@ -76,7 +82,7 @@ impl Model for OutsideRow {
 }
 
 impl LabelRow {
-    /// Returns whether the rows have the same owner and label.
+    /// Checks whether both rows have the same owner and label.
     pub fn is_same(&self, other: &LabelRow) -> bool
         ensures { IsTrue result ↔ (self.now ≡ other.now) }
     {
@@ -85,7 +91,7 @@ impl LabelRow {
 }
 
 impl PostingRow {
-    /// Copies the row.
+    /// Allocates a copy; fails only if memory runs out.
     pub fn try_clone(&self, alloc: Global) -> Result<PostingRow, AllocError>
         ensures { IfOk result (λ row. row ≡ self.now) }
     {

@@ -14,7 +14,7 @@ pub on_any_err : {T E : Type 0} (P : Type 0) (r : Result T E) → P → OnErr r 
 on_any_err P (Ok x) h = tt
 on_any_err P (Err e) h = h
 
--- A property of a borrowed result and of its value.
+-- A property of the value of an optional result is one of the borrowed result.
 pub match_of_copied : {A : Type 0} (P : Type 0) (Q : A → Type 0) (o : Option (Bor A)) → MatchOption (option_copied o)
     P Q → MatchOption o P (λ b. Q b.now)
 match_of_copied P Q None h = h
@@ -25,7 +25,7 @@ pub match_copied : {A : Type 0} (P : Type 0) (Q : A → Type 0) (o : Option (Bor
 match_copied P Q None h = h
 match_copied P Q (Some b) h = h
 
--- A property of a Boolean result, by cases.
+-- A property of a Boolean result is proved by cases.
 pub match_bool_cases : (b : Bool) (Bad Good : Type 0) → (b ≡ true → Bad) → (b ≡ false → Good) → MatchBool b Bad Good
 match_bool_cases true Bad Good f g = f refl
 match_bool_cases false Bad Good f g = g refl

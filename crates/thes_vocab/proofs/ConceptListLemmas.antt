@@ -8,7 +8,7 @@ use Rattle.std.proofs.lemmas.Map.Lookups.{exact_unsigned}
 use Rattle.std.proofs.lemmas.Bool.{cases_eq}
 use Rattle.thes_base.specs.declared.data.Resource.{Resource}
 use Rattle.thes_base.specs.Resources.{entry_at, set_entry_at, scheme_of}
-use Rattle.thes_base.specs.Changes.{dead}
+use Rattle.thes_base.specs.Changes.{resource_after_death}
 use Rattle.thes_base.proofs.UniquePreferredLemmas.{live_before}
 use Rattle.thes_base.proofs.NumberedLemmas.{push_old, push_new, push_cases, numbered_bound, set_other}
 use Rattle.thes_base.proofs.ResourceLemmas.{scheme_at}
@@ -19,7 +19,7 @@ use Rattle.std.proofs.lemmas.Option.{same_Some}
 use Rattle.thes_vocab.specs.Vocabulary.{IsConceptIn, IsConceptOf}
 use Rattle.thes_vocab.specs.ConceptLists.{ConceptListsAfterInsert, ConceptListsAfterRemove}
 
--- A concept of a scheme is the new resource, or was one before.
+-- A concept of a scheme is the new resource, or was one before it.
 pub concept_cases : (rs : List Resource) (r : Resource) (scheme n : ℕ) → IsConceptOf (rs ++ r ∷ []) scheme n
     → IsConceptOf rs scheme n ⊎ ((n ≡ length rs + 1) × IsConceptIn scheme r)
 concept_cases rs r scheme n c = elim (push_cases rs r c.0.0 n c.0.1) [
@@ -27,7 +27,7 @@ concept_cases rs r scheme n c = elim (push_cases rs r c.0.0 n c.0.1) [
   | inr new ↦ inr (new.0, subst (IsConceptIn scheme) new.1 (c.0.2, sym (scheme_at (rs ++ r ∷ []) n c.0.0 c.0.1) ∙ c.1))
 ]
 
--- A new concept is added to its scheme's list.
+-- Assumes that a resource is added, and its number to the list of its scheme if it is a live concept.
 module _ (rs : List Resource) (r : Resource) (old new : Lists ℕ) where
   abbrev resources_with_new : List Resource
   resources_with_new = rs ++ r ∷ []
@@ -39,33 +39,33 @@ module _ (rs : List Resource) (r : Resource) (old new : Lists ℕ) where
   concept_comes : (s : ℕ) → IsConceptIn s r → IsConceptOf resources_with_new s (length rs + 1)
   concept_comes s is = ((r, push_new rs r, is.0), scheme_at resources_with_new (length rs + 1) r (push_new rs r) ∙ is.1)
 
-  pub listed_made : (o : Option ℕ) → MatchOption o ((scheme : ℕ) → IsConceptIn scheme r → ⊥)
+  pub concept_lists_with_new : (o : Option ℕ) → MatchOption o ((scheme : ℕ) → IsConceptIn scheme r → ⊥)
       (λ scheme. IsConceptIn scheme r) → ConceptListsAfterInsert old new o (length rs + 1)
       → AreListings nat_cmp (IsConceptOf rs) old → AreListings nat_cmp (IsConceptOf resources_with_new) new
-  listed_made None none same listed =
+  concept_lists_with_new None none same listed =
       listings_same nat_cmp (IsConceptOf rs) (IsConceptOf resources_with_new) old new same concept_stays
       (λ s n c. elim (concept_cases rs r s n c) [ inl was ↦ was | inr is ↦ absurd (none s is.1) ]) listed
-  listed_made (Some scheme) is changes listed =
+  concept_lists_with_new (Some scheme) is changes listed =
       listings_insert nat_cmp nat_cmp_total exact_unsigned (IsConceptOf rs) (IsConceptOf resources_with_new) old new
       scheme (length rs + 1) listed changes (concept_comes scheme is) concept_stays
       (λ s n c. elim (concept_cases rs r s n c)
       [ inl was ↦ inl was | inr made ↦ inr (same_Some _ _ (sym made.1.1 ∙ is.1), made.0) ])
 
--- A concept marked as dead is removed from its scheme's list.
+-- Assumes that a concept is marked as dead, and its number removed from the list of its scheme.
 module _ (rs : List Resource) (n : ℕ) (replaced : Option ℕ) (r : Resource) (at : entry_at rs n ≡ Some r)
     (old new : Lists ℕ) where
   abbrev resources_with_dead : List Resource
-  resources_with_dead = set_entry_at rs n (dead replaced r)
+  resources_with_dead = set_entry_at rs n (resource_after_death replaced r)
 
   concept_before : (s m : ℕ) → IsConceptOf resources_with_dead s m → IsConceptOf rs s m × (m ≢ n)
   concept_before s m c = let was = live_before rs n replaced r at m c.0 in ((was.1, sym was.2 ∙ c.1), was.0)
 
-  -- Any other concept is still one, and this one was one of its scheme.
+  -- A concept of a scheme before is one after, or is the dead one.
   concept_after : (s m : ℕ) → IsConceptOf rs s m → IsConceptOf resources_with_dead s m ⊎ ((r.scheme ≡ Some s) × (m ≡ n))
   concept_after s m c = elim (cases_eq m n) [
     | inl same ↦ inr (sym (scheme_at rs n r at) ∙ subst (λ k. scheme_of rs k ≡ Some s) same c.1, same)
     | inr apart ↦
-        let stays = set_other rs (dead replaced r) c.0.0 n m (numbered_bound rs n r at).0 apart c.0.1 in
+        let stays = set_other rs (resource_after_death replaced r) c.0.0 n m (numbered_bound rs n r at).0 apart c.0.1 in
         inl (
           (c.0.0, stays, c.0.2),
           scheme_at resources_with_dead m c.0.0 stays ∙ sym (scheme_at rs m c.0.0 c.0.1)

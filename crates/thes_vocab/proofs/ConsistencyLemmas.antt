@@ -18,17 +18,20 @@ use Rattle.thes_base.specs.Resources.{Iris, entry_at, set_entry_at, IsConcept, I
 use Rattle.thes_base.specs.Resources.{CanOwn, scheme_of, is_concept_kind, is_outside_kind, is_scheme_kind}
 use Rattle.thes_base.specs.Resources.{is_collection_kind}
 use Rattle.thes_base.specs.Labels.{Label, Labels, HasLabel, IsPreferredTaken, UniquePreferred, S13, S14}
-use Rattle.thes_base.specs.Legal.{LegalResources, LegalLabels}
-use Rattle.thes_base.specs.Changes.{label, dead, replace_preferred, labels_after_relabel, outside_resource}
+use Rattle.thes_base.specs.Legal.{AreLegalResources, AreLegalLabels}
+use Rattle.thes_base.specs.Changes.{label, resource_after_death, replace_preferred, labels_after_relabel}
+use Rattle.thes_base.specs.Changes.{outside_resource}
 use Rattle.thes_base.specs.Changes.{concept_resource, copied_labels}
 use Rattle.thes_base.specs.Data.{LabelData}
 use Rattle.thes_base.specs.Machine.{owned_label}
 use Rattle.thes_base.specs.RefusalRules.{accepted}
-use Rattle.thes_base.specs.Refusals.{unless_scheme, unless_unique, unless_label, unless_droppable, unless_relabel}
+use Rattle.thes_base.specs.RuleParts.{unless_scheme, unless_unique, unless_new_label, unless_droppable}
+use Rattle.thes_base.specs.RuleParts.{unless_replaceable_preferred}
 use Rattle.thes_base.proofs.RefusalRuleLemmas.{passed_if, passed_unless}
 use Rattle.thes_base.proofs.LabelSetLemmas.{inserted_cases, inserted_kept, inserted_new, no_label, removed_cases}
 use Rattle.thes_base.proofs.ReplacePreferredLemmas.{renamed_cases, renamed_fresh, renamed_old}
-use Rattle.thes_base.proofs.LegalLabelLemmas.{labels_made, labels_push, labels_added, labels_dropped, labels_renamed}
+use Rattle.thes_base.proofs.LegalLabelLemmas.{legal_labels_with_new, labels_push, labels_added, labels_dropped}
+use Rattle.thes_base.proofs.LegalLabelLemmas.{labels_renamed}
 use Rattle.thes_base.proofs.LegalLabelLemmas.{labels_dead, outside_owns_none}
 use Rattle.thes_base.proofs.LegalResourceLemmas.{resources_push, resources_push_outside, resources_dead, outside_fit}
 use Rattle.thes_base.proofs.UniquePreferredLemmas.{made_unique, taken_breaks, live_before}
@@ -51,7 +54,7 @@ use Rattle.thes_vocab.specs.ConceptLists.{ConceptListsAfterInsert, ConceptListsA
 use Rattle.thes_vocab.specs.NewResources.{IsNewOwner, IsFreeName}
 use Rattle.thes_vocab.specs.Consistency.{IsConsistentVocabulary}
 use Rattle.thes_vocab.proofs.NameLemmas.{same_or_not as same_key}
-use Rattle.thes_vocab.proofs.ConceptListLemmas.{concept_cases, listed_made, listed_dead}
+use Rattle.thes_vocab.proofs.ConceptListLemmas.{concept_cases, concept_lists_with_new, listed_dead}
 use Rattle.thes_vocab.proofs.LabelTableLemmas.{insert_after_remove}
 use Rattle.thes_vocab.proofs.LabelCheckLemmas.{owners_bound, relabelled_is, renamed_breaks_s13}
 
@@ -59,7 +62,7 @@ use Rattle.thes_vocab.proofs.LabelCheckLemmas.{owners_bound, relabelled_is, rena
 abbrev vocabulary : List ℕ → List Resource → Iris → Labels → Vocabulary
 vocabulary base rs iris labels = record { base = base; resources = rs; iris = iris; labels = labels }
 
--- The index has the holder of each preferred label.
+-- The index has the holder of each preferred label, in its scheme.
 abbrev pub IndexesHolders : List Resource → Labels → Names → Type 0
 IndexesHolders rs labels names = (scheme n : ℕ) (tag text : List ℕ) → IsHolder rs labels scheme tag text n
     → holder_in names scheme tag text ≡ Some n
@@ -67,7 +70,7 @@ IndexesHolders rs labels names = (scheme n : ℕ) (tag text : List ℕ) → IsHo
 same_text : (t x : List ℕ) → (t ≡ x) ⊎ (t ≡ x → ⊥)
 same_text = same_key (slice_cmp nat_cmp) nat_list_cmp_total exact_bytes
 
--- Two names are equal or different.
+-- Two preferred labels have the same scheme, language and text, or not.
 pub same_name : (s t : ℕ) (tag tag' text text' : List ℕ) → ((s ≡ t) × (tag ≡ tag') × (text ≡ text'))
     ⊎ ((s ≡ t) × (tag ≡ tag') × (text ≡ text') → ⊥)
 same_name s t tag tag' text text' = go (cases_eq s t) (same_text tag tag') (same_text text text')
@@ -79,7 +82,7 @@ same_name s t tag tag' text text' = go (cases_eq s t) (same_text tag tag') (same
     go a (inr b) c = inr (λ h. b h.1)
     go a b (inr c) = inr (λ h. c h.2)
 
--- A look-up after a name is recorded.
+-- After a holder is recorded, a look-up returns it for its label, and the old holder for any other.
 pub found_put : (old new : Names) (scheme : ℕ) (tag text : List ℕ) (concept : ℕ) → IsNameUpdate old new scheme tag
     text (Some concept) → (s n : ℕ) (t x : List ℕ) → ((s ≡ scheme) × (t ≡ tag) × (x ≡ text) → n ≡ concept)
     → (((s ≡ scheme) × (t ≡ tag) × (x ≡ text) → ⊥) → holder_in old s t x ≡ Some n) → holder_in new s t x ≡ Some n
@@ -88,24 +91,24 @@ found_put old new scheme tag text concept put s n t x here there = elim (same_na
   | inr apart ↦ put.1 s t x apart ∙ there apart
 ]
 
--- A look-up after the entry of another name is removed.
+-- After an entry is removed, a look-up of another label returns the old holder.
 pub found_forgotten : (old new : Names) (scheme : ℕ) (tag text : List ℕ) → IsNameUpdate old new scheme tag text None
     → (s n : ℕ) (t x : List ℕ) → ((s ≡ scheme) × (t ≡ tag) × (x ≡ text) → ⊥) → holder_in old s t x ≡ Some n
     → holder_in new s t x ≡ Some n
 found_forgotten old new scheme tag text put s n t x apart found = put.1 s t x apart ∙ found
 
--- A holder of an equal name in an equal scheme.
+-- A concept holds a preferred label under equal scheme, language and text.
 holder_by_same_name : (rs : List Resource) (labels : Labels) (s scheme n : ℕ) (t tag x text : List ℕ) → (s ≡ scheme)
     × (t ≡ tag) × (x ≡ text) → IsHolder rs labels s t x n → IsHolder rs labels scheme tag text n
 holder_by_same_name rs labels s scheme n t tag x text same h =
     subst (λ (p : ℕ × (List ℕ × List ℕ)). IsHolder rs labels p.0 p.1.0 p.1.1 n)
     (λ i. (same.0 i, (same.1 i, same.2 i))) h
 
--- The scheme of a concept is unique.
+-- A concept has one scheme.
 one_scheme : (rs : List Resource) (n s t : ℕ) → IsConceptOf rs s n → scheme_of rs n ≡ Some t → t ≡ s
 one_scheme rs n s t at e = same_Some _ _ (sym e ∙ at.1)
 
--- The index of names when a label is added.
+-- Assumes that a label is added.
 module _ (rs : List Resource) (labels : Labels) (l : Label) (old : Names) (finds : IndexesHolders rs labels old)
     (unique : UniquePreferred rs (set.insert labels l)) where
   -- The label isn't a preferred label of a live concept.
@@ -122,11 +125,11 @@ module _ (rs : List Resource) (labels : Labels) (l : Label) (old : Names) (finds
     owner_has : HasLabel (set.insert labels l) l.owner Pref l.tag l.text
     owner_has = subst (λ k. HasLabel (set.insert labels l) l.owner k l.tag l.text) pref (inserted_new labels l)
 
-    -- Only the owner has the name.
+    -- The owner alone holds the added label.
     is_owner : (n : ℕ) → IsHolder rs (set.insert labels l) scheme l.tag l.text n → n ≡ l.owner
     is_owner n h = unique n l.owner scheme l.tag l.text h.0.0 concept.0 h.0.1 concept.1 h.1 owner_has
 
-    -- The name is recorded, but the label isn't added.
+    -- The index has all holders if the label is recorded but not yet added.
     pub finds_noted : IndexesHolders rs labels new
     finds_noted s n t x h = found_put old new scheme l.tag l.text l.owner put s n t x
         (λ same. is_owner n (holder_by_same_name rs (set.insert labels l) s scheme n t l.tag x l.text same
@@ -148,7 +151,7 @@ module _ (rs : List Resource) (labels : Labels) (l : Label) (old : Names) (finds
             ))
         other apart (inr held) = finds s n t x (h.0, held)
 
--- The index of names when a label is removed.
+-- Assumes that a label is removed.
 module _ (rs : List Resource) (labels : Labels) (l : Label) (old : Names) (finds : IndexesHolders rs labels old) where
   pub finds_less : IndexesHolders rs (set.remove labels l) old
   finds_less s n t x h = finds s n t x (h.0, (removed_cases labels l _ h.1).1)
@@ -169,7 +172,7 @@ module _ (rs : List Resource) (labels : Labels) (l : Label) (old : Names) (finds
           (subst (λ k. HasLabel labels l.owner k l.tag l.text) pref held) in
           before.0 (λ i. label (owner i) (sym pref i) (same.1 i) (same.2 i))
 
--- The index of names when a preferred label is replaced.
+-- Assumes that a preferred label is replaced.
 module _ (rs : List Resource) (labels : Labels) (owner : ℕ) (tag text was : List ℕ) (keep : Bool) (old : Names)
     (finds : IndexesHolders rs labels old)
     (unique : UniquePreferred rs (replace_preferred owner tag text keep was labels)) where
@@ -179,7 +182,7 @@ module _ (rs : List Resource) (labels : Labels) (owner : ℕ) (tag text was : Li
   not_kept : (n : ℕ) (t x : List ℕ) → label n Pref t x ≡ label owner Alt tag was → ⊥
   not_kept n t x e = let k = ap (λ (l : Label). l.kind) e in cc
 
-  -- The owner is no live concept.
+  -- The index has all holders if the owner isn't a live concept.
   pub finds_unnamed : ((scheme : ℕ) → IsConceptOf rs scheme owner → ⊥) → IndexesHolders rs labels_after_rename old
   finds_unnamed none s n t x h = elim (renamed_cases labels owner tag text was keep _ h.1) [
     | inl is ↦ absurd (none s (subst (IsConceptOf rs s) (ap (λ (l : Label). l.owner) is) h.0))
@@ -193,7 +196,7 @@ module _ (rs : List Resource) (labels : Labels) (owner : ℕ) (tag text was : Li
     is_named n h = unique n owner scheme tag text h.0.0 concept.0 h.0.1 concept.1 h.1
         (renamed_fresh labels owner tag text was keep)
 
-    -- The new name is recorded, but the labels don't change.
+    -- The index has all holders if the new preferred label is recorded and the labels are unchanged.
     pub finds_still : IndexesHolders rs labels noted
     finds_still s n t x h = found_put old noted scheme tag text owner put s n t x (λ same. at same (cases_eq n owner))
         (λ _. finds s n t x h)
@@ -227,7 +230,7 @@ module _ (rs : List Resource) (labels : Labels) (owner : ℕ) (tag text was : Li
         other apart (inr (inl (_, is))) = absurd (not_kept n t x is)
         other apart (inr (inr (_, held))) = finds s n t x (h.0, held)
 
-    -- The labels change, and the entry of the old name is removed.
+    -- The index has all holders after the labels change and the entry of the old preferred label is removed.
     pub finds_renamed : was ≢ text → HasLabel labels owner Pref tag was → UniquePreferred rs labels → (new : Names)
         → IsNameUpdate noted new scheme tag was None → IndexesHolders rs labels_after_rename new
     finds_renamed differ has_old before new forgot s n t x h = found_forgotten noted new scheme tag was forgot s n t x
@@ -245,10 +248,8 @@ module _ (rs : List Resource) (labels : Labels) (owner : ℕ) (tag text was : Li
                   held has_old))
             ]
 
--- The index of names when a resource is added.
-
 module _ (rs : List Resource) (labels : Labels) (r : Resource) (tag text : List ℕ) (old : Names)
-    (legal : LegalLabels rs labels) (finds : IndexesHolders rs labels old) where
+    (legal : AreLegalLabels rs labels) (finds : IndexesHolders rs labels old) where
   abbrev number_of_new : ℕ
   number_of_new = length rs + 1
 
@@ -268,22 +269,23 @@ module _ (rs : List Resource) (labels : Labels) (r : Resource) (tag text : List 
   exists_apart : (scheme n : ℕ) → IsConceptOf rs scheme n → n ≢ number_of_new
   exists_apart scheme n c e = let b = numbered_bound rs n c.0.0 c.0.1 in omega (arith, b.1, e)
 
-  -- The resource is no live concept.
-  pub finds_made : ((scheme : ℕ) → IsConceptIn scheme r → ⊥) → IndexesHolders resources_with_new with_name old
-  finds_made none s n t x h = elim (concept_cases rs r s n h.0) [
+  -- The index has all holders if the new resource isn't a live concept.
+  pub finds_without_new_concept : ((scheme : ℕ) → IsConceptIn scheme r → ⊥)
+      → IndexesHolders resources_with_new with_name old
+  finds_without_new_concept none s n t x h = elim (concept_cases rs r s n h.0) [
     | inl was ↦ finds s n t x (was, old_only n t x (exists_apart s n was) h.1)
     | inr new ↦ absurd (none s new.1)
   ]
 
   module _ (scheme : ℕ) (concept : IsConceptIn scheme r) (free : IsPreferredTaken rs labels scheme tag text → ⊥)
       (new : Names) (put : IsNameUpdate old new scheme tag text (Some number_of_new)) where
-    -- The name is recorded, but the resource isn't added.
+    -- The index has all holders if the preferred label is recorded and the resource isn't yet added.
     pub finds_before : IndexesHolders rs labels new
     finds_before s n t x h = found_put old new scheme tag text number_of_new put s n t x (λ same. let at =
         holder_by_same_name rs labels s scheme n t tag x text same h in absurd (free (n, at.0.0, at.0.1, at.1)))
         (λ _. finds s n t x h)
 
-    -- The resource is a live concept and is added with its name.
+    -- The index has all holders after a live concept is added with its preferred label.
     pub finds_made_concept : IndexesHolders resources_with_new with_name new
     finds_made_concept s n t x h = elim (concept_cases rs r s n h.0) [
       | inl was ↦
@@ -299,11 +301,9 @@ module _ (rs : List Resource) (labels : Labels) (r : Resource) (tag text : List 
           | inr held ↦ absurd (not_next _ held at)
         ]
 
--- The whole invariant when a resource is added, or marked as dead.
-
--- The invariant when a resource with a preferred label is added.
+-- The invariant holds after a resource with a preferred label is added.
 pub kept_named : (base : List ℕ) (rs : List Resource) (iris : Iris) (labels : Labels) (names : Names)
-    (concepts : Lists ℕ) (r : Resource) (tag text : List ℕ) → LegalResources base rs iris → LegalLabels rs labels
+    (concepts : Lists ℕ) (r : Resource) (tag text : List ℕ) → AreLegalResources base rs iris → AreLegalLabels rs labels
     → IsNewOwner rs r → IsFreeName rs labels r tag text → length rs + 1 < 2 ^ 32 → IndexesHolders (rs ++ r ∷ [])
     (set.insert labels (label (length rs + 1) Pref tag text)) names
     → AreListings nat_cmp (IsConceptOf (rs ++ r ∷ [])) concepts → IsConsistentVocabulary base (rs ++ r ∷ []) iris
@@ -311,7 +311,7 @@ pub kept_named : (base : List ℕ) (rs : List Resource) (iris : Iris) (labels : 
 kept_named base rs iris labels names concepts r tag text legal named is free few finds listed = record {
   legal = resources_push base rs iris r legal
       (record { live = is.live; replaced = is.replaced; scheme = is.scheme; no_scheme = no_scheme }) few inside;
-  named = labels_made rs labels r tag text named is.owner
+  named = legal_labels_with_new rs labels r tag text named is.owner
       (made_unique rs labels r tag text (owners_bound rs labels named) named.unique
       (λ scheme live e. free scheme (live, e)));
   found = finds;
@@ -334,7 +334,7 @@ kept_named base rs iris labels names concepts r tag text legal named is free few
     no_scheme (inl e) = is.no_scheme e
     no_scheme (inr e) = absurd (let f = inside in cc)
 
--- The invariant when an outside concept is added.
+-- The invariant holds after an outside concept is added.
 pub kept_outside : (base : List ℕ) (rs : List Resource) (iris : Iris) (labels : Labels) (names : Names)
     (concepts : Lists ℕ) (iri : List ℕ) → IsConsistentVocabulary base rs iris labels names concepts → length rs + 1
     < 2 ^ 32 → (BeginsWith iri base → ⊥) → ((n : ℕ) → dict.get iris n ≢ Some iri)
@@ -347,14 +347,15 @@ kept_outside base rs iris labels names concepts iri kept few foreign fresh = rec
     | inl was ↦ kept.found s n t x (was, h.1)
     | inr new ↦ absurd (never new.1.0)
   ];
-  listed = listed_made rs outside_resource concepts concepts None (λ s is. never is.0) (λ s. refl) kept.listed;
+  listed = concept_lists_with_new rs outside_resource concepts concepts None (λ s is. never is.0)
+      (λ s. refl) kept.listed;
 }
   where
     never : false ≡ true → ⊥
     never e = cc
 
--- A new number has no IRI yet.
-pub no_iri : (base : List ℕ) (rs : List Resource) (iris : Iris) → LegalResources base rs iris
+-- The next number has no IRI yet.
+pub no_iri : (base : List ℕ) (rs : List Resource) (iris : Iris) → AreLegalResources base rs iris
     → dict.get iris (length rs + 1) ≡ None
 no_iri base rs iris legal = go (dict.get iris (length rs + 1)) refl
   where
@@ -363,11 +364,12 @@ no_iri base rs iris legal = go (dict.get iris (length rs + 1)) refl
     go (Some iri) e = absurd (let at = legal.outside.only (length rs + 1) iri e in let b =
         numbered_bound rs (length rs + 1) at.0 at.1 in omega (arith, b.1))
 
--- The invariant when a concept is marked as dead.
+-- The invariant holds after a concept is marked as dead.
 pub kept_dead : (base : List ℕ) (rs : List Resource) (iris : Iris) (labels : Labels) (names : Names)
     (old new : Lists ℕ) (n : ℕ) (replaced : Option ℕ) (r : Resource) → IsConsistentVocabulary base rs iris labels
     names old → entry_at rs n ≡ Some r → IsLiveConcept rs n → IsReplacement rs n replaced
-    → ConceptListsAfterRemove old new r.scheme n → IsConsistentVocabulary base (set_entry_at rs n (dead replaced r))
+    → ConceptListsAfterRemove old new r.scheme n
+    → IsConsistentVocabulary base (set_entry_at rs n (resource_after_death replaced r))
     iris labels names new
 kept_dead base rs iris labels names old new n replaced r kept at live fit removed = record {
   legal = resources_dead base rs iris n replaced r at kept.legal concept (fits replaced fit);
@@ -386,8 +388,6 @@ kept_dead base rs iris labels names old new n replaced r kept at live fit remove
     fits None h m e = absurd (cc)
     fits (Some k) h m e = subst (λ j. (j ≢ n) × IsConcept rs j × IsLive rs j × (scheme_of rs j ≡ r.scheme))
         (same_Some _ _ e) (h.0, concept_of_live rs k h.1, live_of_live rs k h.1, h.2 ∙ scheme_at rs n r at)
-
--- The index of names, by the scheme of an owner, if it is a live concept.
 
 abbrev pub IsSchemeOf : List Resource → ℕ → Option ℕ → Type 0
 IsSchemeOf rs n o = MatchOption o ((scheme : ℕ) → IsConceptOf rs scheme n → ⊥) (λ scheme. IsConceptOf rs scheme n)
@@ -476,7 +476,7 @@ module _ (rs : List Resource) (labels : Labels) (owner : ℕ) (tag text was : Li
       was keep old finds unique scheme concept noted put differ has before new forgot
 
 module _ (rs : List Resource) (labels : Labels) (r : Resource) (tag text : List ℕ) (old new : Names)
-    (legal : LegalLabels rs labels) (finds : IndexesHolders rs labels old)
+    (legal : AreLegalLabels rs labels) (finds : IndexesHolders rs labels old)
     (free : IsFreeName rs labels r tag text) where
   pub finds_new_noted : (o : Option ℕ) → MatchOption o ((scheme : ℕ) → IsConceptIn scheme r → ⊥)
       (λ scheme. IsConceptIn scheme r) → IsSchemeNameUpdate old new o tag text (Some (length rs + 1))
@@ -488,11 +488,10 @@ module _ (rs : List Resource) (labels : Labels) (r : Resource) (tag text : List 
   pub finds_new : (o : Option ℕ) → MatchOption o ((scheme : ℕ) → IsConceptIn scheme r → ⊥)
       (λ scheme. IsConceptIn scheme r) → IsSchemeNameUpdate old new o tag text (Some (length rs + 1))
       → IndexesHolders (rs ++ r ∷ []) (set.insert labels (label (length rs + 1) Pref tag text)) new
-  finds_new None none same = finds_same _ _ old new same (finds_made rs labels r tag text old legal finds none)
+  finds_new None none same = finds_same _ _ old new same (finds_without_new_concept rs labels r tag text old legal
+      finds none)
   finds_new (Some scheme) concept put = finds_made_concept rs labels r tag text old legal finds scheme concept
       (free scheme concept) new put
-
--- The whole invariant at each step of a call.
 
 module _ (base : List ℕ) (rs : List Resource) (iris : Iris) (labels : Labels) (old new : Names) (concepts : Lists ℕ)
     (kept : IsConsistentVocabulary base rs iris labels old concepts) where
@@ -507,7 +506,7 @@ module _ (base : List ℕ) (rs : List Resource) (iris : Iris) (labels : Labels) 
       abbrev l : Label
       l = owned_label owner d
 
-      module _ (can : CanOwn rs owner) (row : unless_label labels rs (set.insert labels l) l accepted None)
+      module _ (can : CanOwn rs owner) (row : unless_new_label labels rs (set.insert labels l) l accepted None)
           (noted : IsLabelNameUpdate old new o d (Some owner)) where
         row_s13 : S13 (set.insert labels l) × (S14 (set.insert labels l) × UniquePreferred rs (set.insert labels l))
         row_s13 = let s13 = passed_unless (passed_if row).1 in let s14 = passed_unless s13.1 in
@@ -537,12 +536,14 @@ module _ (base : List ℕ) (rs : List Resource) (iris : Iris) (labels : Labels) 
           }
 
     module _ (tag text was : List ℕ) (keep : Bool) (has : HasLabel labels owner Pref tag was)
-        (row : unless_relabel labels rs (labels_after_relabel owner tag text keep labels) owner tag accepted None)
+        (row : unless_replaceable_preferred labels rs (labels_after_relabel owner tag text keep labels) owner tag
+        accepted None)
         (noted : IsSchemeNameUpdate old new o tag text (Some owner)) where
       renamed_row : S13 (replace_preferred owner tag text keep was labels)
           × UniquePreferred rs (replace_preferred owner tag text keep was labels)
       renamed_row =
-          let here = subst (λ (labels_after_rename : Labels). unless_relabel labels rs labels_after_rename owner tag
+          let here = subst (λ (labels_after_rename : Labels). unless_replaceable_preferred labels rs
+          labels_after_rename owner tag
           accepted None) (relabelled_is labels owner tag text was keep kept.named.one_preferred has) row in
           let s13 = passed_unless (passed_unless here).1 in
           (s13.0, (passed_unless s13.1).0)
@@ -574,9 +575,9 @@ module _ (base : List ℕ) (rs : List Resource) (iris : Iris) (labels : Labels) 
     kept_new few resources_with_new added =
         kept_named base rs iris labels new resources_with_new r tag text kept.legal kept.named is free few
         (finds_new rs labels r tag text old new kept.named kept.found free o at noted)
-        (listed_made rs r concepts resources_with_new o at added kept.listed)
+        (concept_lists_with_new rs r concepts resources_with_new o at added kept.listed)
 
--- The invariant when both indexes have the same entries as before.
+-- The invariant holds if both indexes have the same entries as before.
 pub kept_same : (base : List ℕ) (rs : List Resource) (iris : Iris) (labels : Labels) (old new : Names)
     (was is : Lists ℕ) → IsConsistentVocabulary base rs iris labels old was → AreSameNames old new
     → lists.HaveSameValues was is → IsConsistentVocabulary base rs iris labels new is
@@ -587,7 +588,7 @@ kept_same base rs iris labels old new was is kept same listed = record {
   listed = listings_same nat_cmp (IsConceptOf rs) (IsConceptOf rs) was is listed (λ s n c. c) (λ s n c. c) kept.listed;
 }
 
--- A concept that passes its check may have its name.
+-- A concept that passes its check has a preferred label that no live concept of its scheme has.
 pub free_concept : (rs : List Resource) (labels : Labels) (scheme : ℕ) (tag text : List ℕ) → unless_scheme rs scheme
     (unless_unique (rs ++ concept_resource (Some scheme) ∷ [])
     (set.insert labels (label (length rs + 1) Pref tag text)) accepted) None
@@ -597,7 +598,7 @@ free_concept rs labels scheme tag text row s is taken =
     (subst (λ k. IsPreferredTaken rs labels k tag text) (sym (same_Some _ _ is.1)) taken)
     (passed_unless (passed_unless (passed_unless row).1).1).0
 
--- The invariant of the empty vocabulary.
+-- The invariant holds of the empty vocabulary.
 pub kept_empty : (base : List ℕ) (names : Names) (concepts : Lists ℕ) → ((s : ℕ) → listed_at concepts s ≡ [])
     → IsConsistentVocabulary base [] dict.empty set.empty names concepts
 kept_empty base names concepts bare = record {
@@ -608,7 +609,7 @@ kept_empty base names concepts bare = record {
       (listing_none nat_cmp (IsConceptOf [] s) (λ n c. none_at n c.0.0 c.0.1));
 }
 
--- The resource at the index of a number is the resource with the number.
+-- The entry at the index of a number is the entry with the number.
 pub numbered_at : {A : Type 0} (xs : List A) (n : ℕ) (x y : A) → entry_at xs n ≡ Some y → x ≡ get_or xs (n - 1) x
     → entry_at xs n ≡ Some x
 numbered_at {A = A} xs zero x y e f = absurd (cc)
@@ -627,8 +628,6 @@ one_scheme_of rs n None (Some t) a b = absurd (a t b)
 one_scheme_of rs n (Some s) None a b = absurd (b s a)
 one_scheme_of rs n (Some s) (Some t) a b = ap Some (one_scheme rs n t s b a.1)
 
--- The whole invariant at each step of a call that knows the view of its parts.
-
 module _ (base : List ℕ) (rs : List Resource) (iris : Iris) (labels : Labels) (old new : Names) (concepts : Lists ℕ)
     (kept : IsConsistentVocabulary base rs iris labels old concepts) (v : Vocabulary)
     (seen : vocabulary base rs iris labels ≡ v) where
@@ -639,7 +638,7 @@ module _ (base : List ℕ) (rs : List Resource) (iris : Iris) (labels : Labels) 
     can_own : CanOwn v.resources owner → CanOwn rs owner
     can_own = subst (λ (w : Vocabulary). CanOwn w.resources owner) (sym seen)
 
-    pub seen_label : (d : LabelData) → CanOwn v.resources owner → unless_label v.labels v.resources
+    pub seen_label : (d : LabelData) → CanOwn v.resources owner → unless_new_label v.labels v.resources
         (set.insert v.labels (owned_label owner d)) (owned_label owner d) accepted None → IsLabelNameUpdate old new o
         d (Some owner) → (now : Labels) → (now ≡ labels) ⊎ (now ≡ set.insert labels (owned_label owner d))
         → IsConsistentVocabulary base rs iris now new concepts
@@ -650,17 +649,19 @@ module _ (base : List ℕ) (rs : List Resource) (iris : Iris) (labels : Labels) 
           (kept_added base rs iris labels old new concepts kept owner o at_owner d (can_own can) row_here noted)
     ]
       where
-        row_here : unless_label labels rs (set.insert labels (owned_label owner d)) (owned_label owner d) accepted None
+        row_here : unless_new_label labels rs (set.insert labels (owned_label owner d)) (owned_label owner d) accepted
+            None
         row_here =
-            subst (λ (w : Vocabulary). unless_label w.labels w.resources (set.insert w.labels (owned_label owner d))
+            subst (λ (w : Vocabulary). unless_new_label w.labels w.resources (set.insert w.labels (owned_label owner d))
             (owned_label owner d) accepted None) (sym seen) row
 
     module _ (tag text was : List ℕ) (keep : Bool) (has : HasLabel labels owner Pref tag was)
-        (row : unless_relabel v.labels v.resources (labels_after_relabel owner tag text keep v.labels) owner tag
-        accepted None) (noted : IsSchemeNameUpdate old new o tag text (Some owner)) where
-      row_seen : unless_relabel labels rs (labels_after_relabel owner tag text keep labels) owner tag accepted None
+        (row : unless_replaceable_preferred v.labels v.resources (labels_after_relabel owner tag text keep v.labels)
+        owner tag accepted None) (noted : IsSchemeNameUpdate old new o tag text (Some owner)) where
+      row_seen : unless_replaceable_preferred labels rs (labels_after_relabel owner tag text keep labels) owner tag
+          accepted None
       row_seen =
-          subst (λ (w : Vocabulary). unless_relabel w.labels w.resources
+          subst (λ (w : Vocabulary). unless_replaceable_preferred w.labels w.resources
           (labels_after_relabel owner tag text keep w.labels) owner tag accepted None) (sym seen) row
 
       pub seen_name_noted : IsConsistentVocabulary base rs iris labels new concepts
@@ -705,7 +706,7 @@ module _ (base : List ℕ) (rs : List Resource) (iris : Iris) (labels : Labels) 
         (subst (λ (w : Vocabulary). length w.resources + 1 < 2 ^ 32) (sym seen) few) resources_with_new
         (subst (ConceptListsAfterInsert room resources_with_new o) number_of_new added))
 
--- The invariant when a merge copies labels to its target.
+-- The invariant holds after a merge copies labels to its target.
 pub kept_merged : (base : List ℕ) (rs : List Resource) (iris : Iris) (labels : Labels) (names : Names)
     (concepts : Lists ℕ) (source target : ℕ) → IsConsistentVocabulary base rs iris labels names concepts
     → IsLiveConcept rs target → IsConsistentVocabulary base rs iris
@@ -719,13 +720,14 @@ kept_merged base rs iris labels names concepts source target kept live = record 
 
 -- Replacing a preferred label by itself changes nothing.
 pub relabel_to_same_text : (rs : List Resource) (labels : Labels) (owner : ℕ) (tag text old : List ℕ) (keep : Bool)
-    → LegalLabels rs labels → HasLabel labels owner Pref tag old → old ≡ text → unless_relabel labels rs
+    → AreLegalLabels rs labels → HasLabel labels owner Pref tag old → old ≡ text
+    → unless_replaceable_preferred labels rs
     (labels_after_relabel owner tag text keep labels) owner tag accepted None → labels ≡ labels_after_relabel owner
     tag text keep labels
 relabel_to_same_text rs labels owner tag text old keep legal has same row =
     let is = relabelled_is labels owner tag text old keep legal.one_preferred has in
-    let here = subst (λ (labels_after_rename : Labels). unless_relabel labels rs labels_after_rename owner tag
-    accepted None) is row in
+    let here = subst (λ (labels_after_rename : Labels). unless_replaceable_preferred labels rs labels_after_rename
+    owner tag accepted None) is row in
     go keep ((passed_unless (passed_unless here).1).0) ∙ sym is
   where
     go : (b : Bool) → S13 (replace_preferred owner tag text b old labels) → labels ≡ replace_preferred owner tag text

@@ -1,4 +1,4 @@
--- The remaining chain of replacements at each step along it.
+-- Splits a chain of replacements at each step into the steps so far and the remaining chain.
 use Rattle.std.proofs.Common.{◌≡◌, ◌<◌, ◌≤◌, ℕ, suc, ◌+◌, ◌-◌, length, List, [], ◌∷◌, ap, ◌∙◌, arith}
 use Rattle.std.specs.Prelude.{Some}
 use Rattle.thes_base.specs.declared.data.Resource.{Resource}

@@ -1,4 +1,4 @@
--- The two maps of IRIs and numbers are inverse to each other at each change.
+-- The two maps of numbers and IRIs stay inverse to each other at each change.
 use Rattle.std.proofs.Common.{◌≡◌, ◌≢◌, ◌⊎◌, inl, inr, ℕ, List, [], ◌∷◌, refl, sym, ap, ◌∙◌, Bool, true, false, cond}
 use Rattle.std.specs.Prelude.{Option, None, Some}
 use Rattle.std.specs.Option.{MatchOption}
@@ -27,7 +27,7 @@ find_is : (es : List (ℕ × List ℕ)) (n : ℕ) → dict.find nat_cmp n es ≡
 find_is [] n = refl
 find_is (e ∷ es) n = ap (cond (is_at (nat_cmp n) e.0) (Some e.1)) (find_is es n)
 
--- A look-up in the map is one in its model.
+-- A look-up in the map gives what a look-up in its model gives.
 pub get_iri_at : (m : BTreeMap ℕ (List ℕ)) (n : ℕ) → dict.get (iris_in m.entries) n ≡ get nat_cmp m n
 get_iri_at m n = dict.get-from_entries nat_cmp_total m.entries n ∙ find_is m.entries n
 

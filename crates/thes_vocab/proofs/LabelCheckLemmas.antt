@@ -1,4 +1,4 @@
--- The checks of a label agree with the conditions on labels after it is added, removed or replaced.
+-- The checks of labels agree with the conditions on labels after one is added, removed or replaced.
 use Rattle.std.proofs.Common.{◌≡◌, ◌≢◌, ◌⊎◌, ◌≤◌, inl, inr, ℕ, ◌+◌, length, List, [], ◌∷◌, ◌++◌, refl, sym, ap, ◌∙◌}
 use Rattle.std.proofs.Common.{subst, Bool, true, false, Bor}
 use Rattle.std.specs.Prelude.{Option, None, Some}
@@ -18,9 +18,10 @@ use Rattle.thes_base.specs.Labels.{UniquePreferred, IsPreferredTaken}
 use Rattle.thes_base.specs.declared.fault.Refusal.{Refusal}
 use Rattle.thes_base.specs.declared.fault.Refusal.TheVariants as no
 use Rattle.thes_base.specs.RefusalRules.{accepted}
-use Rattle.thes_base.specs.Legal.{LegalLabels}
+use Rattle.thes_base.specs.Legal.{AreLegalLabels}
 use Rattle.thes_base.specs.Changes.{label, concept_resource, has_lexical_label, replace_preferred, labels_after_relabel}
-use Rattle.thes_base.specs.Refusals.{LeavesPreferred, unless_relabel, unless_scheme, unless_unique}
+use Rattle.thes_base.specs.Refusals.{LeavesPreferred}
+use Rattle.thes_base.specs.RuleParts.{unless_replaceable_preferred, unless_scheme, unless_unique}
 use Rattle.thes_base.proofs.LabelSetLemmas.{inserted_cases, inserted_kept, inserted_new}
 use Rattle.thes_base.proofs.LabelSetLemmas.{same_or_not as same_label_or_not}
 use Rattle.thes_base.proofs.CopiedLabelLemmas.{name_of}
@@ -34,7 +35,7 @@ use Rattle.std.proofs.lemmas.Option.{same_Some}
 use Rattle.thes_vocab.specs.Vocabulary.{IsHolder}
 use Rattle.thes_vocab.specs.Rivals.{HasRival, HasTwoPreferred, HasClash}
 
--- A label that a look-up returns is the preferred label in the language.
+-- The text that a look-up returns is that of the preferred label in the language.
 pub preferred_is : (labels : Labels) (owner : ℕ) (tag : List ℕ) → S14 labels → (o : Option (List ℕ))
     → MatchOption o ((text : List ℕ) → HasLabel labels owner Pref tag text → ⊥) (HasLabel labels owner Pref tag) → o
     ≡ preferred_label_in labels owner tag
@@ -52,12 +53,10 @@ preferred_is labels owner tag s14 o h = go (preferred_label_in labels owner tag)
     go (Some x) is (Some text) h = ap Some (s14 owner tag text x h (preferred_found labels owner tag x is))
 
 -- Owners are numbers of resources.
-pub owners_bound : (rs : List Resource) (labels : Labels) → LegalLabels rs labels → (l : Label)
+pub owners_bound : (rs : List Resource) (labels : Labels) → AreLegalLabels rs labels → (l : Label)
     → set.contains labels l ≡ true → (1 ≤ l.owner) × (l.owner ≤ length rs)
 owners_bound rs labels legal l held = let at = owner_exists rs l.owner (legal.owners l held) in
     numbered_bound rs l.owner at.0 at.1
-
--- A name is a label of one of the three kinds.
 
 pub kind_of_name : (labels : Labels) (owner : ℕ) (tag text : List ℕ) → has_lexical_label labels owner tag text ≡ true
     → (k : LabelKind) × (is_lexical_kind k ≡ true) × HasLabel labels owner k tag text
@@ -65,8 +64,6 @@ kind_of_name labels owner tag text e = elim (or_cases _ _ e) [
   | inl first ↦ elim (or_cases _ _ first) [ inl pref ↦ (Pref, refl, pref) | inr alt ↦ (Alt, refl, alt) ]
   | inr hidden ↦ (Hidden, refl, hidden)
 ]
-
--- Conditions on the labels when a label is added.
 
 module _ (labels : Labels) (l : Label) where
   abbrev labels_with_new : Labels
@@ -80,7 +77,7 @@ module _ (labels : Labels) (l : Label) where
       (inserted_kept labels l _ other.2) in
       true≢false (sym (subst (λ k. HasLabel labels l.owner k l.tag l.text) (sym same) other.2) ∙ new)
 
-  -- SKOS S13 is kept if the label is no name, or its owner lacks the text in the language.
+  -- SKOS S13 is kept if the label isn't lexical, or its owner lacks the text in the language.
   pub keeps_s13 : S13 labels → (is_lexical_kind l.kind ≡ false) ⊎ (has_lexical_label labels l.owner l.tag l.text
       ≡ false) → S13 labels_with_new
   keeps_s13 s13 apart owner j k tag text nj nk hj hk = go (inserted_cases labels l _ hj) (inserted_cases labels l _ hk)
@@ -135,7 +132,7 @@ module _ (labels : Labels) (l : Label) where
         rival.within (inserted_kept labels l _ rival.holder.1)
         (subst (λ k. HasLabel labels_with_new l.owner k l.tag l.text) is (inserted_new labels l)))
 
-    -- Preferred labels are still unique in each scheme if the label isn't a preferred one, or has no rival.
+    -- Preferred labels stay unique in each scheme if the label isn't preferred, or has no rival.
     pub keeps_unique : UniquePreferred rs labels → (l.kind ≢ Pref) ⊎ (HasRival rs labels l.owner l.tag l.text → ⊥)
         → UniquePreferred rs labels_with_new
     keeps_unique p1 apart m n scheme tag text lm ln sm sn hm hn =
@@ -165,15 +162,11 @@ module _ (labels : Labels) (l : Label) where
         go (inr a) (inl b) (inr differ) = absurd (rival_at n m b a (λ e. differ (sym e)) ln sn lm sm apart)
         go (inr a) (inr b) (inr differ) = p1 m n scheme tag text lm ln sm sn a b
 
--- Conditions on the labels when a label is removed.
-
 pub leaves_of_two : (labels : Labels) (l : Label) → HasTwoPreferred labels l.owner → LeavesPreferred labels l
 leaves_of_two labels l two = elim (same_label_or_not (label l.owner Pref two.first_tag two.first_text) l) [
   | inl same ↦ inr (two.second_tag, two.second_text, two.second, λ e. two.apart (same ∙ sym e))
   | inr apart ↦ inr (two.first_tag, two.first_text, two.first, apart)
 ]
-
--- Conditions on the labels when a preferred label is replaced.
 
 module _ (labels : Labels) (owner : ℕ) (tag text old : List ℕ) (keep : Bool) where
   abbrev labels_after_rename : Labels
@@ -217,7 +210,7 @@ module _ (labels : Labels) (owner : ℕ) (tag text old : List ℕ) (keep : Bool)
       go j k nj nk (renamed_cases labels owner tag text old keep _ hj)
       (renamed_cases labels owner tag text old keep _ hk)
     where
-      -- The new preferred label with an old label.
+      -- An old lexical label with the text of the new preferred one is preferred.
       beside : (k : LabelKind) → is_lexical_kind k ≡ true → n ≡ owner → t ≡ tag → x ≡ text → HasLabel labels n k t x
           → Pref ≡ k
       beside k nk en et ex held =
@@ -230,7 +223,7 @@ module _ (labels : Labels) (owner : ℕ) (tag text old : List ℕ) (keep : Bool)
           at Hidden nk held = absurd (free (inr (inl held)))
           at Scope nk held = absurd (cc)
 
-      -- The kept label with an old label.
+      -- No old label other than the replaced one has the text that is kept.
       beside_kept : (k : LabelKind) → is_lexical_kind k ≡ true → n ≡ owner → t ≡ tag → x ≡ old → label n k t x
           ≢ label owner Pref tag old → HasLabel labels n k t x → ⊥
       beside_kept k nk en et ex apart held =
@@ -275,7 +268,7 @@ module _ (labels : Labels) (owner : ℕ) (tag text old : List ℕ) (keep : Bool)
         (other_label_stays (label rival.rival Pref tag text) (λ e. rival.other (ap (λ (l : Label). l.owner) e))
         rival.holder.1) at_fresh)
 
-    -- Preferred labels are still unique in each scheme if the new one has no rival.
+    -- Preferred labels stay unique in each scheme if the new one has no rival.
     pub renamed_keeps_unique : UniquePreferred rs labels → (HasRival rs labels owner tag text → ⊥)
         → UniquePreferred rs labels_after_rename
     renamed_keeps_unique p1 none m n scheme t x lm ln sm sn hm hn =
@@ -306,8 +299,6 @@ module _ (labels : Labels) (owner : ℕ) (tag text old : List ℕ) (keep : Bool)
         go (inr (inl (_, a))) b (inr differ) = absurd (never_kept m t x a)
         go a (inr (inl (_, b))) (inr differ) = absurd (never_kept n t x b)
 
--- The refusal of a relabel request.
-
 pub relabelled_is : (labels : Labels) (owner : ℕ) (tag text old : List ℕ) (keep : Bool) → S14 labels
     → HasLabel labels owner Pref tag old → labels_after_relabel owner tag text keep labels ≡ replace_preferred owner
     tag text keep old labels
@@ -316,18 +307,21 @@ relabelled_is labels owner tag text old keep s14 has =
     (sym (preferred_is labels owner tag s14 (Some old) has))
 
 pub row_without_name : (rs : List Resource) (labels next : Labels) (owner : ℕ) (tag : List ℕ)
-    → ((text : List ℕ) → HasLabel labels owner Pref tag text → ⊥) → unless_relabel labels rs next owner tag accepted
+    → ((text : List ℕ) → HasLabel labels owner Pref tag text → ⊥) → unless_replaceable_preferred labels rs next owner
+    tag accepted
     (Some no.NoSuchLabel)
 row_without_name rs labels next owner tag none = inl (λ (text, has). none text has, refl)
 
 module _ (rs : List Resource) (labels : Labels) (owner : ℕ) (tag text old : List ℕ) (keep : Bool)
-    (legal : LegalLabels rs labels) (has : HasLabel labels owner Pref tag old) where
+    (legal : AreLegalLabels rs labels) (has : HasLabel labels owner Pref tag old) where
   abbrev RowOf : Option Refusal → Type 0
-  RowOf answer = unless_relabel labels rs (labels_after_relabel owner tag text keep labels) owner tag accepted answer
+  RowOf answer = unless_replaceable_preferred labels rs (labels_after_relabel owner tag text keep labels) owner tag
+      accepted answer
 
-  at_renamed : (answer : Option Refusal) → unless_relabel labels rs (replace_preferred owner tag text keep old labels)
-      owner tag accepted answer → RowOf answer
-  at_renamed answer row = subst (λ (labels_after_rename : Labels). unless_relabel labels rs labels_after_rename owner
+  at_renamed : (answer : Option Refusal) → unless_replaceable_preferred labels rs
+      (replace_preferred owner tag text keep old labels) owner tag accepted answer → RowOf answer
+  at_renamed answer row = subst (λ (labels_after_rename : Labels). unless_replaceable_preferred labels rs
+      labels_after_rename owner
       tag accepted answer) (sym (relabelled_is labels owner tag text old keep legal.one_preferred has)) row
 
   pub row_clashing : HasClash labels owner tag text old keep → RowOf (Some no.S13)
@@ -381,7 +375,7 @@ not_pref (values.Alt text) other e = cc
 not_pref (values.Hidden text) other e = cc
 not_pref (values.Scope text) other e = cc
 
--- The result of a look-up of a holder.
+-- Reads the result of a look-up as a condition on preferred labels.
 module _ (rs : List Resource) (labels : Labels) (scheme : ℕ) (tag text : List ℕ) where
   pub holder_taken : (o : Option ℕ) → MatchOption o (IsPreferredTaken rs labels scheme tag text → ⊥)
       (IsHolder rs labels scheme tag text) → is_some o ≡ true → IsPreferredTaken rs labels scheme tag text
@@ -393,9 +387,7 @@ module _ (rs : List Resource) (labels : Labels) (scheme : ℕ) (tag text : List 
   no_holder None h e = h
   no_holder (Some n) h e = absurd (cc)
 
--- The refusal of a new concept.
-
-module _ (rs : List Resource) (labels : Labels) (legal : LegalLabels rs labels) (scheme : ℕ) (tag text : List ℕ)
+module _ (rs : List Resource) (labels : Labels) (legal : AreLegalLabels rs labels) (scheme : ℕ) (tag text : List ℕ)
     (is_scheme : IsScheme rs scheme) where
   abbrev RowOfConcept : Option Refusal → Type 0
   RowOfConcept answer =

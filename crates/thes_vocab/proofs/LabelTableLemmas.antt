@@ -1,4 +1,4 @@
--- Changes of an owner's row change the set of all labels in the expected way.
+-- Changes of an owner's row change the set of all labels in the same way.
 use Rattle.std.proofs.Common.{◌≡◌, ◌≢◌, ◌≤◌, ℕ, zero, suc, ◌+◌, ◌-◌, List, [], ◌∷◌, refl, sym, ap, ◌∙◌, subst, arith}
 use Rattle.std.proofs.Common.{Bool, true, false, not, ◌&&◌, ◌||◌, cond, map}
 use Rattle.std.specs.Prelude.{Option, None, Some}
@@ -27,11 +27,11 @@ use Rattle.thes_vocab.specs.Rivals.{HasTwoPreferred}
 use Rattle.thes_vocab.specs.LabelRows.{all_owned, labels_in, owner_row, AreLabelRows, IsRowOfOwner, HasNoLabels}
 use Rattle.thes_vocab.specs.LabelRows.{RowsAfterInsert, RowsAfterRemove, AreSameLabelRows}
 
--- The label as its owner's list has it.
+-- The label without its owner.
 abbrev pub data_of : Label → LabelData
 data_of q = own_label q.kind q.tag q.text
 
--- Labels are equal exactly when their owners and their data are.
+-- Labels are equal exactly when their owners and their remaining parts are.
 pub owned_tie : (q : Label) (owner : ℕ) (l : LabelData) → eq_by_cmp label_cmp q (owned_label owner l)
     ≡ (eq_by_cmp nat_cmp q.owner owner && eq_by_cmp data_cmp (data_of q) l)
 owned_tie q owner l =
@@ -57,7 +57,7 @@ any_row q owner (l ∷ row) =
     ∙ sym (and-or_distrib_left (eq_by_cmp nat_cmp q.owner owner) (eq_by_cmp data_cmp (data_of q) l)
     (has_own row (data_of q)))
 
--- Whether one of the rows is the owner's and has the label.
+-- The test of whether a row of the owner has the label.
 abbrev has_in : ℕ → LabelData → List (ℕ × List LabelData) → Bool
 has_in owner l = list_any (λ e. eq_by_cmp nat_cmp owner e.0 && has_own e.1 l)
 
@@ -128,8 +128,6 @@ row_owns rows ordered owner None e = λ l. has_label rows ordered (owned_label o
 row_owns rows ordered owner (Some row) e =
     λ l. sym (has_label rows ordered (owned_label owner l) ∙ ap (λ r. has_own (unwrap_or r []) l) (sym e))
 
--- The rows after one of them is replaced.
-
 -- The new map has the row `now` for the owner, and the old rows for all others.
 abbrev pub IsRowWritten : BTreeMap ℕ (List LabelData) → BTreeMap ℕ (List LabelData) → ℕ → List LabelData → Type 0
 IsRowWritten old new owner now = (n : ℕ) → get nat_cmp new n ≡ cond (eq_by_cmp nat_cmp n owner) (Some now)
@@ -195,8 +193,6 @@ row_kept old new owner now w same n = row_after old new owner now w n ∙ go (eq
     go true tie = same ∙ ap (owner_row old) (sym (exact_unsigned n owner ((Equal-is (nat_cmp n owner)).0 tie)))
     go false tie = refl
 
--- Preferred labels of an owner, by its row.
-
 pub preferred_owned : (labels : Labels) (owner : ℕ) (tag : List ℕ) (row : List LabelData) → IsRowOfOwner labels owner
     row → HasNoOwnPreferred row tag → (text : List ℕ) → HasLabel labels owner Pref tag text → ⊥
 preferred_owned labels owner tag row owns none text has = none text (owns (own_label Pref tag text) ∙ has)
@@ -232,8 +228,6 @@ none_two labels owner none two = let e = none (own_label Pref two.first_tag two.
 pub none_preferred : (labels : Labels) (owner : ℕ) (tag text : List ℕ) → HasNoLabels labels owner
     → HasLabel labels owner Pref tag text → ⊥
 none_preferred labels owner tag text none has = let e = none (own_label Pref tag text) in cc
-
--- The number of labels after a change.
 
 pub rows_same : (old new : BTreeMap ℕ (List LabelData)) (count : ℕ) → AreLabelRows old count → IsOrdered nat_cmp new
     → AreSameLabelRows old new → AreLabelRows new count
@@ -291,10 +285,8 @@ counted_one rows count owner l is has = go count refl
         ))
     go (suc n) e = omega (arith, e)
 
--- Replacing a preferred label step by step gives the replaced set.
-
 module _ (labels : Labels) where
-  -- Inserting and then removing a new label gives the old set.
+  -- Removing a new label after its insertion gives the old set.
   pub remove_after_insert : (l : Label) → set.contains labels l ≡ false → set.remove (set.insert labels l) l ≡ labels
   remove_after_insert l new = set.same_set labels_total labels_exact _ _
       (λ q. set.contains-remove labels_total (set.insert labels l) l q ∙ ap (λ b. not (eq_by_cmp label_cmp q l) && b)
@@ -305,7 +297,7 @@ module _ (labels : Labels) where
       go q true tie = sym (ap (set.contains labels) (labels_exact q l ((Equal-is (label_cmp q l)).0 tie)) ∙ new)
       go q false tie = refl
 
-  -- Removing and then inserting a label gives the old set.
+  -- Inserting a label again after its removal gives the old set.
   pub insert_after_remove : (l : Label) → set.contains labels l ≡ true → set.insert (set.remove labels l) l ≡ labels
   insert_after_remove l held = set.same_set labels_total labels_exact _ _
       (λ q. set.contains-insert labels_total (set.remove labels l) l q ∙ ap (λ b. eq_by_cmp label_cmp q l || b)

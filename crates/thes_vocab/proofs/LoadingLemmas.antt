@@ -38,10 +38,8 @@ pref_or_not Alt = inr (λ e. cc)
 pref_or_not Hidden = inr (λ e. cc)
 pref_or_not Scope = inr (λ e. cc)
 
--- The look-ups of a label's check agree with its conditions.
-
 module _ (v : Vocabulary) (l : Label) where
-  -- A label that passes the look-ups meets the conditions.
+  -- A label that passes the look-ups meets the conditions for loading it.
   pub fits_free : AreLabelsSoFar v.resources v.labels → IsFreeLabel v.resources v.labels l → MayLoadLabel v l
   fits_free so_far free = record {
     owner = free.owner;
@@ -69,8 +67,6 @@ module _ (v : Vocabulary) (l : Label) where
     rival = λ h. breaks_unique v.labels l v.resources h.0 h.1 fits.unique;
   }
 
--- The invariant after a row is loaded.
-
 abbrev vocabulary : List ℕ → List Resource → Iris → Labels → Vocabulary
 vocabulary base rs iris labels = record { base = base; resources = rs; iris = iris; labels = labels }
 
@@ -92,7 +88,7 @@ module _ (base : List ℕ) (rs : List Resource) (iris : Iris) (labels : Labels) 
       listed = is.listed;
     }
 
-    -- The invariant after a label is loaded.
+    -- The invariant holds after a label is loaded.
     pub loading_label : IsLoading base rs iris (set.insert labels l) new concepts
     loading_label = record {
       sound = is.sound;
@@ -110,7 +106,7 @@ module _ (base : List ℕ) (rs : List Resource) (iris : Iris) (labels : Labels) 
       listed = is.listed;
     }
 
-  -- The invariant after an IRI is loaded.
+  -- The invariant holds after an IRI is loaded.
   pub loading_iri : (n : ℕ) (iri : List ℕ) → MayLoadIri (vocabulary base rs iris labels) n iri
       → IsLoading base rs (dict.insert iris n iri) labels old concepts
   loading_iri n iri fits = record {
@@ -138,7 +134,7 @@ module _ (base : List ℕ) (rs : List Resource) (iris : Iris) (labels : Labels) 
       both m k x (inr a) (inl b) = absurd (fits.free m (a ∙ ap (λ (y : List ℕ). Some y) b.1))
       both m k x (inr a) (inr b) = is.iris_so_far.distinct m k x a b
 
-  -- At the end the vocabulary is consistent.
+  -- The loaded vocabulary is consistent if all IRIs and preferred labels are there.
   pub loading_kept : HaveIris (vocabulary base rs iris labels) → EachHasPreferred rs labels → IsConsistentVocabulary
       base rs iris labels old concepts
   loading_kept all named = record {
@@ -166,8 +162,6 @@ module _ (base : List ℕ) (rs : List Resource) (iris : Iris) (labels : Labels) 
     listed = is.listed;
   }
 
--- Members of an owner's list with another label at its end.
-
 pub own_push : (xs : List LabelData) (d q : LabelData) → has_own (xs ++ d ∷ []) q ≡ true → (has_own xs q ≡ true)
     ⊎ (q ≡ d)
 own_push [] d q e = elim (or_cases (eq_by_cmp data_cmp q d) false e) [
@@ -182,8 +176,6 @@ own_push (x ∷ xs) d q e = elim (or_cases (eq_by_cmp data_cmp q x) (has_own (xs
     right : (b : Bool) → has_own xs q ≡ true → (b || has_own xs q) ≡ true
     right true h = refl
     right false h = h
-
--- The scheme of a resource, if it is a live concept.
 
 pub concept_in : (r : Resource) → MatchOption (concept_scheme r) ((scheme : ℕ) → IsConceptIn scheme r → ⊥)
     (λ scheme. IsConceptIn scheme r)
@@ -202,19 +194,19 @@ pub some_preferred : (P : List ℕ → Type 0) (o : Option (Bor (List ℕ))) (b 
 some_preferred P None b none is = (λ t. let f = sym is ∙ t in absurd (cc), λ h. absurd (none h.0 h.1))
 some_preferred P (Some text) b has is = (λ t. (text.now, has), λ h. is)
 
--- The item at an index is a member.
+-- The item at an index of the list is a member.
 pub own_at : (own : List LabelData) (k : ℕ) (d : LabelData) → k < length own → get_or own k d ≡ d → has_own own d ≡ true
 own_at own k d within is = list_any_at (eq_by_cmp data_cmp d) own k d within
     (tie_of_label_data d (get_or own k d) (sym is))
 
--- What holds up to `i` and of `i + 1` holds up to `i + 1`.
+-- A property of all numbers up to `i` and of `i + 1` holds of all up to `i + 1`.
 pub next_of : (P : ℕ → Type 0) (i : ℕ) → ((n : ℕ) → n ≤ i → P n) → P (i + 1) → (n : ℕ) → n ≤ i + 1 → P n
 next_of P i before here n le = elim (cases_eq n (i + 1)) [
   | inl at ↦ subst P (sym at) here
   | inr differ ↦ before n (omega (arith, le, differ))
 ]
 
--- The invariant at the start, when there are no IRIs and no labels.
+-- The invariant holds at the start, without IRIs and labels.
 pub loading_none : (base : List ℕ) (rs : List Resource) (names : Names) (concepts : Lists ℕ) → AreSound rs
     → AreListings nat_cmp (IsConceptOf rs) concepts → IsLoading base rs dict.empty set.empty names concepts
 loading_none base rs names concepts sound listed = record {

@@ -1,4 +1,4 @@
--- The row and the number of labels that a merge copies to its target are those of the machine.
+-- A merge copies the row, and the number of labels, that the machine's definition says.
 use Rattle.std.proofs.Common.{◌≡◌, ◌⊎◌, inl, inr, ◌<◌, ℕ, zero, suc, ◌+◌, length, List, [], ◌∷◌, refl, sym, ap, ◌∙◌}
 use Rattle.std.proofs.Common.{subst, arith, Bool, true, false, not, ◌&&◌, ◌||◌, cond, get_or, take, map, eqb-true}
 use Rattle.std.proofs.Common.{eq-eqb}
@@ -28,8 +28,6 @@ use Rattle.thes_vocab.specs.LabelRows.{IsRowOfOwner, labels_in, owner_row, IsMer
 use Rattle.thes_vocab.proofs.OwnLabelLemmas.{data_total, label_data_of_tie, tie_of_label_data, less_not_equal}
 use Rattle.thes_vocab.proofs.LabelTableLemmas.{data_of, owned_tie, has_label, IsRowWritten, row_after}
 
--- The copied labels after another label of the source.
-
 any_more : {A : Type 0} (p : A → Bool) (xs : List A) (i : ℕ) (x : A) → i < length xs → x ≡ get_or xs i x
     → list_any p (take (suc i) xs) ≡ (list_any p (take i xs) || p x)
 any_more p [] i x b e = absurd (omega arith)
@@ -45,7 +43,7 @@ gives_more source target i l q b e = ap (λ k. copies_label (take k source) targ
     omega arith in s) ∙ any_more (λ x. lacks_own_name target x && eq_by_cmp data_cmp q (merged_label x)) source i l b
     e
 
--- The row after the label is copied, or left out.
+-- The row after one step: the label is copied if the target lacks it.
 pub gives_taken : (source target row now : List LabelData) (i : ℕ) (l q : LabelData) → i < length source → l
     ≡ get_or source i l → has_own row q ≡ (has_own target q || copies_label (take i source) target q)
     → lacks_own_name target l ≡ true → has_own now q ≡ (eq_by_cmp data_cmp q (merged_label l) || has_own row q)
@@ -68,8 +66,6 @@ gives_left source target row i l q b e before no_name =
     ∙ ap (λ y. copies_label (take i source) target q || (y && eq_by_cmp data_cmp q (merged_label l))) no_name
     ∙ or-false (copies_label (take i source) target q)))
 
--- Members of a filtered and mapped list.
-
 module _ {A : Type 0} (p : A → Bool) where
   pub kept_yes : (x : A) (xs : List A) → p x ≡ true → filter p (x ∷ xs) ≡ x ∷ filter p xs
   kept_yes x xs e = ap (λ b. if b then x ∷ filter p xs else filter p xs) e
@@ -77,7 +73,7 @@ module _ {A : Type 0} (p : A → Bool) where
   pub kept_no : (x : A) (xs : List A) → p x ≡ false → filter p (x ∷ xs) ≡ filter p xs
   kept_no x xs e = ap (λ b. if b then x ∷ filter p xs else filter p xs) e
 
--- A member of the list comes from an item that passes the filter, and the other way round.
+-- A member of the list comes from an item that passes the filter.
 any_mapped : {A : Type 0} (cmp : A → A → Ordering) (equal_is_tie : (x : A) → eq_by_cmp cmp x x ≡ true) (p : A → Bool)
     (f : A → Label) (q : Label) (xs : List A) → list_any (eq_by_cmp label_cmp q) (map f (filter p xs)) ≡ true
     → (x : A) × (p x ≡ true) × (list_any (eq_by_cmp cmp x) xs ≡ true) × (q ≡ f x)
@@ -137,7 +133,7 @@ any_of test (x ∷ own) d hit e = elim (or_cases _ _ e) [
   | inr later ↦ or_right (test x) _ (any_of test own d hit later)
 ]
 
--- The copied labels in terms of the source's own list.
+-- The copied labels, in terms of the source's own list.
 module _ (labels : Labels) (source target : ℕ) (own : List LabelData) (owns : IsRowOfOwner labels source own) where
   abbrev passes : Label → Bool
   passes l = l.owner == source && (is_lexical_kind l.kind && not (has_lexical_label labels target l.tag l.text))
@@ -148,7 +144,8 @@ module _ (labels : Labels) (source target : ℕ) (own : List LabelData) (owns : 
   abbrev test : Label → LabelData → Bool
   test q d = lacks_name labels target d && eq_by_cmp data_cmp (data_of q) (merged_label d)
 
-  -- The machine copies a label exactly when it is the copy of a missing name in the source's list.
+  -- The machine copies a label exactly when it is the copy of a lexical label in the source's list that the target
+  -- lacks.
   pub taken_contains : (q : Label) → set.contains (copied_labels source target labels) q
       ≡ (eq_by_cmp nat_cmp q.owner target && list_any (test q) own)
   taken_contains q = set.contains-from_list labels_total (map copy_of_label (filter passes (set.items labels))) q
@@ -193,7 +190,7 @@ module _ (labels : Labels) (source target : ℕ) (own : List LabelData) (owns : 
   union_contains q = set.contains-union labels_total labels (copied_labels source target labels) q
       ∙ ap (λ b. set.contains labels q || b) (taken_contains q)
 
--- Whether the target lacks a name, in terms of its own list.
+-- The target lacks a lexical label exactly when its own list does.
 pub takes_is : (labels : Labels) (target : ℕ) (own : List LabelData) → IsRowOfOwner labels target own
     → (d : LabelData) → lacks_own_name own d ≡ lacks_name labels target d
 takes_is labels target own owns d =
@@ -211,7 +208,7 @@ gives_is labels target own owns source q =
     any_same _ _ (λ d. ap (λ b. b && eq_by_cmp data_cmp q (merged_label d)) (takes_is labels target own owns d))
     source
 
--- The number of labels that are copied.
+-- Assumes labels that meet SKOS S13, and counts those that are copied.
 module _ (labels : Labels) (source target : ℕ) (s13 : S13 labels) where
   abbrev as_taken : LabelData → Label
   as_taken d = owned_label target (merged_label d)
@@ -222,7 +219,7 @@ module _ (labels : Labels) (source target : ℕ) (s13 : S13 labels) where
   abbrev set_of_copies : List LabelData → Labels
   set_of_copies own = set.from_list (map as_taken (missing_labels own))
 
-  -- The list has labels of the source only.
+  -- Each label of the list is one of the source.
   abbrev AreSome : List LabelData → Type 0
   AreSome own = (d : LabelData) → has_own own d ≡ true → set.contains labels (owned_label source d) ≡ true
 
@@ -239,7 +236,7 @@ module _ (labels : Labels) (source target : ℕ) (s13 : S13 labels) where
       ∙ sym (set.contains-insert labels_total (set.union labels more) g q ∙ ap (λ b. eq_by_cmp label_cmp q g || b)
       (set.contains-union labels_total labels more q)))
 
-  -- A copied label is the copy of a missing name in the list.
+  -- A copied label is the copy of a label in the list that the target lacks.
   built_from : (own : List LabelData) (q : Label) → list_any (eq_by_cmp label_cmp q)
       (map as_taken (missing_labels own)) ≡ true → (d : LabelData) × (lacks_name labels target d ≡ true)
       × (has_own own d ≡ true) × (q ≡ as_taken d)
@@ -275,7 +272,7 @@ module _ (labels : Labels) (source target : ℕ) (s13 : S13 labels) where
     | inr later ↦ after_none x d own each.1 later same
   ]
 
-  -- The union with the copies has one label for each missing name in addition to the old ones.
+  -- The union with the copies has one further label for each label of the list that the target lacks.
   len_built : (own : List LabelData) → IsStrictlySortedBy data_cmp own → AreSome own
       → set.len (set.union labels (set_of_copies own)) ≡ set.len labels + length (missing_labels own)
   unfolding IsStrictlySortedBy
@@ -319,7 +316,7 @@ module _ (labels : Labels) (source target : ℕ) (s13 : S13 labels) where
           ap (λ ys. set.len (set.union labels (set.from_list (map as_taken ys)))) kept ∙ rest
           ∙ ap (λ ys. set.len labels + length ys) (sym kept)
 
-  -- The copies as members of a list.
+  -- Membership among the copies is membership in the list.
   built_any : (own : List LabelData) (q : Label) → list_any (eq_by_cmp label_cmp q)
       (map as_taken (missing_labels own))
       ≡ (eq_by_cmp nat_cmp q.owner target && list_any (λ d. lacks_name labels target d && eq_by_cmp data_cmp
@@ -360,7 +357,7 @@ module _ (labels : Labels) (source target : ℕ) (s13 : S13 labels) where
       (set.contains-from_list labels_total (map as_taken (missing_labels own)) q ∙ built_any own q)
       ∙ sym (union_contains labels source target own are.each q)))
 
--- The set of labels after the target's row is replaced by the one with the missing names of the source.
+-- The set of labels after the target's row is replaced by the merged one is the union with the copies.
 pub union_rows : (old new : BTreeMap ℕ (List LabelData)) (source target : ℕ) (row : List LabelData)
     → IsOrdered nat_cmp old → IsOrdered nat_cmp new → IsRowWritten old new target row → IsMergedRow old source target
     row → labels_in new.entries ≡ set.union (labels_in old.entries)

@@ -47,7 +47,7 @@ module _ {K X : Type 0} (R : K → K → Ordering) (o : IsTotalOrder R) (exact :
   set_of_write_through old new key was now w e = set_of_updates old new key (Some now)
       (w.3 (subst (λ x. IsSome x) e refl))
 
--- Look-ups in a map of maps.
+-- Look-ups in a map of maps, after an inner map is set.
 module _ {K A Q : Type 0} (R : K → K → Ordering) (o : IsTotalOrder R) (exact : (x y : K) → R x y ≡ Equal → x ≡ y)
     (look : A → Q → Option ℕ) where
   abbrev pub nested_lookup : BTreeMap K A → K → Q → Option ℕ
@@ -77,8 +77,6 @@ module _ {K A Q : Type 0} (R : K → K → Ordering) (o : IsTotalOrder R) (exact
             ∙ ap (λ x. nested_lookup old x q) (sym same)
         go (inr differ) = ap (option_and_then (λ a. look a q)) (set.others k differ)
 
--- The maps by text, by language, and by scheme.
-
 abbrev text_cmp : List ℕ → List ℕ → Ordering
 text_cmp = slice_cmp nat_cmp
 
@@ -100,7 +98,7 @@ pub tag_written : (old new : TagIndex) (tag : List ℕ) (was now : TextIndex) �
     old now new → Some was ≡ get text_cmp old tag → IsTagSet old new tag (Some now)
 tag_written = set_of_write_through text_cmp nat_list_cmp_total exact_bytes
 
--- The texts of a language after one of them is set or removed.
+-- Setting or removing a text in the index of a language updates the index of the scheme.
 pub tag_put : (old new : TagIndex) (tag text : List ℕ) (was now : TextIndex) (value : Option ℕ)
     → IsTagSet old new tag (Some now) → ((x : List ℕ) → tag_holder old tag x ≡ text_holder was x)
     → IsTextSet was now text value → IsTagIndexUpdate old new tag text value
@@ -149,8 +147,6 @@ module _ (alloc : Global) (old new : Schemes) (scheme : ℕ) (was now : TagIndex
   scheme_kept same s t x = nested_lookup_after_same nat_cmp nat_cmp_total exact_unsigned
       (λ (tags : TagIndex) (p : List ℕ × List ℕ). tag_holder tags p.0 p.1) old new scheme now set
       (λ p. same p.0 p.1 ∙ sym (before p.0 p.1)) s (t, x)
-
--- Look-ups in an empty map.
 
 pub no_text : (texts : TextIndex) → texts.entries ≡ [] → (x : List ℕ) → text_holder texts x ≡ None
 no_text texts empty x = ap (lookup (is_at (text_cmp x))) empty

@@ -1,4 +1,4 @@
--- Searches, insertions and removals in an owner's sorted list of labels have the expected results.
+-- Searches, insertions and removals in an owner's sorted list of labels.
 use Rattle.std.proofs.Common.{◌≡◌, ◌≢◌, inl, inr, ◌<◌, ◌≤◌, ◌+◌, ℕ, suc, length, List, [], ◌∷◌, refl, sym, ap, ◌∙◌}
 use Rattle.std.proofs.Common.{subst, arith, true, false, not, ◌&&◌, ◌||◌, get_or}
 use Rattle.std.specs.Prelude.{Result, Ok, Err, is_ok}
@@ -29,7 +29,7 @@ use Rattle.thes_base.proofs.LabelSetLemmas.{labels_exact}
 use Rattle.thes_base.proofs.SetMemberLemmas.{then_assoc}
 use Rattle.thes_vocab.specs.OwnLabels.{language_cmp, data_cmp, own_label, has_own, HasOwnPreferred, HasNoOwnPreferred}
 use Rattle.thes_vocab.specs.OwnLabels.{HasTwoOwnPreferred}
-use Rattle.thes_vocab.specs.LabelPlaces.{IsLabelPlace, IsPreferredAt}
+use Rattle.thes_vocab.specs.LabelPositions.{IsLabelPosition, IsPreferredAt}
 use Rattle.thes_lists.proofs.OrderLemmas.{sorted_by_index, insert_missing, insert_found, insert_sorted, remove_found}
 use Rattle.thes_lists.proofs.OrderLemmas.{remove_missing, remove_sorted}
 use Rattle.thes_lists.proofs.TestLemmas.{has_found, has_missed, has_insert, has_remove}
@@ -61,59 +61,54 @@ label_data_of_tie x y e = data_exact x y ((Equal-is (data_cmp x y)).0 e)
 pub tie_of_label_data : (x y : LabelData) → x ≡ y → eq_by_cmp data_cmp x y ≡ true
 tie_of_label_data x y e = ap (λ z. eq_by_cmp data_cmp x z) (sym e) ∙ ap is_eq (tied_itself data_total x)
 
--- The result of a binary search is the index of the label, or the one at which it would be inserted.
+-- A binary search returns the index of the label, or the index at which it would be inserted.
 pub place_of_search : (own : List LabelData) (l : LabelData) (r : Result ℕ ℕ) → IsStrictlySortedBy data_cmp own
-    → IsSearchInRange r (length own) → IsBinarySearchResult (λ x. data_cmp x l) own r → IsLabelPlace own l r
+    → IsSearchInRange r (length own) → IsBinarySearchResult (λ x. data_cmp x l) own r → IsLabelPosition own l r
 place_of_search own l (Ok i) sorted bound found = (bound, found)
 place_of_search own l (Err i) sorted bound found = (bound, found (sorted_by_index data_cmp data_total own l sorted))
 
-pub found_is : (own : List LabelData) (l : LabelData) (r : Result ℕ ℕ) → IsLabelPlace own l r → is_ok r ≡ has_own own l
+pub found_is : (own : List LabelData) (l : LabelData) (r : Result ℕ ℕ) → IsLabelPosition own l r
+    → is_ok r ≡ has_own own l
 found_is own l (Ok i) at = sym (has_found data_cmp data_total own i l at.0 at.1)
 found_is own l (Err i) at = sym (has_missed data_cmp data_total own i l at.1 at.0)
 
--- Insertion of a label.
-
-pub insert_is : (own : List LabelData) (l : LabelData) (i : ℕ) → IsLabelPlace own l (Err i) → insert own i l
+pub insert_is : (own : List LabelData) (l : LabelData) (i : ℕ) → IsLabelPosition own l (Err i) → insert own i l
     ≡ insert_key data_cmp own l
 insert_is own l i at = insert_missing data_cmp data_total own i l at.0 at.1
 
-pub sorted_insert : (own : List LabelData) (l : LabelData) (i : ℕ) → IsLabelPlace own l (Err i)
+pub sorted_insert : (own : List LabelData) (l : LabelData) (i : ℕ) → IsLabelPosition own l (Err i)
     → IsStrictlySortedBy data_cmp own → IsStrictlySortedBy data_cmp (insert own i l)
 sorted_insert own l i at sorted = subst (IsStrictlySortedBy data_cmp) (sym (insert_is own l i at))
     (insert_sorted data_cmp data_total own l sorted)
 
-pub has_inserted : (own : List LabelData) (l : LabelData) (i : ℕ) → IsLabelPlace own l (Err i) → (q : LabelData)
+pub has_inserted : (own : List LabelData) (l : LabelData) (i : ℕ) → IsLabelPosition own l (Err i) → (q : LabelData)
     → has_own (insert own i l) q ≡ (eq_by_cmp data_cmp q l || has_own own q)
 has_inserted own l i at q = ap (λ xs. has_own xs q) (insert_is own l i at) ∙ has_insert data_cmp data_total own l q
 
 -- Inserting a label that is in the list changes no member.
 pub has_again : (own : List LabelData) (l : LabelData) (i : ℕ) → IsStrictlySortedBy data_cmp own
-    → IsLabelPlace own l (Ok i) → (q : LabelData) → has_own own q ≡ (eq_by_cmp data_cmp q l || has_own own q)
+    → IsLabelPosition own l (Ok i) → (q : LabelData) → has_own own q ≡ (eq_by_cmp data_cmp q l || has_own own q)
 has_again own l i sorted at q =
     ap (λ xs. has_own xs q) (sym (insert_found data_cmp data_total own i l at.0 sorted at.1))
     ∙ has_insert data_cmp data_total own l q
 
--- Removal of a label.
-
 pub remove_is : (own : List LabelData) (l : LabelData) (r : Result ℕ ℕ) → IsStrictlySortedBy data_cmp own
-    → IsLabelPlace own l r → elim r [ Ok i ↦ remove own i | Err i ↦ own ] ≡ remove_key (is_at (data_cmp l)) own
+    → IsLabelPosition own l r → elim r [ Ok i ↦ remove own i | Err i ↦ own ] ≡ remove_key (is_at (data_cmp l)) own
 remove_is own l (Ok i) sorted at = remove_found data_cmp data_total own i l at.0 sorted at.1
 remove_is own l (Err i) sorted at = sym (remove_missing data_cmp data_total own i l at.1)
 
-pub sorted_remove : (own : List LabelData) (l : LabelData) (i : ℕ) → IsLabelPlace own l (Ok i)
+pub sorted_remove : (own : List LabelData) (l : LabelData) (i : ℕ) → IsLabelPosition own l (Ok i)
     → IsStrictlySortedBy data_cmp own → IsStrictlySortedBy data_cmp (remove own i)
 sorted_remove own l i at sorted = subst (IsStrictlySortedBy data_cmp) (sym (remove_is own l (Ok i) sorted at))
     (remove_sorted data_cmp data_total own (is_at (data_cmp l)) sorted)
 
 pub has_removed : (own : List LabelData) (l : LabelData) (r : Result ℕ ℕ) → IsStrictlySortedBy data_cmp own
-    → IsLabelPlace own l r → (q : LabelData) → has_own (elim r [ Ok i ↦ remove own i | Err i ↦ own ]) q
+    → IsLabelPosition own l r → (q : LabelData) → has_own (elim r [ Ok i ↦ remove own i | Err i ↦ own ]) q
     ≡ (not (eq_by_cmp data_cmp q l) && has_own own q)
 has_removed own l r sorted at q = ap (λ xs. has_own xs q) (remove_is own l r sorted at)
     ∙ has_remove data_cmp data_total own l q sorted
 
--- Preferred labels in the list.
-
--- The languages of a kind ascend along the list.
+-- The languages of labels of one kind ascend along the list.
 language_rises : (r s : Ordering) → ordering_then r s ≡ Less → is_lt (ordering_reverse r) ≡ false
 language_rises Less s e = refl
 language_rises Equal s e = refl
@@ -128,7 +123,7 @@ same_language x y e =
 abbrev preferred_ord : List ℕ → LabelData → Ordering
 preferred_ord tag l = language_cmp l (own_label Pref tag [])
 
--- The result of a binary search by kind and language is a preferred label in the language, if there is one.
+-- A binary search by kind and language returns the index of a preferred label in the language, if there is one.
 pub preferred_searched : (own : List LabelData) (tag : List ℕ) (r : Result ℕ ℕ) → IsStrictlySortedBy data_cmp own
     → IsSearchInRange r (length own) → IsBinarySearchResult (preferred_ord tag) own r
     → MatchResult r (IsPreferredAt own tag) (λ _. HasNoOwnPreferred own tag)
@@ -163,7 +158,7 @@ preferred_searched own tag (Err i) sorted bound found = λ text has. go text has
           | inr from ↦ (let g = p.1 k d from b in cc)
         ]) has
 
--- A preferred label at an index is a member.
+-- A preferred label at an index is a member of the list.
 pub preferred_at : (own : List LabelData) (tag text : List ℕ) (place : ℕ) (l : LabelData)
     → IsPreferredAt own tag place → get_or own place l ≡ l → l.text ≡ text → HasOwnPreferred own tag text
 preferred_at own tag text place l at is e =
@@ -195,7 +190,7 @@ has_later x y xs e = ap (λ b. eq_by_cmp data_cmp y x || b) e ∙ or-true (eq_by
 as_preferred : (l : LabelData) → l.kind ≡ Pref → l ≡ own_label Pref l.tag l.text
 as_preferred l e i = record { kind = e i; tag = l.tag; text = l.text }
 
--- If the second label is a preferred one, so is the first.
+-- If the second label of a sorted list is preferred, the list has two preferred labels.
 pub two_first : (x y : LabelData) (xs : List LabelData) → IsStrictlySortedBy data_cmp (x ∷ y ∷ xs) → y.kind ≡ Pref
     → HasTwoOwnPreferred (x ∷ y ∷ xs)
 unfolding IsStrictlySortedBy
@@ -214,7 +209,7 @@ two_first x y xs sorted is = record {
     first : x.kind ≡ Pref
     first = kind_before x.kind y.kind _ _ sorted.0.0 is
 
--- If a sorted list has a preferred label, its first label is one.
+-- If a sorted list has a preferred label, its first label is preferred.
 preferred_in_rest : (y : LabelData) (xs : List LabelData) (tag text : List ℕ) → IsStrictlySortedBy data_cmp (y ∷ xs)
     → HasOwnPreferred (y ∷ xs) tag text → y.kind ≡ Pref
 unfolding IsStrictlySortedBy
@@ -258,7 +253,7 @@ pub found_option : (P : ℕ → Type 0) (Q : Type 0) (r : Result ℕ ℕ) → Ma
 found_option P Q (Ok i) h = h
 found_option P Q (Err i) h = h
 
--- The list has two preferred labels exactly when its second label is a preferred one.
+-- A list with at most one label doesn't have two preferred ones.
 pub two_of_none : (own : List LabelData) → length own ≤ 1 → HasTwoOwnPreferred own → ⊥
 two_of_none [] short two = not_two_of_none two
 two_of_none (x ∷ []) short two = not_two_of_one x two

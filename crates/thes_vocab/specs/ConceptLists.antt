@@ -1,4 +1,4 @@
--- The index of live concepts by scheme, and its changes; without a scheme nothing changes.
+-- The index of live concepts by scheme, and its changes. Without a scheme nothing changes.
 use Rattle.std.specs.Prelude.{ℕ, Option, None, Some}
 use Rattle.std.specs.Ordering.{nat_cmp}
 use Rattle.std.specs.BTreeMap.{is_at}
@@ -7,18 +7,18 @@ use Rattle.std.specs.Set.{remove_key}
 use Rattle.thes_lists.specs.declared.lists.Lists.{Lists}
 use Rattle.thes_lists.specs.Lists.{listed_at, HasSpare, HaveSameValues, ChangesOnlyAt}
 
--- The scheme's list can get another number without allocating.
+-- The scheme's list has room for one more number without allocating; without a scheme there is no condition.
 abbrev pub HasRoomIn : Lists ℕ → Option ℕ → Type 0
 HasRoomIn concepts None = Unit {0}
 HasRoomIn concepts (Some scheme) = HasSpare concepts scheme
 
--- The scheme's list gets the number.
+-- The new index is the old one with the number inserted in the scheme's list.
 abbrev pub ConceptListsAfterInsert : Lists ℕ → Lists ℕ → Option ℕ → ℕ → Type 0
 ConceptListsAfterInsert old new None n = HaveSameValues old new
 ConceptListsAfterInsert old new (Some scheme) n =
     ChangesOnlyAt old new scheme (insert_key nat_cmp (listed_at old scheme) n)
 
--- The scheme's list loses the number.
+-- The new index is the old one without the number in the scheme's list.
 abbrev pub ConceptListsAfterRemove : Lists ℕ → Lists ℕ → Option ℕ → ℕ → Type 0
 ConceptListsAfterRemove old new None n = HaveSameValues old new
 ConceptListsAfterRemove old new (Some scheme) n =

@@ -4,19 +4,19 @@ use Rattle.std.specs.Ordering.{nat_cmp}
 use Rattle.thes_base.specs.declared.data.Resource.{Resource}
 use Rattle.thes_base.specs.Resources.{Iris}
 use Rattle.thes_base.specs.Labels.{Labels}
-use Rattle.thes_base.specs.Legal.{LegalResources, LegalLabels}
+use Rattle.thes_base.specs.Legal.{AreLegalResources, AreLegalLabels}
 use Rattle.thes_vocab.specs.Vocabulary.{IsConceptOf, IsHolder}
 use Rattle.thes_vocab.specs.NameIndex.{holder_in}
 use Rattle.thes_vocab.specs.declared.names.Names.{Names}
 use Rattle.thes_lists.specs.declared.lists.Lists.{Lists}
 use Rattle.thes_lists.specs.Lists.{AreListings}
 
--- Resources, IRIs and labels are legal, and both indexes are complete: the holder of each preferred label, and the
--- live concepts of each scheme.
+-- The invariant of a vocabulary: resources, IRIs and labels are legal, and both indexes have all their entries: the
+-- holder of each preferred label of a live concept, and the live concepts of each scheme.
 pub record IsConsistentVocabulary (base : List ℕ) (resources : List Resource) (iris : Iris) (labels : Labels)
     (names : Names) (concepts : Lists ℕ) : Type 0 where
-  pub legal : LegalResources base resources iris
-  pub named : LegalLabels resources labels
+  pub legal : AreLegalResources base resources iris
+  pub named : AreLegalLabels resources labels
   pub found : (scheme n : ℕ) (tag text : List ℕ) → IsHolder resources labels scheme tag text n →
       holder_in names scheme tag text ≡ Some n
   pub listed : AreListings nat_cmp (IsConceptOf resources) concepts

@@ -10,12 +10,12 @@ use Rattle.thes_base.specs.Machine.{owned_label}
 use Rattle.thes_vocab.specs.OwnLabels.{data_cmp, has_own}
 use Rattle.thes_vocab.specs.CopiedLabels.{copies_label}
 
--- All labels of the rows, with their owners.
+-- The labels of all rows, each with its owner.
 abbrev pub all_owned : List (ℕ × List LabelData) → List Label
 all_owned [] = []
 all_owned (row ∷ rows) = map (owned_label row.0) row.1 ++ all_owned rows
 
--- The set of all labels of the rows.
+-- The labels of all rows, as a set.
 abbrev pub labels_in : List (ℕ × List LabelData) → Labels
 labels_in rows = set.from_list (all_owned rows)
 
@@ -27,7 +27,7 @@ owner_row rows owner = unwrap_or (get nat_cmp rows owner) []
 abbrev pub IsRowOfOwner : Labels → ℕ → List LabelData → Type 0
 IsRowOfOwner labels owner row = (l : LabelData) → has_own row l ≡ set.contains labels (owned_label owner l)
 
--- The owner has no labels.
+-- The owner has no labels in the set.
 abbrev pub HasNoLabels : Labels → ℕ → Type 0
 HasNoLabels labels owner = (l : LabelData) → set.contains labels (owned_label owner l) ≡ false
 
@@ -42,13 +42,13 @@ RowsAfterRemove old new owner l = (n : ℕ) (q : LabelData) →
     has_own (owner_row new n) q
     ≡ (not (eq_by_cmp nat_cmp n owner && eq_by_cmp data_cmp q l) && has_own (owner_row old n) q)
 
--- The row is the target's, with the missing names of the source.
+-- The row has the target's labels, and copies of the lexical labels of the source that the target lacks.
 abbrev pub IsMergedRow : BTreeMap ℕ (List LabelData) → ℕ → ℕ → List LabelData → Type 0
 IsMergedRow rows source target row = (l : LabelData) →
     has_own row l ≡ (has_own (owner_row rows target) l || copies_label (owner_row rows source) (owner_row rows target)
     l)
 
--- Each owner has the same row in both.
+-- Each owner has the same row in both maps.
 abbrev pub AreSameLabelRows : BTreeMap ℕ (List LabelData) → BTreeMap ℕ (List LabelData) → Type 0
 AreSameLabelRows old new = (n : ℕ) → owner_row new n ≡ owner_row old n
 

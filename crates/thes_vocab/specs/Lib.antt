@@ -2,7 +2,7 @@ pub mod Vocabulary
 pub mod NewResources
 pub mod Rivals
 pub mod OwnLabels
-pub mod LabelPlaces
+pub mod LabelPositions
 pub mod CopiedLabels
 pub mod LabelRows
 pub mod NameIndex

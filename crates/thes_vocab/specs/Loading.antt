@@ -36,13 +36,14 @@ pub record AreLabelsSoFar (resources : List Resource) (labels : Labels) : Type 0
   pub one_preferred : S14 labels
   pub unique : UniquePreferred resources labels
 
--- The index has the holder of each preferred label.
+-- The index has the holder of each preferred label of a live concept.
 abbrev pub AreHoldersIndexed : List Resource → Labels → Names → Type 0
 AreHoldersIndexed resources labels names =
     (scheme n : ℕ) (tag text : List ℕ) → IsHolder resources labels scheme tag text n
     → holder_in names scheme tag text ≡ Some n
 
--- The invariant of a vocabulary that is being loaded.
+-- The invariant of a vocabulary that is being loaded: legal resources, legal IRIs and labels so far, and complete
+-- indexes.
 pub record IsLoading (base : List ℕ) (resources : List Resource) (iris : Iris) (labels : Labels)
     (names : Names) (concepts : Lists ℕ) : Type 0 where
   pub sound : AreSound resources
@@ -55,22 +56,22 @@ pub record IsLoading (base : List ℕ) (resources : List Resource) (iris : Iris)
 abbrev pub bare_vocabulary : List ℕ → List Resource → Vocabulary
 bare_vocabulary base resources = record { base = base; resources = resources; iris = dict.empty; labels = set.empty }
 
--- The vocabulary with the IRI of an outside concept added.
+-- The vocabulary after the IRI of an outside concept is added.
 abbrev pub with_iri : Vocabulary → ℕ → List ℕ → Vocabulary
 with_iri v n iri = record { base = v.base; resources = v.resources; iris = dict.insert v.iris n iri; labels = v.labels }
 
--- The number is an outside concept's without an IRI, and the IRI is new and doesn't begin with the base.
+-- The number is that of an outside concept without an IRI, and the IRI is new and doesn't begin with the base.
 pub record IsFreeIri (base : List ℕ) (resources : List Resource) (iris : Iris) (n : ℕ) (iri : List ℕ) : Type 0 where
   pub outside : IsOutside resources n
   pub number : dict.get iris n ≡ None
   pub free : (m : ℕ) → dict.get iris m ≢ Some iri
   pub foreign : BeginsWith iri base → ⊥
 
--- The vocabulary may get the IRI for the number.
+-- The IRI may be loaded under the number.
 abbrev pub MayLoadIri : Vocabulary → ℕ → List ℕ → Type 0
 MayLoadIri v n iri = IsFreeIri v.base v.resources v.iris n iri
 
--- With true, the IRI was allowed and is added; with false, it wasn't allowed and nothing changes.
+-- The result of loading an IRI: true if it is allowed and was added, false if it isn't allowed and nothing changed.
 abbrev pub LoadIriResult : Vocabulary → Vocabulary → ℕ → List ℕ → Bool → Type 0
 LoadIriResult old new n iri true = MayLoadIri old n iri × (new ≡ with_iri old n iri)
 LoadIriResult old new n iri false = (MayLoadIri old n iri → ⊥) × (new ≡ old)
@@ -83,7 +84,8 @@ HasIri iris n = (iri : List ℕ) × (dict.get iris n ≡ Some iri)
 abbrev pub HaveIris : Vocabulary → Type 0
 HaveIris v = (n : ℕ) → IsOutside v.resources n → HasIri v.iris n
 
--- The label's owner can have labels and lacks this one, and the labels meet SKOS S13 and S14 with it.
+-- The label's owner can have labels and lacks this one, and with it the labels meet SKOS S13 and S14, and preferred
+-- labels stay unique in each scheme.
 pub record MayLoadLabel (v : Vocabulary) (l : Label) : Type 0 where
   pub owner : CanOwn v.resources l.owner
   pub new : set.contains v.labels l ≡ false
@@ -91,12 +93,13 @@ pub record MayLoadLabel (v : Vocabulary) (l : Label) : Type 0 where
   pub one_preferred : S14 (set.insert v.labels l)
   pub unique : UniquePreferred v.resources (set.insert v.labels l)
 
--- With true, the label was allowed and is added; with false, it wasn't allowed and nothing changes.
+-- The result of loading a label: true if it is allowed and was added, false if it isn't allowed and nothing changed.
 abbrev pub LoadLabelResult : Vocabulary → Vocabulary → Label → Bool → Type 0
 LoadLabelResult old new l true = MayLoadLabel old l × (new ≡ with_labels old (set.insert old.labels l))
 LoadLabelResult old new l false = (MayLoadLabel old l → ⊥) × (new ≡ old)
 
--- The same condition in terms of look-ups.
+-- The label may be loaded, stated by look-ups of its owner and its text; equivalent to MayLoadLabel if the labels so
+-- far are legal.
 pub record IsFreeLabel (resources : List Resource) (labels : Labels) (l : Label) : Type 0 where
   pub owner : CanOwn resources l.owner
   pub new : set.contains labels l ≡ false
@@ -104,10 +107,10 @@ pub record IsFreeLabel (resources : List Resource) (labels : Labels) (l : Label)
   pub preferred : (l.kind ≡ Pref) × ((text : List ℕ) × HasLabel labels l.owner Pref l.tag text) → ⊥
   pub rival : (l.kind ≡ Pref) × HasRival resources labels l.owner l.tag l.text → ⊥
 
--- The owners up to `most` have preferred labels.
+-- Each scheme, concept and collection with a number up to `most` has a preferred label.
 abbrev pub HavePreferredUpTo : ℕ → List Resource → Labels → Type 0
 HavePreferredUpTo most resources labels = (n : ℕ) → n ≤ most → CanOwn resources n → HasPreferred labels n
 
--- The outside concepts up to `most` have IRIs.
+-- Each outside concept with a number up to `most` has an IRI.
 abbrev pub HaveIrisUpTo : ℕ → List Resource → Iris → Type 0
 HaveIrisUpTo most resources iris = (n : ℕ) → n ≤ most → IsOutside resources n → HasIri iris n

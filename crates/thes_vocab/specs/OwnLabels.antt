@@ -12,22 +12,23 @@ use Rattle.thes_base.specs.Data.{LabelData}
 use Rattle.thes_base.specs.Labels.{Labels, label_kind_no}
 use Rattle.thes_base.specs.Machine.{owned_label}
 
--- The order of labels by kind and language.
+-- The order of labels by kind, and then by language.
 abbrev pub language_cmp : LabelData → LabelData → Ordering
 language_cmp x y = ordering_then (nat_cmp (label_kind_no x.kind) (label_kind_no y.kind)) (slice_cmp nat_cmp x.tag y.tag)
 
--- The order of labels by kind, language and text.
+-- The order of labels by kind, then by language, then by text.
 abbrev pub data_cmp : LabelData → LabelData → Ordering
 data_cmp x y = ordering_then (language_cmp x y) (slice_cmp nat_cmp x.text y.text)
 
+-- A label without its owner, of a kind, a language and a text.
 abbrev pub own_label : LabelKind → List ℕ → List ℕ → LabelData
 own_label kind tag text = record { kind = kind; tag = tag; text = text }
 
--- Whether the label is in the list.
+-- The test of whether the label is in the list.
 abbrev pub has_own : List LabelData → LabelData → Bool
 has_own own l = list_any (eq_by_cmp data_cmp l) own
 
--- The list has this preferred label.
+-- The list has the text as a preferred label in the language.
 abbrev pub HasOwnPreferred : List LabelData → List ℕ → List ℕ → Type 0
 HasOwnPreferred own tag text = has_own own (own_label Pref tag text) ≡ true
 
@@ -35,7 +36,7 @@ HasOwnPreferred own tag text = has_own own (own_label Pref tag text) ≡ true
 abbrev pub HasNoOwnPreferred : List LabelData → List ℕ → Type 0
 HasNoOwnPreferred own tag = (text : List ℕ) → HasOwnPreferred own tag text → ⊥
 
--- Two different preferred labels in the list.
+-- The list has two different preferred labels.
 pub record HasTwoOwnPreferred (own : List LabelData) : Type 0 where
   pub first_tag : List ℕ
   pub first_text : List ℕ

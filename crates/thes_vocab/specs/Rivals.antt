@@ -1,4 +1,4 @@
--- Conflicts of a preferred label with other labels.
+-- Conflicts of a preferred label with other labels, of its owner or of its scheme.
 use Rattle.std.specs.Prelude.{◌≡◌, ◌≢◌, ◌⊎◌, ℕ, List, Bool, true, Some}
 use Rattle.thes_base.specs.declared.data.Resource.{Resource}
 use Rattle.thes_base.specs.declared.data.LabelKind.TheVariants.{Pref, Alt, Hidden}
@@ -7,7 +7,7 @@ use Rattle.thes_base.specs.Labels.{Labels, HasLabel}
 use Rattle.thes_base.specs.Changes.{label}
 use Rattle.thes_vocab.specs.Vocabulary.{IsHolder}
 
--- The owner is a live concept, and another one of its scheme has the preferred label.
+-- The owner is a live concept, and another live concept of its scheme has the preferred label.
 pub record HasRival (resources : List Resource) (labels : Labels) (owner : ℕ) (tag text : List ℕ) : Type 0 where
   pub scheme : ℕ
   pub rival : ℕ
@@ -26,8 +26,8 @@ pub record HasTwoPreferred (labels : Labels) (owner : ℕ) : Type 0 where
   pub second : HasLabel labels owner Pref second_tag second_text
   pub apart : label owner Pref first_tag first_text ≢ label owner Pref second_tag second_text
 
--- As the owner's new preferred label in the language, the text would break SKOS S13: it is an alternative or hidden
--- label, or the old preferred label, which is to be kept.
+-- The text, as the owner's new preferred label in the language, would break SKOS S13: it is an alternative or hidden
+-- label of the owner, or the same as the old preferred label, if `keep` is true.
 abbrev pub HasClash : Labels → ℕ → List ℕ → List ℕ → List ℕ → Bool → Type 0
 HasClash labels owner tag text old keep =
     HasLabel labels owner Alt tag text ⊎ HasLabel labels owner Hidden tag text ⊎ ((keep ≡ true) × (old ≡ text))

@@ -17,7 +17,7 @@ pub record Vocabulary : Type 0 where
   pub iris : Iris
   pub labels : Labels
 
--- The vocabulary without resources.
+-- The vocabulary with the base, and without resources.
 abbrev pub empty_vocabulary : List ℕ → Vocabulary
 empty_vocabulary base = record { base = base; resources = []; iris = dict.empty; labels = set.empty }
 
@@ -25,15 +25,15 @@ empty_vocabulary base = record { base = base; resources = []; iris = dict.empty;
 abbrev pub bare_state : Vocabulary → State
 bare_state v = record { resources = v.resources; iris = v.iris; labels = v.labels; links = set.empty; histories = [] }
 
--- The vocabulary of a state.
+-- The vocabulary of a state: its resources, IRIs and labels, with the base.
 abbrev pub vocabulary_of : List ℕ → State → Vocabulary
 vocabulary_of base s = record { base = base; resources = s.resources; iris = s.iris; labels = s.labels }
 
--- The vocabulary with other labels.
+-- The vocabulary after its labels are replaced by these.
 abbrev pub with_labels : Vocabulary → Labels → Vocabulary
 with_labels v labels = record { base = v.base; resources = v.resources; iris = v.iris; labels = labels }
 
--- The vocabulary after a resource is marked as dead.
+-- The vocabulary after a concept is marked as dead, with its replacement if it was merged.
 abbrev pub vocabulary_after_death : Vocabulary → ℕ → Option ℕ → Vocabulary
 vocabulary_after_death v n replaced =
     record {
@@ -44,12 +44,12 @@ vocabulary_after_death v n replaced =
           v.labels;
     }
 
--- The number is a live scheme, concept or collection.
+-- The number is that of a live scheme, concept or collection, which may get labels.
 pub record IsLiveOwner (resources : List Resource) (n : ℕ) : Type 0 where
   pub can : CanOwn resources n
   pub live : IsLive resources n
 
--- A replacement of a concept is another live concept of its scheme, or none.
+-- A replacement for the concept may be recorded: another live concept of its scheme, or none.
 abbrev pub IsReplacement : List Resource → ℕ → Option ℕ → Type 0
 IsReplacement resources n None = Unit {0}
 IsReplacement resources n (Some m) = (m ≢ n) × IsLiveConcept resources m
@@ -59,14 +59,14 @@ IsReplacement resources n (Some m) = (m ≢ n) × IsLiveConcept resources m
 abbrev pub IsConceptIn : ℕ → Resource → Type 0
 IsConceptIn scheme r = ((is_concept_kind r.kind && r.live) ≡ true) × (r.scheme ≡ Some scheme)
 
--- The scheme of a resource, if that is a live concept.
+-- The scheme of a resource that is a live concept; None for other resources.
 abbrev pub concept_scheme : Resource → Option ℕ
 concept_scheme r = if is_concept_kind r.kind && r.live then r.scheme else None
 
--- Number `n` is a live concept of the scheme.
+-- Number `n` is that of a live concept of the scheme.
 abbrev pub IsConceptOf : List Resource → ℕ → ℕ → Type 0
 IsConceptOf resources scheme n = IsLiveConcept resources n × (scheme_of resources n ≡ Some scheme)
 
--- Number `n` is a live concept of the scheme and has this preferred label.
+-- Number `n` is that of a live concept of the scheme that has this preferred label.
 abbrev pub IsHolder : List Resource → Labels → ℕ → List ℕ → List ℕ → ℕ → Type 0
 IsHolder resources labels scheme tag text n = IsConceptOf resources scheme n × HasLabel labels n Pref tag text

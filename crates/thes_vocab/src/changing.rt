@@ -1,5 +1,4 @@
-//! Changes of resources and labels. Each call allocates before it changes anything, so running out
-//! of memory changes nothing.
+//! Changes of resources and labels. A call that runs out of memory leaves the vocabulary unchanged.
 ghost use Rattle.std.specs.Prelude.{◌≡◌, ◌≢◌, ◌<◌, ◌+◌, ◌^◌, ℕ, length, IfOk, OnOk, OnErr, None, Some};
 ghost use Rattle.std.specs.FinMap as dict;
 ghost use Rattle.std.specs.FinSet as set;
@@ -7,7 +6,7 @@ ghost use Rattle.thes_base.specs.RefusalRules.{accepted};
 ghost use Rattle.thes_base.specs.Machine.{owned_label};
 ghost use Rattle.thes_base.specs.Resources.{IsLiveConcept, BeginsWith};
 ghost use Rattle.thes_base.specs.Changes.{state_after_creation, state_after_outside, labels_after_relabel, copied_labels};
-ghost use Rattle.thes_base.specs.Refusals.{unless_label, unless_droppable, unless_relabel};
+ghost use Rattle.thes_base.specs.RuleParts.{unless_new_label, unless_droppable, unless_replaceable_preferred};
 ghost use Rattle.thes_vocab.specs.Vocabulary.{bare_state, vocabulary_of, with_labels, vocabulary_after_death, IsLiveOwner, IsReplacement};
 ghost use Rattle.thes_vocab.specs.CopiedLabels.{lacks_name};
 ghost use Rattle.thes_vocab.specs.NewResources.{unless_new, vocabulary_after_add, IsNewOwner, IsFreeName};
@@ -20,7 +19,7 @@ use thes_base::number::ResNo;
 use thes_base::text::{Iri, Tag, Text};
 
 impl Vocab {
-    /// Adds a resource that passes `check_new`, and returns its number. An `Err` changes nothing.
+    /// Adds a resource that passes `check_new`, and returns its number, the next one.
     pub fn add_resource(&mut self, new: NewResource) -> Result<ResNo, AllocError>
         requires allowed { unless_new self.old new accepted None }
         requires room { length self.old.resources + 1 < 2 ^ 32 }
@@ -52,11 +51,11 @@ impl Vocab {
         }
     }
 
-    /// Adds a label that passes `check_label`. An `Err` changes nothing.
+    /// Adds a copy of a label that passes `check_label`.
     pub fn add_label(&mut self, owner: ResNo, label: &Label) -> Result<(), AllocError>
         requires owner { IsLiveOwner self.old.resources owner }
         requires allowed { let l = owned_label owner label.now in
-            unless_label self.old.labels self.old.resources (set.insert self.old.labels l) l
+            unless_new_label self.old.labels self.old.resources (set.insert self.old.labels l) l
             accepted None }
         ensures ok { OnOk result (self.new ≡
             with_labels self.old (set.insert self.old.labels (owned_label owner label.now))) }
@@ -69,7 +68,7 @@ impl Vocab {
         Ok(())
     }
 
-    /// Removes a label that passes `check_drop`.
+    /// Removes a label that passes `check_drop`; it can't fail.
     pub fn drop_label(&mut self, owner: ResNo, label: &Label)
         requires owner { IsLiveOwner self.old.resources owner }
         requires allowed { unless_droppable self.old.labels
@@ -83,8 +82,8 @@ impl Vocab {
             .remove(owner, label.kind(), &label.tag, label.text());
     }
 
-    /// Replaces a preferred label by one that passes `check_relabel`, and keeps the old one as an
-    /// alternative label if `keep` is true. An `Err` changes nothing.
+    /// Replaces the owner's preferred label in the language by a text that passes `check_relabel`;
+    /// keeps the old one as an alternative label if `keep` is true.
     pub fn relabel(
         &mut self,
         owner: ResNo,
@@ -95,7 +94,8 @@ impl Vocab {
         requires owner { IsLiveOwner self.old.resources owner }
         requires allowed { let after =
             labels_after_relabel owner tag.now text.now keep self.old.labels in
-            unless_relabel self.old.labels self.old.resources after owner tag.now accepted None }
+            unless_replaceable_preferred self.old.labels self.old.resources after owner tag.now
+            accepted None }
         ensures ok { let after = labels_after_relabel owner tag.now text.now keep self.old.labels in
             OnOk result (self.new ≡ with_labels self.old after) }
         ensures err { OnErr result (self.new ≡ self.old) }
@@ -129,8 +129,8 @@ impl Vocab {
         count
     }
 
-    /// Copies the missing names of the source to the target, preferred ones as alternative ones,
-    /// and returns their number. An `Err` changes nothing.
+    /// Copies the lexical labels of the source that the target lacks, preferred ones as alternative
+    /// ones, and returns their number.
     pub fn take_labels(&mut self, source: ResNo, target: ResNo) -> Result<u64, AllocError>
         requires { IsLiveConcept self.old.resources target }
         ensures gained { IfOk result (λ k. set.len self.old.labels + k ≡ set.len self.new.labels) }
@@ -143,8 +143,7 @@ impl Vocab {
         Ok(gained)
     }
 
-    /// Marks a live concept as dead; its replacement is another live concept of its scheme, or
-    /// none.
+    /// Marks a live concept as dead, with its replacement if it was merged; it can't fail.
     pub fn mark_dead(&mut self, n: ResNo, replaced: Option<ResNo>)
         requires concept { IsLiveConcept self.old.resources n }
         requires replacement { IsReplacement self.old.resources n replaced }
@@ -161,7 +160,8 @@ impl Vocab {
         };
     }
 
-    /// Checks whether the label is a name (preferred, alternative or hidden) that the target lacks.
+    /// Checks whether the label is lexical (preferred, alternative or hidden) and the target lacks
+    /// its text in the language.
     pub fn lacks_name(&self, target: ResNo, label: &Label) -> bool
         ensures { result ≡ lacks_name self.now.labels target label.now }
     {
@@ -171,7 +171,7 @@ impl Vocab {
                 .has_lexical_label(target, &label.tag, label.text())
     }
 
-    // Adds a resource with a preferred label that no live concept of its scheme has.
+    // Adds a resource other than an outside concept, with its preferred label.
     fn add_named(&mut self, resource: Resource, tag: Tag, text: Text) -> Result<ResNo, AllocError>
         requires named { IsNewOwner self.old.resources resource }
         requires free { IsFreeName self.old.resources self.old.labels resource tag text }

@@ -1,4 +1,5 @@
-//! Checks of requests on resources and labels, without the limits on their numbers.
+//! Checks of requests on resources and labels. A public check returns the first refusal, or None if
+//! the request passes. The checks don't cover the limits on numbers of resources and labels.
 ghost use Rattle.std.specs.Prelude.{◌≡◌, ◌↔◌, IsTrue, false};
 ghost use Rattle.std.specs.FinSet as set;
 ghost use Rattle.thes_base.specs.declared.data.NewResource.TheVariants as new_resource;
@@ -7,7 +8,7 @@ ghost use Rattle.thes_base.specs.Labels.{S13, S14, UniquePreferred};
 ghost use Rattle.std.specs.Bool.{MatchBool};
 ghost use Rattle.thes_base.specs.Machine.{owned_label};
 ghost use Rattle.thes_base.specs.Changes.{labels_after_relabel};
-ghost use Rattle.thes_base.specs.Refusals.{unless_scheme, unless_foreign, unless_label, unless_droppable, unless_relabel};
+ghost use Rattle.thes_base.specs.RuleParts.{unless_scheme, unless_new_foreign_iri, unless_new_label, unless_droppable, unless_replaceable_preferred};
 ghost use Rattle.thes_vocab.specs.Vocabulary.{IsLiveOwner};
 ghost use Rattle.thes_vocab.specs.NewResources.{unless_new};
 ghost use Rattle.thes_vocab.specs.Rivals.{HasRival};
@@ -19,7 +20,8 @@ use thes_base::number::ResNo;
 use thes_base::text::{Iri, Tag, Text};
 
 impl Vocab {
-    /// Checks whether a resource may be added.
+    /// Checks whether the resource may be added: a scheme always, any other resource if
+    /// `check_concept`, `check_collection` or `check_outside` allows it.
     pub fn check_new(&self, new: &NewResource) -> Option<Refusal>
         ensures { unless_new self.now new.now accepted result }
     {
@@ -31,7 +33,8 @@ impl Vocab {
         }
     }
 
-    /// Checks whether a concept with this preferred label may be added to the scheme.
+    /// Checks whether a concept with this preferred label may be added: whether its scheme exists,
+    /// and no live concept of the scheme has the label.
     pub fn check_concept(&self, scheme: ResNo, tag: &Tag, text: &Text) -> Option<Refusal>
         ensures { unless_new self.now
             (new_resource.Concept scheme tag.now text.now) accepted result }
@@ -48,7 +51,7 @@ impl Vocab {
         None
     }
 
-    /// Checks whether a collection may be added to the scheme.
+    /// Checks whether a collection may be added: whether its scheme exists.
     pub fn check_collection(&self, scheme: ResNo) -> Option<Refusal>
         ensures { unless_scheme self.now.resources scheme accepted result }
     {
@@ -61,9 +64,10 @@ impl Vocab {
         None
     }
 
-    /// Checks whether an outside concept with this IRI may be added.
+    /// Checks whether an outside concept may be registered: whether its IRI is new, and doesn't
+    /// begin with the base.
     pub fn check_outside(&self, iri: &Iri) -> Option<Refusal>
-        ensures { unless_foreign self.now.base self.now.iris iri.now accepted result }
+        ensures { unless_new_foreign_iri self.now.base self.now.iris iri.now accepted result }
     {
         if iri.as_str().starts_with(self.base.as_str()) {
             return Some(Refusal::WrongKind);
@@ -72,11 +76,12 @@ impl Vocab {
         Some(Refusal::OutsideKnown(known.get()))
     }
 
-    /// Checks whether a label may be added to a live owner.
+    /// Checks whether the label may be added to a live owner: whether it is new, and breaks none of
+    /// S13, S14 and the uniqueness of preferred labels.
     pub fn check_label(&self, owner: ResNo, label: &Label) -> Option<Refusal>
         requires { IsLiveOwner self.now.resources owner }
         ensures { let l = owned_label owner label.now in
-            unless_label self.now.labels self.now.resources
+            unless_new_label self.now.labels self.now.resources
             (set.insert self.now.labels l) l accepted result }
     {
         if self
@@ -97,8 +102,8 @@ impl Vocab {
         None
     }
 
-    // Checks whether a new label would break SKOS S13: its owner would have the text under two
-    // kinds.
+    // Checks whether a new label would break SKOS S13, since its owner would have the text under
+    // two lexical kinds.
     fn breaks_s13(&self, owner: ResNo, label: &Label) -> bool
         requires { set.contains self.now.labels (owned_label owner label.now) ≡ false }
         ensures { let after = set.insert self.now.labels (owned_label owner label.now) in
@@ -110,8 +115,8 @@ impl Vocab {
                 .has_lexical_label(owner, &label.tag, label.text())
     }
 
-    // Checks whether a new label would break SKOS S14: its owner would have two preferred labels in
-    // a language.
+    // Checks whether a new label would break SKOS S14, since its owner would have two preferred
+    // labels in a language.
     fn breaks_s14(&self, owner: ResNo, label: &Label) -> bool
         requires { set.contains self.now.labels (owned_label owner label.now) ≡ false }
         ensures { let after = set.insert self.now.labels (owned_label owner label.now) in
@@ -133,7 +138,8 @@ impl Vocab {
         }
     }
 
-    /// Checks whether a label of a live owner may be removed.
+    /// Checks whether a label may be removed from a live owner: whether it is there, and isn't the
+    /// last preferred one.
     pub fn check_drop(&self, owner: ResNo, label: &Label) -> Option<Refusal>
         requires { IsLiveOwner self.now.resources owner }
         ensures { unless_droppable self.now.labels (owned_label owner label.now) accepted result }
@@ -150,11 +156,14 @@ impl Vocab {
         None
     }
 
-    /// Checks whether the text may replace the preferred label of a live owner in the language.
+    /// Checks whether the text may replace the live owner's preferred label in the language:
+    /// whether there is one, and the text breaks neither S13 nor the uniqueness of preferred
+    /// labels.
     pub fn check_relabel(&self, owner: ResNo, tag: &Tag, text: &Text, keep: bool) -> Option<Refusal>
         requires { IsLiveOwner self.now.resources owner }
         ensures { let after = labels_after_relabel owner tag.now text.now keep self.now.labels in
-            unless_relabel self.now.labels self.now.resources after owner tag.now accepted result }
+            unless_replaceable_preferred self.now.labels self.now.resources after owner tag.now
+            accepted result }
     {
         let Some(old) = self.labels.preferred(owner, tag) else {
             return Some(Refusal::NoSuchLabel);
@@ -168,8 +177,8 @@ impl Vocab {
         None
     }
 
-    // Checks whether the owner is a live concept and another one of its scheme has the preferred
-    // label.
+    // Checks whether the owner is a live concept, and another live concept of its scheme has the
+    // preferred label.
     fn has_rival(&self, owner: ResNo, tag: &Tag, text: &Text) -> bool
         ensures { IsTrue result
             ↔ HasRival self.now.resources self.now.labels owner tag.now text.now }

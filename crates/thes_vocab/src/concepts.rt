@@ -1,4 +1,4 @@
-// The index of live concepts by scheme.
+// The index of live concepts: a sorted list of their numbers for each scheme.
 ghost use Rattle.std.specs.Prelude.{OnOk};
 ghost use Rattle.std.specs.Ordering.{nat_cmp};
 ghost use Rattle.thes_lists.specs.Lists.{HaveSameValues, AreAllRising};
@@ -11,7 +11,8 @@ use thes_base::data::Resource;
 use thes_base::number::ResNo;
 use thes_lists::Lists;
 
-// Reserves memory for the resource in its scheme's list, if it is a live concept.
+// Reserves room for the resource in the list of its scheme, so that `insert` can't fail; does
+// nothing if the resource isn't a live concept.
 pub(crate) fn make_room(concepts: &mut Lists<ResNo>, resource: &Resource) -> Result<(), AllocError>
     ensures same { HaveSameValues concepts.old concepts.new }
     ensures room { OnOk result (HasRoomIn concepts.new (concept_scheme resource.now)) }
@@ -22,7 +23,8 @@ pub(crate) fn make_room(concepts: &mut Lists<ResNo>, resource: &Resource) -> Res
     }
 }
 
-// Adds the resource to its scheme's list, if it is a live concept.
+// Inserts the resource's number `n` in the list of its scheme; does nothing if the resource isn't a
+// live concept.
 pub(crate) fn insert(concepts: &mut Lists<ResNo>, resource: &Resource, n: ResNo)
     requires room { HasRoomIn concepts.old (concept_scheme resource.now) }
     requires rise { AreAllRising nat_cmp concepts.old }
@@ -34,7 +36,7 @@ pub(crate) fn insert(concepts: &mut Lists<ResNo>, resource: &Resource, n: ResNo)
     }
 }
 
-// Removes a concept from its scheme's list, if it has a scheme.
+// Removes a concept's number from the list of its scheme; changes nothing without a scheme.
 pub(crate) fn remove(concepts: &mut Lists<ResNo>, scheme: Option<ResNo>, n: ResNo)
     requires { AreAllRising nat_cmp concepts.old }
     ensures { ConceptListsAfterRemove concepts.old concepts.new scheme n }

@@ -1,4 +1,4 @@
-//! Chains of replacements of concepts.
+//! Chains of replacements, along which postings to merged concepts are forwarded.
 ghost use Rattle.std.specs.Prelude.{◌≡◌, length, IfOk};
 ghost use Rattle.thes_base.specs.Resources.{replacement_of, replacements};
 ghost use Rattle.thes_base.specs.Postings.{path_end};
@@ -7,7 +7,7 @@ use crate::vocab::Vocab;
 use std::alloc::{AllocError, Global};
 use thes_base::number::ResNo;
 
-/// The end of a concept's chain of replacements.
+/// The concept at which a concept's chain of replacements ends, and the length of the chain.
 #[derive(Clone, Copy)]
 pub struct Forwarding {
     /// The last replacement, or the concept itself if it has none.
@@ -17,7 +17,7 @@ pub struct Forwarding {
 }
 
 impl Vocab {
-    /// Follows the replacements of a concept to the end of the chain.
+    /// Returns the end and the length of a concept's chain of replacements.
     pub fn forwarding(&self, concept: ResNo) -> Forwarding
         ensures place { result.place ≡ path_end concept (replacements self.now.resources concept) }
         ensures steps { result.steps ≡ length (replacements self.now.resources concept) }
@@ -36,8 +36,7 @@ impl Vocab {
         }
     }
 
-    /// Returns the chain of replacements of a concept: its replacement, the replacement of that,
-    /// and so on.
+    /// Returns the chain of replacements of a concept in order, without the concept itself.
     pub fn replacements(&self, alloc: Global, concept: ResNo) -> Result<Vec<ResNo>, AllocError>
         ensures { IfOk result (λ way. way.items ≡ replacements self.now.resources concept) }
     {
@@ -55,7 +54,7 @@ impl Vocab {
         Ok(way)
     }
 
-    // Returns the replacement of a resource.
+    // Returns the concept by which the resource was replaced, if it was.
     fn replacement(&self, n: ResNo) -> Option<ResNo>
         ensures { result ≡ replacement_of self.now.resources n }
     {

@@ -8,7 +8,8 @@ use std::marker::Model;
 use thes_base::number::ResNo;
 use thes_base::text::Iri;
 
-// A one-to-one map between the numbers of outside concepts and their IRIs.
+// A one-to-one map between the numbers of outside concepts and their IRIs, with a look-up in each
+// direction.
 #[derive(Drop)]
 pub(crate) struct IriTable {
     alloc: Global,
@@ -33,7 +34,7 @@ impl Model for IriTable {
 }
 
 impl IriTable {
-    // Creates an empty table.
+    // Creates an empty map without allocating.
     pub(crate) fn new(alloc: Global) -> IriTable
         ensures { result ≡ dict.empty }
     {
@@ -44,14 +45,14 @@ impl IriTable {
         }
     }
 
-    // Returns the IRI of an outside concept.
+    // Returns the IRI of an outside concept by its number; None if the map has none.
     pub(crate) fn iri(&self, n: ResNo) -> Option<&Iri>
         ensures { option_copied result ≡ dict.get self.now n }
     {
         self.iris.get(&n)
     }
 
-    // Returns the number of the outside concept with this IRI.
+    // Returns the number of the outside concept that has the IRI.
     pub(crate) fn number(&self, iri: &Iri) -> Option<ResNo>
         ensures { MatchOption result ((n : ℕ) → dict.get self.now n ≢ Some iri.now)
             (λ n. dict.get self.now n ≡ Some iri.now) }
@@ -59,7 +60,7 @@ impl IriTable {
         self.numbers.get(iri).copied()
     }
 
-    // Inserts an IRI under a number; both must be new. An `Err` changes nothing.
+    // Inserts an IRI under a number, both of them new, in both directions or in neither.
     pub(crate) fn insert(&mut self, n: ResNo, iri: Iri) -> Result<(), AllocError>
         requires number { dict.get self.old n ≡ None }
         requires iri { (m : ℕ) → dict.get self.old m ≢ Some iri }

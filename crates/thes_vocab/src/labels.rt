@@ -1,4 +1,4 @@
-// The labels of all owners.
+// The labels of all owners, in a row for each owner.
 ghost use Rattle.std.specs.Prelude.{◌≡◌, ◌≢◌, ◌↔◌, ◌+◌, false, IsTrue, ℕ, List, IfOk, OnOk, OnErr, not, MatchOption};
 ghost use Rattle.std.specs.FinSet as set;
 ghost use Rattle.thes_base.specs.declared.data.LabelKind.TheVariants.{Pref, Alt};
@@ -20,7 +20,7 @@ use thes_base::data::{Label, LabelKind, LabelValue};
 use thes_base::number::ResNo;
 use thes_base::text::{Tag, Text};
 
-// A set of labels, stored by owner.
+// A set of labels, stored as a sorted row for each owner, with the number of all labels.
 #[derive(Drop)]
 pub(crate) struct LabelTable {
     alloc: Global,
@@ -45,7 +45,7 @@ impl Model for LabelTable {
 }
 
 impl LabelTable {
-    // Creates an empty table.
+    // Creates an empty set without allocating.
     pub(crate) fn new(alloc: Global) -> LabelTable
         ensures { result ≡ set.empty }
     {
@@ -56,14 +56,14 @@ impl LabelTable {
         }
     }
 
-    // Returns the number of labels.
+    // Returns the number of labels and notes of all owners.
     pub(crate) fn len(&self) -> u64
         ensures { result ≡ set.len self.now }
     {
         self.count
     }
 
-    // Returns the owner's row, if there is one.
+    // Returns the owner's row; an owner without labels may have none.
     fn row(&self, owner: ResNo) -> Option<&OwnerRow>
         ensures { MatchOption result (HasNoLabels self.now owner)
             (λ row. IsRowOfOwner self.now owner row.now) }
@@ -81,6 +81,7 @@ impl LabelTable {
         }
     }
 
+    // Checks whether the owner has the label of this kind, language and text.
     pub(crate) fn contains(&self, owner: ResNo, kind: LabelKind, tag: &Tag, text: &str) -> bool
         ensures { result ≡ set.contains self.now (label owner kind tag.now text.now) }
     {
@@ -101,7 +102,7 @@ impl LabelTable {
         }
     }
 
-    // Returns a preferred label of the owner in the language.
+    // Returns the owner's preferred label in the language. There is at most one (S14).
     pub(crate) fn preferred(&self, owner: ResNo, tag: &Tag) -> Option<&Text>
         ensures { MatchOption result
             ((text : List ℕ) → HasLabel self.now owner Pref tag.now text → ⊥)
@@ -113,8 +114,9 @@ impl LabelTable {
         }
     }
 
-    // Checks whether the text, as the new preferred label, would repeat an alternative or hidden
-    // label, or the old preferred label if that is to be kept.
+    // Checks whether the text, as the owner's new preferred label, would break S13: whether it is
+    // an alternative or hidden label of the owner, or the same as the old preferred label, if
+    // `keep` is true.
     pub(crate) fn has_clash(
         &self,
         owner: ResNo,
@@ -130,7 +132,7 @@ impl LabelTable {
             || keep && old == text
     }
 
-    // Checks whether the owner has two preferred labels.
+    // Checks whether the owner has two different preferred labels.
     pub(crate) fn has_two_preferred(&self, owner: ResNo) -> bool
         ensures { IsTrue result ↔ HasTwoPreferred self.now owner }
     {
@@ -140,7 +142,7 @@ impl LabelTable {
         }
     }
 
-    // Inserts a label. An `Err` changes nothing.
+    // Inserts a label; changes nothing if the owner has it.
     pub(crate) fn insert(&mut self, owner: ResNo, label: Label) -> Result<(), AllocError>
         ensures ok { OnOk result (self.new ≡ set.insert self.old (owned_label owner label)) }
         ensures err { OnErr result (self.new ≡ self.old) }
@@ -152,7 +154,7 @@ impl LabelTable {
         Ok(())
     }
 
-    // Removes a label.
+    // Removes a label, if the owner has it.
     pub(crate) fn remove(&mut self, owner: ResNo, kind: LabelKind, tag: &Tag, text: &str)
         ensures { self.new ≡ set.remove self.old (label owner kind tag.now text.now) }
     {
@@ -161,8 +163,8 @@ impl LabelTable {
         }
     }
 
-    // Replaces a preferred label, and keeps the old one as an alternative label if `keep` is true.
-    // An `Err` changes nothing.
+    // Replaces the owner's preferred label `old` in the language by `text`; keeps the old one as an
+    // alternative label if `keep` is true.
     pub(crate) fn rename(
         &mut self,
         owner: ResNo,
@@ -189,6 +191,7 @@ impl LabelTable {
         Ok(())
     }
 
+    // Inserts a copy of the text as an alternative label of the owner.
     fn insert_alternative(&mut self, owner: ResNo, tag: &Tag, text: &Text) -> Result<(), AllocError>
         ensures ok { OnOk result (self.new ≡
             set.insert self.old (label owner Alt tag.now text.now)) }
@@ -198,6 +201,7 @@ impl LabelTable {
         self.insert_value(owner, tag, value)
     }
 
+    // Inserts a label of the owner with a copy of the tag.
     fn insert_value(&mut self, owner: ResNo, tag: &Tag, value: LabelValue) -> Result<(), AllocError>
         ensures ok { OnOk result (self.new ≡
             set.insert self.old
@@ -208,8 +212,8 @@ impl LabelTable {
         self.insert(owner, Label { tag, value })
     }
 
-    // Copies the missing names of the source to the target; `gained` is their number. An `Err`
-    // changes nothing.
+    // Copies to the target the lexical labels of the source that it lacks, `gained` in number,
+    // preferred ones as alternative ones.
     pub(crate) fn take_names(
         &mut self,
         source: ResNo,
@@ -230,7 +234,7 @@ impl LabelTable {
     }
 }
 
-// Inserts a label into its owner's row, and returns whether it is new. An `Err` changes no row.
+// Inserts a label into its owner's row, and returns whether it is new.
 fn put(
     rows: &mut BTreeMap<ResNo, OwnerRow>,
     alloc: Global,
@@ -251,7 +255,7 @@ fn put(
     Ok(true)
 }
 
-// Removes a label from its owner's row, and returns whether it was there.
+// Removes a label from its owner's row, and returns whether the row had it.
 fn take(
     rows: &mut BTreeMap<ResNo, OwnerRow>,
     owner: ResNo,
@@ -269,7 +273,8 @@ fn take(
     }
 }
 
-// Returns the target's row with the missing names of the source.
+// Returns a copy of the target's row, with the lexical labels of the source that it lacks,
+// preferred ones as alternative ones.
 fn merged_row(
     rows: &BTreeMap<ResNo, OwnerRow>,
     alloc: Global,

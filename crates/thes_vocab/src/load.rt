@@ -1,4 +1,4 @@
-//! Loads a vocabulary row by row.
+//! Loads a vocabulary row by row, with the checks that a vocabulary's invariant needs.
 ghost use Rattle.std.specs.Prelude.{◌≡◌, ◌<◌, ◌^◌, ◌↔◌, ℕ, List, [], IsTrue, IfOk, OnOk, true, MatchOption, length};
 ghost use Rattle.std.specs.Ordering.{nat_cmp};
 ghost use Rattle.thes_base.specs.declared.data.LabelKind.TheVariants.{Pref};
@@ -23,7 +23,8 @@ use thes_base::number::ResNo;
 use thes_base::text::{Base, Iri, Tag, Text};
 use thes_lists::Lists;
 
-/// A vocabulary that is being loaded: it has all resources, and gets IRIs and labels one by one.
+/// A vocabulary that is being loaded: it has all resources from the start, and takes IRIs and
+/// labels one by one.
 #[derive(Drop)]
 pub struct VocabLoad {
     alloc: Global,
@@ -58,7 +59,7 @@ impl Model for VocabLoad {
 }
 
 impl VocabLoad {
-    /// Creates a vocabulary with all resources, without IRIs and labels.
+    /// Creates a load with all resources, without IRIs and labels.
     pub fn new(alloc: Global, base: Base, resources: Vec<Resource>) -> Result<VocabLoad, AllocError>
         requires { AreSound resources.items }
         ensures { IfOk result (λ load. load ≡ bare_vocabulary base resources.items) }
@@ -76,7 +77,7 @@ impl VocabLoad {
         })
     }
 
-    /// Returns the resources.
+    /// Returns the resources; number `n` is at index `n - 1`.
     pub fn resources(&self) -> &[Resource]
         ensures value { result.now ≡ self.now.resources }
         ensures few { length result.now < 2 ^ 32 }
@@ -84,7 +85,8 @@ impl VocabLoad {
         self.resources.as_slice()
     }
 
-    /// Adds the IRI of an outside concept, or returns false if the IRI isn't allowed.
+    /// Adds the IRI of an outside concept; returns false if the IRI isn't new or begins with the
+    /// base, or the number isn't that of an outside concept without one.
     pub fn take_iri(&mut self, n: ResNo, iri: Iri) -> Result<bool, AllocError>
         ensures { IfOk result (LoadIriResult self.old self.new n iri) }
     {
@@ -96,14 +98,14 @@ impl VocabLoad {
         }
     }
 
-    /// Checks whether each outside concept has an IRI.
+    /// Checks whether each outside concept has an IRI, as `close` requires.
     pub fn has_all_iris(&self) -> bool
         ensures { IsTrue result ↔ HaveIris self.now }
     {
         have_iris(self.resources.as_slice(), &self.iris)
     }
 
-    /// No effect; states what holds of the rows loaded so far for the proof.
+    /// No effect; states for the proof what holds of the rows loaded so far.
     pub fn so_far(&self)
         ensures sound { AreSound self.now.resources }
         ensures iris { AreIrisSoFar self.now.base self.now.resources self.now.iris }
@@ -112,7 +114,8 @@ impl VocabLoad {
         let _ = &self.alloc;
     }
 
-    /// Adds a label, or returns false if its owner can't have it.
+    /// Adds a label; returns false if its owner already has it or can't have labels, or it would
+    /// break S13, S14 or the uniqueness of preferred labels.
     pub fn take_label(&mut self, owner: ResNo, label: Label) -> Result<bool, AllocError>
         ensures { IfOk result (LoadLabelResult self.old self.new (owned_label owner label)) }
     {
@@ -132,7 +135,8 @@ impl VocabLoad {
         }
     }
 
-    /// Returns the vocabulary, if each scheme, concept and collection has a preferred label.
+    /// Returns the loaded vocabulary, or None if some scheme, concept or collection has no
+    /// preferred label.
     pub fn close(self) -> Option<Vocab>
         requires { HaveIris self }
         ensures { MatchOption result (EachHasPreferred self.resources self.labels → ⊥)
@@ -164,7 +168,7 @@ impl Vocab {
     }
 }
 
-// Adds each live concept to the list of its scheme.
+// Adds the number of each live concept to the list of its scheme.
 fn list_all(concepts: &mut Lists<ResNo>, resources: &[Resource]) -> Result<(), AllocError>
     requires few { AreSound resources.now }
     requires none { (n : ℕ) → listed_at concepts.old n ≡ [] }
@@ -177,6 +181,7 @@ fn list_all(concepts: &mut Lists<ResNo>, resources: &[Resource]) -> Result<(), A
     Ok(())
 }
 
+// Checks whether the number is that of an outside concept.
 fn is_outside(resources: &[Resource], n: ResNo) -> bool
     ensures { IsTrue result ↔ IsOutside resources.now n }
 {
@@ -186,6 +191,7 @@ fn is_outside(resources: &[Resource], n: ResNo) -> bool
     }
 }
 
+// Checks whether the number is that of a scheme, a concept or a collection, which can have labels.
 fn can_own(resources: &[Resource], n: ResNo) -> bool
     ensures { IsTrue result ↔ CanOwn resources.now n }
 {
@@ -195,7 +201,8 @@ fn can_own(resources: &[Resource], n: ResNo) -> bool
     }
 }
 
-// Checks whether the outside concept may have the IRI.
+// Checks whether the number is that of an outside concept without an IRI, and the IRI is new and
+// doesn't begin with the base.
 fn is_free_iri(base: &Base, resources: &[Resource], iris: &IriTable, n: ResNo, iri: &Iri) -> bool
     ensures { IsTrue result ↔ IsFreeIri base.now resources.now iris.now n iri.now }
 {
@@ -228,7 +235,8 @@ fn have_iris(resources: &[Resource], iris: &IriTable) -> bool
     true
 }
 
-// Checks whether the owner may have the label.
+// Checks whether the label may be added to those loaded so far: its owner can have labels and lacks
+// this one, and it breaks none of S13, S14 and the uniqueness of preferred labels.
 fn is_free_label(
     resources: &[Resource],
     labels: &LabelTable,
@@ -255,8 +263,8 @@ fn is_free_label(
     !repeats_holder(resources, labels, names, owner, label)
 }
 
-// Checks whether the label is a name (preferred, alternative or hidden) that its owner already has
-// under one of these kinds.
+// Checks whether the label is lexical, and its owner has the text in the language under one of the
+// three lexical kinds.
 fn repeats_name(labels: &LabelTable, owner: ResNo, label: &Label) -> bool
     ensures { IsTrue result ↔ ((is_lexical_kind label.now.kind ≡ true)
         × (has_lexical_label labels.now owner label.now.tag label.now.text ≡ true)) }
@@ -272,7 +280,8 @@ fn repeats_preferred(labels: &LabelTable, owner: ResNo, label: &Label) -> bool
     label.kind() == LabelKind::Pref && labels.preferred(owner, &label.tag).is_some()
 }
 
-// Checks whether the label is a preferred one that another live concept of its owner's scheme has.
+// Checks whether the label is a preferred one of a live concept, and another live concept of its
+// scheme has it.
 fn repeats_holder(
     resources: &[Resource],
     labels: &LabelTable,
@@ -291,7 +300,8 @@ fn repeats_holder(
     }
 }
 
-// Checks whether the owner is a live concept and another one of its scheme has the preferred label.
+// Checks whether the owner is a live concept, and another live concept of its scheme has the
+// preferred label.
 fn has_rival(
     resources: &[Resource],
     labels: &LabelTable,
@@ -334,7 +344,7 @@ fn holder(
     None
 }
 
-// Checks whether the number is a live concept of the scheme that has the preferred label.
+// Checks whether the number is that of a live concept of the scheme that has the preferred label.
 fn is_held(
     resources: &[Resource],
     labels: &LabelTable,
@@ -349,7 +359,7 @@ fn is_held(
         && labels.contains(n, LabelKind::Pref, tag, text.as_str())
 }
 
-// Checks whether each scheme, concept and collection has a preferred label.
+// Checks whether each scheme, concept and collection has a preferred label in some language.
 fn are_named(resources: &[Resource], labels: &LabelTable) -> bool
     requires { AreSound resources.now }
     ensures { IsTrue result ↔ EachHasPreferred resources.now labels.now }
@@ -365,7 +375,7 @@ fn are_named(resources: &[Resource], labels: &LabelTable) -> bool
     true
 }
 
-// Checks whether the owner has a preferred label.
+// Checks whether the owner has a preferred label in some language.
 fn has_preferred(labels: &LabelTable, owner: ResNo) -> bool
     ensures { IsTrue result ↔ HasPreferred labels.now owner }
 {

@@ -12,8 +12,9 @@ type TextIndex = BTreeMap<Text, ResNo>;
 
 type TagIndex = BTreeMap<Tag, TextIndex>;
 
-// The concept that last got a preferred label, for each scheme, language and text. A look-up checks
-// that the concept is live and still has the label.
+// An index from scheme, language and text to the concept that last got this preferred label. An
+// entry may be out of date, so a caller of `holder` checks that the concept is live and still has
+// the label.
 #[derive(Drop)]
 pub(crate) struct Names {
     alloc: Global,
@@ -21,7 +22,7 @@ pub(crate) struct Names {
 }
 
 impl Names {
-    // Creates an empty index.
+    // Creates an empty index without allocating.
     pub(crate) fn new(alloc: Global) -> Names
         ensures { (scheme : ℕ) (tag text : List ℕ) → holder_in result scheme tag text ≡ None }
     {
@@ -31,15 +32,15 @@ impl Names {
         }
     }
 
-    // Returns the concept that last got the preferred label.
+    // Returns the concept of the scheme that last got the preferred label; it may have lost the
+    // label since, or be dead.
     pub(crate) fn holder(&self, scheme: ResNo, tag: &Tag, text: &Text) -> Option<ResNo>
         ensures { result ≡ holder_in self.now scheme tag.now text.now }
     {
         self.schemes.get(&scheme)?.get(tag)?.get(text).copied()
     }
 
-    // Records that the concept gets the label, if that is a preferred one and there is a scheme. An
-    // `Err` changes nothing.
+    // Records the concept as the label's holder, if the label is preferred and there is a scheme.
     pub(crate) fn put_label(
         &mut self,
         scheme: Option<ResNo>,
@@ -56,8 +57,7 @@ impl Names {
         }
     }
 
-    // Records that the concept gets the preferred label, if there is a scheme. An `Err` changes
-    // nothing.
+    // Records the concept as the preferred label's holder, if there is a scheme.
     pub(crate) fn put(
         &mut self,
         scheme: Option<ResNo>,
@@ -75,7 +75,7 @@ impl Names {
         }
     }
 
-    // Removes the entry of the label, if that is a preferred one and there is a scheme.
+    // Removes the entry of the label, if the label is preferred and there is a scheme.
     pub(crate) fn forget_label(&mut self, scheme: Option<ResNo>, label: &Label)
         ensures { IsLabelNameUpdate self.old self.new scheme label.now None }
     {
@@ -95,6 +95,8 @@ impl Names {
         }
     }
 
+    // Records the concept as the preferred label's holder in the scheme; a failure changes no
+    // look-up.
     fn put_in(
         &mut self,
         scheme: ResNo,
@@ -117,6 +119,7 @@ impl Names {
         Ok(())
     }
 
+    // Removes the entry of a preferred label in the scheme, if there is one.
     fn forget_in(&mut self, scheme: ResNo, tag: &Tag, text: &Text)
         ensures { IsNameUpdate self.old self.new scheme tag.now text.now None }
     {
@@ -126,6 +129,7 @@ impl Names {
     }
 }
 
+// Records the concept under a text in a language; a failure changes no look-up.
 fn put_tag(
     tags: &mut TagIndex,
     alloc: Global,
@@ -146,6 +150,7 @@ fn put_tag(
     Ok(())
 }
 
+// Removes the entry of a text in a language, if there is one.
 fn forget_tag(tags: &mut TagIndex, tag: &Tag, text: &Text)
     ensures { IsTagIndexUpdate tags.old tags.new tag.now text.now None }
 {

@@ -1,9 +1,9 @@
-// The labels of one owner.
+// The labels of one owner, as a sorted row.
 ghost use Rattle.std.specs.Prelude.{◌≡◌, ◌↔◌, ◌&&◌, ◌||◌, IsTrue, ℕ, List, [], IfOk, OnOk, OnErr, false, true, not, MatchOption};
 ghost use Rattle.std.specs.List.Sorted.{IsStrictlySortedBy};
 ghost use Rattle.std.specs.Ordering.{eq_by_cmp};
 ghost use Rattle.thes_base.specs.Data.{LabelData};
-ghost use Rattle.thes_vocab.specs.LabelPlaces.{IsLabelPlace, IsPreferredAt};
+ghost use Rattle.thes_vocab.specs.LabelPositions.{IsLabelPosition, IsPreferredAt};
 ghost use Rattle.thes_vocab.specs.CopiedLabels.{has_own_name, lacks_own_name, merged_label, copies_label};
 ghost use Rattle.thes_vocab.specs.OwnLabels.{data_cmp, language_cmp, own_label, has_own, HasOwnPreferred, HasNoOwnPreferred, HasTwoOwnPreferred};
 
@@ -13,7 +13,7 @@ use std::marker::Model;
 use thes_base::data::{Label, LabelKind, LabelValue};
 use thes_base::text::{Tag, Text};
 
-// The labels of one owner, sorted by kind, language and text.
+// The labels of one owner, each once, sorted by kind, language and text.
 #[derive(Drop)]
 pub(crate) struct OwnerRow {
     labels: Vec<Label>,
@@ -23,7 +23,7 @@ impl Model for OwnerRow {
     ghost use Rattle.std.specs.Prelude.{List};
     ghost use Rattle.std.specs.List.Sorted.{IsStrictlySortedBy};
     ghost use Rattle.thes_base.specs.Data.{LabelData};
-    ghost use Rattle.thes_vocab.specs.LabelPlaces.{IsLabelPlace, IsPreferredAt};
+    ghost use Rattle.thes_vocab.specs.LabelPositions.{IsLabelPosition, IsPreferredAt};
     ghost use Rattle.thes_vocab.specs.CopiedLabels.{lacks_own_name, merged_label, copies_label};
     ghost use Rattle.thes_vocab.specs.OwnLabels.{data_cmp};
 
@@ -35,7 +35,7 @@ impl Model for OwnerRow {
 }
 
 impl OwnerRow {
-    // Creates an empty row.
+    // Creates an empty row without allocating.
     pub(crate) fn new(alloc: Global) -> OwnerRow
         ensures { result ≡ [] }
     {
@@ -44,7 +44,7 @@ impl OwnerRow {
         }
     }
 
-    // Returns the labels in order.
+    // Returns the labels in their order, without copying them.
     pub(crate) fn as_slice(&self) -> &[Label]
         ensures labels { result.now ≡ self.now }
         ensures ordered { IsStrictlySortedBy data_cmp self.now }
@@ -52,25 +52,27 @@ impl OwnerRow {
         self.labels.as_slice()
     }
 
+    // Checks whether the row has the label of this kind, language and text.
     pub(crate) fn contains(&self, kind: LabelKind, tag: &Tag, text: &str) -> bool
         ensures { result ≡ has_own self.now (own_label kind tag.now text.now) }
     {
         search(self.labels.as_slice(), kind, tag, text).is_ok()
     }
 
-    // Returns a preferred label in the language.
+    // Returns a preferred label in the language; SKOS S14 allows at most one.
     pub(crate) fn preferred(&self, tag: &Tag) -> Option<&Text>
         ensures { MatchOption result (HasNoOwnPreferred self.now tag.now)
             (λ text. HasOwnPreferred self.now tag.now text.now) }
     {
-        let place = preferred_place(self.labels.as_slice(), tag)?;
+        let place = preferred_position(self.labels.as_slice(), tag)?;
         match &self.labels[place].value {
             LabelValue::Pref(text) => Some(text),
             _ => None,
         }
     }
 
-    // Checks whether the text is a preferred, alternative or hidden label in the language.
+    // Checks whether the row has the text in the language as a preferred, alternative or hidden
+    // label.
     pub(crate) fn has_lexical_label(&self, tag: &Tag, text: &str) -> bool
         ensures { result ≡ has_own_name self.now tag.now text.now }
     {
@@ -79,14 +81,14 @@ impl OwnerRow {
             || self.contains(LabelKind::Hidden, tag, text)
     }
 
-    // Checks whether the label is a name that the row lacks.
+    // Checks whether the label is lexical, and the row lacks its text in the language.
     fn lacks_name(&self, label: &Label) -> bool
         ensures { result ≡ lacks_own_name self.now label.now }
     {
         label.kind() != LabelKind::Scope && !self.has_lexical_label(&label.tag, label.text())
     }
 
-    // Copies the row.
+    // Allocates a copy; fails only if memory runs out.
     fn try_clone(&self, alloc: Global) -> Result<OwnerRow, AllocError>
         ensures { IfOk result (λ row. row ≡ self.now) }
     {
@@ -97,7 +99,7 @@ impl OwnerRow {
         Ok(OwnerRow { labels })
     }
 
-    // Inserts a label, and returns whether it is new. An `Err` changes nothing.
+    // Inserts a label in its place, and returns whether it is new.
     pub(crate) fn insert(&mut self, label: Label) -> Result<bool, AllocError>
         ensures added { IfOk result (λ added. added ≡ not (has_own self.old label)) }
         ensures ok { OnOk result ((l : LabelData) →
@@ -113,7 +115,7 @@ impl OwnerRow {
         }
     }
 
-    // Removes a label, and returns whether it was there.
+    // Removes a label, and returns whether the row had it.
     pub(crate) fn remove(&mut self, kind: LabelKind, tag: &Tag, text: &str) -> bool
         ensures removed { result ≡ has_own self.old (own_label kind tag.now text.now) }
         ensures after { let dropped = own_label kind tag.now text.now in
@@ -129,7 +131,7 @@ impl OwnerRow {
         }
     }
 
-    // Checks whether there are two preferred labels, which come first in the order.
+    // Checks whether the row has two different preferred labels.
     pub(crate) fn has_two_preferred(&self) -> bool
         ensures { IsTrue result ↔ HasTwoOwnPreferred self.now }
     {
@@ -140,7 +142,8 @@ impl OwnerRow {
     }
 }
 
-// Returns the target's labels with the missing names of the source.
+// Returns a copy of the target's row, with the lexical labels of the source that it lacks,
+// preferred ones as alternative ones.
 pub(crate) fn merge_rows(
     alloc: Global,
     source: &OwnerRow,
@@ -158,7 +161,7 @@ pub(crate) fn merge_rows(
     Ok(row)
 }
 
-// Copies a label for the target of a merge: a preferred label becomes an alternative one.
+// Copies a label for the target of a merge, a preferred label as an alternative one.
 fn merged_label(alloc: Global, label: &Label) -> Result<Label, AllocError>
     ensures { IfOk result (λ l. l ≡ merged_label label.now) }
 {
@@ -171,23 +174,24 @@ fn merged_label(alloc: Global, label: &Label) -> Result<Label, AllocError>
     Ok(Label { tag, value })
 }
 
-// Returns the index of the label, or the index at which it would be inserted.
+// Returns `Ok` with the index of the label, or `Err` with the index at which to insert it.
 fn search(labels: &[Label], kind: LabelKind, tag: &Tag, text: &str) -> Result<usize, usize>
     requires { IsStrictlySortedBy data_cmp labels.now }
-    ensures { IsLabelPlace labels.now (own_label kind tag.now text.now) result }
+    ensures { IsLabelPosition labels.now (own_label kind tag.now text.now) result }
 {
     labels.binary_search_by(|label| order(label, kind, tag, text))
 }
 
+// Returns `Ok` with the index of the label, or `Err` with the index at which to insert it.
 fn search_label(labels: &[Label], label: &Label) -> Result<usize, usize>
     requires { IsStrictlySortedBy data_cmp labels.now }
-    ensures { IsLabelPlace labels.now label.now result }
+    ensures { IsLabelPosition labels.now label.now result }
 {
     search(labels, label.kind(), &label.tag, label.text())
 }
 
-// Returns the index of a preferred label in the language.
-fn preferred_place(labels: &[Label], tag: &Tag) -> Option<usize>
+// Returns the index of a preferred label in the language, if the list has one.
+fn preferred_position(labels: &[Label], tag: &Tag) -> Option<usize>
     requires { IsStrictlySortedBy data_cmp labels.now }
     ensures { MatchOption result (HasNoOwnPreferred labels.now tag.now)
         (IsPreferredAt labels.now tag.now) }
@@ -197,7 +201,7 @@ fn preferred_place(labels: &[Label], tag: &Tag) -> Option<usize>
         .ok()
 }
 
-// Compares the label with one of this kind, language and text.
+// Compares the label with one of this kind, language and text, in the order of rows.
 fn order(label: &Label, kind: LabelKind, tag: &Tag, text: &str) -> Ordering
     ensures { result ≡ data_cmp label.now (own_label kind tag.now text.now) }
 {
@@ -207,7 +211,7 @@ fn order(label: &Label, kind: LabelKind, tag: &Tag, text: &str) -> Ordering
     }
 }
 
-// Compares the kind and language of the label with these.
+// Compares the label's kind, and then its language, with the given ones, in the order of rows.
 fn language_order(label: &Label, kind: LabelKind, tag: &Tag) -> Ordering
     ensures { result ≡ language_cmp label.now (own_label kind tag.now []) }
 {

@@ -1,4 +1,4 @@
-//! A vocabulary and its look-ups.
+//! A vocabulary: the resources and labels of a thesaurus, and look-ups of them.
 ghost use Rattle.std.specs.Prelude.{◌≡◌, ◌<◌, ◌^◌, ◌↔◌, IsTrue, ℕ, length, None, Some, option_copied, MatchOption};
 ghost use Rattle.std.specs.FinMap as dict;
 ghost use Rattle.std.specs.FinSet as set;
@@ -21,9 +21,8 @@ use thes_lists::Lists;
 
 /// The resources of a thesaurus, with the IRIs of outside concepts and the labels of all others.
 ///
-/// An owner has no text of a language under two kinds (SKOS S13) and no two preferred labels in a
-/// language (S14), two live concepts of a scheme share no preferred label, and each scheme, concept
-/// and collection has a preferred label.
+/// Its labels meet SKOS S13 and S14, no two live concepts of a scheme have the same preferred label
+/// in a language, and each scheme, concept and collection has a preferred label.
 #[derive(Drop)]
 pub struct Vocab {
     pub(crate) alloc: Global,
@@ -31,7 +30,7 @@ pub struct Vocab {
     pub(crate) resources: Vec<Resource>,
     pub(crate) iris: IriTable,
     pub(crate) labels: LabelTable,
-    // The index of preferred labels.
+    // The index of preferred labels, for look-ups by text.
     pub(crate) names: Names,
     // The live concepts of each scheme, in ascending order.
     pub(crate) concepts: Lists<ResNo>,
@@ -62,7 +61,7 @@ impl Model for Vocab {
 }
 
 impl Vocab {
-    /// Creates a vocabulary without resources.
+    /// Creates a vocabulary without resources, without allocating.
     pub fn new(alloc: Global, base: Base) -> Vocab
         ensures { result ≡ empty_vocabulary base }
     {
@@ -77,28 +76,28 @@ impl Vocab {
         }
     }
 
-    /// Returns the base: the prefix of the IRIs of schemes, concepts and collections.
+    /// Returns the base, the prefix of the IRIs of schemes, concepts and collections.
     pub fn base(&self) -> &Base
         ensures { result.now ≡ self.now.base }
     {
         &self.base
     }
 
-    /// Returns the resource with this number.
+    /// Returns the resource with this number, live or dead.
     pub fn resource(&self, n: ResNo) -> Option<&Resource>
         ensures { option_copied result ≡ entry_at self.now.resources n }
     {
         resource_at(self.resources.as_slice(), n)
     }
 
-    /// Checks whether the number is a live resource's.
+    /// Checks whether the number is that of a live resource.
     pub fn is_live(&self, n: ResNo) -> bool
         ensures { IsTrue result ↔ IsLive self.now.resources n }
     {
         self.resource(n).is_some_and(|r| r.live)
     }
 
-    /// Returns the live concepts of the scheme in ascending order, or none if the number is no
+    /// Returns the live concepts of the scheme in ascending order; none if the number isn't a
     /// scheme's.
     pub fn live_of(&self, scheme: ResNo) -> &[ResNo]
         ensures { IsListing nat_cmp (IsConceptOf self.now.resources scheme) result.now }
@@ -106,7 +105,8 @@ impl Vocab {
         self.concepts.at(scheme)
     }
 
-    /// Returns the number of resources.
+    /// Returns the number of resources, dead ones included, which is also the greatest number in
+    /// use.
     pub fn resource_count(&self) -> u64
         ensures count { result ≡ length self.now.resources }
         ensures few { result < 2 ^ 32 }
@@ -114,7 +114,7 @@ impl Vocab {
         self.resources.len() as u64
     }
 
-    /// Returns the number of labels.
+    /// Returns the number of labels and notes, those of dead concepts included.
     pub fn label_count(&self) -> u64
         ensures { result ≡ set.len self.now.labels }
     {
@@ -135,7 +135,7 @@ impl Vocab {
         self.labels.of_owner(owner)
     }
 
-    /// Returns the live concept of the scheme that has this preferred label.
+    /// Returns the live concept of the scheme that has this preferred label. There is at most one.
     pub fn holder(&self, scheme: ResNo, tag: &Tag, text: &Text) -> Option<ResNo>
         ensures { MatchOption result
             (¬ IsPreferredTaken self.now.resources self.now.labels scheme tag.now text.now)
@@ -148,7 +148,8 @@ impl Vocab {
         None
     }
 
-    // Checks whether the number is a live concept of the scheme that has the preferred label.
+    // Checks whether the number is that of a live concept of the scheme that has the preferred
+    // label.
     fn is_held(&self, n: ResNo, scheme: ResNo, tag: &Tag, text: &Text) -> bool
         ensures { IsTrue result ↔
             IsHolder self.now.resources self.now.labels scheme tag.now text.now n }
@@ -157,7 +158,7 @@ impl Vocab {
             && self.labels.contains(n, LabelKind::Pref, tag, text.as_str())
     }
 
-    /// Returns the number of the outside concept with this IRI.
+    /// Returns the number of the outside concept that has the IRI.
     pub fn outside(&self, iri: &Iri) -> Option<ResNo>
         ensures { MatchOption result
             ((n : ℕ) → ¬ (dict.get self.now.iris n ≡ Some iri.now))
@@ -166,7 +167,8 @@ impl Vocab {
         self.iris.number(iri)
     }
 
-    /// Returns the IRI of an outside concept.
+    /// Returns the IRI of an outside concept by its number; None if the number isn't an outside
+    /// concept's.
     pub fn outside_iri(&self, n: ResNo) -> Option<&Iri>
         ensures { option_copied result ≡ dict.get self.now.iris n }
     {
@@ -174,14 +176,15 @@ impl Vocab {
     }
 }
 
-// Returns the resource with this number.
+// Returns the resource with this number, at index `n - 1`.
 pub(crate) fn resource_at(resources: &[Resource], n: ResNo) -> Option<&Resource>
     ensures { option_copied result ≡ entry_at resources.now n }
 {
     resources.get(n.get() as usize - 1)
 }
 
-// Returns the scheme of a live concept.
+// Returns the scheme of a live concept by its number; None if the number isn't that of a live
+// concept.
 pub(crate) fn concept_scheme(resources: &[Resource], n: ResNo) -> Option<ResNo>
     ensures { MatchOption result ((scheme : ℕ) → IsConceptOf resources.now scheme n → ⊥)
         (λ scheme. IsConceptOf resources.now scheme n) }
@@ -189,7 +192,7 @@ pub(crate) fn concept_scheme(resources: &[Resource], n: ResNo) -> Option<ResNo>
     scheme_if_concept(resource_at(resources, n)?)
 }
 
-// Returns the scheme of a resource, if that is a live concept.
+// Returns the scheme of a resource that is a live concept; None for other resources.
 pub(crate) fn scheme_if_concept(resource: &Resource) -> Option<ResNo>
     ensures value { result ≡ concept_scheme resource.now }
     ensures scheme { MatchOption result ((scheme : ℕ) → IsConceptIn scheme resource.now → ⊥)

@@ -1,14 +1,14 @@
-//! A sink that counts rows.
+//! A sink that counts the rows that it passes on.
 use crate::progress::Progress;
 use thes_base::fault::{Fault, Table};
 use thes_store::sink::RowSink;
 use thes_tables::cells::Cell;
 
-/// A sink that passes rows on to another, and reports their number.
+/// A sink that passes each row to an inner sink, and reports the number of rows so far.
 pub(crate) struct CountingSink<'a, S, P> {
     pub(crate) sink: &'a mut S,
     pub(crate) progress: P,
-    // Saturates at the greatest value.
+    // The number of rows; it saturates.
     pub(crate) rows: u64,
 }
 
@@ -23,7 +23,7 @@ impl<S: RowSink, P: Progress + Copy> RowSink for CountingSink<'_, S, P> {
         self.sink.row(table, row)
     }
 
-    fn unqueried(&mut self, table: Table) -> Result<(), Fault> {
-        self.sink.unqueried(table)
+    fn report_unqueried(&mut self, table: Table) -> Result<(), Fault> {
+        self.sink.report_unqueried(table)
     }
 }

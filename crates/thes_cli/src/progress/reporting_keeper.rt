@@ -1,4 +1,4 @@
-//! A keeper that reports progress.
+//! A storage that reports progress.
 ghost use Rattle.std.specs.Prelude.{◌≡◌};
 
 use crate::progress::Progress;
@@ -12,12 +12,13 @@ use thes_store::sink::{PostingSink, RowSink};
 use thes_tables::delta::Delta;
 use thes_tables::rows::PostingRow;
 
-/// A keeper that reports the number of rows loaded and of postings looked up. A contract sees it as the inner keeper.
+/// A storage that reports the numbers of rows loaded and of postings looked up, and passes each
+/// call to an inner storage. In contracts its value is that of the inner storage.
 #[derive(Drop)]
 pub struct ReportingKeeper<K: Keeper, P> {
     keeper: K,
     progress: P,
-    // The number of postings looked up, which saturates at the greatest value.
+    // The number of postings looked up; it saturates.
     lookups: u64,
 }
 
@@ -32,7 +33,7 @@ impl<K: Keeper, P> Model for ReportingKeeper<K, P> {
 }
 
 impl<K: Keeper, P: Progress + Copy> ReportingKeeper<K, P> {
-    /// Wraps a keeper, with a listener for its progress.
+    /// Wraps a storage, with a listener for its progress.
     pub fn new(keeper: K, progress: P) -> ReportingKeeper<K, P>
         ensures { result ≡ keeper }
     {
@@ -43,7 +44,7 @@ impl<K: Keeper, P: Progress + Copy> ReportingKeeper<K, P> {
         }
     }
 
-    /// Returns the inner keeper.
+    /// Returns the inner storage.
     pub fn into_keeper(self) -> K
         ensures { result ≡ self }
     {
@@ -56,7 +57,7 @@ impl<K: Keeper, P: Progress + Copy> ReportingKeeper<K, P> {
     }
 }
 
-/// Each call is passed to the inner keeper.
+/// Each call is passed to the inner storage.
 impl<K: Keeper, P: Progress + Copy> Keeper for ReportingKeeper<K, P> {
     ghost rows = { K.rows };
 

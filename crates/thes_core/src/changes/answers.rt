@@ -1,4 +1,4 @@
-//! Answers to accepted requests.
+//! The answers to accepted requests, and the verdicts that have them.
 ghost use Rattle.std.specs.Prelude.{◌≡◌, IfOk, List, false};
 ghost use Rattle.thes_base.specs.declared.data.History.{History};
 ghost use Rattle.thes_base.specs.Machine.{answer_of};
@@ -15,7 +15,8 @@ use std::alloc::AllocError;
 use thes_base::request::{Answer, Command};
 
 impl Thesaurus {
-    // Returns the answer to an accepted request.
+    // Returns the answer to an accepted request: a new number, the number of postings moved, both,
+    // or neither.
     fn answer(&self, command: &Command) -> Answer
         requires { MayChange self.now command.now }
         ensures { (histories : List History) → PartsAccept self.now histories command.now
@@ -45,7 +46,7 @@ impl Thesaurus {
         }
     }
 
-    // Returns the verdict on an accepted request.
+    // Returns the verdict on an accepted request: its answer and its changes of rows.
     pub(crate) fn accepted(&self, command: &Command, facts: &Facts) -> Result<Verdict, AllocError>
         requires { MayChange self.now command.now }
         ensures ok { IfOk result (λ verdict. (histories : List History)

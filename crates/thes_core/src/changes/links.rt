@@ -1,4 +1,4 @@
-//! Changes of rows for deprecations and merges.
+//! The changes of rows that deprecations and merges make.
 ghost use Rattle.std.specs.Prelude.{◌≡◌, ◌++◌, ◌⊎◌, ◌↔◌, IfOk, OnOk, List, map, Some, true};
 ghost use Rattle.std.specs.BTreeSet.{contains};
 ghost use Rattle.thes_base.specs.Data.{LabelData};
@@ -14,7 +14,7 @@ ghost use Rattle.thes_graph.specs.Reading.{IsRow};
 ghost use Rattle.thes_tables.specs.declared.change.Change.TheVariants as change;
 ghost use Rattle.thes_tables.specs.Changes.{add_link, drop_link};
 ghost use Rattle.thes_tables.specs.ChangeLaw.{AreChangesBetween};
-ghost use Rattle.thes_tables.specs.Tables.{IsIn, IsListingOf};
+ghost use Rattle.thes_tables.specs.Tables.{IsIn, IsUnsortedListing};
 ghost use Rattle.thes_vocab.specs.OwnLabels.{AreLabelsOf};
 ghost use Rattle.thes_vocab.specs.CopiedLabels.{merged_label};
 
@@ -32,7 +32,7 @@ use thes_tables::change::Change;
 use thes_tables::delta::Delta;
 use thes_tables::rows::LabelRow;
 
-// Appends a deletion for each link.
+// Appends the deletion of each link.
 fn push_removals(delta: &mut Delta, links: &[Link]) -> Result<(), AllocError>
     ensures { OnOk result (delta.new ≡ delta.old ++ map drop_link links.now) }
 {
@@ -42,7 +42,7 @@ fn push_removals(delta: &mut Delta, links: &[Link]) -> Result<(), AllocError>
     Ok(())
 }
 
-// Appends an insertion for each link.
+// Appends the insertion of each link.
 fn push_insertions(delta: &mut Delta, links: &[Link]) -> Result<(), AllocError>
     ensures { OnOk result (delta.new ≡ delta.old ++ map add_link links.now) }
 {
@@ -52,15 +52,15 @@ fn push_insertions(delta: &mut Delta, links: &[Link]) -> Result<(), AllocError>
     Ok(())
 }
 
-// Appends a link, unless it was seen before.
+// Appends a link to the list and adds it to `seen`, unless it is among those seen before.
 fn push_unseen(
     seen: &mut BTreeSet<Link>,
     links: &mut Vec<Link>,
     new: &Link,
 ) -> Result<(), AllocError>
-    requires { IsListingOf (λ q. contains link_cmp seen.old q ≡ true) links.old.items }
+    requires { IsUnsortedListing (λ q. contains link_cmp seen.old q ≡ true) links.old.items }
     ensures seen { OnOk result
-        (IsListingOf (λ q. contains link_cmp seen.new q ≡ true) links.new.items) }
+        (IsUnsortedListing (λ q. contains link_cmp seen.new q ≡ true) links.new.items) }
     ensures gains { OnOk result ((q : Link)
         → IsIn q links.new.items ↔ (IsIn q links.old.items ⊎ (q ≡ new.now))) }
 {
@@ -70,7 +70,7 @@ fn push_unseen(
     Ok(())
 }
 
-// Copies a label for the target of a merge: a preferred label becomes an alternative one.
+// Copies a label for the target of a merge, a preferred label as an alternative one.
 fn copy_merged_label(alloc: Global, label: &Label) -> Result<Label, AllocError>
     ensures { IfOk result (λ l. l ≡ merged_label label.now) }
 {
@@ -87,7 +87,7 @@ fn copy_merged_label(alloc: Global, label: &Label) -> Result<Label, AllocError>
 }
 
 impl Thesaurus {
-    // Returns the links with an end at a resource.
+    // Returns the held links with an end at a resource, each once.
     fn links_at(&self, n: ResNo) -> Result<Vec<Link>, AllocError>
         ensures { IfOk result (λ found. IsRow self.now.graph.links n found.items) }
     {
@@ -99,7 +99,7 @@ impl Thesaurus {
         Ok(found)
     }
 
-    // Returns the changes of rows for a deprecation.
+    // Returns the changes that mark a concept as dead and delete its links.
     pub(super) fn changes_of_deprecate(&self, concept: ResNo) -> Result<Delta, AllocError>
         ensures { IfOk result (λ delta. (histories : List History)
             → PartsAccept self.now histories (request.Deprecate concept)
@@ -112,8 +112,8 @@ impl Thesaurus {
         Ok(delta)
     }
 
-    // Returns the link that a merge adds for an old one: its normal form after redirection, unless
-    // its ends become equal or it is held.
+    // Returns the link that a merge adds in place of an old one: its normal form after redirection; None if its ends
+    // become equal or that form is held already.
     fn merge_result(&self, link: &Link, source: ResNo, target: ResNo) -> Option<Link>
         ensures { result ≡ link_added_by_merge self.now.graph source target link.now }
     {
@@ -131,7 +131,7 @@ impl Thesaurus {
         Some(normalize_ends(&sent, outside))
     }
 
-    // Returns the links that a merge adds for old ones, each once.
+    // Returns the links that a merge adds in place of these, each once.
     fn links_added_by_merge(
         &self,
         source: ResNo,
@@ -140,7 +140,7 @@ impl Thesaurus {
     ) -> Result<Vec<Link>, AllocError>
         ensures { let is_joined = λ (q : Link). (l : Link) × IsIn l links.now
             × (link_added_by_merge self.now.graph source target l ≡ Some q) in
-            IfOk result (λ merge_result. IsListingOf is_joined merge_result.items) }
+            IfOk result (λ merge_result. IsUnsortedListing is_joined merge_result.items) }
     {
         let mut seen = BTreeSet::new(self.alloc);
         let mut merge_result = Vec::new(self.alloc);
@@ -152,7 +152,7 @@ impl Thesaurus {
         Ok(merge_result)
     }
 
-    // Appends an insertion for each label that the merge copies to the target.
+    // Appends the insertion of each label that the merge copies to the target.
     fn push_copied_labels(
         &self,
         delta: &mut Delta,
@@ -176,7 +176,8 @@ impl Thesaurus {
         Ok(())
     }
 
-    // Returns the changes of rows for a merge.
+    // Returns the changes of a merge: labels are copied, links are redirected, postings move, and
+    // the source dies.
     pub(super) fn changes_of_merge(
         &self,
         source: ResNo,

@@ -1,4 +1,4 @@
-//! Changes of rows for postings and splits.
+//! The changes of rows that postings and splits make.
 ghost use Rattle.std.specs.Prelude.{◌≡◌, ◌≤◌, ◌+◌, ◌++◌, ◌^◌, IfOk, OnOk, List, [], map, length};
 ghost use Rattle.thes_base.specs.declared.data.History.{History};
 ghost use Rattle.thes_base.specs.declared.request.Command.TheVariants as request;
@@ -20,8 +20,7 @@ use thes_tables::change::Change;
 use thes_tables::delta::Delta;
 use thes_tables::rows::{MoveRow, PostingRow};
 
-// Returns the items, if move numbers from `first` on suffice for all of them, and none of them
-// otherwise.
+// Returns the items if their numbers, from `first` on, fit in 32 bits, or else an empty slice.
 pub(super) fn items_within_numbers<T>(first: u64, items: &[T]) -> &[T]
     requires { first ≤ 2 ^ 32 }
     ensures fits { first + length result.now ≤ 2 ^ 32 }
@@ -34,7 +33,8 @@ pub(super) fn items_within_numbers<T>(first: u64, items: &[T]) -> &[T]
     }
 }
 
-// Appends a move from the source to the target for each posting, with numbers from `first` on.
+// Appends the insertion of a move from the source to the target for each posting, numbered from
+// `first` on.
 pub(super) fn push_moves(
     delta: &mut Delta,
     first: u64,
@@ -59,7 +59,7 @@ pub(super) fn push_moves(
     Ok(())
 }
 
-// Appends a change of place for each posting, to the target.
+// Appends, for each posting, the change that sets its place to the target.
 fn push_places(delta: &mut Delta, target: ResNo, postings: &[PostNo]) -> Result<(), AllocError>
     ensures { OnOk result (delta.new ≡ delta.old ++ map (place_change target) postings.now) }
 {
@@ -69,7 +69,7 @@ fn push_places(delta: &mut Delta, target: ResNo, postings: &[PostNo]) -> Result<
     Ok(())
 }
 
-// Appends a move of the posting for each step along the path, with numbers from `first` on.
+// Appends the insertions of the posting's moves from `from` along the concepts of `way`, numbered from `first` on.
 fn push_way(
     delta: &mut Delta,
     posting: PostNo,
@@ -98,7 +98,8 @@ fn push_way(
 }
 
 impl Thesaurus {
-    // Returns the changes of rows for a new posting and its forwarding.
+    // Returns the changes of a new posting: its row, and its moves along the replacements of its
+    // concept.
     pub(super) fn changes_of_post(
         &self,
         key: &Key,
@@ -134,7 +135,8 @@ impl Thesaurus {
         Ok(delta)
     }
 
-    // Returns the changes of rows for a split.
+    // Returns the changes of a split: the new concept with its label, and the moves of the listed
+    // postings.
     pub(super) fn changes_of_split(
         &self,
         source: ResNo,

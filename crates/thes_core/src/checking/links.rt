@@ -1,8 +1,9 @@
-//! Checks of links, deprecations and merges.
+//! Checks of Link, Unlink, Deprecate and Merge requests.
 ghost use Rattle.std.specs.Prelude.{◌≢◌, IfOk, IfNone, List, []};
 ghost use Rattle.thes_base.specs.declared.data.History.{History};
 ghost use Rattle.thes_base.specs.declared.request.Command.TheVariants as request;
-ghost use Rattle.thes_base.specs.Links.{HeldIn, links_after_merge, unless_links_consistent};
+ghost use Rattle.thes_base.specs.Links.{Holds, links_after_merge};
+ghost use Rattle.thes_base.specs.RuleParts.{unless_links_consistent};
 ghost use Rattle.thes_base.specs.Resources.{is_outside};
 ghost use Rattle.thes_base.specs.RefusalRules.{accepted};
 ghost use Rattle.thes_core.specs.Requests.{RefusalByParts, unless_linkable};
@@ -20,7 +21,7 @@ use thes_base::number::ResNo;
 use thes_graph::judge::{judge_add, judge_contract};
 
 impl Thesaurus {
-    // Checks a request for a link.
+    // Checks a Link request: its ends, the rules on links, and the limits.
     pub(super) fn check_link(
         &self,
         kind: LinkKind,
@@ -44,7 +45,8 @@ impl Thesaurus {
         }))
     }
 
-    // Checks whether the links held allow a new link.
+    // Checks whether the link is new, and whether it would break Cycle, S27 or S46 with the links
+    // held.
     fn check_link_fits(&self, link: &Link) -> Result<Option<Refusal>, AllocError>
         requires kept { AreLegal self.now [] }
         requires ends { link.now.a ≢ link.now.b }
@@ -56,7 +58,7 @@ impl Thesaurus {
         Ok(answer)
     }
 
-    // Checks an unlink request.
+    // Checks an Unlink request: its ends, and whether the link is held.
     pub(super) fn check_unlink(&self, kind: LinkKind, a: ResNo, b: ResNo) -> Option<Refusal>
         requires { AreLegal self.now [] }
         ensures { (histories : List History) → AreLegal self.now histories
@@ -72,7 +74,7 @@ impl Thesaurus {
         None
     }
 
-    // Checks a deprecation.
+    // Checks a Deprecate request: whether its concept is live and without postings.
     pub(super) fn check_deprecate(&self, concept: ResNo) -> Option<Refusal>
         ensures row { (histories : List History) → AreLegal self.now histories
             → ArePostingCounts histories self.now.book
@@ -90,7 +92,7 @@ impl Thesaurus {
         None
     }
 
-    // Checks a merge.
+    // Checks a Merge request: its two concepts, the rules on links, and the limits.
     pub(super) fn check_merge(
         &self,
         source: ResNo,
@@ -118,13 +120,13 @@ impl Thesaurus {
         }))
     }
 
-    // Checks whether the links held allow a merge.
+    // Checks whether the links after a merge would break Cycle, S27 or S46.
     fn check_contraction(&self, source: ResNo, target: ResNo) -> Result<Option<Refusal>, AllocError>
         requires kept { AreLegal self.now [] }
         requires ends { source ≢ target }
         ensures { let outside = is_outside self.now.vocab.resources in
             let after = links_after_merge outside source target self.now.graph.links in
-            IfOk result (unless_links_consistent (HeldIn after) accepted) }
+            IfOk result (unless_links_consistent (Holds after) accepted) }
     {
         let mut walk = self.graph.walk();
         let answer = judge_contract(self.alloc, &mut walk, source, target)?;

@@ -1,4 +1,4 @@
-//! Checks of new resources and labels.
+//! Checks of requests for new resources and for changes of labels.
 ghost use Rattle.std.specs.Prelude.{List, ℕ};
 ghost use Rattle.thes_base.specs.declared.data.History.{History};
 ghost use Rattle.thes_base.specs.declared.request.Command.TheVariants as request;
@@ -14,7 +14,7 @@ use thes_base::number::ResNo;
 use thes_base::text::{Iri, Tag, Text};
 
 impl Thesaurus {
-    // Checks a request for a new scheme.
+    // Checks a Scheme request, which only the limits can refuse.
     pub(super) fn check_scheme(&self) -> Option<Refusal>
         ensures { (histories : List History) → AreLegal self.now histories → (tag text : List ℕ)
             → RefusalByParts self.now histories (request.Scheme tag text) result }
@@ -22,7 +22,7 @@ impl Thesaurus {
         self.check_room(Growth::NAMED)
     }
 
-    // Checks a request for a new concept.
+    // Checks a Concept request: its scheme, its preferred label, and the limits.
     pub(super) fn check_concept(&self, scheme: ResNo, tag: &Tag, text: &Text) -> Option<Refusal>
         ensures { (histories : List History) → AreLegal self.now histories
             → RefusalByParts self.now histories (request.Concept scheme tag.now text.now) result }
@@ -33,7 +33,7 @@ impl Thesaurus {
         self.check_room(Growth::NAMED)
     }
 
-    // Checks a request for a new collection.
+    // Checks a Collection request: its scheme and the limits.
     pub(super) fn check_collection(&self, scheme: ResNo) -> Option<Refusal>
         ensures { (histories : List History) → AreLegal self.now histories → (tag text : List ℕ)
             → RefusalByParts self.now histories (request.Collection scheme tag text) result }
@@ -44,7 +44,7 @@ impl Thesaurus {
         self.check_room(Growth::NAMED)
     }
 
-    // Checks a request for a new outside concept.
+    // Checks an Outside request: its IRI and the limits.
     pub(super) fn check_outside(&self, iri: &Iri) -> Option<Refusal>
         ensures { (histories : List History) → AreLegal self.now histories
             → RefusalByParts self.now histories (request.Outside iri.now) result }
@@ -58,7 +58,7 @@ impl Thesaurus {
         })
     }
 
-    // Checks a request for a new label.
+    // Checks an AddLabel request: its owner, the conditions on labels, and the limits.
     pub(super) fn check_add_label(&self, owner: ResNo, label: &Label) -> Option<Refusal>
         ensures { (histories : List History) → AreLegal self.now histories
             → RefusalByParts self.now histories (request.AddLabel owner label.now) result }
@@ -75,7 +75,7 @@ impl Thesaurus {
         })
     }
 
-    // Checks the removal of a label.
+    // Checks a DropLabel request: its owner, and whether the label is there and isn't the owner's only preferred label.
     pub(super) fn check_drop_label(&self, owner: ResNo, label: &Label) -> Option<Refusal>
         ensures { (histories : List History) → AreLegal self.now histories
             → RefusalByParts self.now histories (request.DropLabel owner label.now) result }
@@ -86,7 +86,7 @@ impl Thesaurus {
         self.vocab.check_drop(owner, label)
     }
 
-    // Checks the replacement of a preferred label.
+    // Checks a Relabel request: its owner, the conditions on labels, and the limits.
     pub(super) fn check_relabel(
         &self,
         owner: ResNo,

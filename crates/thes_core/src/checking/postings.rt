@@ -1,4 +1,4 @@
-//! Checks of splits and postings.
+//! Checks of Split, Post and Withdraw requests.
 ghost use Rattle.std.specs.Prelude.{◌≡◌, Some, IfOk, IfNone, List, ℕ, [], map};
 ghost use Rattle.thes_base.specs.declared.data.History.{History};
 ghost use Rattle.thes_base.specs.declared.request.Command.TheVariants as request;
@@ -20,7 +20,8 @@ use thes_base::number::{PostNo, ResNo};
 use thes_base::text::{Tag, Text};
 
 impl Thesaurus {
-    // Checks a split.
+    // Checks a Split request: its concept, the postings that it lists, its preferred label, and the
+    // limits.
     pub(super) fn check_split(
         &self,
         source: ResNo,
@@ -60,7 +61,7 @@ impl Thesaurus {
         }))
     }
 
-    // Returns the scheme of a concept.
+    // Returns the scheme of a concept; each concept has one.
     pub(crate) fn scheme(&self, concept: ResNo) -> ResNo
         requires kept { AreLegal self.now [] }
         requires concept { IsConcept self.now.vocab.resources concept }
@@ -69,7 +70,8 @@ impl Thesaurus {
         self.vocab.resource(concept).unwrap().scheme.unwrap()
     }
 
-    // Checks a posting with a new key.
+    // Checks a Post request with a new key: whether its concept's chain of replacements ends at a live concept, and the
+    // limits.
     pub(super) fn check_post(&self, concept: ResNo) -> Option<Refusal>
         ensures { (histories : List History) → AreLegal self.now histories
             → ArePostingCounts histories self.now.book

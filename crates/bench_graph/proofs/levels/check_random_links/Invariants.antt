@@ -1,6 +1,6 @@
-use Rattle.thes_base.specs.Links.{HeldIn}
+use Rattle.thes_base.specs.Links.{Holds}
 use Rattle.thes_graph.specs.Local.{BreakNone}
 use Rattle.bench_graph.proofs.levels.check_random_links.Given as goal
 
 abbrev pub invariant-loop : goal.invariant-loop
-invariant-loop l = BreakNone (HeldIn l.walk.net.links)
+invariant-loop l = BreakNone (Holds l.walk.net.links)

@@ -1,5 +1,5 @@
 use Rattle.std.proofs.Common.{inl, refl}
-use Rattle.thes_graph.specs.Net.{is_marked}
+use Rattle.thes_graph.specs.GraphView.{is_marked}
 use Rattle.thes_graph.proofs.NormLemmas.{away_of_added}
 use Rattle.test_graph.proofs.tests.check_added.Goals as goal
 

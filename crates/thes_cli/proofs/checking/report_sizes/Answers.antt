@@ -2,7 +2,7 @@ use Rattle.std.proofs.Common.{◌∙◌, List, ℕ, Result, inl, subst, sym}
 use Rattle.thes_base.specs.declared.fault.Fault.{Fault}
 use Rattle.thes_core.specs.declared.reading.Sizes.{Sizes}
 use Rattle.thes_cli.specs.Checking.{ReportsSizes}
-use Rattle.thes_cli.specs.EarlyExit.{PrintsText}
+use Rattle.thes_command_line.specs.Printing.{PrintsText}
 use Rattle.thes_cli.proofs.checking.report_sizes.Goals as goal
 
 pub returns-in-Ok-sizes_line : goal.returns-in-Ok-sizes_line

@@ -1,5 +1,5 @@
 use Rattle.std.proofs.Common.{◌∙◌, Bool, ℕ, List, subst, sym}
-use Rattle.thes_cli.specs.Ending.{Prints}
+use Rattle.thes_command_line.specs.Printing.{Prints}
 use Rattle.thes_cli.specs.Importing.{PrintsCounts}
 use Rattle.thes_cli.proofs.importing.print_counts.Goals as goal
 

@@ -9,13 +9,8 @@ returns-in-Ok g c = inl record {
 
 pub returns-in-Err : goal.returns-in-Err
 returns-in-Err g c = inr record {
-  fault = c.fault_of.result;
-  kind = c.fault_of.ensures.kind;
+  error = c.in-Err.error;
   leaves = λ up. c.in-Err.ensures.own.none up.0 up.1;
-  reports = record {
-    silent = refl;
-    prints_it = c.report_in_file.ensures.reports;
-    status_is =
-        c.report_in_file.ensures.status;
-  };
+  silent = refl;
+  reports = c.report_unmade.ensures;
 }

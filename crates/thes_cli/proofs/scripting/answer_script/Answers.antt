@@ -5,7 +5,7 @@ use Rattle.thes_cli.specs.Streams.{streams}
 use Rattle.thes_cli.proofs.ScriptLemmas.{script_answered}
 use Rattle.thes_cli.proofs.scripting.answer_script.Goals as goal
 
--- The script's result and its end are those of the office's script.
+-- The result and the end of the script are those of the office's script.
 pub returns : goal.returns
 returns g c =
     let old = streams c.args.input.now c.args.output.now c.args.errors.now in

@@ -1,10 +1,10 @@
 use Rattle.std.proofs.Common.{subst, sym}
 use Rattle.thes_office.specs.Office.{OfficeView}
 use Rattle.thes_cli.specs.Serving.{ServesAll}
-use Rattle.thes_cli.proofs.PrintLemmas.{done_or_not}
+use Rattle.thes_cli.proofs.ServedLemmas.{done_or_not}
 use Rattle.thes_cli.proofs.serving.serve_all.Goals as goal
 
--- The served connections and the fault, if one couldn't be accepted, are those of the office.
+-- The connections served, and the fault of one that couldn't be accepted, are those of the office's server.
 pub returns : goal.returns
 returns g c =
     let all : ServesAll g.K.Keeper.rows g.K.Keeper.is_up g.K.Keeper.failed g.E.Write.contents c.args.count

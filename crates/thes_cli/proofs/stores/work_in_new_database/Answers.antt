@@ -10,11 +10,11 @@ returns-in-Ok g c = inl record {
 
 pub returns-in-Err : goal.returns-in-Err
 returns-in-Err g c = inr record {
-  fault = c.fault_of.result;
-  kind = c.fault_of.ensures.kind;
+  error = c.in-Err.error;
+  new_conn = c.create_tables.new.conn;
+  back_is = c.with_connection.ensures;
   leaves = λ up. c.in-Err.ensures.own.none up.0 up.1;
   input = refl;
   output = refl;
-  prints_it = c.report_in_file.ensures.reports;
-  status_is = c.report_in_file.ensures.status;
+  reports = c.report_unmade.ensures;
 }

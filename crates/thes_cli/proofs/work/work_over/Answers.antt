@@ -1,11 +1,11 @@
-use Rattle.std.proofs.Common.{◌∙◌, inl, inr, refl}
+use Rattle.std.proofs.Common.{inl, inr, refl}
 use Rattle.thes_cli.proofs.work.work_over.Goals as goal
 
 pub returns-in-Ok : goal.returns-in-Ok
 returns-in-Ok g c = inl record {
   old_office = c.in-Ok.office;
   opens = record {
-    limits = c.in-Ok.ensures.limits ∙ c.default.ensures;
+    limits_are = c.in-Ok.ensures.limits;
     same = c.in-Ok.ensures.same;
     shows =
         c.in-Ok.ensures.shows;

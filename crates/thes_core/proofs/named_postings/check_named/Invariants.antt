@@ -5,8 +5,8 @@ use Rattle.thes_base.specs.Refusals.{EachListed, IsKnownPosting, IsPostingThat}
 use Rattle.thes_core.specs.Facts.{posting_row_at}
 use Rattle.thes_core.proofs.named_postings.check_named.Given as goal
 
--- The postings so far are known; a flag that is set makes the whole list fail its check, and one that isn't set means
--- that the postings so far pass it.
+-- The postings read so far are known. A flag that is set makes the whole list fail its check; one that isn't set means
+-- that the postings read so far pass it.
 abbrev pub invariant-loop-row : goal.invariant-loop-row
 invariant-loop-row l = (hs : List History) → l.named_postings ≡ map (posting_row_at hs) l.postings → record {
   known : EachListed (IsKnownPosting hs) (take l.row-index l.postings);

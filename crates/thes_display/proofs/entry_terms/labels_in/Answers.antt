@@ -12,7 +12,7 @@ pub loop-label-init : goal.loop-label-init
 loop-label-init c = labels_none c.args.n c.args.tag.now (map (λ b. tagged_text b.now) c.deref-label-items.result.now)
     _ c.new-terms.ensures.items
 
--- A label in the language extends the listing, and another leaves it.
+-- A label in the language extends the listing, and one in another language doesn't.
 pub loop-label-preserved : goal.loop-label-preserved
 loop-label-preserved c =
     let labels = c.deref-label-items.result.now in

@@ -12,7 +12,7 @@ use Rattle.thes_display.proofs.ListingLemmas.{chosen_none, chosen_more, chosen_s
 use Rattle.thes_display.proofs.entry_terms.linked_concepts.Goals as goal
 use Rattle.thes_display.proofs.entry_terms.linked_concepts.Goals.{then-is_linked+in_ok-push, else-is_linked}
 
--- A concept linked by this kind is on this side.
+-- A concept linked by a hierarchical kind is on the side of that link.
 beside_linked : (links : Links) (side : Side) (kind : LinkKind) (n m : ℕ) → IsHierarchical kind
     → IsLinkedOnSide links side kind n m → IsOnSide links side n m
 beside_linked links Broader kind n m is l = (kind, is, l)

@@ -11,63 +11,66 @@ use Rattle.thes_base.specs.Views.{HasBroader}
 use Rattle.thes_display.specs.declared.walk.Child.{Child}
 use Rattle.thes_display.specs.Order.{Term}
 use Rattle.thes_display.specs.ChildLists.{child_cmp}
-use Rattle.thes_display.specs.Hierarchical.{HasKey, IsBroader}
-use Rattle.thes_display.specs.HierarchyParts.{AreKeys, IsChild}
-use Rattle.thes_display.proofs.KeyLemmas.{key_of_term}
-use Rattle.thes_display.proofs.GatherLemmas.{key_within}
+use Rattle.thes_display.specs.Hierarchical.{HasRank, IsNarrowerTerm}
+use Rattle.thes_display.specs.HierarchyParts.{AreRanks, IsChild}
+use Rattle.thes_display.proofs.RankLemmas.{rank_of_term}
+use Rattle.thes_display.proofs.GatherLemmas.{rank_within}
 use Rattle.thes_display.proofs.ChildLemmas.{AreChildren, children_none, children_more, children_listed, broader_at}
 use Rattle.thes_display.proofs.ChildLemmas.{known_home}
 use Rattle.thes_display.proofs.gather.children_of.Goals as goal
 
--- The keys found are those of the narrower concepts that were read.
-module _ (links : Links) (terms : List Term) (key : ℕ) (keys : ℕ → Option ℕ) (are : AreKeys terms keys)
-    (n : ℕ) (t : Term) (same : n ≡ t.concept) (within : key < length terms) (is : t ≡ get_or terms key t)
+-- The ranks found are those of the narrower concepts.
+module _ (links : Links) (terms : List Term) (rank : ℕ) (ranks : ℕ → Option ℕ) (are : AreRanks terms ranks)
+    (n : ℕ) (t : Term) (same : n ≡ t.concept) (within : rank < length terms) (is : t ≡ get_or terms rank t)
     (xs ys ks found : List ℕ) (listed : IsListing nat_cmp (λ a. HasBroader links a n) xs)
-    (read : ks ≡ found) (slice : ys ≡ xs) (all : found ≡ filter_map keys ys) where
-  here : HasKey terms n key
-  here = subst (λ m. HasKey terms m key) (sym same) (key_of_term terms key t within is)
+    (read : ks ≡ found) (slice : ys ≡ xs) (all : found ≡ filter_map ranks ys) where
+  here : HasRank terms n rank
+  here = subst (λ m. HasRank terms m rank) (sym same) (rank_of_term terms rank t within is)
 
-  found_all : ks ≡ filter_map keys xs
-  found_all = read ∙ all ∙ ap (filter_map keys) slice
+  found_all : ks ≡ filter_map ranks xs
+  found_all = read ∙ all ∙ ap (filter_map ranks) slice
 
-  narrower_at : (k : ℕ) → k < length ks → IsBroader links terms (get_or ks k 0) key
-  narrower_at k l = broader_at links terms key keys are n here xs ks listed found_all (get_or ks k 0)
+  narrower_at : (k : ℕ) → k < length ks → IsNarrowerTerm links terms (get_or ks k 0) rank
+  narrower_at k l = broader_at links terms rank ranks are n here xs ks listed found_all (get_or ks k 0)
       (Contains-get_or ks k 0 l)
 
-  children_are : (made children : List Child) → AreChildren links terms key ks made → IsPermutation made children
-      → IsSorted child_cmp children → IsListing child_cmp (IsChild links terms key) children
-  children_are = children_listed links terms key keys are n here xs ks listed found_all
+  children_are : (made children : List Child) → AreChildren links terms rank ks made → IsPermutation made children
+      → IsSorted child_cmp children → IsListing child_cmp (IsChild links terms rank) children
+  children_are = children_listed links terms rank ranks are n here xs ks listed found_all
 
 pub loop-child-init : goal.loop-child-init
-loop-child-init c = children_none c.args.core.now.links c.args.terms.now c.args.key _ c.new-children.ensures.items
+loop-child-init c = children_none c.args.core.now.links c.args.terms.now c.args.rank _ c.new-children.ensures.items
 
 pub is_home-at_home-requires : goal.is_home-at_home-requires
 is_home-at_home-requires c =
-    let r = narrower_at c.args.core.now.links c.args.terms.now c.args.key (get nat_cmp c.args.keys.now) c.requires.keys
-    c.concept.result c.index-terms-key.result c.concept.ensures c.requires.within c.index-terms-key.is
+    let r = narrower_at c.args.core.now.links c.args.terms.now c.args.rank (get nat_cmp c.args.ranks.now)
+    c.requires.ranks
+    c.concept.result c.index-terms-rank.result c.concept.ensures c.requires.within c.index-terms-rank.is
     c.in_ok-narrower.narrower.items _ c.deref-child-items.result.now _ c.in_ok-narrower.ensures
     c.deref-child-items.ensures.value c.as_slice.ensures.value c.in_ok-found.ensures c.loop-child.child-index
     (omega arith) in
-    known_home c.args.core.now.links c.args.terms.now c.args.key c.args.homes.now c.requires.homes _ r
+    known_home c.args.core.now.links c.args.terms.now c.args.rank c.args.homes.now c.requires.homes _ r
 
 pub types_at-types-requires-clause-within : goal.types_at-types-requires-clause-within
 types_at-types-requires-clause-within c =
-    let r = narrower_at c.args.core.now.links c.args.terms.now c.args.key (get nat_cmp c.args.keys.now) c.requires.keys
-    c.concept.result c.index-terms-key.result c.concept.ensures c.requires.within c.index-terms-key.is
+    let r = narrower_at c.args.core.now.links c.args.terms.now c.args.rank (get nat_cmp c.args.ranks.now)
+    c.requires.ranks
+    c.concept.result c.index-terms-rank.result c.concept.ensures c.requires.within c.index-terms-rank.is
     c.in_ok-narrower.narrower.items _ c.deref-child-items.result.now _ c.in_ok-narrower.ensures
     c.deref-child-items.ensures.value c.as_slice.ensures.value c.in_ok-found.ensures c.loop-child.child-index
     (omega arith) in
-    (key_within c.args.terms.now r.lower _ r.lower_key, c.requires.within)
+    (rank_within c.args.terms.now r.lower _ r.lower_rank, c.requires.within)
 
 pub loop-child-preserved : goal.loop-child-preserved
 loop-child-preserved c =
     let ks : List ℕ = c.deref-child-items.result.now in
     let i = c.loop-child.child-index in
-    let r = narrower_at c.args.core.now.links c.args.terms.now c.args.key (get nat_cmp c.args.keys.now) c.requires.keys
-    c.concept.result c.index-terms-key.result c.concept.ensures c.requires.within c.index-terms-key.is
+    let r = narrower_at c.args.core.now.links c.args.terms.now c.args.rank (get nat_cmp c.args.ranks.now)
+    c.requires.ranks
+    c.concept.result c.index-terms-rank.result c.concept.ensures c.requires.within c.index-terms-rank.is
     c.in_ok-narrower.narrower.items _ c.deref-child-items.result.now _ c.in_ok-narrower.ensures
     c.deref-child-items.ensures.value c.as_slice.ensures.value c.in_ok-found.ensures i (omega arith) in
-    children_more c.args.core.now.links c.args.terms.now c.args.key c.args.homes.now c.requires.homes (take i ks)
+    children_more c.args.core.now.links c.args.terms.now c.args.rank c.args.homes.now c.requires.homes (take i ks)
     (take (i + 1) ks) _ _ _ c.types_at-types.result c.is_home-at_home.result c.loop-child.invariant r
     c.types_at-types.ensures c.is_home-at_home.ensures.at c.is_home-at_home.ensures.other
     c.in_ok-push.ensures.items
@@ -76,10 +79,10 @@ loop-child-preserved c =
 pub returns : goal.returns
 returns c =
     let ks : List ℕ = c.deref-child-items.result.now in
-    children_are c.args.core.now.links c.args.terms.now c.args.key (get nat_cmp c.args.keys.now) c.requires.keys
-    c.concept.result c.index-terms-key.result c.concept.ensures c.requires.within c.index-terms-key.is
+    children_are c.args.core.now.links c.args.terms.now c.args.rank (get nat_cmp c.args.ranks.now) c.requires.ranks
+    c.concept.result c.index-terms-rank.result c.concept.ensures c.requires.within c.index-terms-rank.is
     c.in_ok-narrower.narrower.items _ c.deref-child-items.result.now _ c.in_ok-narrower.ensures
     c.deref-child-items.ensures.value c.as_slice.ensures.value c.in_ok-found.ensures c.loop-child.children.items _
-    (subst (λ (xs : List ℕ). AreChildren c.args.core.now.links c.args.terms.now c.args.key xs
+    (subst (λ (xs : List ℕ). AreChildren c.args.core.now.links c.args.terms.now c.args.rank xs
     c.loop-child.children.items) (take_all c.loop-child.child-index ks (omega arith)) c.loop-child.invariant)
     c.in_ok-sort_children.ensures.same c.in_ok-sort_children.ensures.sorted

@@ -3,7 +3,7 @@ use Rattle.thes_base.specs.State.{State}
 use Rattle.thes_core.specs.CoreView.{with_histories}
 use Rattle.thes_display.specs.Hierarchical.{AreTerms}
 use Rattle.thes_display.proofs.TermLemmas.{terms_are}
-use Rattle.thes_display.proofs.SchemeKeyLemmas.{one_key, closed}
+use Rattle.thes_display.proofs.SchemeRankLemmas.{one_rank, scheme_is_closed}
 use Rattle.thes_display.proofs.gather.terms_of.Goals as goal
 
 pub returns : goal.returns
@@ -14,8 +14,8 @@ returns c =
       terms = λ s holds. subst (λ (t : State). AreTerms t c.args.scheme c.args.tag.now c.in_ok-terms.terms.items)
           holds.state
           (terms_are (with_histories s.histories c.args.core.now) c.args.scheme c.args.tag.now _ _ listed terms);
-      one_key = one_key _ _ _ _ (terms_are (with_histories [] c.args.core.now) c.args.scheme c.args.tag.now _ _ listed
+      one_rank = one_rank _ _ _ _ (terms_are (with_histories [] c.args.core.now) c.args.scheme c.args.tag.now _ _ listed
           terms);
-      closed = λ s holds. closed _ _ _ _ (terms_are (with_histories s.histories c.args.core.now) c.args.scheme
+      closed = λ s holds. scheme_is_closed _ _ _ _ (terms_are (with_histories s.histories c.args.core.now) c.args.scheme
           c.args.tag.now _ _ listed terms) (c.live_of.ensures.closed s holds);
     }

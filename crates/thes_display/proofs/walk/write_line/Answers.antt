@@ -5,10 +5,10 @@ use Rattle.thes_display.specs.Order.{Term}
 use Rattle.thes_display.specs.Lines.{text_at}
 use Rattle.thes_display.proofs.walk.write_line.Goals as goal
 
-text_read : (terms : List Term) (key : ℕ) (t : Term) → key < length terms → t ≡ get_or terms key t → t.text
-    ≡ text_at terms key
-text_read terms key t k e =
-    sym (ap (λ o. option_map_or (λ (x : Term). x.text) o []) (slice_get_read terms (length terms) key t refl k e))
+text_read : (terms : List Term) (rank : ℕ) (t : Term) → rank < length terms → t ≡ get_or terms rank t → t.text
+    ≡ text_at terms rank
+text_read terms rank t k e =
+    sym (ap (λ o. option_map_or (λ (x : Term). x.text) o []) (slice_get_read terms (length terms) rank t refl k e))
 
 four : (old spaces text types end one two three new : List ℕ) → one ≡ old ++ spaces → two ≡ one ++ text → three ≡ two
     ++ types → new ≡ three ++ end → new ≡ old ++ (spaces ++ (text ++ (types ++ end)))

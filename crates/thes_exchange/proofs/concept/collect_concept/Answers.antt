@@ -19,7 +19,7 @@ returns c s holds = view_of_held_state c.args.core.now s c.args.number _ holds r
   related = search rules;
   collections = search rules;
   mappings = search rules;
-  postings = search (rules, holds.sums.standing c.args.number);
+  postings = search (rules, holds.posting_counts.standing c.args.number);
   top = search rules;
   typed = search rules;
 }

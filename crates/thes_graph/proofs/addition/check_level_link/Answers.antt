@@ -1,36 +1,38 @@
-use Rattle.std.proofs.Common.{true, false}
-use Rattle.thes_base.specs.Links.{HeldIn}
+use Rattle.thes_base.specs.Links.{Holds}
 use Rattle.thes_graph.specs.Whole.{HasEndAbove, HasNoEndAbove}
-use Rattle.thes_graph.proofs.KindLemmas.{near_level, IsFirstOfTwo-kept, IsFirstOfTwo-above, IsFirstOfTwo-apart}
+use Rattle.thes_graph.proofs.KindLemmas.{near_level, IsFirstOfCycleAndS27-kept, IsFirstOfCycleAndS27-above}
+use Rattle.thes_graph.proofs.KindLemmas.{IsFirstOfCycleAndS27-apart}
 use Rattle.thes_graph.proofs.addition.check_level_link.Goals as goal
 
 pub returns-then-not-relates-clause-first : goal.returns-then-not-relates-clause-first
 returns-then-not-relates-clause-first g c =
-    IsFirstOfTwo-kept (HeldIn (g.L.Links.held c.args.links.now)) c.args.new.now c.requires.level
+    IsFirstOfCycleAndS27-kept (Holds (g.L.Links.net c.args.links.now).links) c.args.new.now c.requires.level
     c.if-not-relates.ensures c.requires.unbroken.0 c.requires.unbroken.1
 
 pub returns-then-branch-clause-first : goal.returns-then-branch-clause-first
 returns-then-branch-clause-first g c =
-    let above : HasEndAbove (HeldIn (g.L.Links.held c.args.links.now)) c.args.new.now =
+    let above : HasEndAbove (Holds (g.L.Links.net c.args.links.now).links) c.args.new.now =
     rw c.if-branch.true at c.in_ok-has_end_above.ensures.above in
-    IsFirstOfTwo-above (HeldIn (g.L.Links.held c.args.links.now)) c.args.new.now c.requires.level c.requires.ends
+    IsFirstOfCycleAndS27-above (Holds (g.L.Links.net c.args.links.now).links) c.args.new.now c.requires.level
+    c.requires.ends
     c.if-not-relates.ensures c.requires.unbroken.0 above
 
 pub returns-then-branch-clause-count : goal.returns-then-branch-clause-count
 returns-then-branch-clause-count g c ns covers =
     c.in_ok-has_end_above.ensures.count ns
-    (λ n near. covers n (near_level (HeldIn (g.L.Links.held c.args.links.now)) c.args.new.now c.requires.level
+    (λ n near. covers n (near_level (Holds (g.L.Links.net c.args.links.now).links) c.args.new.now c.requires.level
     c.args.new.now.a n near))
 
 pub returns-clause-first : goal.returns-clause-first
 returns-clause-first g c =
-    let apart : HasNoEndAbove (HeldIn (g.L.Links.held c.args.links.now)) c.args.new.now =
+    let apart : HasNoEndAbove (Holds (g.L.Links.net c.args.links.now).links) c.args.new.now =
     rw c.if-branch.false at c.in_ok-has_end_above.ensures.above in
-    IsFirstOfTwo-apart (HeldIn (g.L.Links.held c.args.links.now)) c.args.new.now c.requires.level c.requires.ends
+    IsFirstOfCycleAndS27-apart (Holds (g.L.Links.net c.args.links.now).links) c.args.new.now c.requires.level
+    c.requires.ends
     c.if-not-relates.ensures c.requires.unbroken.0 c.requires.unbroken.1 apart
 
 pub returns-clause-count : goal.returns-clause-count
 returns-clause-count g c ns covers =
     c.in_ok-has_end_above.ensures.count ns
-    (λ n near. covers n (near_level (HeldIn (g.L.Links.held c.args.links.now)) c.args.new.now c.requires.level
+    (λ n near. covers n (near_level (Holds (g.L.Links.net c.args.links.now).links) c.args.new.now c.requires.level
     c.args.new.now.a n near))

@@ -1,4 +1,4 @@
-use Rattle.std.proofs.Common.{sym, ◌∙◌, false}
+use Rattle.std.proofs.Common.{sym, ◌∙◌}
 use Rattle.std.proofs.lemmas.Bool.Decides.{Decides-eqb}
 use Rattle.std.proofs.lemmas.Bool.{both_ways}
 use Rattle.thes_graph.proofs.SideSearchLemmas.{Steps-with_none, Steps-merged_none}
@@ -10,12 +10,12 @@ returns-in-NoEdit-clause-end g c = rw c.in-NoEdit.is c.is_end.ensures.end
 
 pub returns-in-None-clause-end : goal.returns-in-None-clause-end
 returns-in-None-clause-end g c =
-    rw c.in-WithLink.is (λ on. Steps-with_none (g.L.Links.held c.args.links.now) c.args.relation c.in-WithLink.new
+    rw c.in-WithLink.is (λ on. Steps-with_none (g.L.Links.net c.args.links.now).links c.args.relation c.in-WithLink.new
     c.args.x (c.is_end-end.ensures.end on) (sym c.in-None.ensures))
 
 pub returns-else-eq-clause-end : goal.returns-else-eq-clause-end
 returns-else-eq-clause-end g c = rw c.in-AfterMerge.is (λ on.
-    Steps-merged_none (g.L.Links.held c.args.links.now) c.args.relation c.requires
+    Steps-merged_none (g.L.Links.net c.args.links.now).links c.args.relation c.requires
     c.is_end-in-AfterMerge.ensures.two_ends c.in-AfterMerge.source c.in-AfterMerge.target c.args.x
     (c.is_end-in-AfterMerge.ensures.end on)
     (λ same. elim c.else-eq.branch [

@@ -1,7 +1,7 @@
 use Rattle.std.proofs.Common.{◌≡◌, ◌-◌, ◌++◌, ◌∷◌, [], take, refl, ap, ◌∙◌, arith}
-use Rattle.thes_base.specs.Links.{HeldIn}
+use Rattle.thes_base.specs.Links.{Holds}
 use Rattle.thes_graph.proofs.CycleSearchLemmas.{GrowsBy-keeps, GrowsBy-longer, IsCycleSearch-done}
-use Rattle.thes_graph.proofs.CycleSearchLemmas.{IsCycleSearch-fewer, IsSomeCycle-met, IsCycleSearch-more}
+use Rattle.thes_graph.proofs.CycleSearchLemmas.{IsCycleSearch-fewer, HasCycle-met, IsCycleSearch-more}
 use Rattle.thes_graph.proofs.CycleSearchLemmas.{search_measure-done, search_measure-fewer, search_measure-more}
 use Rattle.thes_graph.proofs.CycleSearchLemmas.{none_above, last_above, all_but_last, done_or_left, left_above}
 use Rattle.thes_graph.proofs.CycleSearchLemmas.{fewer_left}
@@ -9,7 +9,7 @@ use Rattle.thes_graph.proofs.find_cycle.advance_path.Given.{Over}
 use Rattle.thes_graph.proofs.find_cycle.advance_path.Goals as goal
 use Rattle.thes_graph.proofs.find_cycle.advance_path.Goals.{After-pop}
 
--- The pop leaves all waiting nodes but the last.
+-- The pop removes the last of the nodes to be searched from.
 popped : (g : Over) (c : After-pop g) → c.args.last.above.items ≡ c.pop.new.self.items ++ c.in-Some.high ∷ []
 popped g c =
     all_but_last c.args.last.above.items c.pop.new.self.items c.in-Some.high
@@ -18,7 +18,7 @@ popped g c =
 
 pub returns-in_default-clause-found : goal.returns-in_default-clause-found
 returns-in_default-clause-found g c =
-    IsCycleSearch-done (HeldIn (g.L.Links.held c.args.links.now)) c.args.met.now c.args.done.now
+    IsCycleSearch-done (Holds (g.L.Links.net c.args.links.now).links) c.args.met.now c.args.done.now
     c.args.stack.now.items c.args.last c.requires c.meet.new.self
     (none_above c.args.last.above.items c.copied.result (c.copied.ensures ∙ rw c.deref.ensures.value
     at c.last.ensures.value) c.in_default.not-Some)
@@ -31,7 +31,7 @@ pub returns-then-has-clause-found : goal.returns-then-has-clause-found
 returns-then-has-clause-found g c =
     let all = popped g (goal.at.returns-then-has-clause-found g c).After-pop in
     rw c.in_ok-push.ensures.items
-    (IsCycleSearch-fewer (HeldIn (g.L.Links.held c.args.links.now)) c.args.met.now c.args.done.now
+    (IsCycleSearch-fewer (Holds (g.L.Links.net c.args.links.now).links) c.args.met.now c.args.done.now
     c.args.stack.now.items c.args.last c.requires _ refl
     (done_or_left c.args.last.above.items c.pop.new.self.items c.in-Some.high all c.args.done.now
     (rw c.if-has.true at c.has.ensures))
@@ -45,7 +45,7 @@ returns-then-has-clause-less g c _ =
 
 pub returns-then-has-2-clause-found : goal.returns-then-has-2-clause-found
 returns-then-has-2-clause-found g c =
-    IsSomeCycle-met (HeldIn (g.L.Links.held c.args.links.now)) c.args.met.now c.args.done.now c.args.stack.now.items
+    HasCycle-met (Holds (g.L.Links.net c.args.links.now).links) c.args.met.now c.args.done.now c.args.stack.now.items
     c.args.last c.requires c.in-Some.high
     (last_above c.args.last.above.items c.in-Some.high (c.in-Some.ensures ∙ rw c.deref.ensures.value
     at c.last.ensures.value))
@@ -58,7 +58,7 @@ returns-clause-met g c = GrowsBy-keeps c.args.met.now c.meet-2.new.self (λ n. c
 pub returns-clause-found : goal.returns-clause-found
 returns-clause-found g c =
     rw (c.in_ok-push-3.ensures.items, c.in_ok-push-2.ensures.items)
-    (IsCycleSearch-more (HeldIn (g.L.Links.held c.args.links.now)) c.args.met.now c.args.done.now
+    (IsCycleSearch-more (Holds (g.L.Links.net c.args.links.now).links) c.args.met.now c.args.done.now
     c.args.stack.now.items c.args.last c.requires c.meet-2.new.self c.in_ok-next.next
     (rw c.in_ok-next.ensures.node (last_above c.args.last.above.items c.in-Some.high
     (c.in-Some.ensures ∙ rw c.deref.ensures.value at c.last.ensures.value)))

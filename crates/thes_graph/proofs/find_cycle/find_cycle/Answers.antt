@@ -1,29 +1,41 @@
 use Rattle.std.proofs.Common.{[], ◌∷◌, ℕ, List, sym, subst, ◌∙◌}
 use Rattle.std.proofs.lemmas.List.{nil_from_length}
-use Rattle.thes_base.specs.Links.{HeldIn}
+use Rattle.thes_base.specs.Links.{Holds}
 use Rattle.thes_base.proofs.ListMemberLemmas.{Contains-head}
 use Rattle.thes_graph.specs.CycleSearch.{IsCycleSearch}
 use Rattle.thes_graph.specs.declared.find_cycle.PathNode.{PathNode}
+use Rattle.thes_graph.specs.GraphView.{GraphView}
 use Rattle.thes_graph.proofs.CycleSearchLemmas.{IsCycleSearch-start, IsCycleSearch-end}
 use Rattle.thes_graph.proofs.find_cycle.find_cycle.Goals as goal
 
 pub loop-last-init : goal.loop-last-init
 loop-last-init g c = record {
-  held = c.in_ok-first.ensures.held;
+  net = c.in_ok-first.ensures.net;
   climbs =
       rw (c.in_ok-stack.ensures.items, c.in_ok-met.ensures)
-      (subst (λ (n : ℕ). IsCycleSearch (HeldIn (g.L.Links.held c.args.links.now)) (n ∷ []) c.args.done.now
+      (subst (λ (n : ℕ). IsCycleSearch (Holds (g.L.Links.net c.args.links.now).links) (n ∷ []) c.args.done.now
       (c.in_ok-first.first ∷ [])) c.in_ok-first.ensures.node
-      (IsCycleSearch-start (HeldIn (g.L.Links.held c.args.links.now)) c.args.done.now c.in_ok-first.first c.requires
+      (IsCycleSearch-start (Holds (g.L.Links.net c.args.links.now).links) c.args.done.now c.in_ok-first.first c.requires
       (rw c.in_ok-first.ensures.node c.in_ok-first.ensures.above)));
   start = rw c.in_ok-met.ensures (Contains-head c.args.start []);
   extends = λ n has. has;
 }
 
+pub loop-last-preserved : goal.loop-last-preserved
+loop-last-preserved g c = record {
+  net = c.in_ok-advance_path.ensures.net ∙ c.loop-last.invariant.net;
+  climbs =
+      subst (λ (net : GraphView). IsCycleSearch (Holds net.links) c.advance_path.new.met c.advance_path.new.done
+      c.advance_path.new.stack.items) c.loop-last.invariant.net
+      (rw c.if-branch.false at c.in_ok-advance_path.ensures.found);
+  start = c.in_ok-advance_path.ensures.met c.args.start c.loop-last.invariant.start;
+  extends = λ n has. c.in_ok-advance_path.ensures.done n (c.loop-last.invariant.extends n has);
+}
+
 pub returns-clause-found : goal.returns-clause-found
 returns-clause-found g c =
-    IsCycleSearch-end (HeldIn (g.L.Links.held c.args.links.now)) c.loop-last.met c.loop-last.done
-    (subst (λ (stack : List PathNode). IsCycleSearch (HeldIn (g.L.Links.held c.args.links.now)) c.loop-last.met
+    IsCycleSearch-end (Holds (g.L.Links.net c.args.links.now).links) c.loop-last.met c.loop-last.done
+    (subst (λ (stack : List PathNode). IsCycleSearch (Holds (g.L.Links.net c.args.links.now).links) c.loop-last.met
     c.loop-last.done stack)
     (nil_from_length c.loop-last.stack.items (sym c.loop-last.stack.ok.0 ∙ c.in_default.ensures.cases.0))
     c.loop-last.invariant.climbs)

@@ -1,12 +1,12 @@
 use Rattle.std.proofs.Common.{◌≡◌, ℕ, Contains}
-use Rattle.thes_base.specs.Links.{HeldIn}
+use Rattle.thes_base.specs.Links.{Holds}
 use Rattle.thes_graph.specs.CycleSearch.{IsCycleSearch, search_measure}
 use Rattle.thes_graph.proofs.find_cycle.find_cycle.Given as goal
 
 abbrev pub invariant-loop-last : goal.invariant-loop-last
 invariant-loop-last g l = record {
-  held : g.L.Links.held l.links ≡ g.L.Links.held l.fn.links;
-  climbs : IsCycleSearch (HeldIn (g.L.Links.held l.fn.links)) l.met l.done l.stack.items;
+  net : g.L.Links.net l.links ≡ g.L.Links.net l.fn.links;
+  climbs : IsCycleSearch (Holds (g.L.Links.net l.fn.links).links) l.met l.done l.stack.items;
   start : Contains l.met l.fn.start;
   extends : (n : ℕ) → Contains l.fn.done n → Contains l.done n;
 }

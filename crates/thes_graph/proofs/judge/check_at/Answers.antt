@@ -1,4 +1,5 @@
-use Rattle.thes_base.specs.Links.{HeldIn}
+use Rattle.thes_base.specs.Links.{Holds}
+use Rattle.thes_graph.specs.GraphView.{is_marked}
 use Rattle.thes_graph.proofs.PivotLemmas.{IsFirstBroken-from_pivot}
 use Rattle.thes_graph.proofs.EditCheckLemmas.{CoversNear-held}
 use Rattle.thes_graph.proofs.NeighbourhoodLemmas.{check_neighbourhood}
@@ -6,12 +7,12 @@ use Rattle.thes_graph.proofs.judge.check_at.Goals as goal
 
 pub returns-clause-first : goal.returns-clause-first
 returns-clause-first g c =
-    IsFirstBroken-from_pivot (HeldIn (g.L.Links.held c.args.links.now)) c.args.pivot c.requires
+    IsFirstBroken-from_pivot (Holds (g.L.Links.net c.args.links.now).links) c.args.pivot c.requires
     (c.in_ok-answer.ensures.two_ends tt) c.in_ok-answer.answer c.in_ok-answer.ensures.first
 
 pub returns-clause-count : goal.returns-clause-count
 returns-clause-count g c ns has =
     c.in_ok-answer.ensures.count ns
-    (CoversNear-held (g.L.Links.held c.args.links.now) c.args.pivot ns
-    (check_neighbourhood (g.L.Links.outside c.args.links.now) (g.L.Links.held c.args.links.now) ns c.args.pivot
-    has))
+    (CoversNear-held (g.L.Links.net c.args.links.now).links c.args.pivot ns
+    (check_neighbourhood (is_marked (g.L.Links.net c.args.links.now)) (g.L.Links.net c.args.links.now).links ns
+    c.args.pivot has))

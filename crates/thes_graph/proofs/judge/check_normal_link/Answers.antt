@@ -1,8 +1,9 @@
 use Rattle.std.proofs.Common.{◌+◌, ◌*◌, ◌<◌, ◌≤◌, inr, length, arith, sym, subst, refl, None}
 use Rattle.std.proofs.lemmas.Bool.{both_ways}
-use Rattle.thes_base.specs.Links.{Links, HeldIn}
+use Rattle.thes_base.specs.Links.{Holds}
 use Rattle.thes_graph.specs.declared.edit.LinkEdit.TheVariants.{WithLink}
 use Rattle.thes_graph.specs.Local.{BreakNone, CoversNear}
+use Rattle.thes_graph.specs.GraphView.{GraphView}
 use Rattle.thes_graph.proofs.EditCheckLemmas.{CoversNear-with}
 use Rattle.thes_graph.proofs.ContractLemmas.{IsFirstBroken-inserted}
 use Rattle.thes_graph.proofs.judge.check_normal_link.Goals as goal
@@ -12,31 +13,31 @@ returns-clause-answer g c =
     let first = c.in_ok-answer.ensures.first in
     inr (
       both_ways _ (sym c.if-holds.ensures.holds),
-      IsFirstBroken-inserted (g.L.Links.held c.args.links.now)
-          c.args.new.now c.in_ok-answer.answer (rw c.if-holds.ensures.held at first),
+      IsFirstBroken-inserted (g.L.Links.net c.args.links.now).links
+          c.args.new.now c.in_ok-answer.answer (rw c.if-holds.ensures.net at first),
     )
 
 pub returns-clause-count : goal.returns-clause-count
 returns-clause-count g c ns has_new all =
-    let rest = CoversNear-with (g.L.Links.held c.args.links.now) c.args.new.now ns
+    let rest = CoversNear-with (g.L.Links.net c.args.links.now).links c.args.new.now ns
     (both_ways _ (sym c.if-holds.ensures.holds)) has_new all in
-    let covers : CoversNear (WithLink c.args.new.now) (g.L.Links.held c.args.links.now) c.args.new.now.a rest.0 =
+    let covers : CoversNear (WithLink c.args.new.now) (g.L.Links.net c.args.links.now).links c.args.new.now.a rest.0 =
     rest.2 in
     let walked : g.L.Links.count c.check_added_link.new.links ≤ g.L.Links.count c.holds.new.self + 6 * length rest.0 =
-    c.in_ok-answer.ensures.count rest.0 (rw c.if-holds.ensures.held covers) in
+    c.in_ok-answer.ensures.count rest.0 (rw c.if-holds.ensures.net covers) in
     omega (arith, c.if-holds.ensures.count, rest.1)
 
 pub is_harmless-requires-clause-unbroken : goal.is_harmless-requires-clause-unbroken
-is_harmless-requires-clause-unbroken g c = subst (λ (links : Links). BreakNone (HeldIn links))
-    (sym c.if-holds.ensures.held) c.requires.unbroken
+is_harmless-requires-clause-unbroken g c = subst (λ (net : GraphView). BreakNone (Holds net.links))
+    (sym c.if-holds.ensures.net) c.requires.unbroken
 
 pub returns-then-is_harmless-clause-answer : goal.returns-then-is_harmless-clause-answer
 returns-then-is_harmless-clause-answer g c =
     let legal = c.if-is_harmless.ensures refl in
     inr (
       both_ways _ (sym c.if-holds.ensures.holds),
-      IsFirstBroken-inserted (g.L.Links.held c.args.links.now)
-          c.args.new.now None (rw c.if-holds.ensures.held at legal),
+      IsFirstBroken-inserted (g.L.Links.net c.args.links.now).links
+          c.args.new.now None (rw c.if-holds.ensures.net at legal),
     )
 
 pub returns-then-is_harmless-clause-count : goal.returns-then-is_harmless-clause-count
@@ -45,8 +46,8 @@ returns-then-is_harmless-clause-count g c ns has_new all =
     omega (arith, c.if-holds.ensures.count)
 
 pub check_added_link-requires-clause-two_ends : goal.check_added_link-requires-clause-two_ends
-check_added_link-requires-clause-two_ends g c = rw c.if-holds.ensures.held c.if-holds.ensures.two_ends
+check_added_link-requires-clause-two_ends g c = rw c.if-holds.ensures.net c.if-holds.ensures.two_ends
 
 pub check_added_link-requires-clause-unbroken : goal.check_added_link-requires-clause-unbroken
-check_added_link-requires-clause-unbroken g c = subst (λ (links : Links). BreakNone (HeldIn links))
-    (sym c.if-holds.ensures.held) c.requires.unbroken
+check_added_link-requires-clause-unbroken g c = subst (λ (net : GraphView). BreakNone (Holds net.links))
+    (sym c.if-holds.ensures.net) c.requires.unbroken

@@ -2,15 +2,16 @@ use Rattle.std.proofs.Common.{subst}
 use Rattle.thes_base.specs.declared.data.Link.{Link}
 use Rattle.thes_base.specs.Neighbourhood.{Add}
 use Rattle.thes_graph.specs.EditChecks.{AreFewVisits}
+use Rattle.thes_graph.specs.GraphView.{is_marked}
 use Rattle.thes_graph.proofs.NeighbourhoodLemmas.{add_neighbourhood}
 use Rattle.thes_graph.proofs.judge.judge_add.Goals as goal
 
 pub returns-clause-count : goal.returns-clause-count
 returns-clause-count g c =
-    subst (λ (new : Link). AreFewVisits (g.L.Links.outside c.args.links.now) (Add new)
-    (g.L.Links.held c.args.links.now) (g.L.Links.count c.args.links.now)
+    subst (λ (new : Link). AreFewVisits (is_marked (g.L.Links.net c.args.links.now)) (Add new)
+    (g.L.Links.net c.args.links.now).links (g.L.Links.count c.args.links.now)
     (g.L.Links.count c.check_normal_link.new.links))
     c.normal-new.ensures
-    (λ ns has. let near = add_neighbourhood (g.L.Links.outside c.args.links.now) (g.L.Links.held c.args.links.now) ns
-    c.normal-new.result has in
+    (λ ns has. let near = add_neighbourhood (is_marked (g.L.Links.net c.args.links.now))
+    (g.L.Links.net c.args.links.now).links ns c.normal-new.result has in
     c.in_ok-answer.ensures.count ns near.0 near.1)

@@ -4,14 +4,12 @@ use Rattle.thes_graph.proofs.paired_search.run_paired_search.Given as goal
 
 abbrev pub invariant-steps : goal.invariant-steps
 invariant-steps g l = record {
-  held : g.L.Links.held l.links ≡ g.L.Links.held l.fn.links;
-  outside : g.L.Links.outside l.links ≡ g.L.Links.outside l.fn.links;
-  rows : g.L.Links.links_of l.links ≡ g.L.Links.links_of l.fn.links;
-  goes : (from to before : ℕ)
-      → ArePairedSearches (g.L.Links.held l.fn.links) l.relation l.froms l.tos from to l.fn.first l.fn.second 0 before
-      (g.L.Links.count l.fn.links)
-      → ArePairedSearches (g.L.Links.held l.fn.links) l.relation l.froms l.tos from to l.first l.second l.left before
-      (g.L.Links.count l.links);
+  net : g.L.Links.net l.links ≡ g.L.Links.net l.fn.links;
+  advances : (from to before : ℕ)
+      → ArePairedSearches (g.L.Links.net l.fn.links).links l.relation l.froms l.tos from to l.fn.first l.fn.second 0
+      before (g.L.Links.count l.fn.links)
+      → ArePairedSearches (g.L.Links.net l.fn.links).links l.relation l.froms l.tos from to l.first l.second l.allowance
+      before (g.L.Links.count l.links);
 }
 
 abbrev pub decreases-steps : goal.decreases-steps

@@ -1,4 +1,4 @@
-use Rattle.std.proofs.Common.{◌≡◌, ◌≢◌, Some, arith, inl, inr, sym, ◌∙◌, false}
+use Rattle.std.proofs.Common.{◌≡◌, ◌≢◌, Some, arith, inl, inr, sym, ◌∙◌}
 use Rattle.thes_graph.specs.declared.edit.LinkEdit.TheVariants.{NoEdit, WithLink, AfterMerge}
 use Rattle.thes_graph.specs.Side.{side_in}
 use Rattle.thes_graph.specs.LinkEdit.{HeldAfter}
@@ -13,10 +13,10 @@ use Rattle.thes_graph.proofs.side_search.follow_after_edit.Goals as goal
 pub returns-in_ok-found-in-NoEdit-clause-finds : goal.returns-in_ok-found-in-NoEdit-clause-finds
 returns-in_ok-found-in-NoEdit-clause-finds g c = rw c.in-NoEdit.is (
     IsSearchResult-same c.args.nodes.now c.follow.new.nodes c.args.goals.now
-    (LeadsFrom NoEdit (g.L.Links.held c.args.links.now) c.args.relation c.args.x c.args.x)
-    (Steps c.args.relation (HeldAfter NoEdit (g.L.Links.held c.args.links.now)) c.args.x)
-    (Steps-sound (g.L.Links.held c.args.links.now) c.args.relation NoEdit c.args.x c.args.x)
-    (Steps-held (g.L.Links.held c.args.links.now) c.args.relation c.requires.walked
+    (LeadsFrom NoEdit (g.L.Links.net c.args.links.now).links c.args.relation c.args.x c.args.x)
+    (Steps c.args.relation (HeldAfter NoEdit (g.L.Links.net c.args.links.now).links) c.args.x)
+    (Steps-sound (g.L.Links.net c.args.links.now).links c.args.relation NoEdit c.args.x c.args.x)
+    (Steps-held (g.L.Links.net c.args.links.now).links c.args.relation c.requires.walked
     c.in_ok-found-in-NoEdit.ensures.two_ends c.args.x)
     c.in_ok-found-in-NoEdit.found (rw c.in-NoEdit.is at c.in_ok-found-in-NoEdit.ensures.finds))
 
@@ -31,16 +31,16 @@ returns-then-branch-clause-count g c =
 pub returns-in_ok-found-in-WithLink-clause-finds : goal.returns-in_ok-found-in-WithLink-clause-finds
 returns-in_ok-found-in-WithLink-clause-finds g c = rw c.in-WithLink.is (
     IsSearchResult-then c.args.nodes.now c.follow-in-WithLink.new.nodes c.take.new.nodes c.args.goals.now
-    (LeadsFrom (WithLink c.in-WithLink.new) (g.L.Links.held c.args.links.now) c.args.relation c.args.x c.args.x)
+    (LeadsFrom (WithLink c.in-WithLink.new) (g.L.Links.net c.args.links.now).links c.args.relation c.args.x c.args.x)
     (λ y. c.step.result ≡ Some y)
-    (Steps c.args.relation (HeldAfter (WithLink c.in-WithLink.new) (g.L.Links.held c.args.links.now)) c.args.x)
-    (λ y steps. elim (Steps-with (g.L.Links.held c.args.links.now) c.args.relation c.requires.walked
+    (Steps c.args.relation (HeldAfter (WithLink c.in-WithLink.new) (g.L.Links.net c.args.links.now).links) c.args.x)
+    (λ y steps. elim (Steps-with (g.L.Links.net c.args.links.now).links c.args.relation c.requires.walked
     c.in_ok-follow-in-WithLink.ensures.two_ends c.in-WithLink.new c.args.x y steps) [
       | inl held ↦ inl held
       | inr new ↦ inr (c.step.ensures ∙ new)
     ])
-    (Steps-sound (g.L.Links.held c.args.links.now) c.args.relation (WithLink c.in-WithLink.new) c.args.x c.args.x)
-    (λ y is. Steps-with_new (g.L.Links.held c.args.links.now) c.args.relation c.requires.walked
+    (Steps-sound (g.L.Links.net c.args.links.now).links c.args.relation (WithLink c.in-WithLink.new) c.args.x c.args.x)
+    (λ y is. Steps-with_new (g.L.Links.net c.args.links.now).links c.args.relation c.requires.walked
     c.in_ok-follow-in-WithLink.ensures.two_ends c.in-WithLink.new c.args.x y (sym c.step.ensures ∙ is))
     (rw (c.if-branch.false, c.in-WithLink.is) at c.in_ok-follow-in-WithLink.ensures.finds)
     c.in_ok-found-in-WithLink.found c.in_ok-found-in-WithLink.ensures)
@@ -58,13 +58,13 @@ returns-in_ok-found-in-AfterMerge-2-clause-finds g c =
     let two : c.in-AfterMerge.source ≢ c.in-AfterMerge.target = rw c.in-AfterMerge.is at c.requires.fit in
     rw c.in-AfterMerge.is (
     IsSearchResult-same c.args.nodes.now c.follow-in-AfterMerge.new.nodes c.args.goals.now
-    (LeadsFrom (AfterMerge c.in-AfterMerge.source c.in-AfterMerge.target) (g.L.Links.held c.args.links.now)
+    (LeadsFrom (AfterMerge c.in-AfterMerge.source c.in-AfterMerge.target) (g.L.Links.net c.args.links.now).links
     c.args.relation c.args.x c.args.x)
     (Steps c.args.relation (HeldAfter (AfterMerge c.in-AfterMerge.source c.in-AfterMerge.target)
-    (g.L.Links.held c.args.links.now)) c.args.x)
-    (Steps-sound (g.L.Links.held c.args.links.now) c.args.relation
+    (g.L.Links.net c.args.links.now).links) c.args.x)
+    (Steps-sound (g.L.Links.net c.args.links.now).links c.args.relation
     (AfterMerge c.in-AfterMerge.source c.in-AfterMerge.target) c.args.x c.args.x)
-    (λ y. Steps-other (g.L.Links.held c.args.links.now) c.in-AfterMerge.source c.in-AfterMerge.target two
+    (λ y. Steps-other (g.L.Links.net c.args.links.now).links c.in-AfterMerge.source c.in-AfterMerge.target two
     c.args.relation c.requires.walked c.in_ok-found-in-AfterMerge-2.ensures.two_ends c.args.x y
     (eq_other _ _ _ c.eq-in-AfterMerge.ensures c.if-eq-2.false))
     c.in_ok-found-in-AfterMerge-2.found (rw c.in-AfterMerge.is at c.in_ok-found-in-AfterMerge-2.ensures.finds))
@@ -75,8 +75,8 @@ returns-in_ok-found-in-AfterMerge-2-clause-count g c =
     let off : c.args.x ≢ c.in-AfterMerge.source = eq_other _ _ _ c.eq.ensures c.if-eq.false in
     rw c.in-AfterMerge.is (λ ns covers. omega (
       arith,
-      c.in_ok-found-in-AfterMerge-2.ensures.count ns (CoversSide-other (g.L.Links.held c.args.links.now)
+      c.in_ok-found-in-AfterMerge-2.ensures.count ns (CoversSide-other (g.L.Links.net c.args.links.now).links
           c.in-AfterMerge.source c.in-AfterMerge.target two (side_in c.args.relation) ns c.args.x off covers),
-      other_cost (g.L.Links.held c.args.links.now) c.in-AfterMerge.source c.in-AfterMerge.target two
+      other_cost (g.L.Links.net c.args.links.now).links c.in-AfterMerge.source c.in-AfterMerge.target two
           (side_in c.args.relation) ns c.args.x off (eq_other _ _ _ c.eq-in-AfterMerge.ensures c.if-eq-2.false),
     ))

@@ -11,57 +11,57 @@ use Rattle.thes_graph.proofs.side_search.follow_merged.Goals as goal
 pub returns-then-branch-clause-finds : goal.returns-then-branch-clause-finds
 returns-then-branch-clause-finds g c =
     let found : IsSearchResult true c.args.nodes.now c.follow.new.nodes c.args.goals.now
-    (LeadsFrom (AfterMerge c.args.source c.args.target) (g.L.Links.held c.args.links.now) c.args.relation
+    (LeadsFrom (AfterMerge c.args.source c.args.target) (g.L.Links.net c.args.links.now).links c.args.relation
     c.args.target c.args.target) =
     rw (c.if-branch.true, c.requires.merge) at c.in_ok-follow.ensures.finds in (
       found.0,
       found.1,
-      Steps-sound (g.L.Links.held c.args.links.now) c.args.relation
+      Steps-sound (g.L.Links.net c.args.links.now).links c.args.relation
           (AfterMerge c.args.source c.args.target) c.args.target c.args.target found.0 found.2,
     )
 
 pub returns-then-branch-clause-count : goal.returns-then-branch-clause-count
 returns-then-branch-clause-count g c ns covers =
-    let stands = CoversSide-target (g.L.Links.held c.args.links.now) c.args.source c.args.target c.requires.ends
+    let stands = CoversSide-target (g.L.Links.net c.args.links.now).links c.args.source c.args.target c.requires.ends
     (side_in c.args.relation) ns covers in
     omega (
       arith,
       c.in_ok-follow.ensures.count ns stands.0,
-      target_cost (g.L.Links.held c.args.links.now)
+      target_cost (g.L.Links.net c.args.links.now).links
           c.args.source c.args.target c.requires.ends (side_in c.args.relation) ns,
     )
 
 pub returns-clause-finds : goal.returns-clause-finds
 returns-clause-finds g c =
     let At : ℕ → ℕ → Type 0 = λ at. LeadsFrom (AfterMerge c.args.source c.args.target)
-    (g.L.Links.held c.args.links.now) c.args.relation at c.args.target in
+    (g.L.Links.net c.args.links.now).links c.args.relation at c.args.target in
     let first : IsSearchResult false c.args.nodes.now c.follow.new.nodes c.args.goals.now (At c.args.target) =
     rw (c.if-branch.false, c.requires.merge) at c.in_ok-follow.ensures.finds in
     let second : IsSearchResult c.in_ok-found.found c.follow.new.nodes c.follow-2.new.nodes c.args.goals.now
-    (At c.args.source) = rw (c.in_ok-follow.ensures.held, c.requires.merge) at c.in_ok-found.ensures.finds in
+    (At c.args.source) = rw (c.in_ok-follow.ensures.net, c.requires.merge) at c.in_ok-found.ensures.finds in
     IsSearchResult-then c.args.nodes.now c.follow.new.nodes c.follow-2.new.nodes c.args.goals.now (At c.args.target)
     (At c.args.source)
-    (Steps c.args.relation (HeldAfter (AfterMerge c.args.source c.args.target) (g.L.Links.held c.args.links.now))
+    (Steps c.args.relation (HeldAfter (AfterMerge c.args.source c.args.target) (g.L.Links.net c.args.links.now).links)
     c.args.target)
-    (Steps-target (g.L.Links.held c.args.links.now) c.args.source c.args.target c.requires.ends c.args.relation
+    (Steps-target (g.L.Links.net c.args.links.now).links c.args.source c.args.target c.requires.ends c.args.relation
     c.requires.walked c.in_ok-follow.ensures.two_ends)
-    (Steps-sound (g.L.Links.held c.args.links.now) c.args.relation (AfterMerge c.args.source c.args.target)
+    (Steps-sound (g.L.Links.net c.args.links.now).links c.args.relation (AfterMerge c.args.source c.args.target)
     c.args.target c.args.target)
-    (Steps-sound (g.L.Links.held c.args.links.now) c.args.relation (AfterMerge c.args.source c.args.target)
+    (Steps-sound (g.L.Links.net c.args.links.now).links c.args.relation (AfterMerge c.args.source c.args.target)
     c.args.source c.args.target)
     first c.in_ok-found.found second
 
 pub returns-clause-count : goal.returns-clause-count
 returns-clause-count g c ns covers =
-    let stands = CoversSide-target (g.L.Links.held c.args.links.now) c.args.source c.args.target c.requires.ends
+    let stands = CoversSide-target (g.L.Links.net c.args.links.now).links c.args.source c.args.target c.requires.ends
     (side_in c.args.relation) ns covers in
     let more : g.L.Links.count c.follow-2.new.links ≤ g.L.Links.count c.follow.new.links
     + sum_by (one_on_side c.args.source (side_in c.args.relation)) ns =
-    c.in_ok-found.ensures.count ns (rw c.in_ok-follow.ensures.held stands.1) in
+    c.in_ok-found.ensures.count ns (rw c.in_ok-follow.ensures.net stands.1) in
     omega (
       arith,
       c.in_ok-follow.ensures.count ns stands.0,
       more,
-      target_cost (g.L.Links.held c.args.links.now)
+      target_cost (g.L.Links.net c.args.links.now).links
           c.args.source c.args.target c.requires.ends (side_in c.args.relation) ns,
     )

@@ -1,6 +1,7 @@
-use Rattle.std.proofs.Common.{◌≡◌, ◌+◌, inl, inr, ℕ, List, Some, slice_get, ap, sym, ◌∙◌, false, arith}
+use Rattle.std.proofs.Common.{◌≡◌, ◌+◌, inl, inr, List, Some, slice_get, ap, sym, ◌∙◌, false, arith}
 use Rattle.std.specs.Prelude.{option_and_then}
 use Rattle.thes_base.specs.declared.data.Link.{Link}
+use Rattle.thes_graph.specs.GraphView.{GraphView}
 use Rattle.thes_graph.specs.SideSearch.{step_after_edit, LeadsWithin}
 use Rattle.thes_graph.proofs.SideSearchLemmas.{IsSearchResult-same, IsSearchResult-then, LeadsWithin-before}
 use Rattle.thes_graph.proofs.SideSearchLemmas.{LeadsWithin-last, LeadsWithin-parts, LeadsWithin-to}
@@ -8,16 +9,14 @@ use Rattle.thes_graph.proofs.side_search.follow_part.Goals as goal
 
 pub loop-i-preserved : goal.loop-i-preserved
 loop-i-preserved g c = record {
-  held = c.step_at_place-next.ensures.held ∙ c.loop-i.invariant.held;
-  outside = c.step_at_place-next.ensures.outside ∙ c.loop-i.invariant.outside;
-  rows = c.step_at_place-next.ensures.rows ∙ c.loop-i.invariant.rows;
+  net = c.step_at_place-next.ensures.net ∙ c.loop-i.invariant.net;
   finds =
-      let row : List Link = g.L.Links.links_of c.args.links.now c.args.at in
+      let row : List Link = g.L.Links.links_of (g.L.Links.net c.args.links.now) c.args.at in
       let led_here : c.step_at_place-next.result
       ≡ option_and_then (step_after_edit c.args.edit.now c.args.relation c.args.x) (slice_get row c.loop-i.i) =
       c.step_at_place-next.ensures.step_after_edit
-      ∙ ap (λ (f : ℕ → List Link). option_and_then (step_after_edit c.args.edit.now c.args.relation c.args.x)
-      (slice_get (f c.args.at) c.loop-i.i)) c.loop-i.invariant.rows in
+      ∙ ap (λ (net : GraphView). option_and_then (step_after_edit c.args.edit.now c.args.relation c.args.x)
+      (slice_get (g.L.Links.links_of net c.args.at) c.loop-i.i)) c.loop-i.invariant.net in
       IsSearchResult-then c.args.nodes.now c.loop-i.nodes c.take.new.nodes c.args.goals.now
       (LeadsWithin c.args.edit.now c.args.relation c.args.x row c.args.part.from c.loop-i.i)
       (λ y. c.step_at_place-next.result ≡ Some y)
@@ -34,7 +33,7 @@ loop-i-preserved g c = record {
 
 pub returns-clause-finds : goal.returns-clause-finds
 returns-clause-finds g c =
-    let row : List Link = g.L.Links.links_of c.args.links.now c.args.at in
+    let row : List Link = g.L.Links.links_of (g.L.Links.net c.args.links.now) c.args.at in
     IsSearchResult-same c.args.nodes.now c.loop-i.nodes c.args.goals.now
     (LeadsWithin c.args.edit.now c.args.relation c.args.x row c.args.part.from c.loop-i.i)
     (LeadsWithin c.args.edit.now c.args.relation c.args.x row c.args.part.from c.args.part.to)

@@ -2,14 +2,12 @@ use Rattle.std.proofs.Common.{◌≡◌, ◌+◌, ◌-◌, ◌≤◌, false}
 use Rattle.thes_graph.specs.SideSearch.{LeadsWithin, IsSearchResult}
 use Rattle.thes_graph.proofs.side_search.follow_part.Given as goal
 
--- The places read so far, with at most one visit each.
+-- The nodes have grown by those to which the links read so far lead, in at most one visit each.
 abbrev pub invariant-loop-i : goal.invariant-loop-i
 invariant-loop-i g l = record {
-  held : g.L.Links.held l.links ≡ g.L.Links.held l.fn.links;
-  outside : g.L.Links.outside l.links ≡ g.L.Links.outside l.fn.links;
-  rows : g.L.Links.links_of l.links ≡ g.L.Links.links_of l.fn.links;
+  net : g.L.Links.net l.links ≡ g.L.Links.net l.fn.links;
   finds : IsSearchResult false l.fn.nodes l.nodes l.fn.goals
-      (LeadsWithin l.edit l.relation l.x (g.L.Links.links_of l.fn.links l.at) l.fn.part.from l.i);
+      (LeadsWithin l.edit l.relation l.x (g.L.Links.links_of (g.L.Links.net l.fn.links) l.at) l.fn.part.from l.i);
   count : g.L.Links.count l.links ≤ g.L.Links.count l.fn.links + (l.i - l.fn.part.from);
   within : l.i - l.fn.part.from ≤ l.fn.part.to - l.fn.part.from;
 }

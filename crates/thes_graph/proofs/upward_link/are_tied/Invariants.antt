@@ -10,11 +10,9 @@ use Rattle.thes_graph.proofs.upward_link.are_tied.Given as goal
 -- No node so far is tied, and the visits are bounded by the weight of these nodes.
 abbrev pub invariant-loop-x : goal.invariant-loop-x
 invariant-loop-x g l = record {
-  held : g.L.Links.held l.links ≡ g.L.Links.held l.fn.links;
-  outside : g.L.Links.outside l.links ≡ g.L.Links.outside l.fn.links;
-  rows : g.L.Links.links_of l.links ≡ g.L.Links.links_of l.fn.links;
+  net : g.L.Links.net l.links ≡ g.L.Links.net l.fn.links;
   none : (k : ℕ) → k < l.x-index → (y : ℕ) → Contains l.ys y
-      → Steps Related (HeldAfter l.edit (g.L.Links.held l.fn.links)) (get_or l.xs k 0) y → ⊥;
-  count : (ns : List Link) → ((n : ℕ) → Contains l.xs n → CoversAt l.edit (g.L.Links.held l.fn.links) n ns)
+      → Steps Related (HeldAfter l.edit (g.L.Links.net l.fn.links).links) (get_or l.xs k 0) y → ⊥;
+  count : (ns : List Link) → ((n : ℕ) → Contains l.xs n → CoversAt l.edit (g.L.Links.net l.fn.links).links n ns)
       → g.L.Links.count l.links ≤ g.L.Links.count l.fn.links + read_cost l.edit Sideways (take l.x-index l.xs) ns;
 }

@@ -8,7 +8,7 @@ use Rattle.thes_graph.proofs.SideSearchLemmas.{item_at}
 
 pub loop-x-preserved : goal.loop-x-preserved
 loop-x-preserved g c =
-    let S : ℕ → ℕ → Type 0 = Steps Related (HeldAfter c.args.edit.now (g.L.Links.held c.args.links.now)) in
+    let S : ℕ → ℕ → Type 0 = Steps Related (HeldAfter c.args.edit.now (g.L.Links.net c.args.links.now).links) in
     let item = item_at _ c.args.xs.now c.loop-x.x-index c.x-item.result c.as_slice-x-items.ensures c.loop-x-test.true
     c.x-item.is in
     below_more (λ k. (y : ℕ) → S (get_or c.args.xs.now k 0) y → ⊥) c.loop-x.x-index c.loop-x.invariant
@@ -17,6 +17,6 @@ loop-x-preserved g c =
 
 pub returns : goal.returns
 returns g c = λ _ x y (k, lt, is) steps.
-    let P : ℕ → Type 0 = λ w. Steps Related (HeldAfter c.args.edit.now (g.L.Links.held c.args.links.now)) w y in
+    let P : ℕ → Type 0 = λ w. Steps Related (HeldAfter c.args.edit.now (g.L.Links.net c.args.links.now).links) w y in
     c.loop-x.invariant k (omega (arith, lt, c.loop-x-test.false, ap length c.as_slice-x-items.ensures)) y
     (subst P (sym is ∙ get_or_default c.args.xs.now k x 0 lt) steps)

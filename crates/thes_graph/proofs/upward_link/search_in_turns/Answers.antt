@@ -1,17 +1,15 @@
-use Rattle.std.proofs.Common.{◌∙◌, true, false}
+use Rattle.std.proofs.Common.{◌∙◌}
 use Rattle.thes_graph.proofs.upward_link.search_in_turns.Goals as goal
 
 pub turns-preserved : goal.turns-preserved
 turns-preserved g c = record {
-  held = c.in_ok-advance_in_turn.ensures.held ∙ c.turns.invariant.held;
-  outside = c.in_ok-advance_in_turn.ensures.outside ∙ c.turns.invariant.outside;
-  rows = c.in_ok-advance_in_turn.ensures.rows ∙ c.turns.invariant.rows;
-  two_ends = λ looks _. (rw c.turns.invariant.held at c.in_ok-advance_in_turn.ensures.two_ends) looks;
-  goes = λ low high from before. (rw (c.if-branch.false, c.turns.invariant.held)
-      at c.in_ok-advance_in_turn.ensures.goes) low high from (c.turns.invariant.goes low high from before);
+  net = c.in_ok-advance_in_turn.ensures.net ∙ c.turns.invariant.net;
+  two_ends = λ looks _. (rw c.turns.invariant.net at c.in_ok-advance_in_turn.ensures.two_ends) looks;
+  advances = λ low high from before. (rw (c.if-branch.false, c.turns.invariant.net)
+      at c.in_ok-advance_in_turn.ensures.advances) low high from (c.turns.invariant.advances low high from before);
 }
 
-pub returns-then-branch-clause-goes : goal.returns-then-branch-clause-goes
-returns-then-branch-clause-goes g c low high from before =
-    (rw (c.if-branch.true, c.turns.invariant.held) at c.in_ok-advance_in_turn.ensures.goes) low high from
-    (c.turns.invariant.goes low high from before)
+pub returns-then-branch-clause-advances : goal.returns-then-branch-clause-advances
+returns-then-branch-clause-advances g c low high from before =
+    (rw (c.if-branch.true, c.turns.invariant.net) at c.in_ok-advance_in_turn.ensures.advances) low high from
+    (c.turns.invariant.advances low high from before)

@@ -1,12 +1,12 @@
 use Rattle.std.proofs.Common.{◌≡◌, ℕ, Contains}
-use Rattle.thes_base.specs.Links.{HeldIn}
-use Rattle.thes_graph.specs.Local.{NoS46At}
+use Rattle.thes_base.specs.Links.{Holds}
+use Rattle.thes_graph.specs.Local.{KeepsS46At}
 use Rattle.thes_graph.proofs.WholeLemmas.{HoldsBelow, IsDone}
 use Rattle.thes_graph.proofs.whole.breaks_s46.Given as goal
 
 abbrev pub invariant-loop-link : goal.invariant-loop-link
 invariant-loop-link g l = record {
-  held : g.L.Links.held l.links ≡ g.L.Links.held l.fn.links;
-  free : (n : ℕ) → Contains l.done n → NoS46At (HeldIn (g.L.Links.held l.fn.links)) n;
-  done : HoldsBelow (IsDone (HeldIn (g.L.Links.held l.fn.links)) l.done) l.all l.link-index;
+  net : g.L.Links.net l.links ≡ g.L.Links.net l.fn.links;
+  free : (n : ℕ) → Contains l.done n → KeepsS46At (Holds (g.L.Links.net l.fn.links).links) n;
+  done : HoldsBelow (IsDone (Holds (g.L.Links.net l.fn.links).links) l.done) l.all l.link-index;
 }

@@ -1,17 +1,17 @@
 use Rattle.std.proofs.Common.{inl, inr, refl}
 use Rattle.std.proofs.lemmas.List.Elements.{Contains-append_left}
-use Rattle.thes_base.specs.Links.{HeldIn}
+use Rattle.thes_base.specs.Links.{Holds}
 use Rattle.thes_graph.proofs.PivotLemmas.{S46-witness}
 use Rattle.thes_graph.proofs.ProbeLemmas.{s46_found, s46_none}
 use Rattle.thes_graph.proofs.WholeLemmas.{class_free}
 use Rattle.thes_graph.proofs.whole.breaks_s46_at.Goals as goal
 
-pub returns-then-some_ties-clause-found : goal.returns-then-some_ties-clause-found
-returns-then-some_ties-clause-found g c =
-    S46-witness (HeldIn (g.L.Links.held c.args.links.now)) c.requires.two_ends c.args.n
-    (s46_found (HeldIn (g.L.Links.held c.args.links.now)) c.args.n c.in_ok-same.same.nodes
+pub returns-then-has_link_between-clause-found : goal.returns-then-has_link_between-clause-found
+returns-then-has_link_between-clause-found g c =
+    S46-witness (Holds (g.L.Links.net c.args.links.now).links) c.requires.two_ends c.args.n
+    (s46_found (Holds (g.L.Links.net c.args.links.now).links) c.args.n c.in_ok-same.same.nodes
     c.in_ok-same.same.links.items c.in_ok-same.ensures.gathered
-    (rw (c.deref.ensures.value, c.if-some_ties.true) at c.some_ties.ensures))
+    (rw (c.deref.ensures.value, c.if-has_link_between.true) at c.has_link_between.ensures))
 
 pub returns-clause-found : goal.returns-clause-found
 returns-clause-found g c =
@@ -27,9 +27,9 @@ pub returns-clause-done : goal.returns-clause-done
 returns-clause-done g c m has =
     elim (c.in_ok-add_done.ensures.no_others m has) [
       | inl old ↦ c.requires.done m old
-      | inr new ↦ class_free (HeldIn (g.L.Links.held c.args.links.now)) c.args.n m
-          (s46_none (HeldIn (g.L.Links.held c.args.links.now)) c.args.n c.in_ok-same.same.nodes
+      | inr new ↦ class_free (Holds (g.L.Links.net c.args.links.now).links) c.args.n m
+          (s46_none (Holds (g.L.Links.net c.args.links.now).links) c.args.n c.in_ok-same.same.nodes
           c.in_ok-same.same.links.items c.in_ok-same.ensures.gathered
-          (rw (c.deref.ensures.value, c.if-some_ties.false) at c.some_ties.ensures))
+          (rw (c.deref.ensures.value, c.if-has_link_between.false) at c.has_link_between.ensures))
           (c.in_ok-same.ensures.gathered.reach.sound m (rw c.as_slice.ensures at new))
     ]

@@ -1,6 +1,6 @@
 use Rattle.std.proofs.Common.{rules, ◌≡◌, ◌∙◌, sym, ap, Err, Some, None, true, false}
 use Rattle.std.specs.Str.{bytes_eq}
-use Rattle.thes_http_request.specs.Places.{PlaceMatch, place_of_path, path_of, method_of, method_text}
+use Rattle.thes_http_request.specs.Endpoints.{EndpointMatch, endpoint_of_path, path_of, method_of}
 use Rattle.thes_http_request.proofs.HeadRequestLemmas.{refuses_coding, refuses_path, refuses_method, refuses_length}
 use Rattle.thes_http_request.proofs.HeadRequestLemmas.{accepts_request}
 use Rattle.thes_http_request.proofs.head_request.request_of_parts.Goals as goal
@@ -11,31 +11,32 @@ returns-then-has_field-clause-err c = λ p h. refuses_coding _ (sym c.has_field.
 
 pub returns-in_default-clause-err : goal.returns-in_default-clause-err
 returns-in_default-clause-err c = λ p h.
-    let found : place_of_path (path_of c.args.target.now) ≡ None = rw (← c.split_target.ensures.path) (search rules) in
+    let found : endpoint_of_path (path_of c.args.target.now) ≡ None = rw (← c.split_target.ensures.path)
+    (search rules) in
     refuses_path _ (sym c.has_field.ensures ∙ c.if-has_field.false) found ∙ ap (λ q. Err q) (cc)
 
-pub returns-then-ne-clause-err : goal.returns-then-ne-clause-err
-returns-then-ne-clause-err c = λ p h.
-    let at : PlaceMatch = record { place = c.in-Some.found.place; number = c.in-Some.found.number.now } in
-    let found : place_of_path (path_of c.args.target.now) ≡ Some at =
+pub returns-then-not-has_method-clause-err : goal.returns-then-not-has_method-clause-err
+returns-then-not-has_method-clause-err c = λ p h.
+    let at : EndpointMatch = record { endpoint = c.in-Some.found.endpoint; number = c.in-Some.found.number.now } in
+    let found : endpoint_of_path (path_of c.args.target.now) ≡ Some at =
     rw (← c.split_target.ensures.path) (search rules) in
-    let other : bytes_eq c.args.method.now (method_text (method_of at.place)) ≡ false = search rules in
+    let other : bytes_eq c.args.method.now (method_of at.endpoint) ≡ false = search rules in
     refuses_method _ at (sym c.has_field.ensures ∙ c.if-has_field.false) found other ∙ ap (λ q. Err q) (search rules)
 
 pub returns-in-Ok-clause-ok : goal.returns-in-Ok-clause-ok
 returns-in-Ok-clause-ok c =
-    let at : PlaceMatch = record { place = c.in-Some.found.place; number = c.in-Some.found.number.now } in
-    let found : place_of_path (path_of c.args.target.now) ≡ Some at =
+    let at : EndpointMatch = record { endpoint = c.in-Some.found.endpoint; number = c.in-Some.found.number.now } in
+    let found : endpoint_of_path (path_of c.args.target.now) ≡ Some at =
     rw (← c.split_target.ensures.path) (search rules) in
-    let same : bytes_eq c.args.method.now (method_text (method_of at.place)) ≡ true = search rules in
+    let same : bytes_eq c.args.method.now (method_of at.endpoint) ≡ true = search rules in
     rw c.split_target.ensures.query
     (accepts_request _ at c.in-Ok.body (sym c.has_field.ensures ∙ c.if-has_field.false) found same (search rules))
 
 pub returns-in-Err-clause-err : goal.returns-in-Err-clause-err
 returns-in-Err-clause-err c = λ p h.
-    let at : PlaceMatch = record { place = c.in-Some.found.place; number = c.in-Some.found.number.now } in
-    let found : place_of_path (path_of c.args.target.now) ≡ Some at =
+    let at : EndpointMatch = record { endpoint = c.in-Some.found.endpoint; number = c.in-Some.found.number.now } in
+    let found : endpoint_of_path (path_of c.args.target.now) ≡ Some at =
     rw (← c.split_target.ensures.path) (search rules) in
-    let same : bytes_eq c.args.method.now (method_text (method_of at.place)) ≡ true = search rules in
+    let same : bytes_eq c.args.method.now (method_of at.endpoint) ≡ true = search rules in
     refuses_length _ at c.in-Err.problem (sym c.has_field.ensures ∙ c.if-has_field.false) found same (search rules)
     ∙ ap (λ q. Err q) (cc)

@@ -1,7 +1,7 @@
 use Rattle.std.proofs.Common.{◌≡◌, ◌+◌, ◌∙◌, ℕ, length, sym, ap, subst, arith}
 use Rattle.std.specs.Prelude.{Some, None}
 use Rattle.std.specs.FinSet.{insert}
-use Rattle.thes_graph.specs.Net.{Net}
+use Rattle.thes_graph.specs.GraphView.{GraphView}
 use Rattle.thes_base.specs.Resources.{replacement_of}
 use Rattle.thes_load_rows.specs.ResourceChecks.{HasReplacements}
 use Rattle.thes_base.specs.Links.{Links}
@@ -12,7 +12,7 @@ use Rattle.thes_load_rows.proofs.resources.returns.Goals.{in-Some+in_ok-add, in_
 use Rattle.thes_load_rows.proofs.resources.returns.Goals as goal
 
 pub loop-i-init : goal.loop-i-init
-loop-i-init c = subst (λ (g : Net). HasReplacements c.args.resources.now 0 g.links) (sym c.new-graph.ensures)
+loop-i-init c = subst (λ (g : GraphView). HasReplacements c.args.resources.now 0 g.links) (sym c.new-graph.ensures)
     (replacements_none c.args.resources.now)
 
 pub loop-i-preserved : goal.loop-i-preserved
@@ -22,7 +22,7 @@ loop-i-preserved c = elim c.match-replacement_of.branch [
       ap (replacement_of c.args.resources.now) (sym c.new-n.ensures) ∙ sym c.replacement_of.ensures
       ∙ w.in-Some.is in
       let graph = w.graph-is ∙ w.in_ok-add.ensures.ok in
-      let links = ap (λ (g : Net). g.links) graph
+      let links = ap (λ (g : GraphView). g.links) graph
       ∙ ap (λ (n : ℕ). insert c.loop-i.graph.links (record { kind = Broader; a = n; b = w.in-Some.by }))
       c.new-n.ensures in
       subst (λ (k : Links). HasReplacements c.args.resources.now (c.loop-i.i + 1) k) (sym links)
@@ -31,7 +31,7 @@ loop-i-preserved c = elim c.match-replacement_of.branch [
       let none : replacement_of c.args.resources.now (c.loop-i.i + 1) ≡ None =
       ap (replacement_of c.args.resources.now) (sym c.new-n.ensures) ∙ sym c.replacement_of.ensures
       ∙ w.in_default.is in
-      subst (λ (g : Net). HasReplacements c.args.resources.now (c.loop-i.i + 1) g.links) (sym w.graph-is)
+      subst (λ (g : GraphView). HasReplacements c.args.resources.now (c.loop-i.i + 1) g.links) (sym w.graph-is)
       (replacements_skip c.args.resources.now c.loop-i.i c.loop-i.graph.links none c.loop-i.invariant)
 ]
 

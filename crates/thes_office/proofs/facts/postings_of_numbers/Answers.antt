@@ -14,9 +14,9 @@ loop-posting-preserved g c =
     rows_read_more g.K.Keeper.rows g.K.Keeper.is_up g.K.Keeper.failed c.args.keeper.now c.loop-posting.keeper
     c.posting_of_number.new.keeper (take c.loop-posting.posting-index ps)
     (take (c.loop-posting.posting-index + 1) ps) c.loop-posting.rows.items c.push.new.self.items n c.in-Ok.row
-    c.loop-posting.invariant c.in-Ok.ensures.asks c.in-Ok.ensures.told more pushed
+    c.loop-posting.invariant c.in-Ok.ensures.asks c.in-Ok.ensures.in_tables more pushed
 
-pub returns-clause-told : goal.returns-clause-told
-returns-clause-told g c = λ up base s x.
+pub returns-clause-in_tables : goal.returns-clause-in_tables
+returns-clause-in_tables g c = λ up base s x.
     c.loop-posting.invariant.rows_are_read up base s x ∙ ap (map (posting_row_at s.histories))
     (take_all {A = ℕ} c.loop-posting.posting-index c.args.postings.now (omega arith))

@@ -1,5 +1,5 @@
 use Rattle.std.proofs.Common.{refl, subst}
-use Rattle.thes_base.specs.Refusals.{unless_resource}
+use Rattle.thes_base.specs.RuleParts.{unless_resource}
 use Rattle.thes_base.specs.Resources.{IsConcept}
 use Rattle.thes_base.specs.RefusalRules.{accepted}
 use Rattle.thes_office.proofs.PostingListLemmas.{concept_check_of_copy, takes_rows_assigned, takes_some_assigned}

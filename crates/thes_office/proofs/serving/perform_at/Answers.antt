@@ -12,7 +12,8 @@ pub commit-requires : goal.commit-requires
 commit-requires g c = record {
   fits = λ up t is.
       let copy = c.requires.copies up in
-      let decides = c.in_ok-answer.ensures.ok copy.state copy.holds (c.requires.told up c.args.core.now.setting.base
+      let decides = c.in_ok-answer.ensures.ok copy.state copy.holds
+      (c.requires.in_tables up c.args.core.now.setting.base
       copy.state copy.shows) in
       let grants : AcceptedVerdict c.args.core.now.setting copy.state c.args.command.now c.in-Accepted.answer
       c.in-Accepted.delta = subst (IsVerdict c.args.core.now.setting copy.state c.args.command.now)
@@ -29,7 +30,7 @@ returns-in-Err-clause-copies g c up unspent =
 pub returns-in-Settled-clause-steps : goal.returns-in-Settled-clause-steps
 returns-in-Settled-clause-steps g c up =
     let copy = c.requires.copies up in
-    let decides = c.in_ok-answer.ensures.ok copy.state copy.holds (c.requires.told up c.args.core.now.setting.base
+    let decides = c.in_ok-answer.ensures.ok copy.state copy.holds (c.requires.in_tables up c.args.core.now.setting.base
     copy.state copy.shows) in
     steps_settled c.args.core.now.setting (g.K.Keeper.rows c.args.keeper.now) copy.state c.args.command.now
     c.in-Settled.answer copy.shows
@@ -46,7 +47,7 @@ pub returns-in_default-clause-steps : goal.returns-in_default-clause-steps
 returns-in_default-clause-steps g c up =
     let was = c.commit.ensures.was up in
     let copy = c.requires.copies was in
-    let decides = c.in_ok-answer.ensures.ok copy.state copy.holds (c.requires.told was c.args.core.now.setting.base
+    let decides = c.in_ok-answer.ensures.ok copy.state copy.holds (c.requires.in_tables was c.args.core.now.setting.base
     copy.state copy.shows) in
     let grants : AcceptedVerdict c.args.core.now.setting copy.state c.args.command.now c.in-Accepted.answer
     c.in-Accepted.delta = subst (IsVerdict c.args.core.now.setting copy.state c.args.command.now) c.in-Accepted.is
@@ -59,7 +60,7 @@ pub returns-in_default-clause-copies : goal.returns-in_default-clause-copies
 returns-in_default-clause-copies g c up unspent =
     let was = c.commit.ensures.was up in
     let copy = c.requires.copies was in
-    let facts = c.requires.told was c.args.core.now.setting.base copy.state copy.shows in
+    let facts = c.requires.in_tables was c.args.core.now.setting.base copy.state copy.shows in
     let decides = c.in_ok-answer.ensures.ok copy.state copy.holds facts in
     let grants : AcceptedVerdict c.args.core.now.setting copy.state c.args.command.now c.in-Accepted.answer
     c.in-Accepted.delta = subst (IsVerdict c.args.core.now.setting copy.state c.args.command.now) c.in-Accepted.is

@@ -3,7 +3,7 @@ use Rattle.thes_base.specs.Headline.{IsConsistentState}
 use Rattle.thes_base.specs.State.{State}
 use Rattle.thes_office.specs.Office.{OfficeView}
 use Rattle.thes_office.specs.TablesOfState.{TablesOfState}
-use Rattle.thes_exchange.specs.Script.{session}
+use Rattle.thes_requests.specs.Script.{session}
 use Rattle.thes_service.proofs.ScriptRunLemmas.{script_leads}
 use Rattle.thes_service.proofs.script.office_script.Goals as goal
 

@@ -1,4 +1,4 @@
-use Rattle.thes_exchange.specs.declared.request.Query.TheVariants as asked
+use Rattle.thes_requests.specs.declared.request.Query.TheVariants as asked
 use Rattle.thes_service.proofs.viewing.view_core_concept.Goals as goal
 
 pub returns : goal.returns

@@ -5,29 +5,30 @@ use Rattle.thes_base.specs.declared.fault.Refusal.TheVariants as no
 use Rattle.thes_base.specs.Refusals.{IsKnownPosting}
 use Rattle.thes_base.specs.Resources.{entry_at}
 use Rattle.thes_base.specs.RefusalRules.{accepted, refused_unless}
-use Rattle.thes_exchange.specs.declared.request.Query.TheVariants as asked
+use Rattle.thes_requests.specs.declared.request.Query.TheVariants as asked
 use Rattle.thes_service.proofs.StateViewLemmas.{goes_on_to}
 use Rattle.thes_service.proofs.viewing.view_posting.Goals as goal
 
--- A posting that doesn't exist is unknown.
+-- A number without a history is refused as `UnknownPosting`.
 unknown : (hs : List History) (n : ℕ) → None ≡ entry_at hs n → refused_unless (IsKnownPosting hs n) no.UnknownPosting
     accepted (Some no.UnknownPosting)
 unknown hs n none = search (rules, sym none)
 
 pub returns-in_ok-query_answer-in-Ok-Some : goal.returns-in_ok-query_answer-in-Ok-Some
 returns-in_ok-query_answer-in-Ok-Some g c = record {
-  goes = goes_on_to g.K.Keeper.rows g.K.Keeper.is_up g.K.Keeper.failed c.args.office.now c.posting.new.self
-      c.in-Ok-Some.field-0 c.in_ok-query_answer-in-Ok-Some.field-0 c.in-Ok-Some.ensures.goes;
+  fault_behaviour = goes_on_to g.K.Keeper.rows g.K.Keeper.is_up g.K.Keeper.failed c.args.office.now c.posting.new.self
+      c.in-Ok-Some.field-0 c.in_ok-query_answer-in-Ok-Some.field-0 c.in-Ok-Some.ensures.fault_behaviour;
   same = c.in-Ok-Some.ensures.same;
   viewed = λ up base s x. c.in_ok-query_answer-in-Ok-Some.ensures s (asked.Posting c.args.number)
-      (sym (c.in-Ok-Some.ensures.told up base s x) ∙ c.in-Ok-Some.field-0-is);
+      (sym (c.in-Ok-Some.ensures.in_tables up base s x) ∙ c.in-Ok-Some.field-0-is);
 }
 
 pub returns-in-Ok-None : goal.returns-in-Ok-None
 returns-in-Ok-None g c = record {
-  goes = goes_on_to g.K.Keeper.rows g.K.Keeper.is_up g.K.Keeper.failed c.args.office.now c.posting.new.self
-      c.in-Ok-None.field-0 _ c.in-Ok-None.ensures.goes;
+  fault_behaviour = goes_on_to g.K.Keeper.rows g.K.Keeper.is_up g.K.Keeper.failed c.args.office.now c.posting.new.self
+      c.in-Ok-None.field-0 _ c.in-Ok-None.ensures.fault_behaviour;
   same = c.in-Ok-None.ensures.same;
-  viewed = λ up base s x. unknown s.histories c.args.number (sym c.in-Ok-None.field-0-is ∙ c.in-Ok-None.ensures.told
+  viewed = λ up base s x. unknown s.histories c.args.number (sym c.in-Ok-None.field-0-is
+      ∙ c.in-Ok-None.ensures.in_tables
       up base s x);
 }

@@ -1,11 +1,11 @@
-use Rattle.thes_exchange.specs.declared.request.Query.TheVariants as asked
+use Rattle.thes_requests.specs.declared.request.Query.TheVariants as asked
 use Rattle.thes_service.proofs.StateViewLemmas.{goes_on_to}
 use Rattle.thes_service.proofs.viewing.view_totals.Goals as goal
 
 pub returns-in_ok-query_answer-in-Ok : goal.returns-in_ok-query_answer-in-Ok
 returns-in_ok-query_answer-in-Ok g c = record {
-  goes = goes_on_to g.K.Keeper.rows g.K.Keeper.is_up g.K.Keeper.failed c.args.office.now c.totals.new.self
-      c.in-Ok.totals c.in_ok-query_answer-in-Ok.field-0 c.in-Ok.ensures.goes;
+  fault_behaviour = goes_on_to g.K.Keeper.rows g.K.Keeper.is_up g.K.Keeper.failed c.args.office.now c.totals.new.self
+      c.in-Ok.totals c.in_ok-query_answer-in-Ok.field-0 c.in-Ok.ensures.fault_behaviour;
   same = c.in-Ok.ensures.same;
-  viewed = λ up base s x. c.in_ok-query_answer-in-Ok.ensures s asked.Totals (c.in-Ok.ensures.told up base s x);
+  viewed = λ up base s x. c.in_ok-query_answer-in-Ok.ensures s asked.Totals (c.in-Ok.ensures.in_tables up base s x);
 }

@@ -17,7 +17,7 @@ returns-clause-ok g c = λ up t keeps settled.
     let second = c.in_ok-steps.ensures.leaves.tables in
     let clean : HasCleanDisk (state g.S.Store c.posting_rows_with_number.new.conn) =
     omega (arith, second.clean, up.0) in
-    let same = first.same keeps.schema clean (second.was up.0 up.1) settled in
+    let same = first.same clean (second.was up.0 up.1) settled in
     let still = subst (λ (db : Database). Keeps db t) (sym same.0) keeps in
     finds_posting_with_moves c.args.number t c.deref.result.now c.as_slice.result.now c.in-Some.row.now
     c.in_ok-row.row c.in_ok-moves.moves

@@ -1,9 +1,9 @@
 use Rattle.std.proofs.Common.{take}
 use Rattle.thes_store.specs.Sinks.{SinkAcceptsAll}
-use Rattle.thes_store.specs.RowsAtPlaces.{rows_at_places}
+use Rattle.thes_store.specs.RowsAtPositions.{rows_at_positions}
 use Rattle.thes_store.proofs.mem.yield_postings.Given as goal
 use Rattle.thes_tables.specs.Tables.{is_assigned_row}
 
 abbrev pub invariant-loop-place : goal.invariant-loop-place
 invariant-loop-place g l = SinkAcceptsAll g.S.PostingSink.gives l.fn.sink
-    (rows_at_places (is_assigned_row l.concept) l.rows (take l.place-index l.places)) l.sink
+    (rows_at_positions (is_assigned_row l.concept) l.rows (take l.place-index l.places)) l.sink

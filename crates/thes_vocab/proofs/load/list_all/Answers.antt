@@ -9,7 +9,7 @@ use Rattle.thes_lists.specs.Lists.{AreListings}
 use Rattle.thes_lists.proofs.ListingLemmas.{listing_none, listings_same}
 use Rattle.thes_vocab.specs.Vocabulary.{IsConceptOf, concept_scheme}
 use Rattle.thes_vocab.specs.ConceptLists.{ConceptListsAfterInsert}
-use Rattle.thes_vocab.proofs.ConceptListLemmas.{listed_made}
+use Rattle.thes_vocab.proofs.ConceptListLemmas.{concept_lists_with_new}
 use Rattle.thes_vocab.proofs.LoadingLemmas.{concept_in}
 use Rattle.thes_vocab.proofs.load.list_all.Goals as goal
 
@@ -35,8 +35,8 @@ loop-i-preserved c =
     let was = listings_same nat_cmp (IsConceptOf (take i rs)) (IsConceptOf (take i rs)) c.loop-i.concepts
     c.make_room.new.concepts c.in_ok-make_room.ensures.same (λ s m x. x) (λ s m x. x) c.loop-i.invariant in
     subst (λ (xs : List Resource). AreListings nat_cmp (IsConceptOf xs) c.insert.new.concepts) (sym more)
-    (listed_made (take i rs) r c.make_room.new.concepts c.insert.new.concepts (concept_scheme r) (concept_in r) added
-    was)
+    (concept_lists_with_new (take i rs) r c.make_room.new.concepts c.insert.new.concepts (concept_scheme r)
+    (concept_in r) added was)
 
 pub returns : goal.returns
 returns c =

@@ -4,6 +4,6 @@ use Rattle.thes_lists.specs.Lists.{AreListings}
 use Rattle.thes_vocab.specs.Vocabulary.{IsConceptOf}
 use Rattle.thes_vocab.proofs.load.list_all.Given as goal
 
--- The live concepts so far are in the index.
+-- The index has exactly the live concepts among the resources read so far.
 abbrev pub invariant-loop-i : goal.invariant-loop-i
 invariant-loop-i l = AreListings nat_cmp (IsConceptOf (take l.i l.resources)) l.concepts

@@ -14,12 +14,13 @@ invariant_of-result c = λ _.
     }) c.args.base
     (record {
       base_form = subst IsBase c.as_str.ensures.text c.as_str.ensures.form;
-      resources = omega arith;
-      labels =
-          omega arith;
-      links = omega arith;
-      postings = omega arith;
-      moves = omega arith;
+      limits = record {
+        resources = omega arith;
+        labels = omega arith;
+        links = omega arith;
+        postings = omega arith;
+        moves = omega arith;
+      };
     })
     c.new.ensures c.new-2.ensures c.new-3.ensures
 
@@ -34,11 +35,12 @@ returns-clause-holds c =
     }) c.args.base
     (record {
       base_form = subst IsBase c.as_str.ensures.text c.as_str.ensures.form;
-      resources = omega arith;
-      labels =
-          omega arith;
-      links = omega arith;
-      postings = omega arith;
-      moves = omega arith;
+      limits = record {
+        resources = omega arith;
+        labels = omega arith;
+        links = omega arith;
+        postings = omega arith;
+        moves = omega arith;
+      };
     })
     c.new.ensures c.new-2.ensures c.new-3.ensures

@@ -1,6 +1,6 @@
 use Rattle.std.proofs.Common.{[], subst, sym, ◌∙◌, arith}
 use Rattle.thes_base.specs.Forms.{IsBase}
-use Rattle.thes_base.specs.Legal.{Legal}
+use Rattle.thes_base.specs.Legal.{IsLegalState}
 use Rattle.thes_core.proofs.PartLemmas.{legal_without}
 use Rattle.thes_core.proofs.machine.Core.of_parts.Goals as goal
 
@@ -11,14 +11,15 @@ invariant_of-result c = λ _.
     record {
       fit = record {
         base_form = subst IsBase (c.as_str.ensures.text ∙ c.base.ensures) c.as_str.ensures.form;
-        resources = omega arith;
-        labels = omega arith;
-        links = omega arith;
-        postings = omega arith;
-        moves =
-            omega arith;
+        limits = record {
+          resources = omega arith;
+          labels = omega arith;
+          links = omega arith;
+          postings = omega arith;
+          moves = omega arith;
+        };
       };
-      legal = subst (Legal c.args.vocab.base)
+      legal = subst (IsLegalState c.args.vocab.base)
           (λ i. record {
             resources = sym parts.resources i;
             iris = sym parts.iris i;

@@ -1,7 +1,7 @@
 use Rattle.std.proofs.Common.{subst, refl}
 use Rattle.std.specs.Prelude.{IfNone}
 use Rattle.thes_core.specs.CoreDecisions.{MayApply, SettledOrAccepted}
-use Rattle.thes_core.proofs.ApplyLemmas.{held_in_order, performs_made, order_made}
+use Rattle.thes_core.proofs.ApplyLemmas.{held_in_order, step_performs, consistent_after_step}
 use Rattle.thes_core.proofs.machine.Core.step.Goals as goal
 
 pub returns-in-Some-clause-performs : goal.returns-in-Some-clause-performs
@@ -29,8 +29,8 @@ pub returns-in-None-clause-performs : goal.returns-in-None-clause-performs
 returns-in-None-clause-performs c = λ s holds told.
     let accepts = subst (SettledOrAccepted c.args.self.now.setting s c.args.command.now) c.in-None.is
     (c.in_ok-answer.ensures.ok s holds told) in
-    performs_made c.args.self.now c.apply.new.self s c.args.command.now c.apply.result accepts
+    step_performs c.args.self.now c.apply.new.self s c.args.command.now c.apply.result accepts
     (c.apply.ensures.made s holds told accepts)
 
 pub returns-in-None-clause-in_order : goal.returns-in-None-clause-in_order
-returns-in-None-clause-in_order c = order_made c.apply.new.self c.apply.result
+returns-in-None-clause-in_order c = consistent_after_step c.apply.new.self c.apply.result

@@ -5,7 +5,7 @@ use Rattle.thes_base.specs.Changes.{state_after_merge}
 use Rattle.thes_tables.specs.declared.change.Change.TheVariants as change
 use Rattle.thes_tables.specs.Changes.{add_link, drop_link}
 use Rattle.thes_tables.specs.ChangeLaw.{AreChangesBetween}
-use Rattle.thes_tables.specs.Tables.{IsIn, IsListingOf}
+use Rattle.thes_tables.specs.Tables.{IsIn, IsUnsortedListing}
 use Rattle.thes_core.specs.Deltas.{link_added_by_merge, move_rows, copied_label_rows}
 use Rattle.thes_core.specs.PartsView.{parts_state}
 use Rattle.thes_core.proofs.ApplyLemmas.{merge_fits}
@@ -19,7 +19,7 @@ returns c = λ hs meant.
     let source = c.args.source in
     let target = c.args.target in
     let fits = merge_fits t hs source target meant.allows in
-    let moves = meant.sums.moves in
+    let moves = meant.posting_counts.moves in
     let are_facts = c.as_slice-4.ensures.value ∙ meant.are_facts.standing in
     let many = ap length are_facts ∙ standing_length source hs in
     let count = c.moves.ensures in
@@ -37,7 +37,7 @@ returns c = λ hs meant.
     let made = c.in_ok-push_moves.ensures
     ∙ (λ i. placed i ++ map change.AddMove (move_rows (first i) source target (standing i))) in
     let merge_result =
-    subst (λ (ls : List Link). IsListingOf (λ (q : Link). (l : Link) × IsIn l ls
+    subst (λ (ls : List Link). IsUnsortedListing (λ (q : Link). (l : Link) × IsIn l ls
     × (link_added_by_merge t.graph source target l ≡ Some q)) c.in_ok-come.come.items) c.as_slice-2.ensures.value
     c.in_ok-come.ensures in
     subst (λ d. AreChangesBetween t.vocab.base d s (state_after_merge source target s)) (sym made)

@@ -4,7 +4,8 @@ use Rattle.thes_base.specs.declared.fault.Refusal.{Refusal}
 use Rattle.thes_base.specs.declared.request.Command.TheVariants as request
 use Rattle.thes_base.specs.declared.fault.Refusal.TheVariants as no
 use Rattle.thes_base.specs.RefusalRules.{refused_unless, accepted}
-use Rattle.thes_base.specs.Links.{HeldIn, unless_links_consistent}
+use Rattle.thes_base.specs.Links.{Holds}
+use Rattle.thes_base.specs.RuleParts.{unless_links_consistent}
 use Rattle.thes_base.specs.Changes.{state_after_merge}
 use Rattle.thes_base.specs.Resources.{is_outside}
 use Rattle.thes_base.proofs.LinkCountLemmas.{contracted_fewer}
@@ -19,14 +20,14 @@ use Rattle.thes_core.proofs.thesaurus.Thesaurus.check_merge.Goals as goal
 pub returns-in-Some-2-clause-row : goal.returns-in-Some-2-clause-row
 returns-in-Some-2-clause-row c = λ hs kept are.
     let after = state_after_merge c.args.source c.args.target (parts_state c.args.self.now hs) in
-    let says = subst (unless_links_consistent (HeldIn after.links) accepted) c.in-Some-2.is c.in_ok-refusal.ensures in
+    let says = subst (unless_links_consistent (Holds after.links) accepted) c.in-Some-2.is c.in_ok-refusal.ensures in
     search rules depth 16
 
 pub returns-clause-row : goal.returns-clause-row
 returns-clause-row c = λ hs kept are.
     let t = c.args.self.now in
     let after = state_after_merge c.args.source c.args.target (parts_state t hs) in
-    let says = subst (unless_links_consistent (HeldIn after.links) accepted) c.in_default-2.is
+    let says = subst (unless_links_consistent (Holds after.links) accepted) c.in_default-2.is
     c.in_ok-refusal.ensures in
     let fewer = contracted_fewer (is_outside t.vocab.resources) c.args.source c.args.target t.graph.links in
     let grows = merged_grows (parts_state t hs) c.args.source c.args.target c.taken_count.result
@@ -49,7 +50,7 @@ returns-clause-may c = go c.check_room.result refl
     go None is =
         let t = c.args.self.now in
         let after = state_after_merge c.args.source c.args.target (parts_state t []) in
-        let says = subst (unless_links_consistent (HeldIn after.links) accepted) c.in_default-2.is
+        let says = subst (unless_links_consistent (Holds after.links) accepted) c.in_default-2.is
         c.in_ok-refusal.ensures in
         let fewer = contracted_fewer (is_outside t.vocab.resources) c.args.source c.args.target t.graph.links in
         let grows = merged_grows (parts_state t []) c.args.source c.args.target c.taken_count.result

@@ -2,7 +2,7 @@ use Rattle.std.proofs.Common.{◌≡◌, refl, rules, ◌∙◌, Bool, true, fal
 use mir.Val.{bool_byte}
 use Rattle.thes_base.proofs.RefusalRuleLemmas.{passed_unless}
 use Rattle.thes_base.specs.Changes.{state_after_relabel}
-use Rattle.thes_base.specs.Refusals.{unless_relabel, unless_within_limits}
+use Rattle.thes_base.specs.RuleParts.{unless_replaceable_preferred, unless_within_limits}
 use Rattle.thes_base.proofs.RefusalRulePartLemmas.{owner_part, relabelled_part}
 use Rattle.thes_core.specs.PartsView.{parts_state, setting_of}
 use Rattle.thes_core.proofs.GrowthLemmas.{keep_growth, relabelled_grows}
@@ -12,7 +12,7 @@ use Rattle.thes_core.proofs.thesaurus.Thesaurus.check_relabel.Goals as goal
 pub returns-in-Some-check_relabel : goal.returns-in-Some-check_relabel
 returns-in-Some-check_relabel c = λ hs kept. search rules depth 14
 
--- A Boolean as a number.
+-- The number of a flag is the growth that keeping the old label causes: 1 or 0.
 byte_is : (b : Bool) → bool_byte b ≡ keep_growth b
 byte_is true = refl
 byte_is false = refl
@@ -25,7 +25,7 @@ returns c = λ hs kept.
     let grows = relabelled_grows (parts_state t hs) kept.legal.labels c.args.owner c.args.tag.now c.args.text.now
     c.args.keep c.from.result
     (c.from.ensures ∙ byte_is c.args.keep) (passed_unless c.in_default-check_relabel.ensures).0 in
-    (owner_part t.vocab.resources c.args.owner).passes (unless_relabel t.vocab.labels t.vocab.resources after.labels
-    c.args.owner c.args.tag.now room) c.check_room.result c.in_default.ensures
+    (owner_part t.vocab.resources c.args.owner).passes (unless_replaceable_preferred t.vocab.labels t.vocab.resources
+    after.labels c.args.owner c.args.tag.now room) c.check_room.result c.in_default.ensures
     ((relabelled_part t.vocab.labels t.vocab.resources after.labels c.args.owner c.args.tag.now).passes room
     c.check_room.result c.in_default-check_relabel.ensures (room_bare t hs refl refl grows c.check_room.ensures))

@@ -3,7 +3,7 @@ use Rattle.std.specs.Prelude.{Option, None, Some, IfNone}
 use Rattle.thes_base.specs.declared.fault.Refusal.{Refusal}
 use Rattle.thes_base.specs.declared.request.Command.TheVariants as request
 use Rattle.thes_base.specs.RefusalRules.{accepted}
-use Rattle.thes_base.specs.Refusals.{unless_split_postings}
+use Rattle.thes_base.specs.RuleParts.{unless_split_postings}
 use Rattle.thes_base.proofs.ListedLemmas.{listed_count}
 use Rattle.thes_base.proofs.RefusalRuleLemmas.{passed_unless}
 use Rattle.thes_core.specs.PartsView.{parts_state, setting_of}

@@ -3,7 +3,7 @@ use Rattle.std.specs.Prelude.{Option}
 use Rattle.std.proofs.lemmas.List.{take_more, take_all}
 use Rattle.thes_base.specs.declared.data.Link.{Link}
 use Rattle.thes_core.specs.Deltas.{link_added_by_merge}
-use Rattle.thes_core.proofs.DistinctLinkLemmas.{made_none, made_some, listed_made}
+use Rattle.thes_core.proofs.DistinctLinkLemmas.{made_none, made_some, listing_of_joined}
 use Rattle.thes_core.proofs.thesaurus.Thesaurus.links_added_by_merge.Goals as goal
 use Rattle.thes_core.proofs.thesaurus.Thesaurus.links_added_by_merge.Goals.{in-Some+in_ok-push_unseen, in_default}
 
@@ -33,5 +33,5 @@ returns c =
     let past = c.loop-link-test.false in
     let i = c.loop-link.invariant in
     let whole = take_all c.loop-link.link-index c.args.links.now (omega (arith, past)) in
-    rw (← whole) (listed_made make c.loop-link.seen (take c.loop-link.link-index c.args.links.now)
+    rw (← whole) (listing_of_joined make c.loop-link.seen (take c.loop-link.link-index c.args.links.now)
     c.loop-link.merge_result.items i.seen i.made)

@@ -2,7 +2,7 @@ use Rattle.std.proofs.Common.{◌≡◌, ◌+◌, ◌++◌, ◌∷◌, [], ap, s
 use Rattle.std.specs.Prelude.{Some, None, slice_get}
 use Rattle.thes_base.specs.declared.data.Link.{Link}
 use Rattle.thes_base.specs.Links.{Links}
-use Rattle.thes_graph.specs.Net.{links_at}
+use Rattle.thes_graph.specs.GraphView.{GraphView, links_at}
 use Rattle.thes_graph.specs.Reading.{IsRow}
 use Rattle.thes_core.proofs.DeltaLemmas.{take_got, take_none}
 use Rattle.thes_core.proofs.thesaurus.Thesaurus.links_at.Goals as goal
@@ -18,7 +18,7 @@ loop-link-preserved c =
     let items = c.in_ok-push.ensures.items in
     let longer : vec_len c.push.new.self ≡ count + 1 = c.in_ok-push.ensures.len in
     record {
-      read = c.in-Some.ensures.held ∙ i.read;
+      read = ap (λ (g : GraphView). g.links) c.in-Some.ensures.net ∙ i.read;
       found = items ∙ ap (λ (l : List Link). l ++ c.in-Some.link ∷ []) i.found ∙ sym got.1
           ∙ ap (λ (n : ℕ). take n row) (sym longer);
     }

@@ -39,7 +39,7 @@ returns-clause-counts c = λ hs ok are.
     let moves = are.moves in
     record {
       answer_is = ap reply.Moved (c.in_ok-moved.ensures.count ∙ at_source);
-      sums = sums_moved (is_assigned_to source) source target apart (move_count hs + 1) hs
+      posting_counts = sums_moved (is_assigned_to source) source target apart (move_count hs + 1) hs
           (all_assigned source target apart hs)
           (count_of t.book source) at_source t.book c.move_all.new.self are
           (c.in_ok-moved.ensures.ok

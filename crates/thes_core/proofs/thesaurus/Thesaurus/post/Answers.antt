@@ -36,5 +36,5 @@ returns-clause-counts c = λ key rec hs ok are.
     record {
       answer_is = ap reply.Number (c.get.ensures.value ∙ c.in_ok-number.ensures.number takes
           ∙ ap (λ (n : ℕ). n + 1) all ∙ sym (post_answer key rec concept way hs));
-      sums = sums_posted hs key rec concept way t.book c.post.new.self are one;
+      posting_counts = sums_posted hs key rec concept way t.book c.post.new.self are one;
     }

@@ -6,7 +6,7 @@ use Rattle.thes_base.specs.RefusalRules.{accepted}
 use Rattle.thes_post.specs.PostingCounts.{HasRoomForMoves, CountsAfterMoves}
 use Rattle.thes_vocab.specs.NewResources.{unless_new, vocabulary_after_add}
 use Rattle.thes_core.proofs.ApplyLemmas.{split_allowed, split_apart, split_fits, split_standing, split_there}
-use Rattle.thes_core.proofs.ApplyLemmas.{split_sums, split_made}
+use Rattle.thes_core.proofs.ApplyLemmas.{split_sums, split_adds_concept}
 use Rattle.thes_core.proofs.thesaurus.Thesaurus.split.Goals as goal
 
 pub add_resource-requires-clause-allowed : goal.add_resource-requires-clause-allowed
@@ -26,7 +26,7 @@ move_listed-requires c = record {
 pub returns-clause-becomes : goal.returns-clause-becomes
 returns-clause-becomes c =
     let t = c.args.self.now in
-    split_made t [] c.args.source c.args.tag.now c.args.text.now [] c.requires c.scheme-scheme.result
+    split_adds_concept t [] c.args.source c.args.tag.now c.args.text.now [] c.requires c.scheme-scheme.result
     c.scheme-scheme.ensures c.add_resource.new.self c.move_listed.new.self
     (c.in_ok-concept.ensures.ok
     ∙ (λ i. vocabulary_after_add (Concept c.scheme-scheme.result (c.in_ok-try_clone.ensures i)
@@ -51,7 +51,7 @@ returns-clause-counts c = λ hs ok are.
     let count = c.count_named-count.ensures few in
     record {
       answer_is = λ i. reply.Parted ((c.get.ensures.value ∙ number) i) (count i);
-      sums = split_sums t hs source tag text postings ok n number t.book c.move_listed.new.self are
+      posting_counts = split_sums t hs source tag text postings ok n number t.book c.move_listed.new.self are
           (subst (λ (k : ℕ). CountsAfterMoves source n k t.book c.move_listed.new.self) count
           (c.in_ok-move_listed.ensures.ok (subst (λ (k : ℕ). HasRoomForMoves source n k t.book) (sym count)
           (record {

@@ -17,7 +17,7 @@ returns-clause-becomes c = parts_become_state refl refl refl refl refl c.require
 pub returns-clause-counts : goal.returns-clause-counts
 returns-clause-counts c = λ hs meant.
     let t = c.args.self.now in
-    let are = meant.sums in
+    let are = meant.posting_counts in
     let are_facts = row_of_one hs c.args.posting c.args.facts.now.named_postings.items c.in-Some.row.now
     meant.are_facts.named_postings (sym c.first.ensures ∙ ap option_copied c.in-Some.is) in
     let stood = passed_standing hs c.args.posting meant.allows.accepts.row in
@@ -34,6 +34,6 @@ returns-clause-counts c = λ hs meant.
     record { here = omega (arith, one, counted, here); accepted = omega (arith, less, withdrawn, accepted) } in
     record {
       answer_is = refl;
-      sums = sums_withdrawn hs c.args.posting are_facts.0 are_facts.1 stays t.book c.withdraw.new.self are
+      posting_counts = sums_withdrawn hs c.args.posting are_facts.0 are_facts.1 stays t.book c.withdraw.new.self are
           (subst (λ (n : ℕ). CountsAfterWithdrawal n t.book c.withdraw.new.self) at (c.withdraw.ensures gives));
     }

@@ -3,19 +3,19 @@ use Rattle.std.specs.FinSet.{from_list}
 use Rattle.thes_base.specs.declared.data.Link.{Link}
 use Rattle.thes_base.specs.Links.{normal_form}
 use Rattle.thes_graph.specs.Index.{IsIndexed}
-use Rattle.thes_graph.specs.Net.{is_marked}
+use Rattle.thes_graph.specs.GraphView.{is_marked}
 use Rattle.thes_graph.proofs.NormLemmas.{norm_again, norm_two}
-use Rattle.thes_graph.proofs.IndexLemmas.{IsIndexed-same, row_sorted, other_sorted, IsIndexed-added, Net-added}
+use Rattle.thes_graph.proofs.IndexLemmas.{IsIndexed-same, row_sorted, other_sorted, IsIndexed-added, GraphView-added}
 use Rattle.thes_graph.proofs.graph.Graph.add.Goals as goal
 use Rattle.thes_graph.proofs.graph.Graph.add.Goals.{In_ok-make_room-2}
 
--- Making room keeps the values of the rows.
+-- The index stays right when room is reserved, since the rows keep their values.
 indexed : (c : In_ok-make_room-2) → IsIndexed c.self.inside.held.keys c.make_room-2.new.self c.self.inside.marked.keys
 indexed c =
     IsIndexed-same c.self.inside.held.keys c.self.inside.marked.keys c.self.inside.rows c.make_room-2.new.self
     (λ m. c.in_ok-make_room-2.ensures.same m ∙ c.in_ok-make_room.ensures.same m) c.self.invariant
 
--- The ends of the link in normal order differ.
+-- The ends of the link in normal form differ.
 two : (c : In_ok-make_room-2) → c.normal-new.result.a ≢ c.normal-new.result.b
 two c = subst (λ (l : Link). l.a ≢ l.b) (sym c.normal-new.ensures)
     (norm_two (is_marked c.args.self.now) c.args.link.now c.requires)
@@ -56,12 +56,12 @@ invariant_of-self-then-branch c =
 
 pub returns-then-branch-clause-ok : goal.returns-then-branch-clause-ok
 returns-then-branch-clause-ok c =
-    Net-added c.self.inside.held.keys c.insert.new.self.keys (from_list c.self.inside.marked.keys) c.args.self.now
+    GraphView-added c.self.inside.held.keys c.insert.new.self.keys (from_list c.self.inside.marked.keys) c.args.self.now
     c.normal-new.result (normal_form (is_marked c.args.self.now) c.args.link.now)
     c.self.view_is c.in_ok-insert.ensures.keys c.normal-new.ensures
 
 pub returns-else-branch-clause-ok : goal.returns-else-branch-clause-ok
 returns-else-branch-clause-ok c =
-    Net-added c.self.inside.held.keys c.insert.new.self.keys (from_list c.self.inside.marked.keys) c.args.self.now
+    GraphView-added c.self.inside.held.keys c.insert.new.self.keys (from_list c.self.inside.marked.keys) c.args.self.now
     c.normal-new.result (normal_form (is_marked c.args.self.now) c.args.link.now)
     c.self.view_is c.in_ok-insert.ensures.keys c.normal-new.ensures

@@ -1,7 +1,7 @@
 use Rattle.std.proofs.Common.{ap, sym, ◌∙◌, take}
 use Rattle.thes_base.specs.Links.{Links, normal_form}
-use Rattle.thes_graph.specs.Net.{Net, is_marked}
-use Rattle.thes_graph.specs.MergeAdditions.{without_all}
+use Rattle.thes_graph.specs.GraphView.{GraphView, is_marked}
+use Rattle.thes_graph.specs.MergeAdditions.{without_links}
 use Rattle.thes_graph.proofs.ChangeLemmas.{net_with, undo_additions}
 use Rattle.thes_graph.proofs.WeightLemmas.{Contains-take}
 use Rattle.thes_graph.proofs.graph.Graph.add_all.Goals as goal
@@ -14,15 +14,15 @@ loop-i-preserved c =
     net_with c.args.self.now.links c.args.links.now c.loop-i.i c.index-links-i.result
     (normal_form (is_marked c.loop-i.self) c.index-links-i.result) c.loop-i.self c.add.new.self c.loop-i-test.true
     c.index-links-i.is
-    (ap (λ (net : Net). normal_form (is_marked net) c.index-links-i.result) c.loop-i.invariant
+    (ap (λ (net : GraphView). normal_form (is_marked net) c.index-links-i.result) c.loop-i.invariant
     ∙ c.requires.normal c.index-links-i.result (c.loop-i.i, c.loop-i-test.true, sym c.index-links-i.is))
     c.args.self.now c.loop-i.invariant c.in_default.ensures.ok
 
 pub returns-in-Err-clause-err : goal.returns-in-Err-clause-err
 returns-in-Err-clause-err c =
     c.detach_all.ensures
-    ∙ ap (λ (net : Net). record {
-      links = without_all net.links (take c.loop-i.i c.args.links.now);
+    ∙ ap (λ (net : GraphView). record {
+      links = without_links net.links (take c.loop-i.i c.args.links.now);
       outside =
           net.outside;
     }) (c.in-Err.ensures.err ∙ c.loop-i.invariant)

@@ -1,13 +1,13 @@
 use Rattle.std.proofs.Common.{◌≡◌, sym, subst, ap, ◌∙◌, rules}
 use Rattle.thes_base.specs.Links.{Links}
-use Rattle.thes_graph.specs.Net.{Net, CountedNet}
+use Rattle.thes_graph.specs.GraphView.{GraphView, CountedGraphView}
 use Rattle.thes_graph.specs.Whole.{AreAll}
 use Rattle.thes_graph.proofs.IndexLemmas.{AreAll-keys}
 use Rattle.thes_graph.proofs.graph.Graph.check_whole.Goals as goal
 
-pub check_all-requires-clause-all : goal.check_all-requires-clause-all
-check_all-requires-clause-all c =
+pub check_listed_links-requires-clause-all : goal.check_listed_links-requires-clause-all
+check_listed_links-requires-clause-all c =
     let listed : c.in_ok-all.all.items ≡ c.self.inside.held.keys = search rules in
     rw (c.deref.ensures.value, listed)
-    (subst (λ (links : Links). AreAll links c.self.inside.held.keys) (ap (λ (net : Net). net.links) c.self.view_is
-    ∙ sym (ap (λ (w : CountedNet). w.net.links) c.walk-walk.ensures)) (AreAll-keys c.self.inside.held.keys))
+    (subst (λ (links : Links). AreAll links c.self.inside.held.keys) (ap (λ (net : GraphView). net.links) c.self.view_is
+    ∙ sym (ap (λ (w : CountedGraphView). w.net.links) c.walk-walk.ensures)) (AreAll-keys c.self.inside.held.keys))

@@ -2,7 +2,7 @@ use Rattle.std.proofs.Common.{true, ap, sym, ◌∙◌}
 use Rattle.std.specs.FinSet.{remove, from_list}
 use Rattle.std.proofs.lemmas.Bool.{both_ways}
 use Rattle.thes_base.specs.Links.{Links}
-use Rattle.thes_graph.specs.Net.{Net}
+use Rattle.thes_graph.specs.GraphView.{GraphView}
 use Rattle.thes_graph.proofs.SetLemmas.{remove_absent}
 use Rattle.thes_graph.proofs.IndexLemmas.{lookup_in_keys, row_sorted, other_sorted, IsIndexed-taken}
 use Rattle.thes_graph.proofs.IndexLemmas.{from_list_without, without_computed}
@@ -36,7 +36,8 @@ returns-then-remove c =
     (ap from_list (without_computed c.self.inside.held.keys c.args.link.now c.remove.new.self.keys
     c.if-remove.ensures.keys)
     ∙ from_list_without c.self.inside.held.keys c.args.link.now c.self.invariant.ordered)
-    ∙ ap (λ (net : Net). record { links = remove net.links c.args.link.now; outside = net.outside }) c.self.view_is
+    ∙ ap (λ (net : GraphView). record { links = remove net.links c.args.link.now; outside = net.outside })
+    c.self.view_is
 
 pub returns-else-remove : goal.returns-else-remove
 returns-else-remove c =
@@ -44,4 +45,5 @@ returns-else-remove c =
     (ap from_list c.if-remove.ensures.unchanged
     ∙ sym (remove_absent (from_list c.self.inside.held.keys) c.args.link.now
     (both_ways _ (sym (lookup_in_keys c.self.inside.held.keys c.args.link.now _ c.if-remove.ensures.test)))))
-    ∙ ap (λ (net : Net). record { links = remove net.links c.args.link.now; outside = net.outside }) c.self.view_is
+    ∙ ap (λ (net : GraphView). record { links = remove net.links c.args.link.now; outside = net.outside })
+    c.self.view_is

@@ -1,7 +1,7 @@
 use Rattle.std.proofs.Common.{Some, None, Contains}
 use Rattle.thes_graph.specs.declared.side.SidedLink.{SidedLink}
 use Rattle.thes_graph.specs.Side.{sided_link_at}
-use Rattle.thes_graph.specs.Net.{sided_links_at}
+use Rattle.thes_graph.specs.GraphView.{sided_links_at}
 use Rattle.thes_graph.proofs.ChangeLemmas.{last_of}
 use Rattle.thes_graph.proofs.IndexLemmas.{sided_links_from, sided_links_to}
 use Rattle.thes_graph.proofs.graph.Graph.last_at.Goals as goal

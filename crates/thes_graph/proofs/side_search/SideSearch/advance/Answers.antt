@@ -6,9 +6,9 @@ use Rattle.thes_graph.proofs.side_search.SideSearch.advance.Goals as goal
 pub follow_after_edit-requires-clause-walked : goal.follow_after_edit-requires-clause-walked
 follow_after_edit-requires-clause-walked g c = hierarchy_is_one_sided c.args.relation c.requires.walked
 
-pub returns-clause-goes : goal.returns-clause-goes
-returns-clause-goes g c start read is =
-    IsAdvanceResult-more c.args.edit.now (g.L.Links.held c.args.links.now) c.args.relation c.args.goals.now start
+pub returns-clause-advances : goal.returns-clause-advances
+returns-clause-advances g c start read is =
+    IsAdvanceResult-more c.args.edit.now (g.L.Links.net c.args.links.now).links c.args.relation c.args.goals.now start
     c.requires.walked
     c.args.self.now (record { nodes = c.follow_after_edit.new.nodes; next = c.args.self.now.next + 1 })
     c.index-as_slice-self.result

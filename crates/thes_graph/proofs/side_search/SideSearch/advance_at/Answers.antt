@@ -12,35 +12,37 @@ use Rattle.thes_graph.proofs.SideSearchLemmas.{IsSearchResult-same, LeadsFrom-re
 use Rattle.thes_graph.proofs.SideSearchLemmas.{Steps-sound, Steps-held}
 use Rattle.thes_graph.proofs.side_search.SideSearch.advance_at.Goals as goal
 
-pub returns-clause-goes : goal.returns-clause-goes
-returns-clause-goes g c start read is =
+pub returns-clause-advances : goal.returns-clause-advances
+returns-clause-advances g c start read is =
     let x : ℕ = c.index-as_slice-self.result in
-    let row : List Link = g.L.Links.links_of c.args.links.now x in
+    let row : List Link = g.L.Links.links_of (g.L.Links.net c.args.links.now) x in
     let at : x ≡ get_or c.args.self.now.nodes c.args.self.now.next 0 =
     c.index-as_slice-self.is ∙ ap (λ (xs : List ℕ). get_or xs c.args.self.now.next x) c.as_slice.ensures
     ∙ get_or_default c.args.self.now.nodes c.args.self.now.next x 0 c.requires.more in
-    let is_row : IsRow (g.L.Links.held c.args.links.now) x row =
-    subst (λ (n : ℕ). IsRow (g.L.Links.held c.args.links.now) n (g.L.Links.links_of c.args.links.now n)) (sym at)
+    let is_row : IsRow (g.L.Links.net c.args.links.now).links x row =
+    subst (λ (n : ℕ). IsRow (g.L.Links.net c.args.links.now).links n
+    (g.L.Links.links_of (g.L.Links.net c.args.links.now) n)) (sym at)
     c.requires.listed in
     let is_part : IsPart row x (side_in c.args.relation) c.args.part =
-    subst (λ (n : ℕ). IsPart (g.L.Links.links_of c.args.links.now n) n (side_in c.args.relation) c.args.part) (sym at)
+    subst (λ (n : ℕ). IsPart (g.L.Links.links_of (g.L.Links.net c.args.links.now) n) n (side_in c.args.relation)
+    c.args.part) (sym at)
     c.requires.part in
-    IsAdvanceResult-more NoEdit (g.L.Links.held c.args.links.now) c.args.relation c.args.goals.now start
+    IsAdvanceResult-more NoEdit (g.L.Links.net c.args.links.now).links c.args.relation c.args.goals.now start
     c.requires.walked
     c.args.self.now (record { nodes = c.follow_part.new.nodes; next = c.args.self.now.next + 1 }) x
     (c.args.part.to - c.args.part.from) read (read + (c.args.part.to - c.args.part.from)) c.requires.more
     at refl (omega arith)
-    (λ ns covers. part_cost (g.L.Links.held c.args.links.now) x (side_in c.args.relation) row c.args.part is_row
+    (λ ns covers. part_cost (g.L.Links.net c.args.links.now).links x (side_in c.args.relation) row c.args.part is_row
     is_part ns (λ l has ends _. covers l has ends))
     is c.in_ok-found.found
     (IsSearchResult-same c.args.self.now.nodes c.follow_part.new.nodes c.args.goals.now
     (LeadsWithin NoEdit c.args.relation x row c.args.part.from c.args.part.to)
-    (Steps c.args.relation (HeldAfter NoEdit (g.L.Links.held c.args.links.now)) x)
-    (λ y within. Steps-sound (g.L.Links.held c.args.links.now) c.args.relation NoEdit x x y
-    (LeadsFrom-read NoEdit c.args.relation x row (g.L.Links.held c.args.links.now) x c.args.part is_row is_part
+    (Steps c.args.relation (HeldAfter NoEdit (g.L.Links.net c.args.links.now).links) x)
+    (λ y within. Steps-sound (g.L.Links.net c.args.links.now).links c.args.relation NoEdit x x y
+    (LeadsFrom-read NoEdit c.args.relation x row (g.L.Links.net c.args.links.now).links x c.args.part is_row is_part
     c.args.part.to y (omega arith) within))
-    (λ y steps. LeadsFrom-there NoEdit c.args.relation x row (g.L.Links.held c.args.links.now) x c.args.part is_row
+    (λ y steps. LeadsFrom-there NoEdit c.args.relation x row (g.L.Links.net c.args.links.now).links x c.args.part is_row
     is_part c.args.part.to y (omega arith)
-    (Steps-held (g.L.Links.held c.args.links.now) c.args.relation
+    (Steps-held (g.L.Links.net c.args.links.now).links c.args.relation
     (hierarchy_is_one_sided c.args.relation c.requires.walked) c.requires.two_ends x y steps))
     c.in_ok-found.found c.in_ok-found.ensures.finds)

@@ -4,11 +4,9 @@ use Rattle.thes_graph.proofs.side_search.SideSearch.finish.Given as goal
 
 abbrev pub invariant-reading : goal.invariant-reading
 invariant-reading g l = record {
-  held : g.L.Links.held l.links ≡ g.L.Links.held l.fn.links;
-  outside : g.L.Links.outside l.links ≡ g.L.Links.outside l.fn.links;
-  rows : g.L.Links.links_of l.links ≡ g.L.Links.links_of l.fn.links;
-  goes : (start read : ℕ) → IsSideSearch l.edit (g.L.Links.held l.fn.links) l.relation l.goals start l.fn.self read
-      → IsSideSearch l.edit (g.L.Links.held l.fn.links) l.relation l.goals start l.self
+  net : g.L.Links.net l.links ≡ g.L.Links.net l.fn.links;
+  advances : (start read : ℕ) → IsSideSearch l.edit (g.L.Links.net l.fn.links).links l.relation l.goals start l.fn.self
+      read → IsSideSearch l.edit (g.L.Links.net l.fn.links).links l.relation l.goals start l.self
       (read + (g.L.Links.count l.links - g.L.Links.count l.fn.links));
 }
 

@@ -1,6 +1,6 @@
 use Rattle.thes_load_rows.specs.LinksSoFar.{MarksFirst}
 use Rattle.thes_load_rows.proofs.links.LinkLoad.new.Given as goal
 
--- The outside concepts so far are marked.
+-- The outside concepts read so far are marked.
 abbrev pub invariant-loop-i : goal.invariant-loop-i
 invariant-loop-i l = MarksFirst l.resources l.i l.graph

@@ -7,5 +7,5 @@ pub returns : goal.returns
 returns c = λ rs rows has. (
   subst (λ (l : List ℕ). HasMoves rs rows 0 l []) (sym has.firsts_are)
       (moves_none rs rows has.rule.few has.rule.numbers),
-  (has.stored_places_are, has.sums_are),
+  (has.stored_places_are, has.posting_counts_are),
 )

@@ -21,7 +21,7 @@ invariant_of-self-in-Err g c =
     inr (has_failed _ _ _ c.in-Err.ensures.asks.cause is)) (λ e. ap (λ (d : OfficeView _). d.stale) c.self.view_is
     ∙ c.in_ok-refresh.ensures.fresh) c.history_at.ensures.asks.was c.history_at.ensures.asks.same
 
-pub returns-in-Ok-clause-told : goal.returns-in-Ok-clause-told
-returns-in-Ok-clause-told g c up base s x =
-    c.in-Ok.ensures.told up base s (same_tables_same_state (g.K.Keeper.rows c.history_at.new.keeper)
+pub returns-in-Ok-clause-in_tables : goal.returns-in-Ok-clause-in_tables
+returns-in-Ok-clause-in_tables g c up base s x =
+    c.in-Ok.ensures.in_tables up base s (same_tables_same_state (g.K.Keeper.rows c.history_at.new.keeper)
     (g.K.Keeper.rows c.self.inside.keeper) base s (sym (c.history_at.ensures.asks.same up)) x)

@@ -1,6 +1,6 @@
 use Rattle.std.proofs.Common.{◌≡◌, ap, sym, ◌∙◌, inl, inr, rules}
 use Rattle.thes_base.specs.declared.fault.Fault.TheVariants as faults
-use Rattle.thes_office.specs.Listing.{rows_assigned_to}
+use Rattle.thes_office.specs.AssignedPostings.{rows_assigned_to}
 use Rattle.thes_office.specs.Office.{OfficeView}
 use Rattle.thes_office.proofs.StateTableLemmas.{same_tables_same_state}
 use Rattle.thes_office.proofs.StepLemmas.{copies_own}

@@ -8,8 +8,8 @@ invariant_of-self g c =
     c.self.inside.core c.self.inside.limits c.self.inside.stale c.self.inside.stale c.self.invariant
     c.load.ensures.reads.later (λ e. inl e) (λ e. e) c.load.ensures.reads.was c.load.ensures.reads.same
 
-pub returns-in-Err-clause-goes : goal.returns-in-Err-clause-goes
-returns-in-Err-clause-goes g c =
+pub returns-in-Err-clause-fault_behaviour : goal.returns-in-Err-clause-fault_behaviour
+returns-in-Err-clause-fault_behaviour g c =
     behaviour_of_load_fault g.K.Keeper.rows g.K.Keeper.is_up g.K.Keeper.failed c.self.inside.keeper c.load.new.keeper
     c.self.inside.core c.self.inside.limits c.self.inside.stale c.in-Err.fault c.args.self.now
     c.in-Err.ensures.reads c.in-Err.ensures.verdict c.self.invariant (search rules) c.self.view_is

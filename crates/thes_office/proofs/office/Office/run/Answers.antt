@@ -24,7 +24,7 @@ returns-in-Err-clause-ran g c =
     run_stops g.K.Keeper.rows g.K.Keeper.is_up g.K.Keeper.failed c.args.self.now c.loop-command.self
     c.perform.new.self c.args.commands.now c.loop-command.command-index c.args.answers.now.items
     c.loop-command.answers.items c.try_reserve.new.self.items (omega arith) c.loop-command.invariant
-    c.perform.ensures.goes.was c.in-Err.ensures.performed reserved
+    c.perform.ensures.fault_behaviour.was c.in-Err.ensures.performed reserved
 
 pub loop-command-preserved : goal.loop-command-preserved
 loop-command-preserved g c =
@@ -36,7 +36,7 @@ loop-command-preserved g c =
     run_continues g.K.Keeper.rows g.K.Keeper.is_up g.K.Keeper.failed c.args.self.now c.loop-command.self
     c.perform.new.self (take c.loop-command.command-index c.args.commands.now) _ c.args.answers.now.items
     c.loop-command.answers.items c.push.new.self.items c.command-item.result c.in-Ok.answer
-    c.loop-command.invariant c.in-Ok.ensures.goes c.in-Ok.ensures.performed
+    c.loop-command.invariant c.in-Ok.ensures.fault_behaviour c.in-Ok.ensures.performed
     (pushed ∙ ap (λ l. l ++ c.in-Ok.answer ∷ []) reserved) more
 
 pub returns-clause-ran : goal.returns-clause-ran

@@ -26,9 +26,9 @@ perform_at-requires-clause-copies g c up =
     (copies_own (g.K.Keeper.rows c.self.inside.keeper) c.self.inside.limits c.self.inside.core
     (c.self.invariant.copies fresh (c.facts_of.ensures.asks.was up)))
 
-pub perform_at-requires-clause-told : goal.perform_at-requires-clause-told
-perform_at-requires-clause-told g c up base s x =
-    c.in-Ok.ensures.told up base s (same_tables_same_state (g.K.Keeper.rows c.facts_of.new.keeper)
+pub perform_at-requires-clause-in_tables : goal.perform_at-requires-clause-in_tables
+perform_at-requires-clause-in_tables g c up base s x =
+    c.in-Ok.ensures.in_tables up base s (same_tables_same_state (g.K.Keeper.rows c.facts_of.new.keeper)
     (g.K.Keeper.rows c.self.inside.keeper) base s (sym (c.facts_of.ensures.asks.same up)) x)
 
 pub invariant_of-self-in-Ok-perform_at : goal.invariant_of-self-in-Ok-perform_at

@@ -5,8 +5,8 @@ use Rattle.thes_office.specs.Office.{OfficeView}
 use Rattle.thes_office.proofs.PostingListLemmas.{totals_of_copy}
 use Rattle.thes_office.proofs.office.Office.totals.Goals as goal
 
-pub returns-clause-told : goal.returns-clause-told
-returns-clause-told g c =
+pub returns-clause-in_tables : goal.returns-clause-in_tables
+returns-clause-in_tables g c =
     subst (λ (d : OfficeView _). g.K.Keeper.is_up d.keeper → InStateOfTables (g.K.Keeper.rows d.keeper)
     (λ s. c.totals.result ≡ totals_of s.histories)) c.self.view_is
     (λ up. totals_of_copy (g.K.Keeper.rows c.self.inside.keeper) c.self.inside.limits c.self.inside.core

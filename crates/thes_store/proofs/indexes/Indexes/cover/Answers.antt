@@ -3,7 +3,7 @@ use Rattle.thes_tables.specs.declared.change.Change.{Change}
 use Rattle.thes_tables.specs.Tables.{Tables, IsIn}
 use Rattle.thes_tables.specs.Rows.{ChangeFits}
 use Rattle.thes_store.specs.declared.indexes.Indexes.{Indexes}
-use Rattle.thes_store.specs.Index.{HasPlace}
+use Rattle.thes_store.specs.Index.{HasPosition}
 use Rattle.thes_store.specs.Covers.{Covers, IndexesGrowBy, IsOtherKey, CoversChange}
 use Rattle.thes_store.proofs.indexes.Indexes.cover.Goals as goal
 
@@ -13,10 +13,10 @@ returns-in_ok-insert_all-in-MoveAll-clause-reaches c =
     subst (λ (change : Change). (t : Tables) → ChangeFits change t → Covers c.args.self.now t
     → CoversChange new change t c.args.step) (sym c.in-MoveAll.is)
     (λ t fits covers i row at stands.
-    let from = subst (λ n. HasPlace c.args.self.now.standing n i) (stands ∙ sym c.get-in-MoveAll.ensures.value)
+    let from = subst (λ n. HasPosition c.args.self.now.standing n i) (stands ∙ sym c.get-in-MoveAll.ensures.value)
     (covers.standing i row at) in
     let listed = subst (IsIn i) (sym c.as_slice.ensures.value) (c.in_ok-places-in-MoveAll.ensures.complete i from) in
-    subst (λ n. HasPlace c.insert_all.new.self n i) c.get-in-MoveAll-2.ensures.value
+    subst (λ n. HasPosition c.insert_all.new.self n i) c.get-in-MoveAll-2.ensures.value
     (c.in_ok-insert_all-in-MoveAll.ensures.ok i listed))
 
 pub returns-in_err-cover_posting-in-AddPosting-clause-grows :

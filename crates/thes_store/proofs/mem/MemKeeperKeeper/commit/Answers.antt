@@ -17,8 +17,8 @@ invariant_of-self-in_err-cover_all c = (
   c.make_room.ensures.found c.self.invariant.1,
 )
 
-pub make_all-requires-clause-standing : goal.make_all-requires-clause-standing
-make_all-requires-clause-standing c =
+pub apply_changes-requires-clause-standing : goal.apply_changes-requires-clause-standing
+apply_changes-requires-clause-standing c =
     let copies : c.as_slice-given.result.now ≡ c.into_changes-changes.result.items = search rules in
     let both = covers_both _ _ c.args.delta c.as_slice-given.result.now c.len-moves.result
     (tables_in_memory c.make_room.new.self) _ _ (Ok c.in_ok-cover_all.field-0) c.in_ok-cover_all.ensures
@@ -36,8 +36,8 @@ invariant_of-self-2 c =
     (search rules) c.self.invariant.0 in (
       subst (Covers c.cover_all.new.indexes)
           (ap (λ (l : List Change). tables_after_delta l (tables_in_memory c.make_room.new.self)) copies
-          ∙ sym c.make_all.ensures.tables) both.1.last,
-      c.make_all.ensures.found,
+          ∙ sym c.apply_changes.ensures.tables) both.1.last,
+      c.apply_changes.ensures.found,
     )
 
 pub returns-clause-ok : goal.returns-clause-ok

@@ -4,9 +4,9 @@ use Rattle.thes_base.specs.Resources.{entry_at}
 use Rattle.thes_base.proofs.NumberedLemmas.{numbered_at}
 use Rattle.thes_tables.specs.Tables.{Tables, recorded_move}
 use Rattle.thes_tables.proofs.CellLemmas.{listed_one}
-use Rattle.thes_store.specs.Index.{ArePlaces}
+use Rattle.thes_store.specs.Index.{ArePositions}
 use Rattle.thes_store.specs.Covers.{Covers}
-use Rattle.thes_store.specs.RowsAtPlaces.{is_move_of, rows_at_places}
+use Rattle.thes_store.specs.RowsAtPositions.{is_move_of, rows_at_positions}
 use Rattle.thes_store.proofs.IndexLookUpLemmas.{moves_all}
 use Rattle.thes_store.proofs.mem.MemKeeperKeeper.posting.Goals as goal
 
@@ -20,10 +20,10 @@ returns-clause-ok c = λ up t same.
     let least : 1 ≤ c.args.number = search rules in
     let row = numbered_at c.self.inside.tables.posting.items c.args.number least ∙ there in
     let moves : c.in_ok-moves.moves
-    ≡ map recorded_move (rows_at_places (is_move_of c.args.number) c.self.inside.tables.steps.items places) =
+    ≡ map recorded_move (rows_at_positions (is_move_of c.args.number) c.self.inside.tables.steps.items places) =
     search rules in
-    let are = subst (λ n. ArePlaces x.moves n places) c.get-2.ensures.value c.in_ok-places.ensures in (
+    let are = subst (λ n. ArePositions x.moves n places) c.get-2.ensures.value c.in_ok-places.ensures in (
       subst (λ (u : Tables). entry_at u.posting c.args.number ≡ Some c.in_ok-row.row) is row,
-      moves ∙ ap (λ (u : Tables). map recorded_move (rows_at_places (is_move_of c.args.number) u.move places)) is
+      moves ∙ ap (λ (u : Tables). map recorded_move (rows_at_positions (is_move_of c.args.number) u.move places)) is
           ∙ ap (map recorded_move) (moves_all x t c.args.number places (subst (Covers x) is c.self.invariant.0) are),
     )

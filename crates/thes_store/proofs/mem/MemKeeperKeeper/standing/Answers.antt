@@ -2,18 +2,18 @@ use Rattle.std.proofs.Common.{◌≡◌, ◌∙◌, ap, subst, List}
 use Rattle.thes_tables.specs.declared.rows.PostingRow.{PostingRow}
 use Rattle.thes_tables.specs.Tables.{Tables, is_assigned_row}
 use Rattle.thes_tables.proofs.CellLemmas.{listed_one}
-use Rattle.thes_store.specs.Index.{ArePlaces}
+use Rattle.thes_store.specs.Index.{ArePositions}
 use Rattle.thes_store.specs.Covers.{Covers}
 use Rattle.thes_store.specs.Sinks.{SinkOutcome}
-use Rattle.thes_store.specs.RowsAtPlaces.{rows_at_places}
-use Rattle.thes_store.specs.Reading.{standing_rows}
+use Rattle.thes_store.specs.RowsAtPositions.{rows_at_positions}
+use Rattle.thes_store.specs.Reading.{assigned_posting_rows}
 use Rattle.thes_store.proofs.SinkLemmas.{fault_before_first}
 use Rattle.thes_store.proofs.IndexLookUpLemmas.{standing_all}
 use Rattle.thes_store.proofs.mem.MemKeeperKeeper.standing.Goals as goal
 
 pub returns-in_err-places-clause-yields : goal.returns-in_err-places-clause-yields
 returns-in_err-places-clause-yields g c = λ up t same. fault_before_first g.S.PostingSink.gives
-    (standing_rows c.args.concept t.posting) c.args.sink.now c.from_residual.result c.from_residual.ensures.0
+    (assigned_posting_rows c.args.concept t.posting) c.args.sink.now c.from_residual.result c.from_residual.ensures.0
 
 pub returns-clause-yields : goal.returns-clause-yields
 returns-clause-yields g c = λ up t same.
@@ -21,10 +21,10 @@ returns-clause-yields g c = λ up t same.
     let is = c.self.view_is ∙ listed_one c.args.self.now t same in
     let places = c.in_ok-places.places.items in
     let concept = c.args.concept in
-    let are = subst (λ n. ArePlaces x.standing n places) c.get.ensures.value c.in_ok-places.ensures in
+    let are = subst (λ n. ArePositions x.standing n places) c.get.ensures.value c.in_ok-places.ensures in
     let all = standing_all x t concept places (subst (Covers x) is c.self.invariant.0) are in
     let rows : c.as_slice.result.now ≡ t.posting = c.as_slice.ensures.value ∙ ap (λ (u : Tables). u.posting) is in
-    let whole = ap (λ (rs : List PostingRow). rows_at_places (is_assigned_row concept) rs c.as_slice-2.result.now)
-    rows ∙ ap (rows_at_places (is_assigned_row concept) t.posting) c.as_slice-2.ensures.value ∙ all in
+    let whole = ap (λ (rs : List PostingRow). rows_at_positions (is_assigned_row concept) rs c.as_slice-2.result.now)
+    rows ∙ ap (rows_at_positions (is_assigned_row concept) t.posting) c.as_slice-2.ensures.value ∙ all in
     subst (λ (l : List PostingRow). SinkOutcome g.S.PostingSink.gives c.args.sink.now l c.yield_postings.result
     c.yield_postings.new.sink) whole c.yield_postings.ensures.yields

@@ -1,7 +1,7 @@
 use Rattle.std.proofs.Common.{◌∙◌, ap, sym, subst}
 use Rattle.thes_base.specs.Data.{LabelData, label_value_text}
 use Rattle.thes_vocab.specs.OwnLabels.{HasOwnPreferred}
-use Rattle.thes_vocab.specs.LabelPlaces.{IsPreferredAt}
+use Rattle.thes_vocab.specs.LabelPositions.{IsPreferredAt}
 use Rattle.thes_vocab.proofs.OwnLabelLemmas.{preferred_at}
 use Rattle.thes_vocab.proofs.row.OwnerRow.preferred.Goals as goal
 

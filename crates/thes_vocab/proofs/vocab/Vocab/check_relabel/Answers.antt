@@ -2,14 +2,14 @@ use Rattle.std.proofs.Common.{◌≡◌, sym, subst, List, ℕ, Bool, true, fals
 use Rattle.std.proofs.lemmas.Bool.{both_ways}
 use Rattle.thes_base.specs.declared.data.LabelKind.TheVariants.{Pref}
 use Rattle.thes_base.specs.Labels.{HasLabel}
-use Rattle.thes_base.specs.Legal.{LegalLabels}
+use Rattle.thes_base.specs.Legal.{AreLegalLabels}
 use Rattle.thes_base.specs.Changes.{labels_after_relabel}
 use Rattle.thes_vocab.specs.Vocabulary.{Vocabulary}
 use Rattle.thes_vocab.specs.Rivals.{HasClash}
 use Rattle.thes_vocab.proofs.LabelCheckLemmas.{row_without_name, row_clashing, row_with_rival, row_renamed}
 use Rattle.thes_vocab.proofs.vocab.Vocab.check_relabel.Goals as goal
 
--- There is no label.
+-- If the look-up finds no clash, there is none.
 no_clash : (seen v : Vocabulary) (owner : ℕ) (tag text old : List ℕ) (keep found : Bool) → seen ≡ v
     → (HasClash seen.labels owner tag text old keep → found ≡ true) → found ≡ false → HasClash v.labels owner tag text
     old keep → ⊥
@@ -27,7 +27,7 @@ returns-in_default c =
 pub returns-then-has_clash : goal.returns-then-has_clash
 returns-then-has_clash c =
     let v = c.args.self.now in
-    let legal = subst (λ (v : Vocabulary). LegalLabels v.resources v.labels) c.self.view_is c.self.invariant.named in
+    let legal = subst (λ (v : Vocabulary). AreLegalLabels v.resources v.labels) c.self.view_is c.self.invariant.named in
     let has = subst (λ (v : Vocabulary). HasLabel v.labels c.args.owner Pref c.args.tag.now c.in-Some.old.now)
     c.self.view_is c.in-Some.ensures in
     let clash = subst (λ (v : Vocabulary). HasClash v.labels c.args.owner c.args.tag.now c.args.text.now
@@ -38,7 +38,7 @@ returns-then-has_clash c =
 pub returns-then-has_rival : goal.returns-then-has_rival
 returns-then-has_rival c =
     let v = c.args.self.now in
-    let legal = subst (λ (v : Vocabulary). LegalLabels v.resources v.labels) c.self.view_is c.self.invariant.named in
+    let legal = subst (λ (v : Vocabulary). AreLegalLabels v.resources v.labels) c.self.view_is c.self.invariant.named in
     let has = subst (λ (v : Vocabulary). HasLabel v.labels c.args.owner Pref c.args.tag.now c.in-Some.old.now)
     c.self.view_is c.in-Some.ensures in
     let free = no_clash _ v c.args.owner c.args.tag.now c.args.text.now c.in-Some.old.now c.args.keep
@@ -49,7 +49,7 @@ returns-then-has_rival c =
 pub returns : goal.returns
 returns c =
     let v = c.args.self.now in
-    let legal = subst (λ (v : Vocabulary). LegalLabels v.resources v.labels) c.self.view_is c.self.invariant.named in
+    let legal = subst (λ (v : Vocabulary). AreLegalLabels v.resources v.labels) c.self.view_is c.self.invariant.named in
     let has = subst (λ (v : Vocabulary). HasLabel v.labels c.args.owner Pref c.args.tag.now c.in-Some.old.now)
     c.self.view_is c.in-Some.ensures in
     let free = no_clash _ v c.args.owner c.args.tag.now c.args.text.now c.in-Some.old.now c.args.keep

@@ -7,7 +7,7 @@ use Rattle.thes_base.specs.Labels.{Labels}
 use Rattle.thes_base.specs.Machine.{owned_label}
 use Rattle.thes_base.specs.RefusalRules.{accepted}
 use Rattle.thes_base.specs.Changes.{label}
-use Rattle.thes_base.specs.Refusals.{unless_droppable}
+use Rattle.thes_base.specs.RuleParts.{unless_droppable}
 use Rattle.thes_vocab.specs.Vocabulary.{Vocabulary}
 use Rattle.thes_vocab.specs.Consistency.{IsConsistentVocabulary}
 use Rattle.thes_vocab.proofs.ConsistencyLemmas.{IsSchemeOf, kept_dropped}

@@ -4,7 +4,8 @@ use Rattle.thes_base.specs.Postings.{path_end}
 use Rattle.thes_vocab.proofs.ForwardingLemmas.{remaining_replacements}
 use Rattle.thes_vocab.proofs.vocab.Vocab.forwarding.Given as goal
 
--- The remaining chain has the end of the whole one, and its length plus the steps so far is the length of the whole.
+-- The remaining chain ends where the chain from the concept ends, and the steps so far and its length add up to that
+-- chain's length.
 abbrev pub invariant-loop-steps : goal.invariant-loop-steps
 invariant-loop-steps l =
     let rest = remaining_replacements l.self.resources l.steps l.place in

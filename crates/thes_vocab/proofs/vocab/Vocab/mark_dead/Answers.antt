@@ -1,7 +1,7 @@
 use Rattle.std.proofs.Common.{◌∙◌, ◌-◌, sym, ap, subst, List, get_or, set}
 use Rattle.thes_base.specs.declared.data.Resource.{Resource}
 use Rattle.thes_base.specs.Resources.{IsLiveConcept}
-use Rattle.thes_base.specs.Changes.{dead}
+use Rattle.thes_base.specs.Changes.{resource_after_death}
 use Rattle.thes_base.proofs.ResourceLemmas.{marked_dead_at}
 use Rattle.thes_vocab.specs.Vocabulary.{Vocabulary, IsReplacement, vocabulary_after_death}
 use Rattle.thes_vocab.specs.ConceptLists.{ConceptListsAfterRemove}
@@ -19,7 +19,7 @@ invariant_of-self c =
     c.requires.replacement in
     let at = numbered_at rs c.args.n r live.0 live.1 (c.index-resource.ensures ∙ ap (λ k. get_or rs (k - 1) r)
     c.get.ensures.value) in
-    let new = ap (dead c.args.replaced) c.resource.view_is in
+    let new = ap (resource_after_death c.args.replaced) c.resource.view_is in
     let removed = subst (λ (x : Resource). ConceptListsAfterRemove inside.concepts c.remove.new.concepts x.scheme
     c.args.n) c.resource.view_is c.remove.ensures in
     subst (λ (x : List Resource). IsConsistentVocabulary inside.base x inside.iris inside.labels inside.names
@@ -35,7 +35,7 @@ returns c =
     let live = subst (λ (v : Vocabulary). IsLiveConcept v.resources c.args.n) (sym c.self.view_is) c.requires.concept in
     let at = numbered_at rs c.args.n r live.0 live.1 (c.index-resource.ensures ∙ ap (λ k. get_or rs (k - 1) r)
     c.get.ensures.value) in
-    let new = ap (dead c.args.replaced) c.resource.view_is in
+    let new = ap (resource_after_death c.args.replaced) c.resource.view_is in
     let list = (λ i. set rs (c.get.ensures.value i - 1) (new i))
     ∙ sym (marked_dead_at rs c.args.n c.args.replaced r at) in
     ap (λ (x : List Resource). let v : Vocabulary = record {

@@ -2,7 +2,7 @@ use Rattle.std.proofs.Common.{rules, ◌≡◌, ◌≢◌, ◌∙◌, sym, ap, s
 use Rattle.thes_base.specs.declared.data.Resource.{Resource}
 use Rattle.thes_base.specs.declared.data.LabelKind.TheVariants.{Pref}
 use Rattle.thes_base.specs.Labels.{Labels, HasLabel}
-use Rattle.thes_base.specs.Legal.{LegalLabels}
+use Rattle.thes_base.specs.Legal.{AreLegalLabels}
 use Rattle.thes_base.specs.Changes.{labels_after_relabel}
 use Rattle.thes_vocab.specs.Vocabulary.{Vocabulary, with_labels}
 use Rattle.thes_vocab.specs.Consistency.{IsConsistentVocabulary}
@@ -10,7 +10,7 @@ use Rattle.thes_vocab.proofs.LabelCheckLemmas.{relabelled_is}
 use Rattle.thes_vocab.proofs.ConsistencyLemmas.{IsSchemeOf, seen_name_noted, seen_renamed, relabel_to_same_text}
 use Rattle.thes_vocab.proofs.vocab.Vocab.relabel.Goals as goal
 
--- A copy of the owner's label is the owner's label.
+-- A text equal to that of the owner's preferred label is that of the label.
 held : (labels : Labels) (owner : ℕ) (tag known old : List ℕ) → HasLabel labels owner Pref tag known → old ≡ known
     → HasLabel labels owner Pref tag old
 held labels owner tag known old has same = subst (HasLabel labels owner Pref tag) (sym same) has
@@ -19,7 +19,7 @@ pub returns-then-eq-clause-ok : goal.returns-then-eq-clause-ok
 returns-then-eq-clause-ok c =
     let v = c.args.self.now in
     let same : c.in_ok-old.old ≡ c.args.text.now = search rules in
-    let legal = subst (λ (v : Vocabulary). LegalLabels v.resources v.labels) c.self.view_is c.self.invariant.named in
+    let legal = subst (λ (v : Vocabulary). AreLegalLabels v.resources v.labels) c.self.view_is c.self.invariant.named in
     let has = subst (λ (v : Vocabulary). HasLabel v.labels c.args.owner Pref c.args.tag.now c.in_ok-old.old)
     c.self.view_is (held c.self.inside.labels c.args.owner c.args.tag.now _ _ c.in-Some.ensures
     c.in_ok-old.ensures) in

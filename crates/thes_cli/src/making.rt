@@ -1,0 +1,66 @@
+//! The mark of a store that is being made: an empty file with a name of its own, which is there before the database and
+//! is removed once that has its tables. By it a later run knows a database whose making was cut short.
+use crate::progress::Progress;
+use crate::screen::Screen;
+use std::fs;
+use std::fs::File;
+use thes_base::fault::Fault;
+use thes_command_line::opening::{FileState, file_state};
+
+/// The mark of the store in a file.
+#[derive(Drop)]
+pub struct MakingMark<'r> {
+    rt: &'r HostRuntime,
+    path: String,
+}
+
+impl<'r> MakingMark<'r> {
+    /// Names the mark of the store in a file, where a link leads.
+    pub fn new(rt: &'r HostRuntime, file: &str) -> Result<MakingMark<'r>, Fault> {
+        let path = match fs::canonicalize(rt, file) {
+            Ok(path) => format!(in rt.alloc(); "{}-making", path.as_str())?,
+            Err(_) => format!(in rt.alloc(); "{file}-making")?,
+        };
+        Ok(MakingMark { rt, path })
+    }
+
+    /// Returns whether the mark is there. Only a file of no bytes is a mark.
+    pub fn is_there(&self) -> bool {
+        let found = fs::symlink_metadata(self.rt, self.path.as_str());
+        file_state(&found) == FileState::Bytes(0)
+    }
+
+    /// Makes the mark. If that fails, the store is made without it.
+    pub fn make(&self) {
+        let _ = File::create_new(self.rt, self.path.as_str());
+    }
+
+    /// Removes the mark, if it is there.
+    pub fn remove(&self) {
+        if self.is_there() {
+            let _ = fs::remove_file(self.rt, self.path.as_str());
+        }
+    }
+}
+
+/// A listener that removes the mark of a store once the store is made, and passes each report on to a screen.
+#[derive(Clone, Copy)]
+pub struct MarkRemover<'m, 'r> {
+    pub mark: &'m MakingMark<'r>,
+    pub screen: Option<Screen<'r, HostRuntime>>,
+}
+
+impl Progress for MarkRemover<'_, '_> {
+    fn report_new_store(&mut self, file: &str) {
+        self.mark.remove();
+        self.screen.report_new_store(file);
+    }
+
+    fn report_rows(&mut self, rows: u64) {
+        self.screen.report_rows(rows);
+    }
+
+    fn report_lookups(&mut self, postings: u64) {
+        self.screen.report_lookups(postings);
+    }
+}

@@ -1,0 +1,89 @@
+//! The files of a store, which can be opened again by their names.
+use sqlite::{Connection, Error, ErrorCode, FileStore};
+use std::fs;
+use std::io::ErrorKind;
+use std::os::unix::fs::MetadataExt;
+use thes_base::fault::Fault;
+use thes_sqlite::reopening::Reopen;
+
+// Returns the numbers of a file's device and inode, which identify the file whatever its name; None
+// if they can't be read.
+fn identity_of(rt: &HostRuntime, path: &str) -> Option<(u64, u64)> {
+    match fs::metadata(rt, path) {
+        Ok(found) => Some((found.dev(), found.ino())),
+        Err(_) => None,
+    }
+}
+
+/// Returns whether a file has another name, a hard link.
+pub fn is_linked(rt: &HostRuntime, file: &str) -> bool {
+    match fs::metadata(rt, file) {
+        Ok(found) => found.is_file() && found.nlink() > 1,
+        Err(_) => false,
+    }
+}
+
+/// Returns whether the system refuses the names of the files beside a store, since they are too long. Of these names
+/// that of SQLite's journal is the longest.
+pub fn has_long_name(rt: &HostRuntime, file: &str) -> Result<bool, Fault> {
+    let journal = format!(in rt.alloc(); "{file}-journal")?;
+    match fs::symlink_metadata(rt, journal.as_str()) {
+        Ok(_) => Ok(false),
+        Err(error) => Ok(error.kind() == ErrorKind::InvalidFilename),
+    }
+}
+
+/// The names of a store's two files, the database and its log, with the identities of those that are open.
+#[derive(Drop)]
+pub struct StoreFiles<'r, 'f> {
+    rt: &'r HostRuntime,
+    file: &'f str,
+    log: String,
+    open: (Option<(u64, u64)>, Option<(u64, u64)>),
+}
+
+impl<'r, 'f> StoreFiles<'r, 'f> {
+    /// Records the identities of the store's files, which are those that the connection has opened.
+    /// `Store` means that the file's full path isn't found.
+    pub fn new(rt: &'r HostRuntime, file: &'f str) -> Result<StoreFiles<'r, 'f>, Fault> {
+        let Ok(path) = fs::canonicalize(rt, file) else {
+            return Err(Fault::Store);
+        };
+        let log = format!(in rt.alloc(); "{}-wal", path.as_str())?;
+        let mut files = StoreFiles {
+            rt,
+            file,
+            log,
+            open: (None, None),
+        };
+        files.open = files.named_files();
+        Ok(files)
+    }
+
+    // Returns the identities of the files that have the two names now.
+    fn named_files(&self) -> (Option<(u64, u64)>, Option<(u64, u64)>) {
+        (
+            identity_of(self.rt, self.file),
+            identity_of(self.rt, self.log.as_str()),
+        )
+    }
+}
+
+impl Reopen<Connection<FileStore<sqlite::File>>> for StoreFiles<'_, '_> {
+    fn is_in_place(&mut self) -> bool {
+        self.open.0.is_some() && self.open == self.named_files()
+    }
+
+    fn reopen(
+        &mut self,
+        lost: Option<Connection<FileStore<sqlite::File>>>,
+    ) -> Result<Connection<FileStore<sqlite::File>>, Error> {
+        if let Some(conn) = lost {
+            let _ = conn.close();
+        }
+        if !self.is_in_place() {
+            return Err(Error::SqliteFailure(ErrorCode::CannotOpen));
+        }
+        Connection::open(self.rt, self.file)
+    }
+}

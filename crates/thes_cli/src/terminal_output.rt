@@ -1,0 +1,108 @@
+//! A writer that escapes the control characters of texts for a terminal.
+ghost use Rattle.std.specs.Prelude.{◌≡◌, ◌≤◌, length, IfSome, None, if◌then◌else◌};
+
+use arrayvec::ArrayString;
+use std::io;
+use std::io::Write;
+
+/// A writer that, if `escapes`, writes each character that a terminal may obey (U+0080 to U+009F,
+/// U+2028 and U+2029) as its number in the form `\u{85}`. Without escapes its contents are those of
+/// the inner writer; with them, contracts leave its contents unknown.
+#[derive(Drop)]
+pub struct TerminalOutput<W> {
+    writer: W,
+    escapes: bool,
+}
+
+impl<W> TerminalOutput<W> {
+    /// Wraps a writer; `escapes` says whether to escape the characters that a terminal may obey.
+    pub fn new(writer: W, escapes: bool) -> TerminalOutput<W> {
+        TerminalOutput { writer, escapes }
+    }
+}
+
+// Returns the lower-case hexadecimal digit of a number up to 15.
+fn hex_digit(number: u8) -> &'static str
+    ensures { length result.now ≡ 1 }
+{
+    match number {
+        0 => "0",
+        1 => "1",
+        2 => "2",
+        3 => "3",
+        4 => "4",
+        5 => "5",
+        6 => "6",
+        7 => "7",
+        8 => "8",
+        9 => "9",
+        10 => "a",
+        11 => "b",
+        12 => "c",
+        13 => "d",
+        14 => "e",
+        _ => "f",
+    }
+}
+
+// Returns the escape of the first character of a text, and the length of that character in bytes, if a terminal may
+// obey it.
+fn escape_of(text: &[u8]) -> Option<(ArrayString<8>, usize)>
+    ensures { IfSome result (λ x. x.1 ≤ length text.now) }
+{
+    let mut escape = ArrayString::new();
+    match text {
+        [0xC2, last @ 0x80..=0x9F, ..] => {
+            escape.push_str("\\u{");
+            escape.push_str(hex_digit(*last >> 4));
+            escape.push_str(hex_digit(*last & 15));
+            escape.push_str("}");
+            Some((escape, 2))
+        }
+        [0xE2, 0x80, 0xA8, ..] => {
+            escape.push_str("\\u{2028}");
+            Some((escape, 3))
+        }
+        [0xE2, 0x80, 0xA9, ..] => {
+            escape.push_str("\\u{2029}");
+            Some((escape, 3))
+        }
+        _ => None,
+    }
+}
+
+// Returns the number of bytes before the next character, after the first byte, that a terminal may
+// obey, or of all bytes if there is none.
+fn plain_length(text: &[u8]) -> usize
+    ensures { result ≤ length text.now }
+{
+    let mut at = 0;
+    while at < text.len() {
+        at += 1;
+        if escape_of(&text[at..]).is_some() {
+            return at;
+        }
+    }
+    at
+}
+
+impl<W: Write> Write for TerminalOutput<W> {
+    ghost contents = { λ o. if o.escapes then None else W.contents o.writer };
+
+    fn write(&mut self, buf: &[u8]) -> io::Result<usize> {
+        if !self.escapes {
+            return self.writer.write(buf);
+        }
+        match escape_of(buf) {
+            Some((escape, count)) => {
+                self.writer.write_all(escape.as_str().as_bytes())?;
+                Ok(count)
+            }
+            None => self.writer.write(&buf[..plain_length(buf)]),
+        }
+    }
+
+    fn flush(&mut self) -> io::Result<()> {
+        self.writer.flush()
+    }
+}

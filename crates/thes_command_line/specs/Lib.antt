@@ -1,0 +1,5 @@
+pub mod Opening
+pub mod Printing
+pub mod EarlyExit
+pub mod Commands
+pub mod CommandLine

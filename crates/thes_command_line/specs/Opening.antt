@@ -1,0 +1,83 @@
+-- The decision whether a task makes a store or uses the one in its file, and the reasons why a
+-- store can't be used.
+use Rattle.std.specs.Prelude.{◌≡◌, ◌≢◌, ◌==◌, ◌&&◌, nat_le, ℕ, Bool, if◌then◌else◌, Option, Some, None, Result, Ok, Err}
+use Rattle.std.specs.Prelude.{codes}
+use Rattle.std.specs.Fs.{IsFile, file_type, metadata_len}
+use Rattle.std.specs.IoError.{error_kind}
+use Rattle.std.specs.declared.fs.attrs.Metadata.{Metadata}
+use Rattle.std.specs.declared.io.Error.{Error}
+use Rattle.std.specs.declared.io.ErrorKind.{ErrorKind}
+use Rattle.std.specs.declared.io.ErrorKind.TheVariants.{NotFound}
+use Rattle.thes_base.specs.Types.{Bytes}
+use Rattle.thes_base.specs.declared.fault.Fault.{Fault}
+use Rattle.thes_base.specs.declared.fault.Fault.TheVariants.{Store}
+use Rattle.thes_command_line.specs.declared.arguments.Task.{Task}
+use Rattle.thes_command_line.specs.declared.arguments.Task.TheVariants as tasks
+use Rattle.thes_command_line.specs.declared.opening.FileState.{FileState}
+use Rattle.thes_command_line.specs.declared.opening.FileState.TheVariants as found
+use Rattle.thes_command_line.specs.declared.opening.Opening.{Opening}
+use Rattle.thes_command_line.specs.declared.opening.Opening.TheVariants.{New, Existing}
+use Rattle.thes_command_line.specs.declared.trouble.StoreTrouble.{StoreTrouble}
+use Rattle.thes_command_line.specs.declared.trouble.StoreTrouble.TheVariants as troubles
+
+-- The state of a file, from its metadata or from the error of reading them.
+abbrev pub IsFileState : Result Metadata Error → FileState → Type 0
+IsFileState (Ok metadata) found.Absent = ⊥
+IsFileState (Ok metadata) (found.Bytes n) = IsFile (file_type metadata) × (n ≡ metadata_len metadata)
+IsFileState (Ok metadata) found.Other = ¬ IsFile (file_type metadata)
+IsFileState (Err error) found.Absent = error_kind error ≡ NotFound
+IsFileState (Err error) (found.Bytes n) = ⊥
+IsFileState (Err error) found.Other = error_kind error ≢ NotFound
+
+-- Every task but a check makes the store; a check makes none, and fails with this trouble.
+abbrev pub new_store : Task → StoreTrouble → Result Opening StoreTrouble
+new_store tasks.Check trouble = Err trouble
+new_store _ trouble = Ok New
+
+-- The test of whether making the store in a file was cut short: a mark says so, and the file has the size of a database
+-- without tables, or less.
+abbrev pub is_unfinished : ℕ → Bool → Bool
+is_unfinished size is_marked = is_marked && nat_le size 4096
+
+-- The way to open a file that isn't empty: it is used, but a file of one byte isn't a database.
+abbrev pub opening_of_bytes : ℕ → Result Opening StoreTrouble
+opening_of_bytes n = if n == 1 then Err troubles.NotDatabase else Ok Existing
+
+-- The way to open a file that isn't empty, for a task: an unfinished store is made, but not by a check.
+abbrev pub opening_of_file : Task → ℕ → Bool → Result Opening StoreTrouble
+opening_of_file tasks.Check n is_marked = opening_of_bytes n
+opening_of_file _ n is_marked = if is_unfinished n is_marked then Ok New else opening_of_bytes n
+
+-- The way to open the store in a file: it is made if the file is absent or empty, or the store in it is unfinished, and
+-- used otherwise.
+abbrev pub opening_of : Task → FileState → Bool → Result Opening StoreTrouble
+opening_of task found.Absent is_marked = new_store task troubles.NoFile
+opening_of task (found.Bytes n) is_marked =
+    if n == 0 then new_store task troubles.NotDatabase else opening_of_file task n is_marked
+opening_of task found.Other is_marked = Ok Existing
+
+-- The reason why a file couldn't be opened as a store, from the error of opening the file or, for a new store, of
+-- reading its folder.
+abbrev pub trouble_of_access : Opening → FileState → Option ErrorKind → StoreTrouble
+trouble_of_access opening found (Some NotFound) = troubles.NoFile
+trouble_of_access New found _ = troubles.Unwritable
+trouble_of_access Existing found (Some kind) = troubles.Unreadable
+trouble_of_access Existing found.Other None = troubles.NotDatabase
+trouble_of_access Existing _ None = troubles.Unwritable
+
+-- The reason to print with a fault: the given one for Store, and None for any other.
+abbrev pub trouble_of_fault : Fault → StoreTrouble → Option StoreTrouble
+trouble_of_fault Store trouble = Some trouble
+trouble_of_fault _ trouble = None
+
+-- The words for a reason, as they are printed.
+abbrev pub words_of : StoreTrouble → Bytes
+words_of troubles.InUse = codes "in use by another program"
+words_of troubles.NoFile = codes "no such file"
+words_of troubles.NotDatabase = codes "not a database"
+words_of troubles.Linked = codes "the file has a second name"
+words_of troubles.LongName = codes "the name is too long"
+words_of troubles.Unreadable = codes "can't be read"
+words_of troubles.Unwritable = codes "can't be written"
+words_of troubles.NoRoom = codes "no room"
+words_of troubles.Damaged = codes "damaged"

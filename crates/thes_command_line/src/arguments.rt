@@ -1,0 +1,316 @@
+//! The arguments of the command line, and the job that they describe.
+ghost use Rattle.std.specs.Prelude.{◌≡◌, ◌↔◌, IsTrue, codes, map, option_map, string_bytes, IfOk, IsSome};
+ghost use Rattle.std.specs.IoError.{error_kind};
+ghost use Rattle.std.specs.Vec.Iter.{into_iter_items};
+ghost use Rattle.clap.specs.Words.{first_of, found_of, kind_of, rows_of, subcommand_rows_of};
+ghost use Rattle.thes_command_line.specs.CommandLine.{base_in, command_of, NamesDisplay, IsCompleteCommand, HasCommand, HasLimit, HasLimits, HasOptions, HasPort, IsServeOptions, limits_in, number_of_option, ExitsFor, PlanResult, MatchedPlanResult, PlansTask, ReadsDisplayOptions};
+ghost use Rattle.thes_command_line.specs.EarlyExit.{exit_status};
+
+use crate::commands::program;
+use clap::error::ErrorKind;
+use clap::{ArgMatches, Error};
+use std::alloc::{AllocError, Global};
+use std::env::Args;
+use std::io::{Error as IoError, ErrorKind as IoErrorKind};
+use thes_base::data::Limits;
+use thes_base::fault::{FormFault, ReadStop};
+use thes_base::number::ResNo;
+use thes_base::text::{Base, Tag};
+
+// The base of a new store without `--base`.
+const BASE: &str = "https://thesaurus.example/id/";
+
+// The number of connections to serve without `--count`.
+const COUNT: u32 = 4_294_967_295;
+
+/// The options of a display: the number of a scheme, and a language tag.
+#[derive(Debug, Drop)]
+pub struct DisplayOptions {
+    pub scheme: ResNo,
+    pub lang: Tag,
+}
+
+/// The options of `serve`: the port to listen on, and the number of connections to serve.
+#[derive(Clone, Copy, Debug)]
+pub struct ServeOptions {
+    pub port: u16,
+    pub count: u32,
+}
+
+/// What a command does with a store.
+#[derive(Debug, Drop)]
+pub enum Task {
+    /// Answers the requests of a script on standard input.
+    Script,
+    /// Imports the posting file with this name.
+    Import(String),
+    /// Writes the triples of the store as N-Triples.
+    Export,
+    /// Writes the alphabetical display of a scheme.
+    Alphabetical(DisplayOptions),
+    /// Writes the hierarchical display of a scheme.
+    Hierarchical(DisplayOptions),
+    /// Serves HTTP connections on the loopback address.
+    Serve(ServeOptions),
+    /// Checks the store, and prints the sizes of its tables.
+    Check,
+    /// Migrates a store of version 1 to version 2.
+    Migrate,
+}
+
+/// Returns whether a task writes an alphabetical or hierarchical display.
+pub fn is_display(task: &Task) -> bool
+    ensures { IsTrue result ↔ NamesDisplay (command_of task.now) }
+{
+    matches!(task, Task::Alphabetical(_) | Task::Hierarchical(_))
+}
+
+/// The base and the limits of a store, from the options of the command line.
+#[derive(Debug, Drop)]
+pub struct StoreSetting {
+    /// The base of the IRIs of a new store.
+    pub base: Base,
+    /// The limits by which requests are refused.
+    pub limits: Limits,
+}
+
+/// A job: a task, and the store on which it works.
+#[derive(Debug, Drop)]
+pub struct Job {
+    pub task: Task,
+    /// The name of the store's file; without one, the store is in memory.
+    pub file: Option<String>,
+    pub setting: StoreSetting,
+}
+
+/// The reason for an early exit: help, the version, a fault of the command line, or a lack of
+/// memory.
+#[derive(Debug, Drop)]
+pub enum EarlyExit {
+    /// The text of the help or the version.
+    Help(String),
+    /// The text of a usage error.
+    Usage(String),
+    /// An argument isn't UTF-8.
+    NotText,
+    /// The value of an option lacks its form, such as that of an IRI.
+    BadForm(FormFault),
+    OutOfMemory,
+}
+
+/// Running out of memory becomes `OutOfMemory`.
+impl From<AllocError> for EarlyExit {
+    ghost use Rattle.thes_command_line.specs.declared.arguments.EarlyExit.TheVariants.{OutOfMemory};
+
+    ghost from_gives = { λ _ early_exit. early_exit ≡ OutOfMemory };
+
+    fn from(_error: AllocError) -> EarlyExit {
+        EarlyExit::OutOfMemory
+    }
+}
+
+/// A form fault becomes `BadForm` with that fault.
+impl From<ReadStop> for EarlyExit {
+    ghost use Rattle.thes_command_line.specs.EarlyExit.{exit_of_stop};
+
+    ghost from_gives = { λ stop early_exit. early_exit ≡ exit_of_stop stop };
+
+    fn from(stop: ReadStop) -> EarlyExit {
+        match stop {
+            ReadStop::Form(fault) => EarlyExit::BadForm(fault),
+            ReadStop::OutOfMemory => EarlyExit::OutOfMemory,
+        }
+    }
+}
+
+/// Any error of reading the arguments becomes `NotText`, except running out of memory.
+impl From<IoError> for EarlyExit {
+    ghost use Rattle.thes_command_line.specs.EarlyExit.{exit_of_error};
+
+    ghost from_gives = { λ error early_exit. early_exit ≡ exit_of_error (error_kind error) };
+
+    fn from(error: IoError) -> EarlyExit {
+        match error.kind() {
+            IoErrorKind::OutOfMemory => EarlyExit::OutOfMemory,
+            _ => EarlyExit::NotText,
+        }
+    }
+}
+
+impl EarlyExit {
+    /// Returns the exit status: 0 for help and version, 3 out of memory, and 2 for a fault of the
+    /// command line.
+    pub fn status(&self) -> u8
+        ensures { result ≡ exit_status self.now }
+    {
+        match self {
+            EarlyExit::Help(_) => 0,
+            EarlyExit::Usage(_) | EarlyExit::NotText | EarlyExit::BadForm(_) => 2,
+            EarlyExit::OutOfMemory => 3,
+        }
+    }
+}
+
+// Converts an error of `clap` to the text of the help, the version or the usage error, or to
+// `OutOfMemory`.
+fn early_exit_of(alloc: Global, error: &Error) -> EarlyExit
+    ensures kind { ExitsFor (kind_of error.now) result }
+    ensures memory { kind_of error.now ≡ ErrorKind.OutOfMemory → result ≡ EarlyExit.OutOfMemory }
+{
+    if error.kind() == ErrorKind::OutOfMemory {
+        return EarlyExit::OutOfMemory;
+    }
+    match error.to_string(alloc) {
+        Ok(text) if error.use_stderr() => EarlyExit::Usage(text),
+        Ok(text) => EarlyExit::Help(text),
+        Err(_) => EarlyExit::OutOfMemory,
+    }
+}
+
+// Returns the value of `--base`, or the default base.
+fn base_argument<'a>(options: &ArgMatches<'a>) -> &'a str
+    ensures { result.now ≡ base_in (rows_of (found_of options.now)) }
+{
+    match options.get_str("base") {
+        Some(text) => text,
+        None => BASE,
+    }
+}
+
+// Returns the number of a limit's option, or the default.
+fn limit(options: &ArgMatches<'_>, name: &str, default: u32) -> u32
+    requires { HasLimit name.now (rows_of (found_of options.now)) }
+    ensures { result ≡ number_of_option name.now default (rows_of (found_of options.now)) }
+{
+    options.get_one::<u32>(name).unwrap_or(default)
+}
+
+// Returns the limits of the store: the values of the options that are given, and defaults for the
+// others.
+fn limits_argument(options: &ArgMatches<'_>) -> Limits
+    requires { HasLimits (rows_of (found_of options.now)) }
+    ensures { result ≡ limits_in (rows_of (found_of options.now)) }
+{
+    let default = Limits::default();
+    Limits {
+        resources: limit(options, "max-resources", default.resources),
+        labels: limit(options, "max-labels", default.labels),
+        links: limit(options, "max-links", default.links),
+        postings: limit(options, "max-postings", default.postings),
+        moves: limit(options, "max-moves", default.moves),
+    }
+}
+
+// Returns a copy of the value of `--db`, if it is given.
+fn file_argument(alloc: Global, options: &ArgMatches<'_>) -> Result<Option<String>, AllocError>
+    ensures { IfOk result (λ file. option_map string_bytes file
+        ≡ first_of (codes "db") (rows_of (found_of options.now))) }
+{
+    match options.get_str("db") {
+        Some(text) => Ok(Some(String::from_str(alloc, text)?)),
+        None => Ok(None),
+    }
+}
+
+// Returns the task of the command `import`, with the name of its file.
+fn import_task(alloc: Global, arguments: &ArgMatches<'_>) -> Result<Task, EarlyExit>
+    requires { IsSome (first_of (codes "file") (rows_of (found_of arguments.now))) }
+    ensures { PlansTask (codes "import") (rows_of (found_of arguments.now)) result }
+{
+    let file = arguments.get_str("file").unwrap();
+    Ok(Task::Import(String::from_str(alloc, file)?))
+}
+
+// Returns the scheme and the language of a display, or the form fault of the first that lacks its form.
+fn display_options(alloc: Global, arguments: &ArgMatches<'_>) -> Result<DisplayOptions, EarlyExit>
+    requires { HasOptions (rows_of (found_of arguments.now)) }
+    ensures { ReadsDisplayOptions (rows_of (found_of arguments.now)) result }
+{
+    let scheme = match ResNo::read(arguments.get_str("scheme").unwrap()) {
+        Ok(scheme) => scheme,
+        Err(fault) => return Err(EarlyExit::BadForm(fault)),
+    };
+    match Tag::read(alloc, arguments.get_str("lang").unwrap()) {
+        Ok(lang) => Ok(DisplayOptions { scheme, lang }),
+        Err(stop) => Err(EarlyExit::from(stop)),
+    }
+}
+
+// Returns the port and the number of connections of the command `serve`, which `clap` has checked.
+fn serve_options(arguments: &ArgMatches<'_>) -> ServeOptions
+    requires { HasPort (rows_of (found_of arguments.now)) }
+    ensures { IsServeOptions (rows_of (found_of arguments.now)) result }
+{
+    ServeOptions {
+        port: arguments.get_one::<u16>("port").unwrap(),
+        count: arguments.get_one::<u32>("count").unwrap_or(COUNT),
+    }
+}
+
+// Returns the task of a command with its arguments, or the form fault of an argument.
+fn task_of(alloc: Global, name: &str, arguments: &ArgMatches<'_>) -> Result<Task, EarlyExit>
+    requires { IsCompleteCommand name.now (rows_of (found_of arguments.now)) }
+    ensures { PlansTask name.now (rows_of (found_of arguments.now)) result }
+{
+    if name == "script" {
+        Ok(Task::Script)
+    } else if name == "import" {
+        import_task(alloc, arguments)
+    } else if name == "export" {
+        Ok(Task::Export)
+    } else if name == "alphabetical" {
+        Ok(Task::Alphabetical(display_options(alloc, arguments)?))
+    } else if name == "hierarchical" {
+        Ok(Task::Hierarchical(display_options(alloc, arguments)?))
+    } else if name == "serve" {
+        Ok(Task::Serve(serve_options(arguments)))
+    } else if name == "check" {
+        Ok(Task::Check)
+    } else {
+        Ok(Task::Migrate)
+    }
+}
+
+// Returns the job of the options and the command that `clap` found, or the first form fault.
+fn job_of(alloc: Global, options: &ArgMatches<'_>) -> Result<Job, EarlyExit>
+    requires command { HasCommand (subcommand_rows_of options.now) }
+    requires limits { HasLimits (rows_of (found_of options.now)) }
+    ensures { MatchedPlanResult (rows_of (found_of options.now)) (subcommand_rows_of options.now)
+        result }
+{
+    let base = match Base::read(alloc, base_argument(options)) {
+        Ok(base) => base,
+        Err(stop) => return Err(EarlyExit::from(stop)),
+    };
+    let (name, arguments) = options.subcommand().unwrap();
+    let task = task_of(alloc, name, arguments)?;
+    let limits = limits_argument(options);
+    let setting = StoreSetting { base, limits };
+    match file_argument(alloc, options) {
+        Ok(file) => Ok(Job {
+            task,
+            file,
+            setting,
+        }),
+        Err(_) => Err(EarlyExit::OutOfMemory),
+    }
+}
+
+/// Parses the arguments, of which the first is the program's name.
+pub fn plan(alloc: Global, arguments: &[String]) -> Result<Job, EarlyExit>
+    ensures { PlanResult (map string_bytes arguments.now) result }
+{
+    match program(alloc)?.try_get_matches_from(arguments) {
+        // All required commands and arguments are given, since `clap` checks that.
+        Ok(options) => job_of(alloc, &options),
+        Err(error) => Err(early_exit_of(alloc, &error)),
+    }
+}
+
+/// Parses the arguments of the process, which must be UTF-8.
+pub fn plan_args(alloc: Global, args: Args) -> Result<Job, EarlyExit>
+    ensures { PlanResult (map string_bytes (into_iter_items args)) result }
+{
+    let arguments: Vec<String> = args.collect(alloc)?;
+    plan(alloc, arguments.as_slice())
+}

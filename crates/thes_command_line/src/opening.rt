@@ -1,0 +1,89 @@
+//! The decision whether a task makes a store or uses the one in its file.
+ghost use Rattle.std.specs.Prelude.{◌≡◌};
+ghost use Rattle.thes_command_line.specs.Opening as opening;
+ghost use Rattle.thes_command_line.specs.Opening.{IsFileState};
+
+use crate::arguments::Task;
+use crate::trouble::StoreTrouble;
+use std::fs::Metadata;
+use std::io;
+use std::io::ErrorKind;
+
+// The greatest size of a new database without tables, in bytes.
+const BLANK_SIZE: u64 = 4_096;
+
+/// The state of a store's file, from its metadata.
+#[derive(Clone, Copy, Debug, PartialEq, Eq)]
+pub enum FileState {
+    /// There is no such file.
+    Absent,
+    /// A regular file with this number of bytes.
+    Bytes(u64),
+    /// Not a regular file, or one whose metadata can't be read.
+    Other,
+}
+
+/// The way to open the store in a file.
+#[derive(Clone, Copy, Debug, PartialEq, Eq)]
+pub enum Opening {
+    /// Makes the store, since the file is absent or empty.
+    New,
+    /// Uses the store in the file.
+    Existing,
+}
+
+/// Returns the state of a file from its metadata. Only the error NotFound means that there is no file.
+pub fn file_state(found: &io::Result<Metadata>) -> FileState
+    ensures { IsFileState found.now result }
+{
+    match found {
+        Ok(found) if found.is_file() => FileState::Bytes(found.len()),
+        Ok(_) => FileState::Other,
+        Err(error) if error.kind() == ErrorKind::NotFound => FileState::Absent,
+        Err(_) => FileState::Other,
+    }
+}
+
+/// Returns the folder of a file: its path before the last slash, `/` if that is empty, or `.` if
+/// there is no slash.
+pub fn folder_of(file: &str) -> &str {
+    match file.rsplit_once('/') {
+        Some(("", _)) => "/",
+        Some((folder, _)) => folder,
+        None => ".",
+    }
+}
+
+// Chooses to make a store, except for a check, which makes none and fails with this trouble.
+fn new_store(task: &Task, trouble: StoreTrouble) -> Result<Opening, StoreTrouble>
+    ensures { result ≡ opening.new_store task.now trouble }
+{
+    match task {
+        Task::Check => Err(trouble),
+        _ => Ok(Opening::New),
+    }
+}
+
+// Returns whether a file of this size is no larger than a database without tables, in which an earlier run was to make a
+// store, as the mark of such a store says.
+fn is_unfinished(size: u64, is_marked: bool) -> bool
+    ensures { result ≡ opening.is_unfinished size is_marked }
+{
+    is_marked && size <= BLANK_SIZE
+}
+
+/// Chooses how a store is opened for a task. No store is made to be checked, nor in a file of one byte, which SQLite
+/// takes for an empty database, unless the file is marked as that of a store that is being made.
+pub fn opening_of(task: &Task, found: FileState, is_marked: bool) -> Result<Opening, StoreTrouble>
+    ensures { result ≡ opening.opening_of task.now found is_marked }
+{
+    match (task, found) {
+        (_, FileState::Absent) => new_store(task, StoreTrouble::NoFile),
+        (_, FileState::Bytes(0)) => new_store(task, StoreTrouble::NotDatabase),
+        (Task::Check, FileState::Bytes(1)) => Err(StoreTrouble::NotDatabase),
+        (Task::Check, _) => Ok(Opening::Existing),
+        (_, FileState::Bytes(size)) if is_unfinished(size, is_marked) => Ok(Opening::New),
+        (_, FileState::Bytes(1)) => Err(StoreTrouble::NotDatabase),
+        (_, FileState::Bytes(_) | FileState::Other) => Ok(Opening::Existing),
+    }
+}

@@ -1,0 +1,35 @@
+use Rattle.std.proofs.Common.{◌≡◌, ◌∙◌, ◌++◌, ◌∷◌, [], ap, sym, take, ℕ, List, Option, None, arith, append-nil, ◌+◌}
+use Rattle.std.specs.List.{filter_map, cons_option}
+use Rattle.std.specs.Option.{option_copied}
+use Rattle.std.specs.Ordering.{nat_cmp}
+use Rattle.std.specs.BTreeMap.{get}
+use Rattle.std.proofs.lemmas.List.{take_more}
+use Rattle.std.proofs.lemmas.List.Elements.{filter_map-append}
+use Rattle.thes_display.proofs.gather.ranks_at.Goals as goal
+use Rattle.thes_display.proofs.gather.ranks_at.Goals.{in-Some+in_ok-push, in_default}
+
+-- The ranks of some concepts and of one more are the ranks found with the rank of that one, if it has one.
+one_more : (f : ℕ → Option ℕ) (found new : List ℕ) (concepts more : List ℕ) (n : ℕ) (o : Option ℕ) → found
+    ≡ filter_map f concepts → more ≡ concepts ++ n ∷ [] → f n ≡ o → new ≡ found ++ cons_option o [] → new
+    ≡ filter_map f more
+one_more f found new concepts more n o e h s g =
+    g ∙ ap (λ t. t ++ cons_option o []) e ∙ ap (λ p. filter_map f concepts ++ cons_option p []) (sym s)
+    ∙ sym (filter_map-append f concepts (n ∷ [])) ∙ ap (filter_map f) (sym h)
+
+-- The rank of one more concept, if it has one, is appended to those found.
+pub loop-concept-preserved : goal.loop-concept-preserved
+loop-concept-preserved c =
+    let xs : List ℕ = c.args.concepts.now in
+    let i = c.loop-concept.concept-index in
+    let n : ℕ = c.concept-item.result in
+    let more = take_more xs i n (omega arith) ∙ ap (λ z. take i xs ++ z ∷ []) (sym c.concept-item.is) in
+    elim c.match-get.branch [
+      | in-Some+in_ok-push w ↦ one_more (get nat_cmp c.args.ranks.now) c.loop-concept.found.items
+          c.match-get.found.items (take i xs) (take (i + 1) xs) n _ c.loop-concept.invariant more
+          (sym c.get.ensures.value ∙ ap option_copied w.in-Some.is) (ap (λ v. v.items) w.found-is
+          ∙ w.in_ok-push.ensures.items)
+      | in_default w ↦ one_more (get nat_cmp c.args.ranks.now) c.loop-concept.found.items c.match-get.found.items
+          (take i xs) (take (i + 1) xs) n None c.loop-concept.invariant more
+          (sym c.get.ensures.value ∙ ap option_copied w.in_default.is) (ap (λ v. v.items) w.found-is
+          ∙ sym (append-nil c.loop-concept.found.items))
+    ]

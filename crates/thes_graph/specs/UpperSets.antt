@@ -1,0 +1,36 @@
+-- The nodes of a block that are at or above each node, as bits of the node's word.
+use Rattle.std.specs.Prelude.{◌≡◌, ◌<◌, ◌↔◌, ℕ, List, Contains, Some, get_or, slice_get, take, length, nat_eq}
+use Rattle.std.specs.Prelude.{if◌then◌else◌, bit_or}
+use Rattle.std.specs.Int.{bit_at}
+use Rattle.thes_base.specs.Links.{Links, Holds, IsNarrower}
+use Rattle.thes_graph.specs.declared.find_cycle.PathNode.{PathNode}
+use Rattle.thes_graph.specs.Local.{ReachesUp}
+
+-- The word of the node n; 0 past the end.
+abbrev pub word_at : List ℕ → ℕ → ℕ
+word_at words n = get_or words n 0
+
+-- Bit j is set in the word of n.
+abbrev pub HasBit : List ℕ → (n j : ℕ) → Type 0
+HasBit words n j = bit_at (word_at words n) j ≡ 1
+
+-- The new words are the old ones with these bits set in the word of n.
+abbrev pub HasBitsSet : (old new : List ℕ) → (n bits : ℕ) → Type 0
+HasBitsSet old new n bits =
+    (m : ℕ) → word_at new m ≡ (if nat_eq m n then bit_or (word_at old m) bits else word_at old m)
+
+-- One of the rows is that of the node.
+abbrev pub IsRowNode : List PathNode → ℕ → Type 0
+IsRowNode rows n = (r : PathNode) × Contains rows r × (r.node ≡ n)
+
+-- The rows are those of all nodes with broader nodes, each after the rows of its broader nodes.
+pub record AreUpwardRows (held : Links) (rows : List PathNode) : Type 0 where
+  pub broader : (r : PathNode) → Contains rows r → (h : ℕ) → Contains r.above.items h ↔ IsNarrower (Holds held) r.node h
+  pub above_first : (k : ℕ) (d : PathNode) → k < length rows → (h : ℕ) → Contains (get_or rows k d).above.items h
+      → IsRowNode (take k rows) h
+  pub complete : (n h : ℕ) → IsNarrower (Holds held) n h → IsRowNode rows n
+
+-- Bit j of each node's word states whether the j-th node of the block is at or above that node.
+abbrev pub AreUpperSets : Links → (block words : List ℕ) → Type 0
+AreUpperSets held block words =
+    (n j x : ℕ) → slice_get block j ≡ Some x → HasBit words n j ↔ ReachesUp (Holds held) n x

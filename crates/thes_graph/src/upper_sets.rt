@@ -1,0 +1,86 @@
+//! The nodes of a block that are at or above each node. A block has at most 64 nodes, and each node has a word of 64
+//! bits, of which bit j states whether the j-th node of the block is at or above it. One pass down the hierarchy finds
+//! the words of all nodes.
+ghost use Rattle.std.specs.Prelude.{◌≡◌, ◌<◌, ◌≤◌, ◌⊎◌, ◌↔◌, ℕ, Contains, OnOk, MatchBool, Some, length, slice_get};
+ghost use Rattle.thes_base.specs.Links.{Links};
+ghost use Rattle.thes_graph.specs.UpperSets.{word_at, HasBit, HasBitsSet, AreUpwardRows, AreUpperSets};
+
+use crate::find_cycle::PathNode;
+use std::alloc::AllocError;
+use thes_base::number::ResNo;
+
+/// The maximum number of nodes in a block: the number of bits in a word.
+pub const BLOCK: usize = 64;
+
+// Returns the word of the node; 0 past the end.
+fn word_of(words: &[u64], n: ResNo) -> u64
+    ensures { result ≡ word_at words.now n }
+{
+    match words.get(n.get() as usize) {
+        Some(word) => *word,
+        None => 0,
+    }
+}
+
+/// Checks whether bit j of the node's word is set, so that the j-th node of the block is at or above the node.
+pub fn has_bit(words: &[u64], n: ResNo, j: usize) -> bool
+    requires { j < 64 }
+    ensures { MatchBool result (HasBit words.now n j) (HasBit words.now n j → ⊥) }
+{
+    (word_of(words, n) >> j) & 1 == 1
+}
+
+// Sets these bits in the word of the node, and extends the words if they end before it.
+fn set_bits(words: &mut Vec<u64>, n: ResNo, bits: u64) -> Result<(), AllocError>
+    ensures { OnOk result (HasBitsSet words.old.items words.new.items n bits) }
+{
+    let place = n.get() as usize;
+    if words.len() <= place {
+        words.resize(place + 1, 0)?;
+    }
+    words[place] |= bits;
+    Ok(())
+}
+
+// Sets the bit of each node of the block in its own word, and clears all other bits.
+fn start_block(words: &mut Vec<u64>, block: &[ResNo]) -> Result<(), AllocError>
+    requires { length block.now ≤ 64 }
+    ensures { OnOk result
+        ((n j : ℕ) → HasBit words.new.items n j ↔ (slice_get block.now j ≡ Some n)) }
+{
+    words.clear();
+    for (j, n) in block.iter().enumerate() {
+        set_bits(words, *n, 1 << j)?;
+    }
+    Ok(())
+}
+
+// Sets the bits of the broader nodes' words in the word of the node itself.
+fn set_bits_above(words: &mut Vec<u64>, row: &PathNode) -> Result<(), AllocError>
+    ensures { OnOk result ((m j : ℕ) → HasBit words.new.items m j
+        ↔ (HasBit words.old.items m j ⊎ ((row.now.node ≡ m)
+        × ((h : ℕ) × Contains row.now.above.items h × HasBit words.old.items h j)))) }
+{
+    for high in &row.above {
+        let bits = word_of(words, *high);
+        set_bits(words, row.node, bits)?;
+    }
+    Ok(())
+}
+
+/// Finds the words of all nodes for a block, by one pass over rows in which each node comes after its broader nodes.
+pub fn find_upper_sets(
+    words: &mut Vec<u64>,
+    rows: &[PathNode],
+    block: &[ResNo],
+) -> Result<(), AllocError>
+    requires { length block.now ≤ 64 }
+    ensures { OnOk result ((held : Links) → AreUpwardRows held rows.now
+        → AreUpperSets held block.now words.new.items) }
+{
+    start_block(words, block)?;
+    for row in rows {
+        set_bits_above(words, row)?;
+    }
+    Ok(())
+}

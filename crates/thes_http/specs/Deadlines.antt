@@ -1,0 +1,9 @@
+-- Waits for clients.
+use Rattle.std.specs.declared.io.ErrorKind.{ErrorKind}
+use Rattle.std.specs.declared.io.ErrorKind.TheVariants.{Interrupted, TimedOut, WouldBlock}
+
+-- The error of a wait, given that of its stream: the end of a wait is a reason to try again.
+abbrev pub error_after_wait : ErrorKind → ErrorKind
+error_after_wait WouldBlock = Interrupted
+error_after_wait TimedOut = Interrupted
+error_after_wait kind = kind

@@ -1,0 +1,80 @@
+-- Laws of the answers to connections.
+use Rattle.std.specs.Prelude.{ℕ, ◌≡◌, ◌⊎◌, ◌++◌, List, Result, Ok}
+use Rattle.thes_base.specs.declared.fault.Fault.{Fault}
+use Rattle.thes_base.specs.declared.fault.Fault.TheVariants.{OutOfMemory}
+use Rattle.thes_base.specs.declared.request.Command.{Command}
+use Rattle.thes_base.specs.declared.request.Answer.{Answer}
+use Rattle.thes_requests.specs.declared.handler.QueryAnswer.{QueryAnswer}
+use Rattle.thes_requests.specs.declared.request.Query.{Query}
+use Rattle.thes_http.specs.declared.response.Response.{Response}
+use Rattle.thes_http.specs.declared.service.ImportAnswer.{ImportAnswer}
+use Rattle.thes_http.specs.declared.service.Display.{Display}
+use Rattle.thes_http.specs.declared.service.DisplayAnswer.{DisplayAnswer}
+use Rattle.thes_http.specs.Responses.{fault_response, command_response, query_response, import_response}
+use Rattle.thes_http.specs.Responses.{export_response, display_response}
+use Rattle.thes_http.specs.Serving.{ServiceEffects, Answers, IsCutRequest}
+
+module _ {S : Type 0} (d : ServiceEffects S) (old : S) where
+  -- Two responses, each with the state after it, answer one call of the service; or they are one response that leaves
+  -- the state as it was.
+  pub data AnswerOneCall (r : Response) (x : S) (q : Response) (y : S) : Type 0 where
+    command_answers : (command : Command) (a b : Result Answer Fault)
+        → d.performs old command a x → d.performs old command b y
+        → r ≡ command_response a → q ≡ command_response b → AnswerOneCall r x q y
+    query_answers : (query : Query) (a b : Result QueryAnswer Fault)
+        → d.shows old query a x → d.shows old query b y
+        → r ≡ query_response a → q ≡ query_response b → AnswerOneCall r x q y
+    import_answers : (file : List ℕ) (a b : Result ImportAnswer Fault)
+        → d.imports old file a x → d.imports old file b y
+        → r ≡ import_response a → q ≡ import_response b → AnswerOneCall r x q y
+    export_answers : (a b : Result (List ℕ) Fault) → d.exports old a x → d.exports old b y
+        → r ≡ export_response a → q ≡ export_response b → AnswerOneCall r x q y
+    display_answers : (which : Display) (scheme : ℕ) (tag : List ℕ) (a b : Result DisplayAnswer Fault)
+        → d.displays old which scheme tag a x → d.displays old which scheme tag b y
+        → r ≡ display_response a → q ≡ display_response b → AnswerOneCall r x q y
+    no_call : r ≡ q → x ≡ old → y ≡ old → AnswerOneCall r x q y
+
+  -- The response says that memory ran out, and the state is as it was.
+  abbrev pub RunsOut : Response → S → Type 0
+  RunsOut response new = (response ≡ fault_response OutOfMemory) × (new ≡ old)
+
+  -- Each call has one answer and one state after it, faults aside.
+  pub record HasOneAnswerToACall : Type 0 where
+    pub performs : (command : Command) (a b : Answer) (x y : S)
+        → d.performs old command (Ok a) x → d.performs old command (Ok b) y → (a ≡ b) × (x ≡ y)
+    pub shows : (query : Query) (a b : QueryAnswer) (x y : S)
+        → d.shows old query (Ok a) x → d.shows old query (Ok b) y → (a ≡ b) × (x ≡ y)
+    pub imports : (file : List ℕ) (a b : ImportAnswer) (x y : S)
+        → d.imports old file (Ok a) x → d.imports old file (Ok b) y → (a ≡ b) × (x ≡ y)
+    pub exports : (a b : List ℕ) (x y : S)
+        → d.exports old (Ok a) x → d.exports old (Ok b) y → (a ≡ b) × (x ≡ y)
+    pub displays : (which : Display) (scheme : ℕ) (tag : List ℕ) (a b : DisplayAnswer) (x y : S)
+        → d.displays old which scheme tag (Ok a) x → d.displays old which scheme tag (Ok b) y
+        → (a ≡ b) × (x ≡ y)
+
+-- The response reports a fault.
+abbrev pub IsFaultResponse : Response → Type 0
+IsFaultResponse response = (fault : Fault) × (response ≡ fault_response fault)
+
+module _ {S : Type 0} (d : ServiceEffects S) where
+  -- Two answers to the same bytes in the same state answer one call of the service, also where more bytes were read for
+  -- the one than for the other, unless memory ran out before it.
+  abbrev pub HasOneCall : Type 0
+  HasOneCall =
+      (old x y : S) (r q : Response) (bytes more : List ℕ)
+      → Answers d old r x bytes → Answers d old q y (bytes ++ more)
+      → AnswerOneCall d old r x q y ⊎ (RunsOut d old r x ⊎ RunsOut d old q y)
+
+  -- If each call of the service has one answer, then the bytes and the state before determine the response and the
+  -- state after it, faults aside.
+  abbrev pub HasOneAnswer : Type 0
+  HasOneAnswer =
+      (old x y : S) (r q : Response) (bytes more : List ℕ) → HasOneAnswerToACall d old
+      → Answers d old r x bytes → Answers d old q y (bytes ++ more)
+      → ((r ≡ q) × (x ≡ y)) ⊎ (IsFaultResponse r ⊎ IsFaultResponse q)
+
+  -- A request that was cut off has no answer, unless memory ran out.
+  abbrev pub CutHasNoAnswer : Type 0
+  CutHasNoAnswer =
+      (old new : S) (response : Response) (bytes : List ℕ) → IsCutRequest bytes
+      → Answers d old response new bytes → RunsOut d old response new

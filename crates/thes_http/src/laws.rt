@@ -1,0 +1,22 @@
+//! Laws of the answers to connections, whichever code serves them.
+ghost use Rattle.thes_http.specs.Laws.{HasOneCall, HasOneAnswer, CutHasNoAnswer};
+ghost use Rattle.thes_http.specs.Serving.{effects};
+
+use crate::service::Service;
+
+/// Proves that the same bytes make the same call of a service, or none and have the same response, however they are cut
+/// into reads, unless memory runs out.
+pub fn one_call<S: Service>()
+    ensures { HasOneCall (effects S.performs S.shows S.imports S.exports S.displays) }
+{}
+
+/// Proves that the bytes and the state before determine the response and the state after it, faults aside, if they do
+/// so for each call of the service.
+pub fn one_answer<S: Service>()
+    ensures { HasOneAnswer (effects S.performs S.shows S.imports S.exports S.displays) }
+{}
+
+/// Proves that a request which was cut off has no answer, unless memory ran out.
+pub fn no_answer_to_a_cut<S: Service>()
+    ensures { CutHasNoAnswer (effects S.performs S.shows S.imports S.exports S.displays) }
+{}

@@ -1,0 +1,271 @@
+-- Proves which rows of a block were performed, by the answers to their requests.
+use Rattle.std.proofs.Common.{◌≡◌, ◌∙◌, ◌+◌, ◌<◌, ◌≤◌, ◌++◌, ◌∷◌, [], ℕ, List, refl, sym, ap, subst, length, map}
+use Rattle.std.proofs.Common.{append-nil, append_assoc, arith, length-append}
+use Rattle.std.specs.Prelude.{Option, Result, Ok, Err}
+use Rattle.std.specs.List.{AllByRecursion, AllZip}
+use Rattle.thes_base.specs.declared.data.Limits.{Limits}
+use Rattle.thes_base.specs.declared.fault.Fault.{Fault}
+use Rattle.thes_base.specs.declared.fault.FormFault.{FormFault}
+use Rattle.thes_base.specs.declared.request.Answer.{Answer}
+use Rattle.thes_base.specs.declared.request.Command.{Command}
+use Rattle.thes_base.specs.declared.request.Command.TheVariants as request
+use Rattle.thes_base.specs.Headline.{IsConsistentState}
+use Rattle.thes_base.specs.State.{State}
+use Rattle.thes_tables.specs.Cells.{Raw}
+use Rattle.thes_office.specs.Office.{ChangesNothing, CompleteRun, OfficeView, PartialRun, RunResult, TablesAfterRun}
+use Rattle.thes_office.specs.TablesOfState.{TablesOfState}
+use Rattle.thes_office.proofs.OfficeViewLemmas.{empty_run}
+use Rattle.thes_import.specs.Imports.{ImportsBlock, PerformsRows, PerformsSomeWith, PerformsWith, ReportsBlock}
+use Rattle.thes_import.specs.Imports.{ReportsRows, StopsInBlock}
+use Rattle.thes_import.specs.Outcomes.{AddsOutcomes, IsOutcome, answers_of, fault_of_row, outcomes_of}
+use Rattle.thes_import.specs.Outcomes.{posts_of}
+use Rattle.thes_import.specs.PostingFile.{IsPostingFile}
+use Rattle.thes_import.specs.RowReading.{HasReadRows}
+use Rattle.thes_import.specs.declared.csv_row.CsvRow.{CsvRow}
+use Rattle.thes_import.specs.declared.csv_row.CsvRow.TheVariants as row
+use Rattle.thes_import.specs.declared.outcome.Outcome.{Outcome}
+use Rattle.thes_import.specs.declared.reading.RowReader.{RowReader}
+use Rattle.thes_import.specs.declared.report.Report.{Report}
+use Rattle.thes_import.proofs.ReportLemmas.{adds_none}
+use Rattle.thes_import.proofs.RowReadingLemmas.{others_left}
+
+-- The rows up to the first posting without an answer.
+record RowsAnswered (rows : List CsvRow) (done unread : List Command) (answers : List Answer) : Type 0 where
+  first : List CsvRow
+  others : List CsvRow
+  all : rows ≡ first ++ others
+  posts : posts_of first ≡ done
+  left_posts : posts_of others ≡ unread
+  each : AllZip IsOutcome first (outcomes_of (map fault_of_row rows) answers)
+  given : answers_of (outcomes_of (map fault_of_row rows) answers) ≡ answers
+  none : unread ≡ [] → others ≡ []
+
+rows_answered : (rows : List CsvRow) (done unread : List Command) (answers : List Answer) → posts_of rows ≡ done
+    ++ unread → length answers ≡ length done → RowsAnswered rows done unread answers
+rows_answered [] [] unread [] e n = record {
+  first = [];
+  others = [];
+  all = refl;
+  posts = refl;
+  left_posts = e;
+  each = tt;
+  given = refl;
+  none = λ z. refl;
+}
+rows_answered [] [] unread (a ∷ answers) e n = absurd (omega (arith, n))
+rows_answered [] (d ∷ done) unread answers e n = absurd (let bad : [] ≡ d ∷ (done ++ unread) = e in cc)
+rows_answered (row.Bad fault ∷ rows) done unread answers e n =
+    let r = rows_answered rows done unread answers e n in record {
+      first = row.Bad fault ∷ r.first;
+      others = r.others;
+      all = ap (λ (l : List CsvRow). row.Bad fault ∷ l) r.all;
+      posts = r.posts;
+      left_posts = r.left_posts;
+      each = (refl, r.each);
+      given = r.given;
+      none = r.none;
+    }
+rows_answered (row.Post key rec concept ∷ rows) [] unread [] e n = record {
+  first = [];
+  others = row.Post key rec concept ∷ rows;
+  all = refl;
+  posts = refl;
+  left_posts = e;
+  each = tt;
+  given = refl;
+  none = λ z. absurd (let bad : request.Post key rec concept ∷ posts_of rows ≡ [] = e ∙ z in cc);
+}
+rows_answered (row.Post key rec concept ∷ rows) [] unread (a ∷ answers) e n = absurd (omega (arith, n))
+rows_answered (row.Post key rec concept ∷ rows) (d ∷ done) unread [] e n = absurd (omega (arith, n))
+rows_answered (row.Post key rec concept ∷ rows) (d ∷ done) unread (a ∷ answers) e n =
+    let both : request.Post key rec concept ∷ posts_of rows ≡ d ∷ (done ++ unread) = e in
+    let head : request.Post key rec concept ≡ d = cc in
+    let tail : posts_of rows ≡ done ++ unread = cc in
+    let r = rows_answered rows done unread answers tail (omega (arith, n)) in record {
+      first = row.Post key rec concept ∷ r.first;
+      others = r.others;
+      all = ap (λ (l : List CsvRow). row.Post key rec concept ∷ l) r.all;
+      posts = (λ i. head i ∷ r.posts i);
+      left_posts = r.left_posts;
+      each = (tt, r.each);
+      given = ap (λ (l : List Answer). a ∷ l) r.given;
+      none = r.none;
+    }
+
+some_left : (others : List CsvRow) (unread : List Command) → posts_of others ≡ unread → 0 < length unread
+    → 0 < length others
+some_left [] unread e some = let n : 0 ≡ length unread = ap (λ (l : List Command). length l) e in absurd
+    (omega (arith, n, some))
+some_left (x ∷ others) unread e some = omega arith
+
+performs_none : (limits : Limits) (raw : Raw) (base : List ℕ) (s : State) → TablesOfState raw base s
+    → IsConsistentState base s → PerformsRows limits raw [] [] raw
+performs_none limits raw base s shows in_order = record {
+  goes_on = empty_run limits raw base s shows in_order;
+  same = λ all. refl;
+}
+
+module _ {K : Type 0} (tables : K → Raw) (is_up : K → Type 0) where
+  -- The tables show a state.
+  abbrev pub ShowsState : OfficeView K → Type 0
+  ShowsState office =
+      is_up office.keeper → (base : List ℕ) × (s : State) × TablesOfState (tables office.keeper) base s
+      × IsConsistentState base s
+
+  -- Before the first row.
+  pub performs_nothing : (office : OfficeView K) → ShowsState office → PerformsWith tables is_up office [] [] office
+  performs_nothing office shows = record {
+    each = tt;
+    performs = λ up. let x = shows up in performs_none office.limits (tables office.keeper) x.0 x.1 x.2 x.3;
+  }
+
+  rows_performed : (old new : OfficeView K) (rows : List CsvRow) (before after : List Answer)
+      (ran : CompleteRun tables is_up old (posts_of rows) before after new)
+      → PerformsWith tables is_up old rows (outcomes_of (map fault_of_row rows) ran.answers) new
+  rows_performed old new rows before after ran =
+      let r = rows_answered rows (posts_of rows) [] ran.answers (sym (append-nil (posts_of rows))) ran.each in
+      let all : rows ≡ r.first = r.all ∙ ap (λ (l : List CsvRow). r.first ++ l) (r.none refl) ∙ append-nil r.first in
+      record {
+        each = subst (λ (l : List CsvRow). AllZip IsOutcome l (outcomes_of (map fault_of_row rows) ran.answers))
+            (sym all) r.each;
+        performs = λ up. record {
+          goes_on = subst (λ (l : List Answer). TablesAfterRun old.limits (tables old.keeper) (posts_of rows) l
+              (tables new.keeper)) (sym r.given) (ran.goes_on up);
+          same = λ nothing. ran.same up (subst (AllByRecursion ChangesNothing) r.given nothing);
+        };
+      }
+
+  rows_stopped : (old new : OfficeView K) (rows : List CsvRow) (before after : List Answer)
+      (ran : PartialRun tables is_up old (posts_of rows) before after new)
+      → PerformsSomeWith tables is_up old rows (outcomes_of (map fault_of_row rows) ran.answers) new
+  rows_stopped old new rows before after ran =
+      let r = rows_answered rows ran.commands_done ran.commands_left ran.answers ran.all ran.each in
+      record {
+        first_rows = r.first;
+        other_rows = r.others;
+        all = r.all;
+        some = some_left r.others ran.commands_left r.left_posts ran.some;
+        performs = record {
+          each = r.each;
+          performs = λ up. record {
+            goes_on = subst (λ (p : List Command). TablesAfterRun old.limits (tables old.keeper) p
+                (answers_of (outcomes_of (map fault_of_row rows) ran.answers)) (tables new.keeper)) (sym r.posts)
+                (subst (λ (l : List Answer). TablesAfterRun old.limits (tables old.keeper) ran.commands_done l
+                (tables new.keeper)) (sym r.given) (ran.goes_on up));
+            same = λ nothing. ran.same up (subst (AllByRecursion ChangesNothing) r.given nothing);
+          };
+        };
+      }
+
+  -- The rows of a block, by the result of the run of their requests.
+  pub rows_reported : (old new : OfficeView K) (rows : List CsvRow) (posts : List Command)
+      (faults : List (Option FormFault)) (answers : List Answer) (result : Result (Unit {0}) Fault)
+      (report report' : Report) → posts ≡ posts_of rows → faults ≡ map fault_of_row rows
+      → RunResult tables is_up old posts [] answers result new
+      → AddsOutcomes (outcomes_of faults answers) report report'
+      → ReportsRows tables is_up old rows report result report' new
+  rows_reported old new rows posts faults answers (Ok done) report report' p f ran adds =
+      let run = subst (λ (l : List Command). CompleteRun tables is_up old l [] answers new) p ran in
+      let same : outcomes_of faults answers ≡ outcomes_of (map fault_of_row rows) run.answers =
+      (λ i. outcomes_of (f i) (run.kept i)) in (
+        outcomes_of (map fault_of_row rows) run.answers,
+        rows_performed old new rows [] answers run,
+        subst (λ (l : List Outcome). AddsOutcomes l report report') same adds,
+      )
+  rows_reported old new rows posts faults answers (Err fault) report report' p f ran adds =
+      let run = subst (λ (l : List Command). PartialRun tables is_up old l [] answers new) p ran in
+      let same : outcomes_of faults answers ≡ outcomes_of (map fault_of_row rows) run.answers =
+      (λ i. outcomes_of (f i) (run.kept i)) in (
+        outcomes_of (map fault_of_row rows) run.answers,
+        rows_stopped old new rows [] answers run,
+        subst (λ (l : List Outcome). AddsOutcomes l report report') same adds,
+      )
+
+  -- A fault before the first row of a block.
+  pub rows_unread : (office : OfficeView K) (rows : List CsvRow) (report report' : Report) (fault : Fault)
+      → ShowsState office → 0 < length rows → report'.text.items ≡ report.text.items → report'.counts ≡ report.counts
+      → ReportsRows tables is_up office rows report (Err fault) report' office
+  rows_unread office rows report report' fault shows some text counts = (
+    [],
+    record {
+      first_rows = [];
+      other_rows = rows;
+      all = refl;
+      some = some;
+      performs = performs_nothing office shows;
+    },
+    adds_none report report' text counts,
+  )
+
+  -- A whole block.
+  pub block_reported : (old new : OfficeView K) (reader reader' : RowReader) (report report' : Report)
+      (rows : List CsvRow) → ((bytes : List ℕ) (all first : List CsvRow) → HasReadRows bytes all first reader
+      → HasReadRows bytes all (first ++ rows) reader') → reader'.unread + length rows ≡ reader.unread → 0 < length rows
+      → length rows ≤ 1000 → ReportsRows tables is_up old rows report (let x : Result (Unit {0}) Fault = Ok tt in x)
+      report' new → ReportsBlock tables is_up old reader report report' reader' new
+  block_reported old new reader reader' report report' rows reads unread some few reports = record {
+    rows = rows;
+    outcomes = reports.0;
+    reads = reads;
+    fewer = omega (arith, unread, some);
+    few = few;
+    performs = reports.1;
+    reports = reports.2;
+  }
+
+  -- A part of a block, before a fault.
+  pub block_stopped : (old new : OfficeView K) (reader reader' : RowReader) (report report' : Report)
+      (rows : List CsvRow) (fault : Fault) → ((bytes : List ℕ) (all first : List CsvRow)
+      → HasReadRows bytes all first reader → HasReadRows bytes all (first ++ rows) reader') → length rows ≤ 1000
+      → ReportsRows tables is_up old rows report (Err fault) report' new
+      → StopsInBlock tables is_up old reader report report' new
+  block_stopped old new reader reader' report report' rows fault reads few reports =
+      let part = reports.1 in
+      let size = ap (λ (l : List CsvRow). length l) part.all ∙ length-append part.first_rows part.other_rows in
+      record {
+        rows = part.first_rows;
+        outcomes = reports.0;
+        leaves = λ bytes all first h.
+            let o = others_left bytes all (first ++ rows) reader' (reads bytes all first h) in
+            let whole : (first ++ rows) ++ o.0 ≡ (first ++ part.first_rows) ++ (part.other_rows ++ o.0) =
+            ap (λ (l : List CsvRow). (first ++ l) ++ o.0) part.all
+            ∙ ap (λ (l : List CsvRow). l ++ o.0) (sym (append_assoc first part.first_rows part.other_rows))
+            ∙ append_assoc (first ++ part.first_rows) part.other_rows o.0 in
+            let n = length-append part.other_rows o.0 in (
+              part.other_rows ++ o.0,
+              subst (IsPostingFile bytes) whole o.1,
+              omega (arith, n, part.some),
+            );
+        few = omega (arith, size, few);
+        performs = part.performs;
+        reports = reports.2;
+      }
+
+  -- A block that couldn't be read.
+  pub block_unread : (office : OfficeView K) (reader : RowReader) (report : Report) → ShowsState office
+      → 0 < reader.unread → StopsInBlock tables is_up office reader report report office
+  block_unread office reader report shows some = record {
+    rows = [];
+    outcomes = [];
+    leaves = λ bytes all first h.
+        let o = others_left bytes all first reader h in (
+          o.0,
+          subst (λ (l : List CsvRow). IsPostingFile bytes (l ++ o.0)) (sym (append-nil first)) o.1,
+          omega (arith, o.2, some),
+        );
+    few = omega arith;
+    performs = performs_nothing office shows;
+    reports = adds_none report report refl refl;
+  }
+
+  -- A block, by the result of its rows.
+  pub block_result : (old new : OfficeView K) (reader reader' : RowReader) (report report' : Report)
+      (rows : List CsvRow) (result : Result (Unit {0}) Fault) → ((bytes : List ℕ) (all first : List CsvRow)
+      → HasReadRows bytes all first reader → HasReadRows bytes all (first ++ rows) reader')
+      → reader'.unread + length rows ≡ reader.unread → 0 < length rows → length rows ≤ 1000
+      → ReportsRows tables is_up old rows report result report' new
+      → ImportsBlock tables is_up old reader report result report' reader' new
+  block_result old new reader reader' report report' rows (Ok done) reads unread some few reports =
+      block_reported old new reader reader' report report' rows reads unread some few reports
+  block_result old new reader reader' report report' rows (Err fault) reads unread some few reports =
+      block_stopped old new reader reader' report report' rows fault reads few reports

@@ -1,7 +1,0 @@
-use Rattle.std.proofs.Common.{◌≡◌, ◌<◌, ℕ}
-use Rattle.std.specs.Prelude.{Some, slice_get}
-use Rattle.thes_load_rows.proofs.moves.are_same_places.Given as goal
-
--- The places so far agree.
-abbrev pub invariant-loop-i : goal.invariant-loop-i
-invariant-loop-i l = (j : ℕ) (y : ℕ) → j < l.i → slice_get l.stored_places j ≡ Some y → slice_get l.places j ≡ Some y

@@ -1,0 +1,10 @@
+pub mod ServeLemmas
+pub mod GrammarLemmas
+pub mod ObjectLemmas
+pub mod TreeLemmas
+pub mod MemberLemmas
+pub mod ReadingLemmas
+pub mod MemberReadingLemmas
+pub mod LineBufferLemmas
+pub mod LineLemmas
+pub mod ScriptLemmas

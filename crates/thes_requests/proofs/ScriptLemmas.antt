@@ -1,0 +1,375 @@
+-- Proves the progress of a script line by line, and each of its ends.
+use Rattle.std.proofs.Common.{◌≡◌, ◌≢◌, ◌⊎◌, inl, inr, ◌∙◌, sym, ap, refl, subst, ℕ, ◌+◌, ◌<◌, ◌≤◌, ◌↔◌, List, []}
+use Rattle.std.proofs.Common.{◌∷◌, ◌++◌, length, length-append, append-nil, take, Bool, true, false, Option, Some}
+use Rattle.std.proofs.Common.{None, Result, Err, arith}
+use Rattle.std.proofs.KnownBytes.{Appends-trans, Appends-nil, Consumes-trans, Consumes-nil, Consumes-kept, Keeps-refl}
+use Rattle.std.proofs.lemmas.Grind.{flat_map-append, fold-append}
+use Rattle.std.proofs.lemmas.List.Elements.{All-push, All-nil, All-head, All-tail}
+use Rattle.std.specs.List.{All}
+use Rattle.std.specs.Str.Lines.{lines}
+use Rattle.std.specs.Io.KnownBytes.{Consumes, IsAtEnd, prepend_known}
+use Rattle.thes_base.specs.Pipe.{failed_of, ended_of, denied_of, unread_bytes, written_bytes, reading_fault}
+use Rattle.thes_base.specs.Pipe.{AppendsPrefix}
+use Rattle.thes_base.specs.declared.fault.Fault.TheVariants.{OutOfMemory}
+use Rattle.thes_base.specs.declared.pipe.Stop.{Stop}
+use Rattle.thes_base.specs.declared.pipe.Stop.TheVariants as stops
+use Rattle.thes_base.specs.declared.fault.PipeFault.{PipeFault}
+use Rattle.thes_base.specs.declared.fault.PipeFault.TheVariants.{Read, Write, TooLong, Fault}
+use Rattle.thes_base.specs.declared.pipe.Pipe.{Pipe}
+use Rattle.thes_requests.specs.LineBuffer.{bytes_left, line_bytes, line_content, line_limit, ConsumesLine}
+use Rattle.thes_requests.specs.LineBuffer.{ConsumesPartOfLine, IsLineTooLong, IsEndFound}
+use Rattle.thes_requests.specs.Serving.{LineBehaviour}
+use Rattle.thes_requests.specs.Script.{LineOutcome, StepLine, RunLines, AreAllowed, lines_limit, EndsLine, raw_lines}
+use Rattle.thes_requests.specs.Script.{ServesLines, answer_of_outcome, answer_text_or_none, script_text, noted_end}
+use Rattle.thes_requests.specs.Script.{end_of_outcomes, end_without_lines, Session, session, StopsWithinAnswer}
+use Rattle.thes_requests.specs.Script.{ExceedsLimits, IsCause, Completes, Stops}
+use Rattle.thes_requests.specs.ScriptSteps.{LineServed, StopsAfter, StopsAtLine, ScriptProgress}
+use Rattle.thes_requests.specs.declared.script.ScriptEnd.{ScriptEnd}
+use Rattle.thes_requests.proofs.LineLemmas.{lines-more, raw_lines-more, line_whole, ends_line_after_line}
+
+-- The outcomes, the effect and the output grow by those of one more line.
+
+run_one_more : {S : Type 0} (serves : LineBehaviour S) (old : S) (done : List (List ℕ))
+    (line_outcomes : List LineOutcome) (mid new : S) (line : List ℕ) (f : LineOutcome)
+    → RunLines serves old done line_outcomes mid → StepLine serves mid line f new
+    → RunLines serves old (done ++ line ∷ []) (line_outcomes ++ f ∷ []) new
+run_one_more {S} serves old [] [] mid new line f r s = (
+  new,
+  subst (λ (st : S). StepLine serves st line f new) r s,
+  refl,
+)
+run_one_more serves old [] (p ∷ line_outcomes) mid new line f r s = absurd r
+run_one_more serves old (l ∷ done) [] mid new line f r s = absurd r
+run_one_more serves old (l ∷ done) (p ∷ line_outcomes) mid new line f r s =
+    (r.0, r.1, run_one_more serves r.0 done line_outcomes mid new line f r.2 s)
+
+allowed_one_more : (whole : List (List ℕ)) (raw : List ℕ) → AreAllowed whole → length whole < lines_limit → length raw
+    ≤ line_limit → AreAllowed (whole ++ raw ∷ [])
+allowed_one_more whole raw a few short = record {
+  few = rw (length-append whole (raw ∷ [])) (omega (arith, few));
+  short = All-push (λ line. length line ≤ line_limit) whole raw a.short short;
+}
+
+text_one_more : (line_outcomes : List LineOutcome) (f : LineOutcome) → script_text (line_outcomes ++ f ∷ [])
+    ≡ script_text line_outcomes ++ answer_text_or_none (answer_of_outcome f)
+text_one_more line_outcomes f =
+    rw (
+      flat_map-append (λ g. answer_text_or_none (answer_of_outcome g)) line_outcomes (f ∷ []),
+      append-nil (answer_text_or_none (answer_of_outcome f)),
+    ) refl
+
+end_one_more : (line_outcomes : List LineOutcome) (f : LineOutcome) → end_of_outcomes (line_outcomes ++ f ∷ [])
+    ≡ noted_end (end_of_outcomes line_outcomes) (answer_of_outcome f)
+end_one_more line_outcomes f = fold-append (λ e g. noted_end e (answer_of_outcome g)) end_without_lines line_outcomes
+    (f ∷ [])
+
+-- The last line of an input isn't empty, if no line feed ends it.
+some_last : {old new : Option (List ℕ)} {raw : List ℕ} {e : Bool} → ConsumesLine old new raw e → e ≡ true → raw ≢ []
+some_last k ended = let l = k.last ended in l.0
+
+serves_one_more : {S : Type 0} {serves : LineBehaviour S} {bytes : List ℕ} {line_outcomes : List LineOutcome}
+    {old mid new : S} {before after : Option (List ℕ)} {raw : List ℕ} {e : Bool} (line_outcome : LineOutcome)
+    → ServesLines serves bytes line_outcomes old mid → EndsLine bytes → length (raw_lines bytes) < lines_limit
+    → ConsumesLine before after raw e → StepLine serves mid (line_content raw e) line_outcome new
+    → ServesLines serves (bytes ++ line_bytes raw e) (line_outcomes ++ line_outcome ∷ []) old new
+serves_one_more {S} {serves} {bytes} {line_outcomes} {old} {mid} {new} {before} {after} {raw} {e} line_outcome s whole
+    few k step = record {
+      lines_allowed = rw (raw_lines-more bytes raw e whole k.one (some_last k))
+          (allowed_one_more (raw_lines bytes) raw s.lines_allowed few k.short);
+      run = rw (lines-more bytes raw e whole k.one (some_last k)) (run_one_more serves old (lines bytes) line_outcomes
+          mid
+          new (line_content raw e) line_outcome s.run step);
+    }
+
+-- Before the first line there are no outcomes and no output.
+
+serves_no_lines : {S : Type 0} (serves : LineBehaviour S) (handler : S) → ServesLines serves [] [] handler handler
+serves_no_lines serves handler =
+    record {
+      lines_allowed = record { few = omega arith; short = All-nil (λ line. length line ≤ line_limit) };
+      run = refl;
+    }
+
+-- If the buffer is empty, the bytes left are those of the reader.
+nothing_buffered : (known : Option (List ℕ)) → Consumes known (prepend_known [] known) []
+nothing_buffered None = tt
+nothing_buffered (Some xs) = refl
+
+-- At the end of the input, the lines served are all lines.
+
+nil_right : (xs ys : List ℕ) → xs ++ ys ≡ [] → ys ≡ []
+nil_right [] ys h = h
+nil_right (x ∷ xs) ys h = cc
+
+all_taken : (known rest : Option (List ℕ)) (held bytes : List ℕ) → Consumes known (prepend_known held rest) bytes
+    → IsAtEnd (prepend_known held rest) → Consumes known rest bytes × IsAtEnd rest
+all_taken None None held bytes k e = (tt, tt)
+all_taken None (Some ys) held bytes k e = (tt, nil_right held ys e)
+all_taken (Some xs) None held bytes k e = absurd k
+all_taken (Some xs) (Some ys) held bytes k e =
+    (k ∙ ap (λ t. bytes ++ t) (e ∙ sym (nil_right held ys e)), nil_right held ys e)
+
+last_holds : {X : Type 0} (P : X → Type 0) (xs : List X) (x : X) → All P (xs ++ x ∷ []) → P x
+last_holds P [] x h = All-head P x [] h
+last_holds P (y ∷ xs) x h = last_holds P xs x (All-tail P y (xs ++ x ∷ []) h)
+
+module _ {R W S : Type 0} (remaining : R → Option (List ℕ)) (contents : W → Option (List ℕ)) (serves : LineBehaviour S)
+    (is_open : S → Bool) where
+  -- Before the first line, the progress is that of no bytes consumed and no bytes written.
+  pub progress_start : (reader : Pipe R) (writer : Pipe W) (handler : S) (held : List ℕ) (count : ℕ) (ended : ScriptEnd)
+      → ended_of reader ≡ false → held ≡ [] → count ≡ 0 → ended ≡ end_without_lines
+      → ScriptProgress remaining contents serves (session reader writer handler) (session reader writer handler) held
+      count ended
+  progress_start reader writer handler held count ended goes h c e = record {
+    bytes = [];
+    taken = rw h (nothing_buffered (unread_bytes remaining reader));
+    whole = λ _. inl refl;
+    last = λ t. let f = goes in cc;
+    line_outcomes = [];
+    lines = serves_no_lines serves handler;
+    line_count = sym c;
+    text = Appends-nil (written_bytes contents writer);
+    noted_end = e;
+  }
+
+  module _ {old : Session R W S} {reader : Pipe R} {writer : Pipe W} {handler : S} {held : List ℕ} {count : ℕ}
+      {ended : ScriptEnd}
+      (s : ScriptProgress remaining contents serves old (session reader writer handler) held count ended) where
+    -- A line that was skipped or answered extends the progress.
+    pub progress_line : (reader' : Pipe R) (writer' : Pipe W) (desk' : S) (held' : List ℕ) (ended' : ScriptEnd)
+        (raw : List ℕ) → ended_of reader ≡ false → count < lines_limit
+        → ConsumesLine (bytes_left remaining held reader) (bytes_left remaining held' reader') raw (ended_of reader')
+        → LineServed contents serves is_open (line_content raw (ended_of reader')) handler desk' writer writer' ended
+        ended'
+        → ScriptProgress remaining contents serves old (session reader' writer' desk') held' (count + 1) ended'
+    progress_line reader' writer' desk' held' ended' raw goes few k v = let whole = s.whole goes in let c =
+        s.line_count in let line = line_bytes raw (ended_of reader') in record {
+          bytes = s.bytes ++ line;
+          taken = Consumes-trans (unread_bytes remaining old.reader) (bytes_left remaining held reader)
+              (bytes_left remaining held' reader') s.bytes line s.taken k.bytes;
+          whole = ends_line_after_line s.bytes raw (ended_of reader');
+          last = λ t. let l = k.last t in l.1;
+          line_outcomes = s.line_outcomes ++ v.line_outcome ∷ [];
+          lines = serves_one_more v.line_outcome s.lines whole (omega (arith, c, few)) k v.step;
+          line_count = rw (
+            raw_lines-more s.bytes raw (ended_of reader') whole k.one (some_last k),
+            length-append (raw_lines s.bytes) (raw ∷ []),
+          ) (ap (λ n. n + 1) s.line_count);
+          text = rw (text_one_more s.line_outcomes v.line_outcome) (Appends-trans (written_bytes contents old.writer)
+              (written_bytes contents writer) (written_bytes contents writer') (script_text s.line_outcomes)
+              (answer_text_or_none (answer_of_outcome v.line_outcome)) s.text v.text);
+          noted_end = v.noted_end ∙ (ap (λ x. noted_end x (answer_of_outcome v.line_outcome)) s.noted_end
+              ∙ sym (end_one_more s.line_outcomes v.line_outcome));
+        }
+
+    -- A script whose input has ended between two lines is complete.
+    pub completes_at_end : (reader' : Pipe R) (held' : List ℕ) → IsEndFound (bytes_left remaining held reader)
+        (bytes_left remaining held' reader') (ended_of reader') → failed_of reader' ≡ false → failed_of writer ≡ false
+        → is_open handler ≡ true
+        → Completes remaining contents serves is_open old (session reader' writer handler) ended
+    completes_at_end reader' held' f r w o =
+        let all = all_taken (unread_bytes remaining old.reader) (unread_bytes remaining reader') held' s.bytes
+        (Consumes-kept (unread_bytes remaining old.reader) (bytes_left remaining held reader)
+        (bytes_left remaining held' reader') s.bytes s.taken f.0) f.1 in record {
+          input = s.bytes;
+          taken = all.0;
+          end = all.1;
+          reported = f.2;
+          working = (r, w);
+          line_outcomes = s.line_outcomes;
+          lines = s.lines;
+          stays_open = o;
+          text = s.text;
+          noted_end = s.noted_end;
+        }
+
+    -- A script whose input ended with the last line is complete.
+    pub completes_after_last : ended_of reader ≡ true → failed_of reader ≡ false → failed_of writer ≡ false
+        → is_open handler ≡ true → Completes remaining contents serves is_open old (session reader writer handler)
+        ended
+    completes_after_last e r w o = completes_at_end reader held (
+      Keeps-refl (bytes_left remaining held reader),
+      s.last e,
+      e,
+    ) r w o
+
+    -- A script can stop between two lines.
+    pub stops_between_lines : (reader' : Pipe R) (fault : PipeFault) → ended_of reader ≡ false
+        → IsCause remaining contents serves is_open old (session reader' writer handler) fault s.bytes
+        (bytes_left remaining held reader) s.line_outcomes
+        → ((fault ≡ Read) ↔ (failed_of reader' ≡ true)) → ((fault ≡ Write) ↔ (failed_of writer ≡ true))
+        → Stops remaining contents serves is_open old (session reader' writer handler) fault
+    stops_between_lines reader' fault goes cause r w = record {
+      served = s.bytes;
+      rest = bytes_left remaining held reader;
+      taken = s.taken;
+      whole = inl (s.whole goes);
+      line_outcomes = s.line_outcomes;
+      lines = s.lines;
+      cause = cause;
+      read = r;
+      wrote = w;
+    }
+
+    -- A script can stop at the answer to a line.
+    pub stops_at_line : (reader' : Pipe R) (writer' : Pipe W) (desk' : S) (held' : List ℕ) (fault : PipeFault)
+        (raw : List ℕ) → ended_of reader ≡ false → count < lines_limit
+        → ConsumesLine (bytes_left remaining held reader) (bytes_left remaining held' reader') raw (ended_of reader')
+        → failed_of reader' ≡ false → StopsAtLine contents serves is_open (line_content raw (ended_of reader'))
+        handler desk' writer writer' fault
+        → Stops remaining contents serves is_open old (session reader' writer' desk') fault
+    stops_at_line reader' writer' desk' held' fault raw goes few k fine v =
+        let whole = s.whole goes in let c = s.line_count in let line = line_bytes raw (ended_of reader') in record {
+          served = s.bytes ++ line;
+          rest = bytes_left remaining held' reader';
+          taken = Consumes-trans (unread_bytes remaining old.reader) (bytes_left remaining held reader)
+              (bytes_left remaining held' reader') s.bytes line s.taken k.bytes;
+          whole = by_end (ended_of reader') (ends_line_after_line s.bytes raw (ended_of reader')) (λ t. let l =
+              k.last t in l.1);
+          line_outcomes = s.line_outcomes ++ v.line_outcome ∷ [];
+          lines = serves_one_more v.line_outcome s.lines whole (omega (arith, c, few)) k v.step;
+          cause = after fault v.cause;
+          read = never_read fault v.cause;
+          wrote = wrote_only fault v.cause;
+        }
+      where
+        by_end : (e : Bool) → (e ≡ false → EndsLine (s.bytes ++ line_bytes raw (ended_of reader')))
+            → (e ≡ true → IsAtEnd (bytes_left remaining held' reader'))
+            → EndsLine (s.bytes ++ line_bytes raw (ended_of reader'))
+            ⊎ (IsAtEnd (bytes_left remaining held' reader') × (e ≡ true))
+        by_end true f g = inr (g refl, refl)
+        by_end false f g = inl (f refl)
+
+        breaks_off : AppendsPrefix (written_bytes contents writer) (written_bytes contents writer')
+            (answer_text_or_none (answer_of_outcome v.line_outcome)) → StopsWithinAnswer remaining contents serves
+            is_open old (session reader' writer' desk') (s.line_outcomes ++ v.line_outcome ∷ [])
+        breaks_off f = record {
+          before = s.line_outcomes;
+          last = v.line_outcome;
+          all = refl;
+          count = f.count;
+          within = f.within;
+          text = Appends-trans (written_bytes contents old.writer) (written_bytes contents writer)
+              (written_bytes contents writer') (script_text s.line_outcomes)
+              (take f.count (answer_text_or_none (answer_of_outcome v.line_outcome))) s.text f.front;
+        }
+
+        after : (fault : PipeFault) → StopsAfter contents serves is_open (line_content raw (ended_of reader')) handler
+            desk' writer writer' fault (answer_text_or_none (answer_of_outcome v.line_outcome))
+            → IsCause remaining contents serves is_open old (session reader' writer' desk') fault
+            (s.bytes ++ line_bytes raw (ended_of reader')) (bytes_left remaining held' reader')
+            (s.line_outcomes ++ v.line_outcome ∷ [])
+        after Read h = absurd h
+        after Write h = breaks_off h.0
+        after TooLong h = inl (breaks_off h.0, h.2)
+        after (Fault f) h = (
+          rw (text_one_more s.line_outcomes v.line_outcome) (Appends-trans (written_bytes contents old.writer)
+              (written_bytes contents writer) (written_bytes contents writer') (script_text s.line_outcomes)
+              (answer_text_or_none (answer_of_outcome v.line_outcome)) s.text h.0),
+          h.2,
+          inr h.3,
+        )
+
+        never_read : (fault : PipeFault) → StopsAfter contents serves is_open (line_content raw (ended_of reader'))
+            handler desk' writer writer' fault (answer_text_or_none (answer_of_outcome v.line_outcome))
+            → (fault ≡ Read) ↔ (failed_of reader' ≡ true)
+        never_read Read h = absurd h
+        never_read Write h = (λ e. cc, λ e. let f = fine in cc)
+        never_read TooLong h = (λ e. cc, λ e. let f = fine in cc)
+        never_read (Fault g) h = (λ e. cc, λ e. let f = fine in cc)
+
+        wrote_only : (fault : PipeFault) → StopsAfter contents serves is_open (line_content raw (ended_of reader'))
+            handler desk' writer writer' fault (answer_text_or_none (answer_of_outcome v.line_outcome))
+            → (fault ≡ Write) ↔ (failed_of writer' ≡ true)
+        wrote_only Read h = absurd h
+        wrote_only Write h = (λ e. h.1, λ e. refl)
+        wrote_only TooLong h = (λ e. cc, λ e. let f = h.1 in cc)
+        wrote_only (Fault g) h = (λ e. cc, λ e. let f = h.1 in cc)
+
+    -- A reader that failed within a line is the cause of the stop.
+    pub breaks_within_line : (reader' : Pipe R) → ConsumesPartOfLine (bytes_left remaining held reader)
+        (unread_bytes remaining reader') → IsCause remaining contents serves is_open old
+        (session reader' writer handler) Read s.bytes (bytes_left remaining held reader) s.line_outcomes
+    breaks_within_line reader' p = (
+      s.text,
+      p.raw,
+      Consumes-trans (unread_bytes remaining old.reader) (bytes_left remaining held reader)
+          (unread_bytes remaining reader') s.bytes p.raw s.taken p.bytes,
+      p.one,
+    )
+
+    -- A next line above the limit on length exceeds the limits.
+    pub exceeds_line_limit : ended_of reader ≡ false → IsLineTooLong (bytes_left remaining held reader)
+        → ExceedsLimits s.bytes (bytes_left remaining held reader)
+    exceeds_line_limit goes t =
+        let some : t.raw ≢ [] = λ e. let none : length t.raw ≡ 0 = ap length e in let long = t.long in
+        omega (arith, none, long) in
+        let one : raw_lines t.raw ≡ t.raw ∷ [] = line_whole t.raw true t.one (λ _. some) in record {
+          next = t.raw;
+          bytes_left = t.rest;
+          bytes = t.bytes;
+          one = ap length one;
+          next_not_allowed = λ a.
+              let all : raw_lines (s.bytes ++ t.raw) ≡ raw_lines s.bytes ++ t.raw ∷ [] =
+              raw_lines-more s.bytes t.raw true (s.whole goes) t.one (λ _. some) in
+              let short = last_holds (λ line. length line ≤ line_limit) (raw_lines s.bytes) t.raw
+              (subst (λ (w : List (List ℕ)). All (λ line. length line ≤ line_limit) w) all a.short) in
+              let long = t.long in omega (arith, short, long);
+        }
+
+    -- A next line above the limit on the number of lines exceeds the limits.
+    pub exceeds_lines_limit : (reader' : Pipe R) (held' : List ℕ) (raw : List ℕ) (e : Bool) → ended_of reader ≡ false
+        → count ≡ lines_limit → ConsumesLine (bytes_left remaining held reader) (bytes_left remaining held' reader')
+        raw e → ExceedsLimits s.bytes (bytes_left remaining held reader)
+    exceeds_lines_limit reader' held' raw e goes full k = record {
+      next = line_bytes raw e;
+      bytes_left = bytes_left remaining held' reader';
+      bytes = k.bytes;
+      one = ap length (line_whole raw e k.one (some_last k));
+      next_not_allowed = λ a.
+          let all = ap length (raw_lines-more s.bytes raw e (s.whole goes) k.one (some_last k)) in
+          let more = length-append (raw_lines s.bytes) (raw ∷ []) in
+          let c = s.line_count in let few = a.few in omega (arith, few, all, more, c, full);
+    }
+
+    -- A failed search for a line stops the script, by the reader or by the limits.
+    pub stops_at_read : (reader' : Pipe R) (held' : List ℕ) {T : Type 0} (stop : Stop) → ended_of reader ≡ false
+        → (let result : Result T Stop = Err stop in
+        (result ≡ Err stops.Failed → ConsumesPartOfLine (bytes_left remaining held reader)
+        (unread_bytes remaining reader')) × ((result ≡ Err stops.Failed) ↔ (failed_of reader' ≡ true))
+        × (result ≡ Err stops.TooLong → (denied_of reader' ≡ true) ⊎ (IsLineTooLong (bytes_left remaining held reader)
+        ⊎ ((count ≡ lines_limit) × (raw : List ℕ) × ConsumesLine (bytes_left remaining held reader)
+        (bytes_left remaining held' reader') raw (ended_of reader')))))
+        → failed_of writer ≡ false → Stops remaining contents serves is_open old (session reader' writer handler)
+        (reading_fault stop)
+    stops_at_read reader' held' stops.Failed goes why w = stops_between_lines reader' Read goes
+        (breaks_within_line reader' (why.0 refl)) (λ e. why.1.0 refl, λ e. refl) (λ e. cc, λ e. let f = w in cc)
+    stops_at_read reader' held' stops.TooLong goes why w = stops_between_lines reader' TooLong goes
+        (inr (s.text, next_not_allowed (why.2 refl))) (λ e. cc, λ e. let bad = why.1.1 e in cc)
+        (λ e. cc, λ e. let f = w in cc)
+      where
+        next_not_allowed : (denied_of reader' ≡ true) ⊎ (IsLineTooLong (bytes_left remaining held reader)
+            ⊎ ((count ≡ lines_limit) × (raw : List ℕ) × ConsumesLine (bytes_left remaining held reader)
+            (bytes_left remaining held' reader') raw (ended_of reader')))
+            → (denied_of reader' ≡ true) ⊎ ExceedsLimits s.bytes (bytes_left remaining held reader)
+        next_not_allowed (inl denied) = inl denied
+        next_not_allowed (inr (inl long)) = inr (exceeds_line_limit goes long)
+        next_not_allowed (inr (inr full)) = inr (exceeds_lines_limit reader' held' full.1 (ended_of reader') goes
+            full.0 full.2)
+
+  -- Running out of memory before the first line stops the script without effect.
+  pub stops_before_lines : (reader : Pipe R) (writer : Pipe W) (handler : S) → failed_of reader ≡ false
+      → failed_of writer ≡ false
+      → Stops remaining contents serves is_open (session reader writer handler) (session reader writer handler)
+      (Fault OutOfMemory)
+  stops_before_lines reader writer handler r w = record {
+    served = [];
+    rest = unread_bytes remaining reader;
+    taken = Consumes-nil (unread_bytes remaining reader);
+    whole = inl (inl refl);
+    line_outcomes = [];
+    lines = serves_no_lines serves handler;
+    cause = (Appends-nil (written_bytes contents writer), refl, inl refl);
+    read = (λ e. cc, λ e. cc);
+    wrote = (λ e. cc, λ e. cc);
+  }

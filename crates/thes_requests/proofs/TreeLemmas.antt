@@ -1,0 +1,107 @@
+-- Proves the data of a parsed value, level by level, and of its items and members while they are
+-- parsed.
+use Rattle.std.proofs.Common.{◌≡◌, ℕ, ◌+◌, ◌<◌, ◌≤◌, List, [], ◌∷◌, ◌++◌, Bool, length, map, take, drop}
+use Rattle.std.proofs.Common.{slice_index_or, Option, Some, None, option_map, is_none, Vec, Global, Bor, cond}
+use Rattle.std.proofs.Common.{bytes_eq, refl, sym, ap, ◌∙◌, subst, add-one, rules}
+use Rattle.std.proofs.lemmas.List.{map-append, take-append-drop, take_more}
+use Rattle.std.proofs.lemmas.List.Sums.{fold-append}
+use Rattle.json.specs.Token.{Token}
+use Rattle.json.specs.Json.{parse_map}
+use Rattle.serde_json.specs.Data.{array, object, Items, no_items, item, no_members, put}
+use Rattle.serde_json.specs.Events.{members_len}
+use Rattle.serde_json.specs.Find.{get_member}
+use Rattle.thes_requests.specs.Tree.{view, items_view, members_view}
+use Rattle.thes_requests.specs.declared.tree.Value.{Value, Array, Object, the_lemmas}
+use Rattle.thes_requests.proofs.ObjectLemmas.{put_all, get_after_put, AreOrderedMembers, AreOrderedMembers-put_all}
+use Rattle.thes_requests.proofs.ObjectLemmas.{with_one}
+use Rattle.thes_requests.proofs.ObjectLemmas.{members_len-put, members_len-put_all}
+
+abbrev pub Entry : Type 0
+Entry = Bor (List ℕ) × Value
+
+pub view-Array : (v : Vec Value Global) → view (Array v) ≡ array (items_view v.items)
+view-Array v = search (rules, the_lemmas)
+
+pub view-Object : (m : Vec Entry Global) → view (Object m) ≡ object (members_view m.items)
+view-Object m = search (rules, the_lemmas)
+
+-- A parsed object lists its members in the order of the text.
+
+pub members_view-append : (es fs : List Entry) → members_view (es ++ fs) ≡ put_all (members_view es)
+    (map (λ m. (m.0, view m.1)) fs)
+members_view-append es fs =
+    ap (put_all no_members) (map-append (λ m. (m.0, view m.1)) es fs) ∙ fold-append (λ found m. put m.0.now m.1 found)
+    no_members (map (λ m. (m.0, view m.1)) es) (map (λ m. (m.0, view m.1)) fs)
+
+pub members_view-push : (es : List Entry) (e : Entry) → members_view (es ++ e ∷ []) ≡ put e.0.now (view e.1)
+    (members_view es)
+members_view-push es e = members_view-append es (e ∷ [])
+
+get_member-push : (name : List ℕ) (es : List Entry) (e : Entry) → get_member name (members_view (es ++ e ∷ []))
+    ≡ cond (bytes_eq name e.0.now) (Some (view e.1)) (get_member name (members_view es))
+get_member-push name es e = ap (get_member name) (members_view-push es e) ∙ get_after_put name e.0.now (view e.1)
+    (members_view es)
+
+-- A look-up among the first members finds the last of them, if it has the name, and else looks
+-- among those before it.
+pub get_member-take : (name : List ℕ) (es : List Entry) (k i : ℕ) (e : Entry) (b : Bool) → k ≡ i + 1 → i < length es
+    → e ≡ slice_index_or es i e → bytes_eq name e.0.now ≡ b
+    → get_member name (members_view (take k es)) ≡ cond b (Some (view e.1)) (get_member name (members_view (take i es)))
+get_member-take name es k i e b next h is same =
+    let front : take k es ≡ take i es ++ e ∷ [] = ap (λ j. take j es) next ∙ take_more es i e h
+    ∙ ap (λ y. take i es ++ y ∷ []) (sym is) in
+    let before = get_member name (members_view (take i es)) in
+    ap (λ fs. get_member name (members_view fs)) front ∙ get_member-push name (take i es) e
+    ∙ ap (λ t. cond t (Some (view e.1)) before) same
+
+AreOrderedMembers-members_view : (es : List Entry) → AreOrderedMembers (members_view es)
+AreOrderedMembers-members_view es = AreOrderedMembers-put_all no_members (map (λ m. (m.0, view m.1)) es) tt
+
+count_after_look_up : (r : Option (Bor Value)) (n : ℕ) → with_one (option_map (λ v. view v.now) r) n
+    ≡ cond (is_none r) (n + 1) n
+count_after_look_up None n = sym (add-one n)
+count_after_look_up (Some v) n = refl
+
+module _ (xs : List Entry) (i : ℕ) where
+  -- The number of different names up to the next member, given a search among those before it.
+  pub names_next : (d : Entry) (r : Option (Bor Value)) → i < length xs → option_map (λ v. view v.now) r
+      ≡ get_member (slice_index_or xs i d).0.now (members_view (take i xs))
+      → members_len (members_view (take (i + 1) xs)) ≡ cond (is_none r) (members_len (members_view (take i xs)) + 1)
+      (members_len (members_view (take i xs)))
+  names_next d r h e =
+      let before = members_view (take i xs) in
+      let m = slice_index_or xs i d in
+      ap (λ es. members_len (members_view es)) (take_more xs i d h) ∙ ap members_len (members_view-push (take i xs) m)
+      ∙ members_len-put m.0.now (view m.1) before (AreOrderedMembers-members_view (take i xs))
+      ∙ ap (λ o. with_one o (members_len before)) (sym e) ∙ count_after_look_up r (members_len before)
+
+  pub names_of_prefix : members_len (members_view (take i xs)) ≤ members_len (members_view xs)
+  names_of_prefix =
+      let all = members_view-append (take i xs) (drop i xs) in
+      subst (λ es. members_len (members_view (take i xs)) ≤ members_len (members_view es)) (take-append-drop i xs)
+      (rw all (members_len-put_all (members_view (take i xs)) (map (λ m. (m.0, view m.1)) (drop i xs))
+      (AreOrderedMembers-members_view (take i xs))))
+
+-- The data of a list grows by one item when a value is appended.
+
+abbrev pub items_before : List Value → Items → Items
+items_before [] rest = rest
+items_before (v ∷ vs) rest = item (view v) (items_before vs rest)
+
+pub items_before-no_items : (vs : List Value) → items_before vs no_items ≡ items_view vs
+items_before-no_items [] = refl
+items_before-no_items (v ∷ vs) = ap (item (view v)) (items_before-no_items vs)
+
+items_push : (vs : List Value) (v : Value) (rest : Items) → items_before vs (item (view v) rest)
+    ≡ items_before (vs ++ v ∷ []) rest
+items_push [] v rest = refl
+items_push (w ∷ vs) v rest = ap (item (view w)) (items_push vs v rest)
+
+pub one_more_item : (vs : List Value) (v : Value) (r : Option (Items × List Token)) → parse_map (items_before vs)
+    (parse_map (item (view v)) r) ≡ parse_map (items_before (vs ++ v ∷ [])) r
+one_more_item vs v None = refl
+one_more_item vs v (Some p) = ap (λ ds. Some (ds, p.1)) (items_push vs v p.0)
+
+pub none_before : (r : Option (Items × List Token)) → r ≡ parse_map (λ a. a) r
+none_before None = refl
+none_before (Some p) = refl

@@ -1,0 +1,15 @@
+use Rattle.std.proofs.Common.{rules, ◌≡◌, Err}
+use Rattle.std.specs.Prelude.{codes}
+use Rattle.thes_base.specs.declared.request.Command.TheVariants as request
+use Rattle.thes_requests.specs.Requests.{number_at}
+use Rattle.thes_requests.proofs.MemberReadingLemmas.{gives_line1, stops_line1}
+use Rattle.thes_requests.proofs.request.deprecate_in.Goals as goal
+
+pub returns-in_err-concept : goal.returns-in_err-concept
+returns-in_err-concept c =
+    let stop : c.from_residual.result ≡ Err c.in_err-concept.field-0.0 = search rules in
+    rw stop (stops_line1 request.Deprecate (number_at (codes "concept")) _ _ c.number_at.ensures _ (search rules))
+
+pub returns : goal.returns
+returns c = gives_line1 request.Deprecate (number_at (codes "concept")) _ _ c.number_at.ensures c.in_ok-concept.concept
+    (search rules)

@@ -1,0 +1,15 @@
+use Rattle.std.proofs.Common.{rules, ◌≡◌, Err}
+use Rattle.std.specs.Prelude.{codes}
+use Rattle.thes_requests.specs.declared.request.Query.TheVariants as asked
+use Rattle.thes_requests.specs.Requests.{number_at}
+use Rattle.thes_requests.proofs.MemberReadingLemmas.{gives_line1, stops_line1}
+use Rattle.thes_requests.proofs.request.posting_query_in.Goals as goal
+
+pub returns-in_err-number : goal.returns-in_err-number
+returns-in_err-number c =
+    let stop : c.from_residual.result ≡ Err c.in_err-number.field-0.0 = search rules in
+    rw stop (stops_line1 asked.Posting (number_at (codes "number")) _ _ c.number_at.ensures _ (search rules))
+
+pub returns : goal.returns
+returns c = gives_line1 asked.Posting (number_at (codes "number")) _ _ c.number_at.ensures c.in_ok-number.number
+    (search rules)

@@ -1,0 +1,6 @@
+use Rattle.thes_requests.specs.Requests.{a_tag, a_text}
+use Rattle.thes_requests.proofs.MemberReadingLemmas.{reads_pair}
+use Rattle.thes_requests.proofs.request.tag_and_text.Goals as goal
+
+pub returns : goal.returns
+returns c = rw c.both.ensures (reads_pair a_tag a_text _ _ _ c.text_at.ensures c.text_at-2.ensures)

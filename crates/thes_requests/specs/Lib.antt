@@ -1,0 +1,12 @@
+pub mod Readings
+pub mod Tree
+pub mod Members
+pub mod Keywords
+pub mod Requests
+pub mod MemberReadings
+pub mod AnswerTexts
+pub mod LineBuffer
+pub mod Serving
+pub mod Script
+pub mod ScriptSteps
+pub mod Laws

@@ -1,0 +1,64 @@
+-- The effect of one line of a script, and its answer.
+use Rattle.std.specs.Prelude.{◌≡◌, ◌⊎◌, ℕ, List, Result, Ok, Err}
+use Rattle.thes_base.specs.declared.fault.Fault.{Fault}
+use Rattle.thes_base.specs.declared.fault.Fault.TheVariants.{OutOfMemory}
+use Rattle.thes_base.specs.declared.fault.Refusal.{Refusal}
+use Rattle.thes_base.specs.declared.request.Command.{Command}
+use Rattle.thes_base.specs.declared.request.Answer.{Answer}
+use Rattle.thes_base.specs.declared.request.Answer.TheVariants as answer
+use Rattle.thes_requests.specs.declared.answer.Reply.TheVariants as reply
+use Rattle.thes_requests.specs.declared.handler.QueryAnswer.{QueryAnswer}
+use Rattle.thes_requests.specs.declared.handler.QueryAnswer.TheVariants as view
+use Rattle.thes_requests.specs.declared.request.Query.{Query}
+use Rattle.thes_requests.specs.declared.request.Request.TheVariants.{Do, Get}
+use Rattle.thes_requests.specs.declared.serve.LineAnswer.{LineAnswer}
+use Rattle.thes_requests.specs.declared.serve.LineAnswer.TheVariants.{Reply, View}
+use Rattle.thes_requests.specs.AnswerTexts.{reply_text}
+use Rattle.thes_requests.specs.Readings.{ReadsAs}
+use Rattle.thes_requests.specs.Requests.{request_of}
+
+-- The behaviour of a handler for commands: a relation of the state before, the command, the answer
+-- and the state after.
+abbrev pub CommandBehaviour : Type 0 → Type 1
+CommandBehaviour S = S → Command → Result Answer Fault → S → Type 0
+
+-- The behaviour of a handler for queries; the state may change, since a handler may reload.
+abbrev pub QueryBehaviour : Type 0 → Type 1
+QueryBehaviour S = S → Query → Result QueryAnswer Fault → S → Type 0
+
+-- The behaviour of a handler for the lines of a script.
+abbrev pub LineBehaviour : Type 0 → Type 1
+LineBehaviour S = S → List ℕ → LineAnswer → S → Type 0
+
+-- The program reads a line, and performs its command or answers its query; a line that isn't a
+-- request changes nothing. A fault may replace an answer: one of the handler, or running out of
+-- memory while reading, which changes nothing.
+
+-- The line is a request to perform this command.
+abbrev pub IsCommandLine : List ℕ → Command → Type 0
+IsCommandLine line command = ReadsAs (request_of line) (Ok (Do command))
+
+-- The line is a request to answer this query.
+abbrev pub IsQueryLine : List ℕ → Query → Type 0
+IsQueryLine line query = ReadsAs (request_of line) (Ok (Get query))
+
+-- The effect of a line on a handler, and its answer: of a command, of a query, of a form fault, or
+-- of a fault.
+abbrev pub Serves : {S : Type 0} → CommandBehaviour S → QueryBehaviour S → LineBehaviour S
+Serves performs shows old line (Reply (reply.Answer a)) new =
+    ((command : Command) × IsCommandLine line command × performs old command (Ok a) new)
+    ⊎ ((query : Query) × (r : Refusal) × IsQueryLine line query
+    × shows old query (Ok (view.No r)) new × (a ≡ answer.No r))
+Serves performs shows old line (Reply (reply.Bad f)) new =
+    ReadsAs (request_of line) (Err f) × (new ≡ old)
+Serves performs shows old line (Reply (reply.Fault f)) new =
+    ((f ≡ OutOfMemory) × (new ≡ old))
+    ⊎ (((command : Command) × IsCommandLine line command × performs old command (Err f) new)
+    ⊎ ((query : Query) × IsQueryLine line query × shows old query (Err f) new))
+Serves performs shows old line (View text) new =
+    (query : Query) × IsQueryLine line query × shows old query (Ok (view.Line text)) new
+
+-- The text of an answer to a line, with its line feed.
+abbrev pub line_answer_text : LineAnswer → List ℕ
+line_answer_text (Reply r) = reply_text r
+line_answer_text (View text) = text

@@ -1,0 +1,75 @@
+//! The trait of an object that performs commands and answers queries.
+ghost use Rattle.std.specs.Prelude.{◌≡◌, true, Bool, Result};
+ghost use Rattle.thes_base.specs.declared.fault.Fault.{Fault};
+ghost use Rattle.thes_base.specs.declared.request.Command.{Command};
+ghost use Rattle.thes_base.specs.declared.request.Answer.{Answer};
+ghost use Rattle.thes_requests.specs.declared.request.Query.{Query};
+ghost use Rattle.thes_requests.specs.declared.handler.QueryAnswer.{QueryAnswer};
+
+use crate::request::Query;
+use std::alloc::Global;
+use std::marker::Model;
+use thes_base::fault::{Fault, Refusal};
+use thes_base::request::{Answer, Command};
+
+/// A view as one line of JSON, with its line feed.
+#[derive(Drop)]
+pub struct ViewLine {
+    bytes: Vec<u8>,
+}
+
+impl Model for ViewLine {
+    ghost use Rattle.std.specs.Prelude.{List, ℕ};
+
+    ghost Value = { List ℕ };
+
+    ghost view = { λ line. line.bytes.items };
+}
+
+impl ViewLine {
+    /// Wraps the bytes of a line, which end with a line feed.
+    pub fn new(bytes: Vec<u8>) -> ViewLine
+        ensures { result ≡ bytes.items }
+    {
+        ViewLine { bytes }
+    }
+
+    /// Returns the bytes of the line, with its line feed.
+    pub fn as_bytes(&self) -> &[u8]
+        ensures { result.now ≡ self.now }
+    {
+        &self.bytes
+    }
+}
+
+/// The answer to a query: the line of a view, or the refusal of a number.
+#[derive(Drop)]
+pub enum QueryAnswer {
+    Line(ViewLine),
+    No(Refusal),
+}
+
+/// A handler of requests: it performs commands and answers queries, over a state in memory or over
+/// shared storage.
+pub trait RequestHandler {
+    ghost performs: { Self → Command → Result Answer Fault → Self → Type 0 };
+
+    ghost shows: { Self → Query → Result QueryAnswer Fault → Self → Type 0 };
+
+    ghost is_open: { Self → Bool };
+
+    /// Performs a command, and returns its answer, which may be a refusal.
+    fn perform(&mut self, command: &Command) -> Result<Answer, Fault>
+        requires { is_open self.old ≡ true }
+        ensures { performs self.old command.now result self.new };
+
+    /// Answers a query with the line of a view, or with a refusal.
+    fn show(&mut self, alloc: Global, query: &Query) -> Result<QueryAnswer, Fault>
+        requires { is_open self.old ≡ true }
+        ensures { shows self.old query.now result self.new };
+
+    /// Returns whether the handler still accepts calls: running out of memory in a call can close
+    /// it for good.
+    fn is_open(&self) -> bool
+        ensures { result ≡ is_open self.now };
+}

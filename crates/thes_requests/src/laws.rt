@@ -1,0 +1,13 @@
+//! Laws of the reading of requests: every line has one meaning.
+ghost use Rattle.thes_requests.specs.Laws.{OneReading, SomeReading};
+
+/// No effect; states for the proof that bytes have at most one meaning: one request or one form
+/// fault.
+pub fn one_reading()
+    ensures { OneReading }
+{}
+
+/// No effect; states for the proof that no bytes are without a meaning, as a double negation.
+pub fn some_reading()
+    ensures { SomeReading }
+{}

@@ -1,0 +1,17 @@
+//! Requests: their JSON, their answers as lines of JSON, and scripts of requests over a request
+//! handler.
+#![tactic(auto)]
+
+pub mod answer;
+pub mod handler;
+mod keywords;
+pub mod laws;
+pub mod line;
+mod line_buffer;
+mod lines;
+mod members;
+mod numeral;
+pub mod request;
+pub mod script;
+mod serve;
+mod tree;

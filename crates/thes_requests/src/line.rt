@@ -1,0 +1,59 @@
+//! Lines of at most 64 bytes, which need no allocation.
+ghost use Rattle.std.specs.Prelude.{◌≡◌, ◌+◌, ◌≤◌, ◌++◌, length, decimal};
+
+use arrayvec::ArrayString;
+use itoa::Buffer;
+use std::marker::Model;
+
+/// A line of at most 64 bytes on the stack, so that an answer can be written without allocation.
+#[derive(Drop)]
+pub struct ShortLine {
+    text: ArrayString<64>,
+}
+
+impl Model for ShortLine {
+    ghost use Rattle.std.specs.Prelude.{List, ℕ};
+
+    ghost Value = { List ℕ };
+
+    ghost view = { λ line. line.text.bytes };
+}
+
+impl ShortLine {
+    /// Returns a line that holds this text, of at most 64 bytes.
+    pub fn from_text(text: &str) -> ShortLine
+        requires { length text.now ≤ 64 }
+        ensures { result ≡ text.now }
+    {
+        let mut line = ShortLine {
+            text: ArrayString::new(),
+        };
+        line.push(text);
+        line
+    }
+
+    /// Appends a text, after which the line must have at most 64 bytes.
+    pub fn push(&mut self, text: &str)
+        requires { length self.old + length text.now ≤ 64 }
+        ensures text { self.new ≡ self.old ++ text.now }
+        ensures len { length self.new ≡ length self.old + length text.now }
+    {
+        self.text.push_str(text);
+    }
+
+    /// Appends a number in decimal, at most ten digits, to a line of at most 54 bytes.
+    pub fn push_number(&mut self, number: u32)
+        requires { length self.old ≤ 54 }
+        ensures text { self.new ≡ self.old ++ decimal number }
+        ensures len { length self.new ≤ length self.old + 10 }
+    {
+        self.push(Buffer::new().format(number));
+    }
+
+    /// Returns the bytes of the line written so far.
+    pub fn as_bytes(&self) -> &[u8]
+        ensures { result.now ≡ self.now }
+    {
+        self.text.as_str().as_bytes()
+    }
+}

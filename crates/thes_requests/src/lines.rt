@@ -1,0 +1,80 @@
+//! The lines of a script, within the limit of 1,000,000 lines.
+ghost use Rattle.std.specs.Prelude.{◌≡◌, ◌≢◌, ◌≤◌, ◌⊎◌, ◌+◌, List, ℕ, [], IfOk, OnOk, IsErrOf, ◌↔◌, true, false};
+ghost use Rattle.thes_base.specs.Pipe.{failed_of, ended_of, denied_of, IsFresh, PaysCalls, unread_bytes};
+ghost use Rattle.thes_requests.specs.LineBuffer.{bytes_left, ConsumesLine, ConsumesPartOfLine, IsLineTooLong, IsLineFound, IsEndFound};
+ghost use Rattle.thes_requests.specs.Script.{lines_limit};
+
+use crate::line_buffer::{LineBuffer, LineSearch};
+use std::alloc::{AllocError, Global};
+use std::io::Read;
+use thes_base::pipe::{Budget, Pipe, Stop};
+
+const LINES_LIMIT: u32 = 1_000_000;
+
+/// The lines of a script, read one at a time, with the last line found and the number of lines
+/// found so far.
+#[derive(Drop)]
+pub struct ScriptLines {
+    pub line_buffer: LineBuffer,
+    pub line: Vec<u8>,
+    pub count: u32,
+}
+
+impl ScriptLines {
+    /// Allocates the input buffer, but no memory for a line yet.
+    pub fn new(alloc: Global) -> Result<ScriptLines, AllocError>
+        ensures { IfOk result (λ lines. (lines.line_buffer ≡ []) × (lines.count ≡ 0)) }
+    {
+        let line_buffer = LineBuffer::new(alloc)?;
+        let line = Vec::new(alloc);
+        Ok(ScriptLines {
+            line_buffer,
+            line,
+            count: 0,
+        })
+    }
+
+    /// Finds the next line and holds it without its line end; `TooLong` means that the line exceeds
+    /// 1 MiB, that it is line 1,000,001, or that a read was denied.
+    pub fn next_line<R: Read>(
+        &mut self,
+        reader: &mut Pipe<R>,
+        budget: &mut Budget,
+    ) -> Result<LineSearch, Stop>
+        requires fresh { IsFresh reader.old }
+        requires within { self.old.count ≤ lines_limit }
+        ensures line { IfOk result (λ found. found ≢ LineSearch.End →
+            IsLineFound found self.new.line.items
+            (bytes_left R.remaining self.old.line_buffer reader.old)
+            (bytes_left R.remaining self.new.line_buffer reader.new)
+            (ended_of reader.new)) }
+        ensures end { IfOk result (λ found. found ≡ LineSearch.End → IsEndFound
+            (bytes_left R.remaining self.old.line_buffer reader.old)
+            (bytes_left R.remaining self.new.line_buffer reader.new)
+            (ended_of reader.new)) }
+        ensures count { IfOk result (λ found. found ≢ LineSearch.End →
+            (self.new.count ≡ self.old.count + 1) × (self.new.count ≤ lines_limit)) }
+        ensures broken { IsErrOf result Stop.Failed →
+            ConsumesPartOfLine (bytes_left R.remaining self.old.line_buffer reader.old)
+            (unread_bytes R.remaining reader.new) }
+        ensures failed { IsErrOf result Stop.Failed ↔ (failed_of reader.new ≡ true) }
+        ensures too_long { IsErrOf result Stop.TooLong → (denied_of reader.new ≡ true)
+            ⊎ (IsLineTooLong (bytes_left R.remaining self.old.line_buffer reader.old)
+            ⊎ ((self.old.count ≡ lines_limit) × (raw : List ℕ) × ConsumesLine
+            (bytes_left R.remaining self.old.line_buffer reader.old)
+            (bytes_left R.remaining self.new.line_buffer reader.new)
+            raw (ended_of reader.new))) }
+        ensures denied { denied_of reader.new ≡ true → IsErrOf result Stop.TooLong }
+        ensures paid { PaysCalls reader.old reader.new budget.old budget.new }
+    {
+        let found = self.line_buffer.take_line(reader, budget, &mut self.line)?;
+        if found == LineSearch::End {
+            return Ok(found);
+        }
+        if self.count == LINES_LIMIT {
+            return Err(Stop::TooLong);
+        }
+        self.count += 1;
+        Ok(found)
+    }
+}

@@ -1,0 +1,58 @@
+//! Values of JSON numerals.
+ghost use Rattle.std.specs.Prelude.{◌≡◌, ◌==◌, ◌<◌, length, option_map, slice_index, true, false, IsTrue};
+ghost use Rattle.serde_json.specs.Read.{float_of, number_from, number_of};
+ghost use Rattle.serde_json.specs.View.{number_view};
+
+use fast_float::Numeral;
+use serde_json::Number;
+
+/// Returns the value of a JSON numeral, if it is in range: a 64-bit integer, or else the nearest
+/// finite float.
+pub fn number_of(text: &str) -> Option<Number>
+    ensures { option_map number_view result ≡ number_of text.now }
+{
+    let bytes = text.as_bytes();
+    if has_minus(bytes) {
+        negative(&Numeral::scan(&bytes[1..]))
+    } else {
+        unsigned(&Numeral::scan(bytes))
+    }
+}
+
+// Returns whether the numeral begins with a minus sign.
+fn has_minus(bytes: &[u8]) -> bool
+    ensures value { result ≡ (slice_index bytes.now 0 == 45) }
+    ensures len { IsTrue result → 0 < length bytes.now }
+{
+    !bytes.is_empty() && bytes[0] == b'-'
+}
+
+// Returns the value of a numeral without a sign: an unsigned 64-bit integer, or else a float.
+fn unsigned(numeral: &Numeral<'_>) -> Option<Number>
+    ensures { option_map number_view result ≡ number_from false numeral.now }
+{
+    match numeral.to_u64() {
+        Some(number) => Some(Number::from(number)),
+        None => nearest(false, numeral),
+    }
+}
+
+// Returns the value of a numeral after its minus sign: a negative 64-bit integer, or else a float,
+// as for -0.
+fn negative(numeral: &Numeral<'_>) -> Option<Number>
+    ensures { option_map number_view result ≡ number_from true numeral.now }
+{
+    if let Some(number) = numeral.to_i64(true) {
+        if number < 0 {
+            return Some(Number::from(number));
+        }
+    }
+    nearest(true, numeral)
+}
+
+// Returns the float nearest to the numeral, with a minus sign if `negative`; None if it is too large for a float.
+fn nearest(negative: bool, numeral: &Numeral<'_>) -> Option<Number>
+    ensures { option_map number_view result ≡ float_of negative numeral.now }
+{
+    Number::from_f64(numeral.to_float::<f64>(negative))
+}

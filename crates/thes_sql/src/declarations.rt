@@ -1,0 +1,359 @@
+//! Checks whether a database declares its tables as `create_tables` does.
+ghost use Rattle.std.specs.Prelude.{◌≡◌};
+ghost use Rattle.std.specs.List.{list_any};
+ghost use Rattle.thes_sql.specs.Declarations as wanted;
+ghost use Rattle.sqlite.specs.Held.{state};
+
+use sqlite::{Alter, Connection};
+use sqlite_schema::names::same_name;
+use sqlite_schema::schema::{Column, Index, Kind, Schema, Table as FoundTable};
+use sqlite_value::keys::Collation;
+use thes_base::fault::Table;
+
+// Checks whether the type of a column is that of integers.
+fn is_integer(kind: Kind) -> bool
+    ensures { result ≡ wanted.is_integer kind }
+{
+    matches!(kind, Kind::Integer)
+}
+
+// Checks whether the type of a column is that of texts.
+fn is_text(kind: Kind) -> bool
+    ensures { result ≡ wanted.is_text kind }
+{
+    matches!(kind, Kind::Text)
+}
+
+// Checks whether a collation compares texts by their bytes.
+fn is_binary(collation: Collation) -> bool
+    ensures { result ≡ wanted.is_binary collation }
+{
+    matches!(collation, Collation::Binary)
+}
+
+// Checks whether a column has this name, takes only values of its type, and compares texts by their bytes.
+fn is_strict(column: &Column, name: &str) -> bool
+    ensures { result ≡ wanted.is_strict name.now column.now }
+{
+    same_name(column.name.as_slice(), name.as_bytes())
+        && column.is_strict
+        && is_binary(column.collation)
+}
+
+// Checks whether a column has this name, and takes integers or NULL.
+fn is_key(column: &Column, name: &str) -> bool
+    ensures { result ≡ wanted.is_key name.now column.now }
+{
+    is_strict(column, name) && is_integer(column.kind) && !column.not_null
+}
+
+// Checks whether a column has this name, and takes only integers.
+fn is_number(column: &Column, name: &str) -> bool
+    ensures { result ≡ wanted.is_number name.now column.now }
+{
+    is_strict(column, name) && is_integer(column.kind) && column.not_null
+}
+
+// Checks whether a column has this name, and takes only texts.
+fn is_words(column: &Column, name: &str) -> bool
+    ensures { result ≡ wanted.is_words name.now column.now }
+{
+    is_strict(column, name) && is_text(column.kind) && column.not_null
+}
+
+// Checks whether one of these columns mustn't be NULL.
+fn need_values(columns: &[Column]) -> bool
+    ensures { result ≡ list_any wanted.needs_value columns.now }
+{
+    columns.iter().any(|column| column.not_null)
+}
+
+// Checks whether all of these columns may be NULL.
+fn are_optional(columns: &[Column]) -> bool
+    ensures { result ≡ wanted.are_optional columns.now }
+{
+    !need_values(columns)
+}
+
+// Checks whether the columns are those of table meta, and further ones that may be NULL.
+fn has_meta_columns(columns: &[Column]) -> bool
+    ensures { result ≡ wanted.has_meta_columns columns.now }
+{
+    match columns {
+        [one, version, base, more @ ..] => {
+            is_key(one, "one")
+                && is_number(version, "version")
+                && is_words(base, "base")
+                && are_optional(more)
+        }
+        _ => false,
+    }
+}
+
+// Checks whether the columns are those of table resource, and further ones that may be NULL.
+fn has_resource_columns(columns: &[Column]) -> bool
+    ensures { result ≡ wanted.has_resource_columns columns.now }
+{
+    match columns {
+        [num, kind, scheme, live, replaced, more @ ..] => {
+            is_key(num, "num")
+                && is_number(kind, "kind")
+                && is_key(scheme, "scheme")
+                && is_number(live, "live")
+                && is_key(replaced, "replaced")
+                && are_optional(more)
+        }
+        _ => false,
+    }
+}
+
+// Checks whether the columns are those of table outside, and further ones that may be NULL.
+fn has_outside_columns(columns: &[Column]) -> bool
+    ensures { result ≡ wanted.has_outside_columns columns.now }
+{
+    match columns {
+        [num, iri, more @ ..] => {
+            is_key(num, "num") && is_words(iri, "iri") && are_optional(more)
+        }
+        _ => false,
+    }
+}
+
+// Checks whether the columns are those of table label, and further ones that may be NULL.
+fn has_label_columns(columns: &[Column]) -> bool
+    ensures { result ≡ wanted.has_label_columns columns.now }
+{
+    match columns {
+        [owner, kind, tag, text, more @ ..] => {
+            is_number(owner, "owner")
+                && is_number(kind, "kind")
+                && is_words(tag, "tag")
+                && is_words(text, "text")
+                && are_optional(more)
+        }
+        _ => false,
+    }
+}
+
+// Checks whether the columns are three columns of integers with these names, and further ones that may be NULL.
+fn has_three_columns(columns: &[Column], first: &str, second: &str, third: &str) -> bool
+    ensures { result ≡ wanted.has_three_columns first.now second.now third.now columns.now }
+{
+    match columns {
+        [a, b, c, more @ ..] => {
+            is_number(a, first) && is_number(b, second) && is_number(c, third) && are_optional(more)
+        }
+        _ => false,
+    }
+}
+
+// Checks whether the columns are those of table posting, and further ones that may be NULL.
+fn has_posting_columns(columns: &[Column]) -> bool
+    ensures { result ≡ wanted.has_posting_columns columns.now }
+{
+    match columns {
+        [num, pkey, record, first, place, withdrawn, more @ ..] => {
+            is_key(num, "num")
+                && is_words(pkey, "pkey")
+                && is_words(record, "record")
+                && is_number(first, "first_at")
+                && is_number(place, "at")
+                && is_number(withdrawn, "withdrawn")
+                && are_optional(more)
+        }
+        _ => false,
+    }
+}
+
+// Checks whether the columns are those of table move, and further ones that may be NULL.
+fn has_move_columns(columns: &[Column]) -> bool
+    ensures { result ≡ wanted.has_move_columns columns.now }
+{
+    match columns {
+        [num, more @ ..] => is_key(num, "num")
+            && has_three_columns(more, "posting", "source", "target"),
+        _ => false,
+    }
+}
+
+// Checks whether the columns are those that a store's table of this name has, and further ones that may be NULL.
+fn has_columns(name: Table, columns: &[Column]) -> bool
+    ensures { result ≡ wanted.has_columns name columns.now }
+{
+    match name {
+        Table::Meta => has_meta_columns(columns),
+        Table::Resource => has_resource_columns(columns),
+        Table::Outside => has_outside_columns(columns),
+        Table::Label => has_label_columns(columns),
+        Table::Link => has_three_columns(columns, "kind", "a", "b"),
+        Table::Hier => has_three_columns(columns, "a", "b", "typ"),
+        Table::Posting => has_posting_columns(columns),
+        Table::Move => has_move_columns(columns),
+    }
+}
+
+// Checks whether the first column of a table is its rowid.
+fn is_numbered(table: &FoundTable) -> bool
+    ensures { result ≡ wanted.is_numbered table.now.key }
+{
+    match table.key {
+        Some(at) => at == 0,
+        None => false,
+    }
+}
+
+// Checks whether a table has no key other than its rowid.
+fn has_no_key(table: &FoundTable) -> bool
+    ensures { result ≡ wanted.has_no_key table.now.uniques }
+{
+    match table.uniques.as_slice() {
+        [] => true,
+        _ => false,
+    }
+}
+
+// Checks whether the positions are that of the second column alone, counted from 1.
+fn is_second(places: &[usize]) -> bool
+    ensures { result ≡ wanted.is_second places.now }
+{
+    match places {
+        [a] => *a == 2,
+        _ => false,
+    }
+}
+
+// Checks whether the positions are those of the first three columns, counted from 1.
+fn are_three(places: &[usize]) -> bool
+    ensures { result ≡ wanted.are_three places.now }
+{
+    match places {
+        [a, b, c] => *a == 1 && *b == 2 && *c == 3,
+        _ => false,
+    }
+}
+
+// Checks whether the positions are those of the first four columns, counted from 1.
+fn are_four(places: &[usize]) -> bool
+    ensures { result ≡ wanted.are_four places.now }
+{
+    match places {
+        [a, b, c, d] => *a == 1 && *b == 2 && *c == 3 && *d == 4,
+        _ => false,
+    }
+}
+
+// Checks whether the second column is the only key of a table other than its rowid.
+fn has_second_as_key(table: &FoundTable) -> bool
+    ensures { result ≡ wanted.has_second_as_key table.now.uniques }
+{
+    match table.uniques.as_slice() {
+        [key] => is_second(key.as_slice()),
+        _ => false,
+    }
+}
+
+// Checks whether the first three columns together are the only key of a table.
+fn has_three_as_key(table: &FoundTable) -> bool
+    ensures { result ≡ wanted.has_three_as_key table.now.uniques }
+{
+    match table.uniques.as_slice() {
+        [key] => are_three(key.as_slice()),
+        _ => false,
+    }
+}
+
+// Checks whether the first four columns together are the only key of a table.
+fn has_four_as_key(table: &FoundTable) -> bool
+    ensures { result ≡ wanted.has_four_as_key table.now.uniques }
+{
+    match table.uniques.as_slice() {
+        [key] => are_four(key.as_slice()),
+        _ => false,
+    }
+}
+
+// Checks whether the keys of a table are those that a store's table of this name has.
+fn has_keys(name: Table, table: &FoundTable) -> bool
+    ensures { result ≡ wanted.has_keys name table.now }
+{
+    match name {
+        Table::Meta | Table::Resource | Table::Move => is_numbered(table) && has_no_key(table),
+        Table::Outside | Table::Posting => is_numbered(table) && has_second_as_key(table),
+        Table::Label => has_four_as_key(table),
+        Table::Link | Table::Hier => has_three_as_key(table),
+    }
+}
+
+// Checks whether a table has neither foreign keys nor AUTOINCREMENT.
+fn is_plain(table: &FoundTable) -> bool
+    ensures { result ≡ wanted.is_plain table.now }
+{
+    match table.references.as_slice() {
+        [] => !table.is_counted,
+        _ => false,
+    }
+}
+
+// Checks whether a name begins with `sqlite_`, as those do that SQLite gives to the index of a key.
+fn is_automatic(name: &[u8]) -> bool
+    ensures { result ≡ wanted.is_automatic name.now }
+{
+    match name {
+        [a, b, c, d, e, f, g, ..] => {
+            *a == b's'
+                && *b == b'q'
+                && *c == b'l'
+                && *d == b'i'
+                && *e == b't'
+                && *f == b'e'
+                && *g == b'_'
+        }
+        _ => false,
+    }
+}
+
+// Checks whether an index makes columns of the table in this tree a key, as CREATE UNIQUE INDEX does.
+fn adds_key(tree: u32, index: &Index) -> bool
+    ensures { result ≡ wanted.adds_key tree index.now }
+{
+    index.table == tree && index.is_unique && !is_automatic(index.name.as_slice())
+}
+
+// Checks whether one of the indexes makes columns of the table in this tree a key.
+fn has_added_key(tree: u32, indexes: &[Index]) -> bool
+    ensures { result ≡ list_any (wanted.adds_key tree) indexes.now }
+{
+    indexes.iter().any(|index| adds_key(tree, index))
+}
+
+// Checks whether a table is declared as a store's table of this name is.
+fn is_as_created(name: Table, table: &FoundTable, indexes: &[Index]) -> bool
+    ensures { result ≡ wanted.is_as_created name indexes.now table.now }
+{
+    has_columns(name, table.columns.as_slice())
+        && has_keys(name, table)
+        && is_plain(table)
+        && !has_added_key(table.tree, indexes)
+}
+
+// Checks whether a schema declares a table of this name as a store does.
+#[tactic(auto, unfolding(crate::specs::Declarations::declares))]
+fn is_in_schema(schema: &Schema, name: Table) -> bool
+    ensures { result ≡ wanted.declares schema.now name }
+{
+    let Some(at) = schema.table_named(name.name().as_bytes()) else {
+        return false;
+    };
+    match schema.tables.get(at) {
+        Some(table) => is_as_created(name, table, schema.indexes.as_slice()),
+        None => false,
+    }
+}
+
+/// Checks whether a database declares a table as `create_tables` does. It ignores further columns that may be NULL, and
+/// further tables, views and indexes that make no key.
+pub fn declares<S: Alter>(conn: &Connection<S>, name: Table) -> bool
+    ensures { result ≡ wanted.declares (state S.Store conn.now).now.schema name }
+{
+    is_in_schema(conn.schema(), name)
+}

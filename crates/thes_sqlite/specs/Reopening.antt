@@ -1,0 +1,59 @@
+-- The state of storage in a database that is opened again after a failure.
+use Rattle.std.specs.Prelude.{◌≡◌, ℕ, Option, None, Some, refl}
+use Rattle.std.specs.Coded.{Coded, code_by, coded×, coded_ℕ, coded_option}
+use Rattle.sqlite.specs.Held.{Held}
+use Rattle.sqlite_trees.specs.declared.store.Store.{Ghosts}
+use Rattle.thes_tables.specs.Cells.{Raw}
+use Rattle.thes_sqlite.specs.KeeperView.{KeeperView, keeper_view_code, raw_of_keeper, IsKeeperUp}
+
+-- The storage over a connection, before any call.
+abbrev pub keeper_of_connection : {S : Type 0} → Held S → KeeperView S
+keeper_of_connection conn = record { conn = conn; failures = 0; first = conn }
+
+-- The storage as contracts see it: that over the first connection until a failure shuts it, and the number of failures.
+pub record ReopeningView (S : Type 0) : Type 0 where
+  pub first : Option (KeeperView S)
+  pub failures : ℕ
+
+-- The coding of a view as a pair, by which the prover finds a `ReopeningView` determined by its parts.
+abbrev pub reopening_view_code : {S : Type 0} → Coded S → Coded (ReopeningView S)
+reopening_view_code {S} store =
+    code_by (Option (KeeperView S) × ℕ) (coded× (coded_option (keeper_view_code store)) coded_ℕ)
+    (λ k. (k.first, k.failures)) (λ p. record { first = p.0; failures = p.1 }) (λ _. refl)
+
+-- The tables of a database in which no table can be queried.
+abbrev pub no_rows : Raw
+no_rows = record {
+  meta = None;
+  resource = None;
+  outside = None;
+  label = None;
+  link = None;
+  hier = None;
+  posting = None;
+  move = None;
+}
+
+-- The rows of the first connection's tables; none if a failure has shut it.
+abbrev pub rows_of_first : {S : Type 0} → Ghosts S → Option (KeeperView S) → Raw
+rows_of_first g None = no_rows
+rows_of_first g (Some k) = raw_of_keeper g k
+
+-- There is a first connection, and it serves its tables.
+abbrev pub IsServingFirst : {S : Type 0} → Ghosts S → Option (KeeperView S) → Type 0
+IsServingFirst g None = ⊥
+IsServingFirst g (Some k) = IsKeeperUp g k
+
+-- The rows of the storage's tables, while the first connection is open.
+abbrev pub rows_still : {S : Type 0} → Ghosts S → ReopeningView S → Raw
+rows_still g v = rows_of_first g v.first
+
+-- The first connection is open and serves its tables.
+abbrev pub IsKeeperStillUp : {S : Type 0} → Ghosts S → ReopeningView S → Type 0
+IsKeeperStillUp g v = IsServingFirst g v.first
+
+-- A call leaves the rows unchanged: if the first connection serves its tables afterwards, it did before, and they have
+-- the same rows.
+pub record KeepsRows {S : Type 0} (g : Ghosts S) (old new : ReopeningView S) : Type 0 where
+  pub was : IsKeeperStillUp g new → IsKeeperStillUp g old
+  pub same : IsKeeperStillUp g new → rows_still g new ≡ rows_still g old

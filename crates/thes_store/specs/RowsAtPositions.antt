@@ -1,0 +1,29 @@
+-- The rows at some positions of a list.
+use Rattle.std.specs.Prelude.{ℕ, List, [], ◌∷◌, Bool, Option, None, Some, slice_get, slice_set, if◌then◌else◌, ◌==◌}
+use Rattle.thes_tables.specs.declared.rows.MoveRow.{MoveRow}
+
+-- The test of whether the move is one of the posting.
+abbrev pub is_move_of : ℕ → MoveRow → Bool
+is_move_of posting row = row.posting == posting
+
+-- A list of the value, or the empty list if there is none or it fails the test.
+abbrev pub filtered_option : {A : Type 0} → (A → Bool) → Option A → List A
+filtered_option p None = []
+filtered_option p (Some row) = if p row then row ∷ [] else []
+
+-- The rows at these positions that pass the test, in the order of the positions; a position past the end has none.
+abbrev pub rows_at_positions : {A : Type 0} → (A → Bool) → List A → List ℕ → List A
+rows_at_positions p rows [] = []
+rows_at_positions p rows (i ∷ places) = elim (slice_get rows i) [
+  | None ↦ rows_at_positions p rows places
+  | Some row ↦ if p row then row ∷ rows_at_positions p rows places else rows_at_positions p rows places
+]
+
+-- The rows after the one at this position is changed by `f`; unchanged if the position is past the end.
+abbrev pub rows_after_change_at : {A : Type 0} → (A → A) → ℕ → List A → List A
+rows_after_change_at f i rows = elim (slice_get rows i) [ None ↦ rows | Some row ↦ slice_set rows i (f row) ]
+
+-- The rows after those at these positions are changed by `f` in sequence.
+abbrev pub rows_after_changes_at : {A : Type 0} → (A → A) → List ℕ → List A → List A
+rows_after_changes_at f [] rows = rows
+rows_after_changes_at f (i ∷ places) rows = rows_after_changes_at f places (rows_after_change_at f i rows)
