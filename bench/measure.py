@@ -1,20 +1,58 @@
-"""What the benchmarks share: the built program, scripts of requests, and the clock."""
+"""What the benchmarks share: the built program, scripts of requests, the clock, and what becomes of the figures."""
 
+import datetime
 import http.client
 import json
 import os
 import pathlib
+import platform
+import re
 import resource
 import subprocess
 import sys
+import typing
 
 HOME = pathlib.Path(__file__).resolve().parent.parent
 sys.path.append(str(HOME / "tests" / "program"))
 from ports import free_port  # noqa: E402
+from program import built  # noqa: E402
 
-LAUNCHER = str(HOME / "thesaurus")
-PROGRAM = str(HOME / "crates" / "thes_cli" / "out" / "thes_cli")
+RESULTS = HOME / "bench" / "RESULTS.md"
 RUNS = 5
+# The decimals of a value by its unit.
+DECIMALS = {"s": 3, "times": 2, "microseconds": 1, "MB": 1, "bytes": 0, "instructions": 0}
+
+
+class Measured(typing.NamedTuple):
+    """A figure with its unit, and the most that it may be, if there is a bound."""
+
+    name: str
+    value: float
+    unit: str = "s"
+    most: float | None = None
+
+    def is_held(self):
+        return self.most is None or self.value <= self.most
+
+    def text(self):
+        return f"{self.value:,.{DECIMALS[self.unit]}f} {self.unit}"
+
+    def bound(self):
+        return "" if self.most is None else f"{self.most:,g}: {'held' if self.is_held() else 'missed'}"
+
+
+def words():
+    """The arguments of the script but --write. With --help its description is printed."""
+    if "--help" in sys.argv[1:]:
+        print(sys.modules["__main__"].__doc__ + "\nWith --write the figures also replace the script's section of bench/RESULTS.md.")
+        sys.exit(0)
+    return [it for it in sys.argv[1:] if it != "--write"]
+
+
+def numbers(*defaults):
+    """The arguments of the script as numbers, with defaults for those that are missing."""
+    given = list(map(int, words()))
+    return given[: len(defaults)] + list(defaults[len(given) :])
 
 
 def line(**members):
@@ -23,14 +61,14 @@ def line(**members):
 
 
 def scheme_with(concepts):
-    """Requests that make scheme 1 and so many concepts, from number 2 on."""
+    """Requests that make scheme 1 and this number of concepts, from number 2 on."""
     yield line(do="scheme", tag="en", text="Bench")
     for number in range(2, 2 + concepts):
         yield line(do="concept", scheme=1, tag="en", text=f"Concept {number}")
 
 
 def posts(count, concepts):
-    """Requests that post so many records to the concepts in turn, from posting 1 on."""
+    """Requests that post this number of records to the concepts in turn, from posting 1 on."""
     for number in range(1, 1 + count):
         yield line(do="post", key=f"k{number}", record=f"r{number}", concept=2 + (number - 1) % concepts)
 
@@ -44,16 +82,16 @@ def spent():
 def run(script):
     """The seconds of CPU of one run, and what the program wrote."""
     before = spent()
-    ran = subprocess.run([PROGRAM, "script"], input=script, stdout=subprocess.PIPE, check=False)
+    ran = subprocess.run([built(), "script"], input=script, stdout=subprocess.PIPE, check=False)
     seconds = spent() - before
     if ran.returncode != 0:
         refused = next((it for it in ran.stdout.splitlines() if it[2:4] in (b"no", b"ba", b"fa")), b"")
-        sys.exit(f"{PROGRAM} script ended with {ran.returncode}: {refused.decode()}")
+        sys.exit(f"{built()} script ended with {ran.returncode}: {refused.decode()}")
     return seconds, ran.stdout
 
 
 def seconds_of(requests):
-    """The seconds of CPU of the fastest of some runs. Each request must be accepted."""
+    """The seconds of CPU of the fastest of several runs. Each request must be accepted."""
     requests = list(requests)
     script = "".join(requests).encode()
     best = None
@@ -66,14 +104,14 @@ def seconds_of(requests):
 
 
 def least(words, runs=RUNS, **streams):
-    """The seconds of CPU of the fastest of some runs of the program, none of which may meet a fault."""
+    """The seconds of CPU of the fastest of several runs of the program, none of which may meet a fault."""
     best = None
     for _ in range(runs):
         before = spent()
-        ran = subprocess.run([PROGRAM, *map(str, words)], stdout=subprocess.DEVNULL, check=False, **streams)
+        ran = subprocess.run([built(), *map(str, words)], stdout=subprocess.DEVNULL, check=False, **streams)
         seconds = spent() - before
         if ran.returncode > 1:
-            sys.exit(f"{PROGRAM} {' '.join(map(str, words))} ended with {ran.returncode}")
+            sys.exit(f"{built()} {' '.join(map(str, words))} ended with {ran.returncode}")
         best = seconds if best is None else min(best, seconds)
     return best
 
@@ -82,7 +120,7 @@ def store_of(requests, path):
     """Makes a store in a file by these requests, none of which may be refused, and returns the seconds of CPU."""
     script = "".join(requests).encode()
     before = spent()
-    ran = subprocess.run([PROGRAM, "--db", path, "script"], input=script, stdout=subprocess.DEVNULL, check=False)
+    ran = subprocess.run([built(), "--db", path, "script"], input=script, stdout=subprocess.DEVNULL, check=False)
     if ran.returncode != 0:
         sys.exit(f"the requests of {path} were not all performed: status {ran.returncode}")
     return spent() - before
@@ -102,8 +140,9 @@ def ask(port, method, path, body=None):
 def serving(store, asked):
     """The seconds of CPU of the program that serves these requests, with its start."""
     port = free_port()
-    words = [PROGRAM, "--db", store, "serve", "--port", str(port), "--count", str(len(asked))]
-    server = subprocess.Popen(words, stdout=subprocess.PIPE)
+    server = subprocess.Popen(
+        [built(), "--db", store, "serve", "--port", str(port), "--count", str(len(asked))], stdout=subprocess.PIPE
+    )
     if server.stdout.readline() != f"listening on 127.0.0.1:{port}\n".encode():
         sys.exit("serve did not listen")
     for method, path, body in asked:
@@ -114,18 +153,42 @@ def serving(store, asked):
     return used.ru_utime + used.ru_stime
 
 
-def build():
-    """Builds the program, so that no run is timed with its build."""
-    subprocess.run([LAUNCHER, "--help"], stdout=subprocess.DEVNULL, check=True)
+def machine():
+    """The processor and the system of this machine."""
+    model = re.search(r"^model name\s*: (.*)$", pathlib.Path("/proc/cpuinfo").read_text(encoding="utf-8"), re.M)
+    return f"{os.cpu_count()} cores of {model[1] if model else platform.machine()}, {platform.system()}"
 
 
-def report(rows, bounds):
-    """Prints what was measured, and ends with 1 where it is past a bound. A bound is a name, a value and its most."""
-    for name, seconds in rows:
-        print(f"{name}: {seconds:.3f} s")
-    status = 0
-    for name, value, most in bounds:
-        held = value <= most
-        print(f"{name}: {value:.2f} (at most {most}): {'held' if held else 'NOT HELD'}")
-        status = status if held else 1
-    sys.exit(status)
+def commit():
+    """The commit of the sources, and whether a crate differs from it."""
+    git = lambda *words: subprocess.run(["git", "-C", HOME, *words], capture_output=True, text=True, check=False).stdout.strip()
+    changed = " with changes" if git("status", "--porcelain", "--", "crates", "crates.txt") else ""
+    return f"commit {git('rev-parse', '--short=8', 'HEAD')}{changed}"
+
+
+def with_section(page, command, text):
+    """A page of results with this text as the section of a command: in the place of its former one, or else by its name."""
+    head, *sections = re.split(r"^(?=## )", page, flags=re.M)
+    found = {re.match(r"## `(.*)`\n", it)[1]: it.rstrip("\n") for it in sections}
+    found[command] = f"## `{command}`\n\n{text.strip()}"
+    return "\n\n".join([head.rstrip("\n"), *(found[it] for it in sorted(found))]) + "\n"
+
+
+def section(measured, load):
+    """The section of a script: when, of which program and where it was measured; and a row for each figure."""
+    today = datetime.datetime.now(datetime.timezone.utc).date()
+    rows = [f"| {it.name} | {it.text()} | {it.bound()} |" for it in measured]
+    head = f"{today}, {commit()}; {machine()}; {load:.1f} other programs at work."
+    return "\n".join([head, "", "| What | Measured | At most |", "|---|---|---|", *rows])
+
+
+def report(measured):
+    """Prints what was measured, writes it into RESULTS.md with --write, and ends with 1 if a bound isn't held."""
+    for it in measured:
+        print(f"{it.name}: {it.text()}{f' (at most {it.bound()})' if it.bound() else ''}")
+    if "--write" in sys.argv[1:]:
+        # (the benchmark itself is one of the programs at work)
+        load = max(0, os.getloadavg()[1] - 1)
+        command = f"bench/{pathlib.Path(sys.argv[0]).name}{' --db' if '--db' in sys.argv[1:] else ''}"
+        RESULTS.write_text(with_section(RESULTS.read_text(encoding="utf-8"), command, section(measured, load)), encoding="utf-8")
+    sys.exit(0 if all(it.is_held() for it in measured) else 1)

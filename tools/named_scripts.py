@@ -16,6 +16,8 @@ from thesaurus_tools import REFUSED, ToolError
 # What a request makes that has a name: a resource or a posting.
 MAKES = {"scheme": "resource", "concept": "resource", "collection": "resource", "outside": "resource", "split": "resource", "post": "posting"}
 RESOURCE_MEMBERS = {"scheme", "owner", "a", "b", "concept", "source", "target"}
+# What records of a journal begin with.
+RECORD_SIGNS = (b"#", b">", b"=", b"!")
 # The most bytes of a line.
 LONGEST = 1_048_000
 
@@ -53,7 +55,10 @@ def parse_line(number: int, data: bytes, kinds: dict[str, str]) -> Line:
     """Returns the request of a line, and notes in `kinds` what its name is given to. Raises ValueError if it is none."""
     if len(data) > LONGEST:
         raise ValueError("the line is too long")
-    text = data.decode("utf-8").strip()
+    try:
+        text = data.decode("utf-8").strip()
+    except UnicodeDecodeError:
+        raise ValueError("no UTF-8") from None
     request = json.loads(text)
     if not isinstance(request, dict):
         raise ValueError("no JSON object")
@@ -132,13 +137,15 @@ class Journal:
         """Reads the records, and cuts off one that a crash left unfinished."""
         data = path.read_bytes()
         whole = data.rfind(b"\n") + 1
-        os.ftruncate(self.file, whole)
-        os.lseek(self.file, 0, os.SEEK_END)
         for number, record in enumerate(data[:whole].split(b"\n")[:-1], 1):
             try:
                 self.read_record(*record.decode().split(" ", 2))
             except (ValueError, TypeError, IndexError, KeyError):
-                raise ToolError(f"{path}:{number}: no record of a journal") from None
+                raise ToolError(f"{path}:{number}: no record of a journal", REFUSED) from None
+        if data[whole:whole + 1] not in (*RECORD_SIGNS, b""):
+            raise ToolError(f"{path}: no journal", REFUSED)
+        os.ftruncate(self.file, whole)
+        os.lseek(self.file, 0, os.SEEK_END)
 
     def read_record(self, sign: str, first: str, rest: str = "") -> None:
         if sign == "#":

@@ -97,7 +97,7 @@ def owner(block):
     """Returns what a check calls the block of a method: the type, and behind it the trait with its arguments."""
     head = re.split(r"\{|\bwhere\b", block)[0]
     parameters = []
-    match = re.match(r"impl<((?:[^<>]|<[^<>]*>)*)>", head)
+    match = re.match(r"impl<((?:[^<>]|<(?:[^<>]|<[^<>]*>)*>)*)>", head)
     if match:
         parameters = [re.sub(r"[^\w'].*", "", it.strip()) for it in match[1].split(",")]
         head = head[match.end() :]

@@ -142,6 +142,8 @@ def clauses_below(lines, at):
         if is_clause or inside > 0:
             inside = line.count("{") - line.count("}") + (0 if is_clause else inside)
             text.append(line)
+            if inside <= 0 and line.rstrip().endswith(";"):
+                break
         elif line.strip() in ("{", "{}") or line.rstrip().endswith((";", "{", "{}")):
             break
     return "\n".join(text)

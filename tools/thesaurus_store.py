@@ -4,21 +4,18 @@ from __future__ import annotations
 
 import argparse
 import contextlib
-import fcntl
 import json
-import os
 import re
 import shutil
 import sqlite3
-import sys
 import tempfile
 from collections import Counter, defaultdict
-from collections.abc import Callable, Iterable, Iterator
+from collections.abc import Iterable, Iterator
 from functools import cached_property
 from pathlib import Path
-from typing import NamedTuple, NoReturn
+from typing import NamedTuple
 
-from thesaurus_tools import DCTERMS, DONE, FAULT, OWL, RDF, REFUSED, SKOS, USAGE, Iri, Literal, Server, ToolError, Triple, parse_ntriples
+from thesaurus_tools import DCTERMS, OWL, RDF, REFUSED, SKOS, USAGE, Iri, Literal, Server, ToolError, Triple, lock_file, parse_ntriples
 
 RESOURCE_KINDS = ("scheme", "concept", "collection")
 LABEL_KINDS = ("pref", "alt", "hidden", "scope")
@@ -39,8 +36,7 @@ LINK_PROPERTIES = {
 }
 CLASSES = {"ConceptScheme": "scheme", "Concept": "concept", "Collection": "collection"}
 
-# The bytes of a file that SQLite locks, and the size of a log without a whole page: its header, a page's header, the least page.
-LOCK_START, LOCK_SIZE = 0x40000002, 510
+# The size of a log without a whole page: its header, a page's header, the least page.
 EMPTY_LOG = 32 + 24 + 512
 
 # A resource of the store by its number, or another publisher's concept by its IRI.
@@ -227,14 +223,6 @@ class Store:
 
 
 # --- a store in a file ---
-
-
-def lock_file(file, path: Path | str) -> None:
-    """Locks a store for reading as SQLite does, until the file is closed. Raises ToolError if a program has it."""
-    try:
-        fcntl.lockf(file, fcntl.LOCK_SH | fcntl.LOCK_NB, LOCK_SIZE, LOCK_START)
-    except OSError:
-        raise ToolError(f"{path}: another program has it open: end that program, read a copy, or use --http") from None
 
 
 @contextlib.contextmanager
@@ -458,7 +446,7 @@ def moves_in(view: dict) -> list[Move]:
     return [Move(move, view["number"], source, target) for move, source, target in view["moves"]]
 
 
-# --- opening, and ends ---
+# --- opening ---
 
 
 def add_store_arguments(parser: argparse.ArgumentParser, default=None) -> None:
@@ -491,23 +479,3 @@ def open_store(given: argparse.Namespace) -> Iterator[Store]:
 def languages(text: str) -> list[str]:
     """Returns the tags in an argument as en,de."""
     return [it for it in text.lower().replace(" ", "").split(",") if it]
-
-
-def run(name: str, main: Callable[[], int]) -> NoReturn:
-    """Runs a tool, reports the error that ends it, and exits with its status."""
-    try:
-        status = main()
-        sys.stdout.flush()
-    except ToolError as error:
-        print(f"{name}: {error}", file=sys.stderr)
-        status = error.status
-    except BrokenPipeError:
-        # The reader of the output has enough. What is still to be written goes nowhere.
-        os.dup2(os.open(os.devnull, os.O_WRONLY), sys.stdout.fileno())
-        status = DONE
-    except OSError as error:
-        print(f"{name}: {error}", file=sys.stderr)
-        status = FAULT
-    except KeyboardInterrupt:
-        status = 130
-    sys.exit(status)

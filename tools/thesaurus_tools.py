@@ -4,7 +4,9 @@ from __future__ import annotations
 import argparse
 import base64
 import contextlib
+import fcntl
 import http.client
+import io
 import json
 import os
 import re
@@ -15,10 +17,14 @@ import sys
 import tempfile
 import time
 import urllib.parse
-from collections.abc import Iterable, Iterator
+from collections import Counter
+from collections.abc import Callable, Iterable, Iterator
 from dataclasses import dataclass, field
 from pathlib import Path
-from typing import NamedTuple
+from typing import NamedTuple, NoReturn
+
+if sys.version_info < (3, 11):
+    sys.exit(f"{sys.argv[0]}: it needs Python 3.11 or later, and {sys.executable} is {sys.version.split()[0]}")
 
 RDF = "http://www.w3.org/1999/02/22-rdf-syntax-ns#"
 SKOS = "http://www.w3.org/2004/02/skos/core#"
@@ -27,7 +33,7 @@ DCTERMS = "http://purl.org/dc/terms/"
 XSD = "http://www.w3.org/2001/XMLSchema#"
 
 # Exit statuses of every tool.
-DONE, REFUSED, USAGE, FAULT = 0, 1, 2, 3
+DONE, REFUSED, USAGE, FAULT, INTERRUPTED = 0, 1, 2, 3, 130
 
 
 class ToolError(Exception):
@@ -36,6 +42,40 @@ class ToolError(Exception):
     def __init__(self, text: str, status: int = FAULT):
         super().__init__(text)
         self.status = status
+
+
+def run(name: str, main: Callable[[], int]) -> NoReturn:
+    """Runs a tool, reports the error that ends it, and exits with its status. What it prints is UTF-8, whatever the terminal has."""
+    if sys.stdout is None:
+        sys.stdout = open(os.devnull, encoding="utf-8")  # so that a write fails
+    sys.stderr = sys.stderr or open(os.devnull, "w", encoding="utf-8")
+    for stream in (sys.stdout, sys.stderr):
+        stream.reconfigure(encoding="utf-8", errors="backslashreplace")
+    try:
+        status = main()
+        sys.stdout.flush()
+    except ToolError as error:
+        status = say(name, str(error), error.status)
+    except BrokenPipeError:
+        status = DONE  # the reader of the output has enough
+    except io.UnsupportedOperation:
+        status = say(name, "standard output is closed", FAULT)
+    except OSError as error:
+        status = say(name, f"{error.filename}: {error.strerror}" if error.filename else str(error.strerror or error), FAULT)
+    except KeyboardInterrupt:
+        status = say(name, "interrupted", INTERRUPTED)
+    try:
+        sys.stdout.flush()
+    except OSError:
+        # What is still to be written goes nowhere.
+        os.dup2(os.open(os.devnull, os.O_WRONLY), sys.stdout.fileno())
+    sys.exit(status)
+
+
+def say(name: str, text: str, status: int = DONE) -> int:
+    """Reports something on standard error, and returns a status."""
+    print(f"{name}: {text}", file=sys.stderr, flush=True)
+    return status
 
 
 # --- N-Triples ---
@@ -123,6 +163,8 @@ def parse_ntriples(data: bytes, name: str) -> Iterator[Triple]:
     for number, line in enumerate(re.split(rb"\r\n|\n|\r", data), 1):
         try:
             triple = parse_statement(line.decode("utf-8"))
+        except UnicodeDecodeError:
+            raise ToolError(f"{name}:{number}: no UTF-8", REFUSED) from None
         except ValueError as error:
             raise ToolError(f"{name}:{number}: {error}", REFUSED) from None
         if triple:
@@ -149,6 +191,29 @@ MOST_LINES = 900_000
 # How many seconds a store may stay locked by a run that is about to end.
 PATIENCE = 20
 LOCKED = b"thesaurus: fault Store\n"
+IN_USE = "another program has it open: end that program, or use --http URL if it serves"
+# The bytes of a store that SQLite locks for reading.
+LOCK_START, LOCK_SIZE = 0x40000002, 510
+
+
+def lock_file(file, path: Path | str) -> None:
+    """Locks a store for reading as SQLite does, until the file is closed. Raises ToolError if a program has it."""
+    try:
+        fcntl.lockf(file, fcntl.LOCK_SH | fcntl.LOCK_NB, LOCK_SIZE, LOCK_START)
+    except (BlockingIOError, PermissionError):
+        raise ToolError(f"{path}: {IN_USE}") from None
+
+
+def is_in_use(path: Path) -> bool:
+    """Whether a program has a store open."""
+    try:
+        with open(path, "rb") as file:
+            lock_file(file, path)
+    except OSError:
+        return False
+    except ToolError:
+        return True
+    return False
 
 
 def find_program(given: str | None = None) -> str:
@@ -179,7 +244,7 @@ class Script:
 
     def open(self) -> None:
         """Starts the program, and waits while another run has the store."""
-        end = time.monotonic() + PATIENCE
+        end, waits, tries = time.monotonic() + PATIENCE, 0, 0
         while True:
             self.errors = tempfile.TemporaryFile()
             self.run = subprocess.Popen([*self.words, "script"], stdin=subprocess.PIPE, stdout=subprocess.PIPE, stderr=self.errors, bufsize=0)
@@ -189,8 +254,15 @@ class Script:
                 self.ask({"get": "totals"})
                 return
             except ToolError:
-                if not (self.db and self.db.exists() and self.said().endswith(LOCKED)) or time.monotonic() > end:
+                # (the other run may have ended since)
+                is_used, tries = self.db and is_in_use(self.db), tries + 1
+                if not self.said().endswith(LOCKED) or not is_used and tries > waits + 1:
                     raise
+                if time.monotonic() > end:
+                    raise ToolError(f"{self.db}: {IN_USE}") from None
+            if is_used and not waits:
+                say(Path(sys.argv[0]).name, f"{self.db}: another program has it open; waiting up to {PATIENCE} seconds")
+            waits += bool(is_used)
             time.sleep(0.2)
 
     def said(self) -> bytes:
@@ -384,6 +456,11 @@ class Finding(NamedTuple):
     rule: str
     resource: str
     what: str
+
+    def group(self) -> str:
+        """Returns what kind of thing is lost, such as `notation`; "" for a rule that is broken."""
+        words = self.what.split()
+        return " ".join(words[: 2 if words[0] in ("a", "the", "column") else 1]).strip(":") if self.rule == "lost" else ""
 
 
 @dataclass
@@ -684,36 +761,62 @@ def add_converter_options(parser: argparse.ArgumentParser) -> None:
     parser.add_argument("-o", "--output", type=Path, metavar="FILE", help="write the script to this file, and not to standard output")
 
 
-def print_findings(vocabulary: Vocabulary, given: argparse.Namespace, tool: str) -> None:
-    """Prints the findings by rule."""
+# How many findings of a rule are listed, and how many of one kind of thing that is lost; how many characters of each.
+SHOWN, SHOWN_OF_KIND, LONGEST_SHOWN = 10, 3, 200
+# Options that keep what is left out otherwise, by the rule or by what is lost.
+KEPT_BY = {
+    "BadText": "--texts trim", "BadTag": "--lang TAG", "P1": "--qualify parent", "NoScheme": "--scheme TEXT",
+    "notation": "--hidden-codes TAG",
+    **{it: f"--as-scope {it}" for it in ("definition", "example", "note", "historyNote", "editorialNote", "changeNote")},
+}
+
+
+def print_findings(vocabulary: Vocabulary, given: argparse.Namespace, tool: str, options: str) -> None:
+    """Prints the findings by rule, and which of the tool's options would keep what is left out."""
     by_rule: dict[str, list[Finding]] = {}
     for it in dict.fromkeys(vocabulary.findings):
         by_rule.setdefault(it.rule, []).append(it)
     for rule, found in by_rule.items():
-        shown = found if given.all else found[:10]
+        shown = found if given.all else first_findings(found)
         for it in shown:
-            print(f"{tool}: {rule}: {vocabulary.places.get(it.resource, it.resource)}: {it.what}", file=sys.stderr)
+            what = it.what if len(it.what) <= LONGEST_SHOWN or given.all else f"{it.what[:LONGEST_SHOWN]} .."
+            say(tool, f"{rule}: {vocabulary.places.get(it.resource, it.resource)}: {what}")
         if len(found) > len(shown):
-            print(f"{tool}: {rule}: and {len(found) - len(shown)} more; --all lists them", file=sys.stderr)
+            say(tool, f"{rule}: and {len(found) - len(shown)} more; --all lists them")
     if vocabulary.changed:
-        print(f"{tool}: {vocabulary.changed} texts were trimmed or cut", file=sys.stderr)
-    counts = ", ".join(f"{rule} {len(found)}" for rule, found in by_rule.items())
+        say(tool, f"{vocabulary.changed} texts were trimmed or cut")
+    kinds = dict.fromkeys(it.group() or it.rule for it in vocabulary.findings)
+    advice = ", ".join(f"{KEPT_BY[it]} ({it})" for it in kinds if KEPT_BY.get(it, "").split(" ")[0] in options.split())
     if by_rule:
-        print(f"{tool}: {'left out' if given.drop else 'nothing is written, and --drop would leave out'}: {counts}", file=sys.stderr)
+        left_out = "left out" if given.drop else "nothing is written, and --drop would leave out"
+        counts = ", ".join(count_findings(*it) for it in by_rule.items())
+        say(tool, f"{left_out}: {counts}{f'; options that keep more: {advice}' if advice else ''}")
+
+
+def first_findings(found: list[Finding]) -> list[Finding]:
+    """Returns the first findings of a rule; of what is lost the first of each kind."""
+    shown, counts = [], Counter()
+    for it in found:
+        counts[it.group()] += 1
+        if counts[it.group()] <= (SHOWN_OF_KIND if it.group() else SHOWN):
+            shown.append(it)
+    return shown
+
+
+def count_findings(rule: str, found: list[Finding]) -> str:
+    """Returns a rule with the number of its findings, and of each kind of thing that is lost."""
+    kinds = ", ".join(f"{kind} {count}" for kind, count in Counter(it.group() for it in found).most_common() if kind)
+    return f"{rule} {len(found)}" + (f" ({kinds})" if kinds else "")
 
 
 def write_script(vocabulary: Vocabulary, given: argparse.Namespace, tool: str) -> int:
     """Prints the findings, writes the script if it may be written, and returns the exit status."""
-    print_findings(vocabulary, given, tool)
+    print_findings(vocabulary, given, tool, " ".join(f"--{it.replace('_', '-')}" for it in vars(given)))
     if vocabulary.findings and not given.drop:
         return REFUSED
     data = b"".join(encode(it) for it in ScriptWriter(vocabulary).requests())
-    try:
-        if given.output:
-            given.output.write_bytes(data)
-        else:
-            sys.stdout.buffer.write(data)
-            sys.stdout.buffer.flush()
-    except OSError as error:
-        raise ToolError(f"{given.output or 'standard output'}: {error.strerror}") from None
+    if given.output:
+        given.output.write_bytes(data)
+    else:
+        sys.stdout.buffer.write(data)
     return DONE

@@ -1,5 +1,4 @@
 """Drives Chromium without a window, by its debugging protocol over two pipes."""
-import base64
 import contextlib
 import json
 import os
@@ -68,10 +67,6 @@ class Page:
     def type(self, text):
         """Types a text into what has the focus."""
         self.call("Input.insertText", text=text)
-
-    def picture(self):
-        """Returns a picture of what is seen, a PNG."""
-        return base64.b64decode(self.call("Page.captureScreenshot", format="png")["data"])
 
 
 @contextlib.contextmanager

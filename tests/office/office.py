@@ -1,8 +1,11 @@
 """What the tests of the tools share: running a tool, scripts with names, and stores and exports made of the plain program's state."""
 import contextlib
 import json
+import os
+import shutil
 import sqlite3
 import subprocess
+import sys
 from dice import Requests
 from plain import BASE, BROADER, Plain
 from plain_store import COLUMNS, LIMITS, rows_of
@@ -20,10 +23,19 @@ BOTH_WAYS = {"related": "related", "exact": "exactMatch", "close": "closeMatch",
 ONE_WAY = {"broad": "broadMatch", "narrow": "narrowMatch", "member": "member"}
 
 
-def tool(name, *words, given=None):
-    """Runs a tool with these words and this standard input, and returns how it ended."""
-    ran = subprocess.run([TOOLS / name, *map(str, words)], input=given, capture_output=True, check=False)
+def tool(name, *words, given=None, program_in=None):
+    """Runs a tool with these words and this standard input, and returns how it ended. It finds the program in a folder, if one is given."""
+    environment = {**os.environ, "PATH": f"{program_in}:{os.environ['PATH']}"} if program_in else None
+    ran = subprocess.run([TOOLS / name, *map(str, words)], input=given, capture_output=True, check=False, env=environment)
     return Ended(ran.returncode, ran.stdout, ran.stderr)
+
+
+def python_with_rdflib():
+    """An interpreter that has rdflib: this one, or the system's; None if neither has it."""
+    for python in (sys.executable, "/usr/bin/python3"):
+        if shutil.which(python) and subprocess.run([python, "-c", "import rdflib"], capture_output=True, check=False).returncode == 0:
+            return python
+    return None
 
 
 # --- scripts with names ---

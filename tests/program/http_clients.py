@@ -5,6 +5,7 @@ import re
 import socket
 import struct
 import time
+from concurrent.futures import ThreadPoolExecutor
 from pathlib import Path
 from http_rows import BAD_HEAD, BROADER, CODING, CONFLICT, CUT, SIZES, START, TOO_LONG, TOTAL, asked, bad, get, post
 from program import lines_of, over
@@ -13,8 +14,11 @@ from serving import serving
 MILLION = 1_000_000
 # Bounds on what a server reads after an answer, in bytes and in seconds.
 MOST, SECONDS = 2_000 * MILLION, 20
-# A write waits for 30 seconds at most, and again if it was taken in part, which happens two or three times.
-PATIENCE = 300
+# An answer is given up after 30 seconds, and one more for each 100,000 bytes of it that were taken, some of them by the system's buffers.
+PATIENCE = 120
+# The seconds between bytes that drip, after an answer and within a request; how long a client may take, and what may be measured beyond it.
+PAUSES = (0.001, 0.0035, 0.01)
+SEEN_OFF, ALLOWED, SLACK = 2, 30, 8
 # Bounds on the growth of the peak memory, in KiB: without a body, and with a body of 16 MiB.
 LITTLE, BODY = 2_000, 64_000
 ANNOUNCED = 16_777_216
@@ -34,7 +38,7 @@ def long_ones():
 
 
 # How many clients there are.
-CASES = len(list(long_ones())) + 3 + 10 + 2 * len(GONE) + 1 + 2
+CASES = len(list(long_ones())) + 2 + 2 * len(PAUSES) + 10 + 2 * len(GONE) + 1 + 3
 
 
 def connected(served):
@@ -62,15 +66,33 @@ def without_end(served):
         yield f"a client that sends without end could send {sent} bytes"
 
 
-def now_and_then(served):
-    """A client that sends a byte now and then."""
+def drip(client, pause):
+    """Sends a byte after each pause, until the server closes the connection or a good while has passed."""
     began = time.monotonic()
-    with told_too_long(served) as client:
-        while time.monotonic() - began < SECONDS:
-            client.send(b" ")
-            time.sleep(0.01)
-    if time.monotonic() - began >= SECONDS:
-        yield "a client that sends a byte now and then holds the server"
+    while time.monotonic() - began < PATIENCE:
+        client.send(b" ")
+        time.sleep(pause)
+
+
+def now_and_then(served):
+    """Clients that send a byte now and then after their answers are seen off in two seconds."""
+    for pause in PAUSES:
+        began = time.monotonic()
+        with told_too_long(served) as client:
+            drip(client, pause)
+        if time.monotonic() - began >= SEEN_OFF + SLACK:
+            yield f"a client that sends a byte each {pause} seconds after its answer holds the server for {time.monotonic() - began:.0f}"
+
+
+def dripping(served):
+    """Clients whose body drips have thirty seconds, and nothing is performed."""
+    for pause in PAUSES:
+        began = time.monotonic()
+        with connected(served) as client, contextlib.suppress(ConnectionResetError, BrokenPipeError):
+            client.sendall(post("/import", b"", ANNOUNCED))
+            drip(client, pause)
+        if not ALLOWED - 1 <= time.monotonic() - began < ALLOWED + SLACK:
+            yield f"a body of which a byte comes each {pause} seconds holds the server for {time.monotonic() - began:.0f}"
 
 
 def stays(served):
@@ -126,7 +148,7 @@ def patient(served):
         if told != wanted:
             yield f"{head[:80]} and {len(more)} bytes more: {told[:200]}"
         yield from next_one(served, "that sends much")
-    for client in (without_end, now_and_then, stays, announces, goes_away):
+    for client in (without_end, now_and_then, dripping, stays, announces, goes_away):
         yield from client(served)
         yield from next_one(served, client.__name__)
     yield from memory(served, least, LITTLE)
@@ -161,6 +183,29 @@ def unread(room):
             client.recv(1000)
         if served.answer(get("/totals")) != TOTAL:
             yield "behind a client that went away within its answer: another answer"
+
+
+def late_and_unread(room):
+    """A client that takes its time for its request, and then doesn't read its answer, holds the next one up for both times and a second for
+    each 100,000 bytes that the system took, and no longer."""
+    path, late = room / "late.db", ALLOWED - 2
+    over(path, "script", lines_of([START[0], *({**START[1], "text": f"Concept {n}"} for n in range(CONCEPTS))]))
+    with serving(path, 2) as served, socket.socket() as client, ThreadPoolExecutor(1) as pool:
+        client.setsockopt(socket.SOL_SOCKET, socket.SO_RCVBUF, 4096)
+        client.connect(("127.0.0.1", served.port))
+        client.sendall(get("/export")[:-1])
+        began = time.monotonic()
+        next_one = pool.submit(served.answer, get("/totals"), patience=PATIENCE)
+        time.sleep(late)
+        client.sendall(get("/export")[-1:])
+        told, waited, taken = next_one.result(), time.monotonic() - began, 0
+        with contextlib.suppress(ConnectionResetError):
+            while more := client.recv(65536):
+                taken += len(more)
+        most = late + ALLOWED + taken / 100_000
+        print(f"a client that is late and doesn't read its answer: {waited:.1f} s, at most {most:.1f}, {taken} bytes taken")
+        if told != TOTAL or not late + ALLOWED - 1 <= waited < most + SLACK:
+            yield f"a client that is late and doesn't read its answer holds the next one up for {waited:.1f} s, not {most:.1f}: {told}"
 
 
 def wrong_answers(room):

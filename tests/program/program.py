@@ -49,9 +49,9 @@ def over(path, command, given=b"", *options, after=(), **how):
     return run(["--db", path, *options, command, *after], given, built(), **how)
 
 
-def fault(path, name):
-    """How the program ends if the store in a file has a fault."""
-    return Ended(3, b"", f"thesaurus: store {path}\nthesaurus: fault {name}\n".encode())
+def fault(path, name, why=""):
+    """How the program ends if the store in a file has a fault; Store has a reason."""
+    return Ended(3, b"", f"thesaurus: store {path}{why and f': {why}'}\nthesaurus: fault {name}\n".encode())
 
 
 def text_of(value):
