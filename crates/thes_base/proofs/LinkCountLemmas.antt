@@ -1,4 +1,4 @@
--- A merge leaves at most as many links as there were.
+-- A merge doesn't raise the number of links.
 use Rattle.std.proofs.Common.{◌≡◌, ◌≤◌, ◌+◌, ℕ, List, [], ◌∷◌, inl, inr, sym, ap, ◌∙◌, arith, Bool, true, false, cond}
 use Rattle.std.proofs.Common.{not, map}
 use Rattle.std.specs.Prelude.{◌==◌, filter}
