@@ -114,7 +114,7 @@ label_bad vocab broken = (
       (subst (LabelRule t.resource) same rule).legal.named)),
 )
 
--- Each outside concept has an IRI since the end of table outside, so this branch can't be reached.
+-- Since each outside concept has an IRI after the end of table outside, this branch can't be reached.
 pub label_without : (vocab : Vocabulary) → (HaveIris vocab → ⊥) → Closes (stage.Label vocab)
     (stage.Stopped (BadStore table.Label) table.Link)
 label_without vocab broken = (

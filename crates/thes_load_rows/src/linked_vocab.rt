@@ -1,4 +1,4 @@
-//! A loaded vocabulary, with the links loaded so far.
+//! A loaded vocabulary, with the links of the tables link and hier loaded so far.
 ghost use Rattle.std.specs.Prelude.{◌≡◌, List, [], IfOk, map};
 ghost use Rattle.thes_base.specs.declared.data.Link.{Link};
 ghost use Rattle.thes_tables.specs.declared.rows.HierRow.{HierRow};
@@ -13,7 +13,7 @@ use std::alloc::{AllocError, Global};
 use thes_tables::cells::Cell;
 use thes_vocab::Vocab;
 
-/// A loaded vocabulary, with the links of the rows read so far.
+/// A loaded vocabulary, with the links of the rows of the tables link and hier read so far.
 #[derive(Drop)]
 pub struct LinkedVocab {
     pub vocab: Vocab,
@@ -22,7 +22,7 @@ pub struct LinkedVocab {
 }
 
 impl LinkedVocab {
-    /// Creates a load over a vocabulary, without links.
+    /// Creates a linked vocabulary without links.
     pub fn new(alloc: Global, vocab: Vocab) -> Result<LinkedVocab, AllocError>
         ensures same { IfOk result (λ linked_vocab. linked_vocab.vocab ≡ vocab) }
         ensures none { IfOk result (λ linked_vocab.

@@ -17,7 +17,7 @@ use thes_base::number::{PostNo, ResNo};
 use thes_tables::cells::Cell;
 use thes_tables::rows::MoveRow;
 
-/// The number of rows of table move read so far, and the place of each posting after them.
+/// The number of rows of table move read so far, and the place of each posting after their moves.
 #[derive(Drop)]
 pub struct MoveLoad {
     pub places: Vec<ResNo>,
@@ -122,7 +122,7 @@ impl MoveLoad {
     }
 }
 
-// Checks whether `places` has each stored place at the same index.
+// Checks whether each stored place is at the same index in `places`.
 fn has_stored_places(places: &[ResNo], stored_places: &[ResNo]) -> bool
     ensures { IsTrue result ↔ HasStoredPlaces places.now stored_places.now }
 {
