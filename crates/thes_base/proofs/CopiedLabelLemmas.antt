@@ -33,7 +33,8 @@ name_of labels owner Hidden tag text n h = or_right _ _ h
 name_of labels owner Scope tag text n h = absurd (cc)
 
 module _ (rs : List Resource) (labels : Labels) (source target : ℕ) where
-  -- The label is one that a merge copies: the source has it as a lexical label, and the target has its text as none.
+  -- The label is one that a merge copies: the source has it as a lexical label, and the target has no lexical label
+  -- with its tag and text.
   pub record IsLabelToCopy (l : Label) : Type 0 where
     pub held : contains labels l ≡ true
     pub owner : l.owner ≡ source

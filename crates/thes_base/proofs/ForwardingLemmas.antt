@@ -108,7 +108,8 @@ module _ (rs : List Resource) where
   within_none (suc steps) m e =
       ap (λ (o : Option ℕ). elim o [ None ↦ [] | Some k ↦ k ∷ replacements_within rs steps k ]) e
 
-  -- Induction on the steps: a property of the empty path that each further step keeps holds of all replacements.
+  -- Induction on the steps: if the empty path has a property, and each further step keeps it, all paths of replacements
+  -- have it.
   by_steps : (P : ℕ → ℕ → List ℕ → Type 0) → ((from : ℕ) → P 0 from [])
       → ((steps from : ℕ) → replacement_of rs from ≡ None → P (suc steps) from [])
       → ((steps from n : ℕ) (way : List ℕ) → IsReplacedBy rs from n → P steps n way → P (suc steps) from (n ∷ way))

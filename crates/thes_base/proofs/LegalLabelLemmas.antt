@@ -97,7 +97,7 @@ module _ (rs : List Resource) (labels : Labels) (r : Resource) (tag text : List 
             (inserted_new labels new_label),
       )
 
--- An outside concept may not own labels.
+-- An outside concept can't own labels.
 pub outside_owns_none : MayOwn outside_resource → ⊥
 outside_owns_none (inl e) = cc
 outside_owns_none (inr (inl e)) = cc

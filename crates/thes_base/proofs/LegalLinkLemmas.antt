@@ -66,7 +66,7 @@ module _ (Few Many : Link → Type 0) (each : (l : Link) → Few l → Many l) w
             (joined_more disjoint_direction x y apart);
       }
 
--- Assumes that resources change, but keep what a link requires of its ends.
+-- A link stays legal if the resources change, but keep at its ends what a link requires.
 module _ (rs new : List Resource) (l : Link) where
   pub record StaysAt (n : ℕ) : Type 0 where
     pub concept : IsConcept rs n → IsConcept new n

@@ -157,7 +157,8 @@ count_set_numbered hs zero g h e same = absurd (cc)
 count_set_numbered hs (suc n) g h e same = ap (λ k. move_count (slice_set hs k h)) (let q : suc n - 1 ≡ n =
     omega arith in q) ∙ count_set hs n g h e same
 
--- The state after a withdrawal has the withdrawn history in place of the one with the number.
+-- In the state after a withdrawal, the history with the posting's number is marked as withdrawn, and the rest is
+-- unchanged.
 pub withdrawn_at : (s : State) (n : ℕ) (h : History) → entry_at s.histories n ≡ Some h → state_after_withdrawal n s
     ≡ record s { histories = set_entry_at s.histories n (history_after_withdrawal h) }
 withdrawn_at s n h e =
@@ -310,7 +311,7 @@ module _ (rs : List Resource) (hs : List History) (passes : History → Bool) (t
           subst (λ (x : History). AllMoves (λ m. m.number ≤ move_count moved_all) x.moves) (sym is)
           (all_moves _ _ (λ m l. omega (arith, l, grown)) h.moves (legal.numbers.bounded n h e))
 
-      -- Each old history has one after the moves, with the same number.
+      -- Each old history has a successor after the moves, with the same number.
       forward : (n : ℕ) (h : History) → entry_at hs n ≡ Some h → (new : History) × (entry_at moved_all n ≡ Some new)
           × (IsAfterMoveAt passes target start hs (n - 1) h new)
       forward zero h e = absurd (cc)
@@ -348,7 +349,8 @@ module _ (rs : List Resource) (hs : List History) (passes : History → Bool) (t
             (r.0, f.0, f.1, kept_has k (r.0 - 1) r.1 f.0 f.2 r.3)
       ]
 
-      -- A move after them is an old one, or the new move of a posting that passes the test.
+      -- The number of a move in the new histories is that of an old move, or of the new move of a posting that passes
+      -- the test.
       whose : (k n : ℕ) (new : History) → entry_at moved_all n ≡ Some new → HasMove k new.moves
           → ((h : History) × (entry_at hs n ≡ Some h) × HasMove k h.moves)
           ⊎ ((i : ℕ) × (n ≡ suc i) × (h : History) × (slice_get hs i ≡ Some h) × (passes h ≡ true)

@@ -25,7 +25,7 @@ pub path_map : {A : Type 0} → (S U : A → A → Type 0) → ((x y : A) → S 
 path_map S U each x [] y one = each x y one
 path_map S U each x (z ∷ zs) y path = (each x z path.0, path_map S U each z zs y path.1)
 
--- The number of a concept's or a collection's scheme is that of a scheme.
+-- In legal resources, the scheme of a concept or a collection is a resource of kind scheme.
 pub scheme_known : (rs : List Resource) → ((n : ℕ) (r : Resource) → entry_at rs n ≡ Some r → IsLegalResource rs n r)
     → (n m : ℕ) → IsConcept rs n ⊎ IsCollection rs n → scheme_of rs n ≡ Some m → IsScheme rs m
 scheme_known rs each n m (inl (r, at, hit)) within = let has = (each n r at).scheme (inl hit) in
@@ -33,7 +33,7 @@ scheme_known rs each n m (inl (r, at, hit)) within = let has = (each n r at).sch
 scheme_known rs each n m (inr (r, at, hit)) within = let has = (each n r at).scheme (inr hit) in
     subst (IsScheme rs) (same_Some _ _ (sym has.1 ∙ sym (scheme_at rs n r at) ∙ within)) has.2
 
--- A concept has a scheme.
+-- In legal resources, each concept has a scheme.
 pub own_scheme : (rs : List Resource) → ((n : ℕ) (r : Resource) → entry_at rs n ≡ Some r → IsLegalResource rs n r)
     → (n : ℕ) → IsConcept rs n → (m : ℕ) × (scheme_of rs n ≡ Some m) × IsScheme rs m
 own_scheme rs each n (r, at, hit) = let has = (each n r at).scheme (inl hit) in
@@ -158,7 +158,7 @@ module _ (base : List ℕ) (rs : List Resource) (iris : Iris) (r : Resource) (le
       → AreLegalResources base (rs ++ r ∷ []) iris
   resources_push few inside = push_fields few iris (iris_push inside)
 
-  -- The resources stay legal if an outside concept is created with an IRI that no other has.
+  -- The resources stay legal if an outside concept is created with a new IRI that doesn't begin with the base.
   pub resources_push_outside : (iri : List ℕ) → length rs + 1 < 2 ^ 32 → is_outside_kind r.kind ≡ true
       → (BeginsWith iri base → ⊥) → ((n : ℕ) → dict.get iris n ≢ Some iri) → AreLegalResources base (rs ++ r ∷ [])
       (dict.insert iris (length rs + 1) iri)

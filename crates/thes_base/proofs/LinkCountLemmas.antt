@@ -23,7 +23,7 @@ len_grows links l = elim (cases_Bool (set.contains links l)) [
   | inr fresh ↦ let e = len_new links l fresh in (omega (arith, e), omega (arith, e))
 ]
 
--- Maps the links of a list that pass a test, and collects the results in a set.
+-- The set of the images of those links of a list that pass a test.
 module _ (passes : Link → Bool) (send : Link → Link) where
   abbrev image : List Link → Links
   image ls = set.from_list (map send (filter passes ls))

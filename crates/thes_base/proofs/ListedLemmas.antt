@@ -52,7 +52,7 @@ numbered_from first (h ∷ hs) each = (
   numbered_from (first + 1) hs (λ i g at. let e = each (suc i) g at in omega (arith, e)),
 )
 
--- Numbered histories have no number outside their range, and each number of the range exactly once.
+-- Of numbered histories, none has a number outside their range, and exactly one has a given number of the range.
 module _ (n : ℕ) where
   abbrev has_number : History → Bool
   has_number h = eqb n h.number
@@ -74,7 +74,7 @@ module _ (n : ℕ) where
       let at = from.0 in
       count_miss h hs (ne_eqb n h.number (omega (arith, at))) ∙ count_above (first + 1) hs from.1 (omega arith)
 
-  -- Exactly one history has a number of the range.
+  -- Each number of the range is that of exactly one history.
   count_once : (first : ℕ) (hs : List History) → NumberedFrom first hs → first ≤ n → n < first + length hs
       → count_by has_number hs ≡ 1
   count_once first [] from least most = absurd (omega arith)

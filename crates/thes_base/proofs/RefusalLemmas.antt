@@ -166,7 +166,7 @@ module _ (base : List ℕ) (s : State) (legal : IsLegalState base s) where
             known.1,
       ))
 
-  -- The conditions agree with the rules after a merge.
+  -- The conditions on triples agree with the rules after a merge.
   merge_seen : (source target : ℕ) → unless_pair s.resources source target accepted None → RulesAgreeWithTriples base
       (state_after_merge source target s)
   merge_seen source target pair =
@@ -198,7 +198,7 @@ module _ (base : List ℕ) (s : State) (legal : IsLegalState base s) where
   owner_known : (l : Label) → contains s.labels l ≡ true → Exists s.resources l.owner
   owner_known l held = owner_exists s.resources l.owner (legal.labels.owners l held)
 
-  -- The conditions agree with the rules after a resource other than an outside concept is created.
+  -- The conditions on triples agree with the rules after a resource other than an outside concept is created.
   pushed_seen : (r : Resource) (tag text : List ℕ) (histories : List History) → IsFit s.resources r
       → is_outside_kind r.kind ≡ false → RulesAgreeWithTriples base
       (record (state_after_creation r tag text s) { histories = histories })
@@ -219,7 +219,7 @@ module _ (base : List ℕ) (s : State) (legal : IsLegalState base s) where
           (r, push_new s.resources r)
       owner_at l (inr old) = still l.owner (owner_known l old)
 
-  -- The conditions agree with the rules for other labels, if their owners exist.
+  -- The conditions on triples agree with the rules after a change of labels, if the owners of the new labels exist.
   relabelled_seen : (labels : Labels) → ((l : Label) → contains labels l ≡ true → Exists s.resources l.owner)
       → RulesAgreeWithTriples base (record s { labels = labels })
   relabelled_seen labels owners = triples_match_rules base (record s { labels = labels }) legal.resources held_ends

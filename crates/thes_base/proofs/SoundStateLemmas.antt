@@ -1,4 +1,4 @@
--- A sound state is legal, except that its texts may lack their forms. The machine is defined also for requests whose
+-- A sound state is legal, except that its texts may lack their forms. The machine is also defined for requests whose
 -- texts lack theirs.
 use Rattle.std.proofs.Common.{List, ℕ}
 use Rattle.thes_base.specs.State.{State}

@@ -1,4 +1,4 @@
--- The concepts to which postings are assigned in every reachable state.
+-- The assignment of postings to concepts that every reachable state has.
 use Rattle.std.specs.Prelude.{◌≡◌, ◌+◌, ℕ, zero, suc, List, [], ◌∷◌, false, length, Some, sum_by, filter}
 use Rattle.thes_base.specs.Types.{Number}
 use Rattle.thes_base.specs.declared.data.Resource.{Resource}

@@ -6,14 +6,14 @@ use Rattle.std.specs.FinSet.{insert}
 use Rattle.thes_base.specs.declared.data.Link.{Link}
 use Rattle.thes_base.specs.Links.{Links, Holds, HasEnd, IsBelow, IsExactMatch, links_after_merge}
 
--- An edit to check: a link added in normal form, a merge, or no change, where the links around a concept are checked.
+-- An edit to check: a link added in normal form, a merge, or a recheck of the links around a concept, without a change.
 pub data EditToCheck : Type 0 where
   Add : (new : Link) → EditToCheck
   Merge : (source target : Number) → EditToCheck
   Recheck : (pivot : Number) → EditToCheck
 
--- The concept is edited: it is the first end of the added link, the source or target of the merge, or the concept to
--- check around.
+-- The concept is edited: it is the first end of the added link, the source or target of the merge, or the concept
+-- around which the links are rechecked.
 abbrev pub IsEdited : EditToCheck → Number → Type 0
 IsEdited (Add new) n = n ≡ new.a
 IsEdited (Merge source target) n = (n ≡ source) ⊎ (n ≡ target)

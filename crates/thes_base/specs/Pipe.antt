@@ -45,13 +45,13 @@ pub record PaysCalls {T : Type 0} (old new : Pipe T) (before after : ℕ) : Type
   pub fell : after ≤ before
   pub calls : calls_of new ≡ calls_after (calls_of old) (before - after)
 
--- A call that used only this pipe kept to the limit.
+-- A call that used only this pipe stayed within the limit.
 pub record KeepsCallLimit {T : Type 0} (old new : Pipe T) : Type 0 where
   pub calls : ℕ
   pub within : calls ≤ calls_limit
   pub counts : calls_of new ≡ calls_after (calls_of old) calls
 
--- A call that used a reader and a writer kept to the limit on the sum of reads and writes.
+-- A call that used a reader and a writer stayed within the limit on the sum of reads and writes.
 pub record KeepsSharedCallLimit {R W : Type 0} (reader reader' : Pipe R) (writer writer' : Pipe W) : Type 0 where
   pub reads : ℕ
   pub writes : ℕ

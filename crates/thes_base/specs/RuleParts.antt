@@ -1,5 +1,5 @@
 -- Rules that check a part of a request, for the contracts of the functions that check these parts. They don't define
--- the rule of any request: Checks lists the checks of each. The name of each part states the condition on which it
+-- the rule of any request: Checks lists the checks of each. The name of each part states the condition under which it
 -- leaves the decision to the remaining rule.
 use Rattle.std.specs.Prelude.{◌≡◌, List, Some, true}
 use Rattle.std.specs.FinMap as dict
