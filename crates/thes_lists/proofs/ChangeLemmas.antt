@@ -32,7 +32,7 @@ module _ {A : Type 0} (old new : Lists A) (n : ℕ) (v : Vec A Global) (written 
     | inr apart ↦ changes_written.others m apart
   ]
 
-  -- Every list keeps its room for one more value, if the written list has such room whenever the old one had it.
+  -- Each list keeps its room for one more value, if the written list has such room whenever the replaced one did.
   rooms_written : (HasSpare old n → IsRoomy v) → KeepsSpare old new
   rooms_written keeps m room = elim (cases_eq m n) [
     | inl here ↦ subst (HasSpare new) (sym here)
@@ -51,7 +51,7 @@ module _ {A : Type 0} (old new : Lists A) (n : ℕ) (v : Vec A Global) (written 
         more : IsRoomy before → IsRoomy v
         more room = omega arith
 
--- Assumes that number n has a list, in place of which the list v is written.
+-- Assumes that number n has a list, and that the list v replaces it.
 module _ {A : Type 0} (lists : Lists A) (n i : ℕ) (at : i ≡ n) (found : ltb i (length lists.lists.items) ≡ true)
     (v : Vec A Global) where
   inside : i < length lists.lists.items

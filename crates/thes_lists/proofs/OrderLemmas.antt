@@ -114,7 +114,8 @@ module _ {A : Type 0} (c : A → A → Ordering) (o : IsTotalOrder c) where
     λ k d low lt. above (suc k) d (omega arith) (omega arith),
   )
 
-  -- Inserting a missing value at the place where a binary search ended is inserting it in order.
+  -- If a list doesn't have a value, inserting it where a binary search ended gives the same list as inserting it in
+  -- order.
   pub insert_missing : (ks : List A) (i : ℕ) (x : A) → i ≤ length ks → IsInsertionPoint ks x i → insert ks i x
       ≡ insert_key c ks x
   insert_missing [] zero x within is = refl
