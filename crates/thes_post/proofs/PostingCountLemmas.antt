@@ -33,7 +33,8 @@ pub stands_parts : (c : ℕ) (h : History) → is_assigned_to c h ≡ true → (
 stands_parts c h s = let parts = and_parts (not h.withdrawn) (eqb (place h) c) s in
     (not-true h.withdrawn parts.0, eqb-true (place h) c parts.1)
 
--- If a history is replaced, the number of histories that pass a test changes by whether the old and the new one pass.
+-- If a history is replaced, the number of histories that pass a test falls by one if the old one passes, and rises by
+-- one if the new one does.
 count_set : (test : History → Bool) (hs : List History) (i : ℕ) (h new : History) → slice_get hs i ≡ Some h
     → count_by test (slice_set hs i new) + cond (test h) 1 0 ≡ count_by test hs + cond (test new) 1 0
 count_set test [] i h new e = absurd (cc)
