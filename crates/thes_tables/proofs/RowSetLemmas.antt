@@ -97,7 +97,7 @@ once_push (y ∷ xs) x new once = (
   once_push xs x (λ h. new (inr h)) once.1,
 )
 
--- If rows list a property, the rows with an element appended list the property that holds also of this element.
+-- If rows list a property, the rows with an element appended list the property that also holds of this element.
 pub lists_push : {K : Type 0} {Has More : K → Type 0} (rows : List K) (k : K) → (Has k → ⊥)
     → ((q : K) → More q → (q ≡ k) ⊎ Has q) → More k → ((q : K) → Has q → More q) → IsUnsortedListing Has rows
     → IsUnsortedListing More (rows ++ k ∷ [])

@@ -1,4 +1,4 @@
--- The tables after changes of rows, and the conditions on which a change can be applied.
+-- The tables after changes of rows, and the conditions under which a change can be applied.
 use Rattle.std.specs.Prelude.{◌≡◌, ◌≢◌, ◌<◌, ◌+◌, ℕ, List, [], ◌∷◌, ◌++◌, map, if◌then◌else◌, ◌==◌, true, not, ◌&&◌}
 use Rattle.std.specs.Prelude.{length, Some, None, filter}
 use Rattle.std.specs.declared.cmp.Ordering.{Ordering}

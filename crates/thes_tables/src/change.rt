@@ -32,7 +32,7 @@ pub enum Change {
     DropHier(HierRow),
     /// Inserts the row of a posting; the posting has the next number.
     AddPosting(PostingRow),
-    /// Marks a posting as withdrawn; its place stays.
+    /// Marks a posting as withdrawn, and leaves its place unchanged.
     Withdraw(PostNo),
     /// Assigns a posting to the concept, without inserting a row of table move.
     SetPlace(PostNo, ResNo),
