@@ -84,7 +84,7 @@ none_of k p (h ∷ hs) num lt =
     ap (λ b. cond {A = ℕ} b 1 0) (ne_eqb p h.number (λ e. let n = num.0 in omega (arith, n, e))) in
     omega (arith, a, ih, q)
 
--- Exactly one history has a number in range.
+-- Each number of the range is that of exactly one history.
 one_of : (k p : ℕ) (hs : List History) → NumberedFrom k hs → k ≤ p → p < k + length hs
     → count_by (λ h. eqb p h.number) hs ≡ 1
 one_of k p [] num le lt = absurd (omega arith)

@@ -66,7 +66,7 @@ MovePasses raw t = PostingPasses raw t × IsTable (map move_cells) (MoveRule t.r
 abbrev pub HasNoRows : {A : Type 0} → (List A → List (List Cell)) → (List A → Type 0) → RawTable → Type 0
 HasNoRows {A} cells_of Rule raw = (rows : List A) → IsTable cells_of Rule raw rows → ⊥
 
--- The verdict on the rows, table by table. Version 1 or a version after 2 is reported first, otherwise the first table
+-- The verdict on the rows, table by table. Version 1 or a version after 2 is reported first; otherwise the first table
 -- that breaks its rule, whatever the tables after it are. If all tables meet their rules, they load.
 pub record VerdictByTable (raw : Raw) (t : Tables) : Type 0 where
   pub newer : IsNewer raw.meta → HasVerdict raw (Err NewerStore)
