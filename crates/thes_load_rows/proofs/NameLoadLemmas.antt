@@ -49,7 +49,7 @@ module _ (base : List ℕ) (rs : List Resource) (old new : Vocabulary) (last : �
   abbrev v : Vocabulary
   v = vocabulary_of_rows base rs rows []
 
-  -- No rows meet the rule in which a row's number doesn't exceed the number before it.
+  -- Rows break the rule of table outside if a row's number doesn't exceed the number before it.
   pub not_above : x.0 ≤ last → (more : List IriRow) → OutsideRule base rs (rows ++ x ∷ more) → ⊥
   not_above le more rule =
       let after = after_rows 0 rows x more rule.ascends in

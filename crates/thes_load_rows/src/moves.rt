@@ -77,7 +77,7 @@ fn follow_in(places: &mut Vec<ResNo>, resources: &[Resource], taken: u64, step: 
 }
 
 impl MoveLoad {
-    /// Applies the next move; changes nothing and returns false if it can't be the next one.
+    /// Applies a move; changes nothing and returns false if it can't be the next one.
     pub fn take(&mut self, resources: &[Resource], step: &MoveRow) -> bool
         requires { HasMoveForm step.now }
         ensures { (postings : List PostingRow) (rows : List MoveRow)
