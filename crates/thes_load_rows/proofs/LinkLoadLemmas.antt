@@ -71,7 +71,7 @@ module _ (rs : List Resource) (i : ℕ) (graph : GraphView) (has : MarksFirst rs
       either n le e (inl at) = let g = ap (is_outside rs) at in absurd (cc)
       either n le e (inr differ) = has.complete n (omega (arith, le, differ)) e
 
-  -- After one more outside concept is marked, exactly the outside concepts up to it are marked.
+  -- After one more outside concept is marked, all outside concepts up to it are marked.
   pub marks_more : is_outside rs (i + 1) ≡ true → MarksFirst rs (i + 1)
       (record graph { outside = insert graph.outside (i + 1) })
   marks_more outside = record {

@@ -19,7 +19,7 @@ pub record IsFitLink (resources : List Resource) (l : Link) : Type 0 where
   pub two : l.a ≢ l.b
   pub schemes : HaveSchemes resources (form_of l.kind) l.a l.b
 
--- The graph has no links, and marks exactly the outside concepts among the first `most` resources.
+-- The graph has no links. It marks only outside concepts, and all those among the first `most` resources.
 pub record MarksFirst (resources : List Resource) (most : ℕ) (graph : GraphView) : Type 0 where
   pub links : graph.links ≡ empty
   pub sound : (n : ℕ) → is_marked graph n ≡ true → is_outside resources n ≡ true

@@ -80,8 +80,8 @@ impl Stage {
     }
 
     /// Parses the next row of the current table and adds it; returns false if the row can't follow
-    /// the rows read so far in a table that meets its rule. `close` checks the conditions on the
-    /// table as a whole. After a fault it does nothing and returns true.
+    /// the rows read so far in a table that meets its rule. Conditions on the table as a whole are
+    /// checked after its last row. After a fault, `read` does nothing and returns true.
     pub(crate) fn read(&mut self, alloc: Global, cells: &[Cell]) -> Result<bool, AllocError>
         ensures { IfOk result (ReadsRow self.old self.new cells.now) }
     {
