@@ -244,7 +244,7 @@ norm_legal rs l proper = go (is_symmetric (is_outside rs l.a || is_outside rs l.
               (two_lts l.a l.b parts.1));
         }
 
--- The links stay legal if a link is added and they still meet the rules.
+-- The links stay legal if a link is added and all links together still meet Cycle, S27 and S46.
 pub links_added : (rs : List Resource) (links : Links) (l : Link) → AreLegalLinks rs links → IsProper rs l
     → NoCycle (Holds (insert links (normal_form (is_outside rs) l)))
     → S27 (Holds (insert links (normal_form (is_outside rs) l)))
@@ -333,7 +333,7 @@ module _ (rs : List Resource) (source target : ℕ) (live_s : IsLive rs source) 
     schemes = schemes_sent (form_of l.kind) l.a l.b proper.schemes;
   }
 
-  -- The links after a merge are legal if they break no rule.
+  -- The links after a merge are legal if they meet Cycle, S27 and S46.
   pub links_contracted : (links : Links) (rep : Option ℕ) (r : Resource) → entry_at rs source ≡ Some r
       → AreLegalLinks rs links → NoCycle (Holds (links_after_merge (is_outside rs) source target links))
       → S27 (Holds (links_after_merge (is_outside rs) source target links))

@@ -168,7 +168,7 @@ withdrawn_at s n h e =
           elim o [ None ↦ s.histories | Some g ↦ set_entry_at s.histories n (history_after_withdrawal g) ];
     }) e
 
--- Assumes that a posting is withdrawn.
+-- Assumes a withdrawal of posting n, whose history is h.
 module _ (rs : List Resource) (hs : List History) (n : ℕ) (h : History) (legal : AreLegalPostings rs hs)
     (e : entry_at hs n ≡ Some h) where
   -- The histories after a withdrawal are legal.
