@@ -91,7 +91,7 @@ module _ (hs : List History) (key rec : List ℕ) (first : ℕ) (way : List ℕ)
         omega (arith, a, b, m));
   }
 
--- Assumes that a posting is withdrawn.
+-- Assumes a withdrawal of posting n, whose history is h and which wasn't withdrawn before.
 module _ (hs : List History) (n : ℕ) (h : History) (at : entry_at hs n ≡ Some h) (stays : h.withdrawn ≡ false) where
   abbrev less : List History
   less = set_entry_at hs n (history_after_withdrawal h)
