@@ -1,5 +1,5 @@
--- Tables that meet their rules still meet them when rows of later tables follow. Each stage is right after a row of its
--- table is added or found faulty.
+-- Tables that meet their rules still meet them when rows of later tables follow. Each stage is right (HasRead) after a
+-- row of its table is added or found faulty.
 use Rattle.std.proofs.Common.{◌≡◌, List, [], ◌∷◌, ◌++◌, map, sym, ap, ◌∙◌, subst, inl, inr, true}
 use Rattle.std.specs.Prelude.{Some, option_map}
 use Rattle.std.proofs.lemmas.Option.{same_Some}

@@ -1,4 +1,4 @@
--- Each stage is right after the end of a table, whether or not the table meets its rule.
+-- Each stage is right (HasRead) after the end of a table, whether or not the table meets its rule.
 use Rattle.std.proofs.Common.{◌≡◌, ℕ, List, [], ◌∷◌, refl, sym, ap, ◌∙◌, subst, inr}
 use Rattle.std.specs.Prelude.{None, Some}
 use Rattle.std.proofs.lemmas.List.{append-nil}

@@ -33,7 +33,7 @@ impl LinkedVocab {
     }
 
     /// Parses the next row of table link and adds its link; returns false if the row has another
-    /// form, is a duplicate, or its link isn't legal.
+    /// form or is a duplicate, or if its link isn't legal.
     pub fn read_link(&mut self, cells: &[Cell]) -> Result<bool, AllocError>
         ensures same { self.new.vocab ≡ self.old.vocab }
         ensures reads { let resources = self.old.vocab.resources in
@@ -46,8 +46,8 @@ impl LinkedVocab {
     }
 
     /// Parses the next row of table hier and adds its link; returns false if the row has another
-    /// form, is a duplicate, or its link isn't legal. `LinkLoad::close` checks the links together
-    /// (Cycle, S27, S46).
+    /// form or is a duplicate, or if its link isn't legal. `LinkLoad::close` checks the links
+    /// together (Cycle, S27, S46).
     pub fn read_hier(&mut self, cells: &[Cell]) -> Result<bool, AllocError>
         ensures same { self.new.vocab ≡ self.old.vocab }
         ensures reads { let resources = self.old.vocab.resources in

@@ -73,7 +73,7 @@ impl LinkLoad {
     }
 
     /// Parses the next row of table link and adds its link; returns false if the row has another
-    /// form, is a duplicate, or its link isn't legal.
+    /// form or is a duplicate, or if its link isn't legal.
     pub fn read(&mut self, resources: &[Resource], cells: &[Cell]) -> Result<bool, AllocError>
         requires { length resources.now < 2 ^ 32 }
         ensures same { self.new.graph.outside ≡ self.old.graph.outside }
@@ -92,8 +92,8 @@ impl LinkLoad {
     }
 
     /// Parses the next row of table hier and adds its link; returns false if the row has another
-    /// form, is a duplicate, or its link isn't legal. `close` checks the links together (Cycle,
-    /// S27, S46).
+    /// form or is a duplicate, or if its link isn't legal. `close` checks the links together
+    /// (Cycle, S27, S46).
     pub fn read_hier(&mut self, resources: &[Resource], cells: &[Cell]) -> Result<bool, AllocError>
         requires { length resources.now < 2 ^ 32 }
         ensures same { self.new.graph.outside ≡ self.old.graph.outside }
