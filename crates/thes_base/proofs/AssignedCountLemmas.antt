@@ -11,7 +11,7 @@ use Rattle.thes_base.specs.Postings.{place, is_assigned_to, assigned_count, with
 use Rattle.thes_base.specs.Resources.{is_live_concept}
 use Rattle.thes_base.specs.Assignments.{numbers_from, live_concepts}
 
--- Equal terms have equal sums.
+-- Sums over one list are equal if their terms are equal.
 pub sums_same : (f g : ℕ → ℕ) → ((c : ℕ) → f c ≡ g c) → (cs : List ℕ) → sum_by f cs ≡ sum_by g cs
 sums_same f g e cs = ap (λ (h : ℕ → ℕ). sum_by h cs) (λ i c. e c i)
 
@@ -46,7 +46,7 @@ module _ (test : ℕ → Bool) (p : ℕ) where
       ap (λ b. sum_by (one_at p) (cond b (first ∷ filter test (numbers_from (first + 1) n))
       (filter test (numbers_from (first + 1) n)))) e
 
-  -- The number p isn't met in a range that begins above it.
+  -- A range that begins above p doesn't have it.
   hits_none : (first n : ℕ) → p < first → hits first n ≡ 0
   hits_none first zero h = refl
   hits_none first (suc n) h =
@@ -55,7 +55,7 @@ module _ (test : ℕ → Bool) (p : ℕ) where
       ⊎_elim (λ (e : test first ≡ true). let a = hits_yes first n e in omega (arith, a, miss, ih))
       (λ (e : test first ≡ false). hits_no first n e ∙ ih) (cases_Bool (test first))
 
-  -- The number p is met once in a range that has it, if it passes the test.
+  -- A range that includes p has it exactly once among the numbers that pass the test, if p passes it.
   hits_once : (first n : ℕ) → first ≤ p → p < first + n → test p ≡ true → hits first n ≡ 1
   hits_once first zero l u t = absurd (omega arith)
   hits_once first (suc n) l u t = elim (cases_Bool (eqb p first)) [
@@ -82,7 +82,7 @@ within_numbers rs (suc n) e = (omega arith, let h = below rs n e in omega arith)
     below (r ∷ rs) zero e = omega arith
     below (r ∷ rs) (suc n) e = let h = below rs n e in omega arith
 
--- One history adds one to the count of its place, or one to those withdrawn.
+-- A posting adds one to the count of its place or, if it is withdrawn, to the withdrawn postings.
 one_history : (rs : List Resource) (h : History) → (h.withdrawn ≡ false → is_live_concept rs (place h) ≡ true)
     → sum_by (λ c. cond (is_assigned_to c h) 1 0) (live_concepts rs) + cond h.withdrawn 1 0 ≡ 1
 one_history rs h live = elim (cases_Bool h.withdrawn) [

@@ -17,7 +17,7 @@ use Rattle.thes_base.proofs.LabelSetLemmas.{labels_total, labels_exact}
 use Rattle.thes_base.proofs.ListMemberLemmas.{Contains-map, Contains-from_map, Contains-filter, Contains-from_filter}
 use Rattle.thes_base.proofs.SetMemberLemmas.{from_list_of, from_list_has, items_of, items_has}
 
--- The kind as which a lexical label is copied is again lexical.
+-- A lexical label is copied as a lexical label.
 pub name_taken : (k : LabelKind) → is_lexical_kind k ≡ true → is_lexical_kind (copied_label_kind k) ≡ true
 name_taken Pref n = refl
 name_taken Alt n = refl
@@ -33,14 +33,15 @@ name_of labels owner Hidden tag text n h = or_right _ _ h
 name_of labels owner Scope tag text n h = absurd (cc)
 
 module _ (rs : List Resource) (labels : Labels) (source target : ℕ) where
-  -- The label is the source's, and a merge copies it to the target.
+  -- The label is one that a merge copies: the source has it as a lexical label, and the target has no lexical label
+  -- with its tag and text.
   pub record IsLabelToCopy (l : Label) : Type 0 where
     pub held : contains labels l ≡ true
     pub owner : l.owner ≡ source
     pub name : is_lexical_kind l.kind ≡ true
     pub free : has_lexical_label labels target l.tag l.text ≡ false
 
-  -- The test of whether a merge copies a label to the target.
+  -- Tests whether a merge copies the label to the target.
   abbrev takes : Label → Bool
   takes l = l.owner == source && (is_lexical_kind l.kind && not (has_lexical_label labels target l.tag l.text))
 
@@ -80,14 +81,14 @@ module _ (rs : List Resource) (labels : Labels) (source target : ℕ) where
   never_preferred Hidden e = cc
   never_preferred Scope e = cc
 
-  -- No label is copied as a preferred one.
+  -- A preferred label after a merge was held before it, because no label is copied as a preferred one.
   pub preferred_before : (n : ℕ) (t x : List ℕ) → HasLabel (union labels (copied_labels source target labels)) n Pref
       t x → HasLabel labels n Pref t x
   preferred_before n t x h =
       elim (union_cases _ h)
       [ inl old ↦ old | inr new ↦ absurd (never_preferred new.0.kind (ap (λ (l : Label). l.kind) new.2)) ]
 
-  -- A lexical label that the target had differs from each copied one.
+  -- The target had no lexical label with the tag and the text of a copied one.
   mixed : (owner : ℕ) (j k : LabelKind) (t x : List ℕ) (l : Label) → is_lexical_kind k ≡ true → IsLabelToCopy l
       → label owner j t x ≡ copied_label l → HasLabel labels owner k t x → ⊥
   mixed owner j k t x l nk taken is old =

@@ -1,4 +1,4 @@
--- The end of replacements, and the moves of a posting that is forwarded along them.
+-- The end of a concept's replacements, and the moves of a new posting along them.
 use Rattle.std.proofs.Common.{◌≡◌, ◌≢◌, ◌⊎◌, ◌<◌, ◌≤◌, ℕ, zero, suc, ◌+◌, length, List, [], ◌∷◌, refl, sym, ap, ◌∙◌}
 use Rattle.std.proofs.Common.{subst, arith, inl, inr, true, false, eqb, eqb-true, ne_eqb}
 use Rattle.std.specs.Prelude.{Option, None, Some, option_and_then}
@@ -33,7 +33,7 @@ pub along_follows : (above number from : ℕ) (way : List ℕ) → above < numbe
 along_follows above number from [] less = tt
 along_follows above number from (n ∷ way) less = (less, refl, along_follows number (number + 1) n way (omega arith))
 
--- The moves have consecutive numbers from the first on.
+-- The numbers of the moves along a path are in the range that begins at `number` and has one number for each concept.
 pub along_numbers : (number from : ℕ) (way : List ℕ)
     → AllMoves (λ m. (number ≤ m.number) × (m.number < number + length way)) (moves_along number from way)
 along_numbers number from [] = tt
@@ -64,7 +64,7 @@ along_has k number from (n ∷ way) least most =
     at (inl same) rest = inl same
     at (inr later) rest = inr (rest later)
 
--- A posting adds as many moves as its path has steps.
+-- A new posting adds one move for each concept of its path.
 pub count_posted : (key rec : List ℕ) (concept : ℕ) (way : List ℕ) (hs : List History)
     → move_count (histories_after_post key rec concept way hs) ≡ move_count hs + length way
 count_posted key rec concept way hs =
@@ -108,7 +108,8 @@ module _ (rs : List Resource) where
   within_none (suc steps) m e =
       ap (λ (o : Option ℕ). elim o [ None ↦ [] | Some k ↦ k ∷ replacements_within rs steps k ]) e
 
-  -- Induction on the steps: a property of the empty path that each further step keeps holds of all replacements.
+  -- Induction on the steps: if the empty path has a property, and each further step keeps it, all paths of replacements
+  -- have it.
   by_steps : (P : ℕ → ℕ → List ℕ → Type 0) → ((from : ℕ) → P 0 from [])
       → ((steps from : ℕ) → replacement_of rs from ≡ None → P (suc steps) from [])
       → ((steps from n : ℕ) (way : List ℕ) → IsReplacedBy rs from n → P steps n way → P (suc steps) from (n ∷ way))
@@ -126,7 +127,8 @@ module _ (rs : List Resource) where
   each_replaced = by_steps (λ steps from way. AreReplacements rs from way) (λ from. tt) (λ steps from e. tt)
       (λ steps from n way step rest. (step, rest))
 
-  -- If the end of a path within a number of steps is replaced, the path has as many steps.
+  -- If the end of a path of at most `steps` replacements is itself replaced, the path has exactly `steps` of them, and
+  -- its start is replaced.
   all_made : (k steps from : ℕ) → IsReplacedBy rs (path_end from (replacements_within rs steps from)) k
       → (length (replacements_within rs steps from) ≡ steps) × ((n : ℕ) × IsReplacedBy rs from n)
   all_made k = by_steps (λ steps from way. IsReplacedBy rs (path_end from way) k → (length way ≡ steps)
@@ -194,7 +196,7 @@ module _ (rs : List Resource) where
       ends = λ k is. let made = all_made k (length rs) from is in never_all from made.1.0 made.1.1 made.0;
     }
 
-    -- Replacements lead from a concept to a concept.
+    -- The end of a path of replacements from a concept is a concept.
     pub end_concept : (from : ℕ) (way : List ℕ) → IsConcept rs from → AreReplacements rs from way
         → IsConcept rs (path_end from way)
     end_concept from [] is steps = is

@@ -15,7 +15,7 @@ is_colon b = b == 58
 scheme_byte : (b : ℕ) → IsSchemeByte b → is_colon b ≡ false
 scheme_byte b of = grind (arith, nat_tests)
 
--- An IRI is split first at the end of its scheme.
+-- The first part of an IRI that is split at its colons is its scheme.
 cut_own : (most : ℕ) (text : List ℕ) → (iri : IsIriWithin most text) → slice_split is_colon text ≡ iri.scheme
     ∷ slice_split is_colon iri.rest
 cut_own most text iri = ap (slice_split is_colon) iri.spelled ∙ slice_split_at is_colon iri.scheme 58 iri.rest
@@ -29,7 +29,8 @@ no_colon most text none iri =
     let none : [] ≡ slice_split is_colon iri.rest = cc (cut_own most text iri) in
     absurd (omega (arith, ap length none, length-slice_split is_colon iri.rest))
 
--- A text is an IRI exactly when what precedes its first colon is a scheme, and the remainder may follow one.
+-- A text with a colon is an IRI exactly when the part before the first colon is a scheme, and the part after it may
+-- follow a scheme.
 pub cut_iri : (most : ℕ) (text scheme rest : List ℕ) → length text ≤ most → position_or_len is_colon text
     < length text → scheme ≡ before_first is_colon text → rest ≡ after_first is_colon text → IsIriWithin most text
     ↔ (IsIriScheme scheme × IsIriRest rest)

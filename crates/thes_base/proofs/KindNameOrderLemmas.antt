@@ -1,4 +1,4 @@
--- The orders of mappings and typed links by name are total, and equal only for equal entries.
+-- The orders of mappings and of typed links by name are total, and entries that compare equal are equal.
 use Rattle.std.proofs.Common.{◌≡◌, ℕ, List, [], ◌∷◌, refl}
 use Rattle.std.specs.Prelude.{find, Some}
 use Rattle.std.specs.Str.{bytes_eq}

@@ -25,7 +25,7 @@ labels_total =
 pub no_label : (l : Label) → contains (empty {R = label_cmp}) l ≡ true → ⊥
 no_label l held = let e = contains-empty label_cmp l in cc
 
--- Each kind is in the list of kinds at the place of its number.
+-- The kinds of labels, each at the position of its number.
 abbrev label_kinds : List LabelKind
 label_kinds = Pref ∷ Alt ∷ Hidden ∷ Scope ∷ []
 

@@ -97,7 +97,7 @@ module _ (rs : List Resource) (labels : Labels) (r : Resource) (tag text : List 
             (inserted_new labels new_label),
       )
 
--- An outside concept owns no label.
+-- An outside concept can't own labels.
 pub outside_owns_none : MayOwn outside_resource → ⊥
 outside_owns_none (inl e) = cc
 outside_owns_none (inr (inl e)) = cc
@@ -128,7 +128,7 @@ labels_push rs labels r never legal = record {
     named_at n (inl o) = legal.named n o
     named_at n (inr (_, may)) = absurd (never may)
 
--- The labels stay legal if one is added that breaks no condition.
+-- The labels stay legal if a label is added that breaks no condition.
 pub labels_added : (rs : List Resource) (labels : Labels) (l : Label) → CanOwn rs l.owner → S13 (insert labels l)
     → S14 (insert labels l) → UniquePreferred rs (insert labels l) → AreLegalLabels rs labels
     → AreLegalLabels rs (insert labels l)
@@ -144,7 +144,7 @@ labels_added rs labels l owner s13 s14 p1 legal = record {
     owner_at m (inl is) = subst (λ (x : Label). CanOwn rs x.owner) (sym is) owner
     owner_at m (inr old) = legal.owners m old
 
--- The labels stay legal if one is removed that leaves its owner a preferred one.
+-- The labels stay legal if a label is removed and its owner keeps a preferred one.
 pub labels_dropped : (rs : List Resource) (labels : Labels) (l : Label) → LeavesPreferred labels l
     → AreLegalLabels rs labels → AreLegalLabels rs (remove labels l)
 labels_dropped rs labels l leaves legal = record {
@@ -198,7 +198,7 @@ module _ (rs : List Resource) (labels : Labels) (owner : ℕ) (tag text : List �
       not_alt : Pref ≡ Alt → ⊥
       not_alt e = cc
 
-      -- There was no other preferred label in the tag than the old one.
+      -- The owner had no preferred label in the tag other than the old one.
       only_old : (n : ℕ) (t y : List ℕ) → n ≡ owner → t ≡ tag → label n Pref t y ≢ label owner Pref tag old
           → HasLabel labels n Pref t y → ⊥
       only_old n t y en et apart held =

@@ -32,7 +32,7 @@ use Rattle.thes_base.proofs.SetMemberLemmas.{removed_cases}
 use Rattle.thes_base.proofs.LinkLemmas.{sent_never}
 use Rattle.std.proofs.lemmas.Bool.{and_parts, and_right, or_parts, eqb-false, ltb-true, le-ltb}
 
--- A subset of links breaks no rule that the set doesn't break.
+-- If a set of links meets the rules Cycle, S27 and S46, each of its subsets does.
 module _ (Few Many : Link → Type 0) (each : (l : Link) → Few l → Many l) where
   joined_more : (way : LinkKind → Direction) (x y : ℕ) → IsJoined Few way x y → IsJoined Many way x y
   joined_more way x y (l, held, leads) = (l, each l held, leads)
@@ -66,7 +66,7 @@ module _ (Few Many : Link → Type 0) (each : (l : Link) → Few l → Many l) w
             (joined_more disjoint_direction x y apart);
       }
 
--- Assumes that resources change, but keep what a link requires of its ends.
+-- A link stays legal if the resources change, but keep at its ends what a link requires.
 module _ (rs new : List Resource) (l : Link) where
   pub record StaysAt (n : ℕ) : Type 0 where
     pub concept : IsConcept rs n → IsConcept new n
@@ -244,7 +244,7 @@ norm_legal rs l proper = go (is_symmetric (is_outside rs l.a || is_outside rs l.
               (two_lts l.a l.b parts.1));
         }
 
--- The links stay legal if one is added with which they break no rule.
+-- The links stay legal if a link is added and all links together still meet Cycle, S27 and S46.
 pub links_added : (rs : List Resource) (links : Links) (l : Link) → AreLegalLinks rs links → IsProper rs l
     → NoCycle (Holds (insert links (normal_form (is_outside rs) l)))
     → S27 (Holds (insert links (normal_form (is_outside rs) l)))
@@ -333,7 +333,7 @@ module _ (rs : List Resource) (source target : ℕ) (live_s : IsLive rs source) 
     schemes = schemes_sent (form_of l.kind) l.a l.b proper.schemes;
   }
 
-  -- The links after a merge are legal if they break no rule.
+  -- The links after a merge are legal if they meet Cycle, S27 and S46.
   pub links_contracted : (links : Links) (rep : Option ℕ) (r : Resource) → entry_at rs source ≡ Some r
       → AreLegalLinks rs links → NoCycle (Holds (links_after_merge (is_outside rs) source target links))
       → S27 (Holds (links_after_merge (is_outside rs) source target links))
@@ -342,7 +342,7 @@ module _ (rs : List Resource) (source target : ℕ) (live_s : IsLive rs source) 
       (links_after_merge (is_outside rs) source target links)
   links_contracted links rep r at legal c1 s27 s46 = record { each = each_at; no_cycle = c1; s27 = s27; s46 = s46 }
     where
-      -- Each end of the normal form is a redirected end of the link.
+      -- What holds of both ends of a link holds of both ends of its normal form.
       end_of : (k : Link) → (P : ℕ → Type 0) → P k.a → P k.b → P (normal_form (is_outside rs) k).a
           × P (normal_form (is_outside rs) k).b
       end_of k P pa pb = go (is_symmetric (is_outside rs k.a || is_outside rs k.b) k.kind && nat_lt k.b k.a)

@@ -58,7 +58,7 @@ module _ (rs : List Resource) (hs : List History) (key rec : List ℕ) (concept 
   abbrev first_move : ℕ
   first_move = move_count hs + 1
 
-  -- The histories after a posting are legal.
+  -- The histories after a new posting are legal.
   pub postings_push : length hs + 1 < 2 ^ 32 → move_count (hs ++ new ∷ []) < 2 ^ 32 → IsConcept rs concept
       → AllMoves (IsLegalMove rs) new.moves → is_live_concept rs (path_end concept way) ≡ true
       → ((n : ℕ) (h : History) → entry_at hs n ≡ Some h → h.key ≢ key) → AreLegalPostings rs (hs ++ new ∷ [])
@@ -117,7 +117,7 @@ module _ (rs : List Resource) (hs : List History) (key rec : List ℕ) (concept 
             (let q = grown in omega (arith, most, q)),
       )
 
-      -- An old move number isn't one of the new moves.
+      -- The number of an old move isn't that of a new move.
       apart : (k n : ℕ) (h : History) → entry_at hs n ≡ Some h → HasMove k h.moves → HasMove k new.moves → ⊥
       apart k n h e old more =
           let below = has_all (λ m. m.number ≤ move_count hs) (λ q. q ≤ move_count hs) (λ m l. l) k h.moves
@@ -135,7 +135,7 @@ module _ (rs : List Resource) (hs : List History) (key rec : List ℕ) (concept 
           absurd (apart k n h oh kh (subst (λ (x : History). HasMove k x.moves) is kg))
       once_at k m n g h kg kh (inr (at, is)) (inr (bt, js)) = at ∙ sym bt
 
--- A history with as many moves keeps the number of moves.
+-- Replacing a history by one with the same number of moves keeps the number of all moves.
 count_set : (hs : List History) (i : ℕ) (g h : History) → slice_get hs i ≡ Some g → length h.moves ≡ length g.moves
     → move_count (slice_set hs i h) ≡ move_count hs
 count_set [] i g h e same = refl
@@ -157,7 +157,8 @@ count_set_numbered hs zero g h e same = absurd (cc)
 count_set_numbered hs (suc n) g h e same = ap (λ k. move_count (slice_set hs k h)) (let q : suc n - 1 ≡ n =
     omega arith in q) ∙ count_set hs n g h e same
 
--- The state after a withdrawal has the withdrawn history in place of the one with the number.
+-- In the state after a withdrawal, the history with the posting's number is marked as withdrawn, and the rest is
+-- unchanged.
 pub withdrawn_at : (s : State) (n : ℕ) (h : History) → entry_at s.histories n ≡ Some h → state_after_withdrawal n s
     ≡ record s { histories = set_entry_at s.histories n (history_after_withdrawal h) }
 withdrawn_at s n h e =
@@ -167,7 +168,7 @@ withdrawn_at s n h e =
           elim o [ None ↦ s.histories | Some g ↦ set_entry_at s.histories n (history_after_withdrawal g) ];
     }) e
 
--- Assumes that a posting is withdrawn.
+-- Assumes a withdrawal of posting n, whose history is h.
 module _ (rs : List Resource) (hs : List History) (n : ℕ) (h : History) (legal : AreLegalPostings rs hs)
     (e : entry_at hs n ≡ Some h) where
   -- The histories after a withdrawal are legal.
@@ -245,7 +246,7 @@ pub postings_withdrawn : (s : State) (n : ℕ) (h : History) → AreLegalPosting
 postings_withdrawn s n h legal e = subst (λ (x : State). AreLegalPostings s.resources x.histories)
     (sym (withdrawn_at s n h e)) (postings_set s.resources s.histories n h legal e)
 
--- Assumes that postings are moved to a live concept that isn't their place.
+-- Assumes that the postings that pass a test move to a target.
 module _ (rs : List Resource) (hs : List History) (passes : History → Bool) (target : ℕ)
     (legal : AreLegalPostings rs hs) where
   abbrev start : ℕ
@@ -254,7 +255,7 @@ module _ (rs : List Resource) (hs : List History) (passes : History → Bool) (t
   abbrev pub moved_all : List History
   moved_all = histories_after_moves passes target start hs
 
-  -- The histories after the moves are legal.
+  -- The histories after the moves are legal, if the target is a live concept and wasn't the place of a moved posting.
   pub postings_moved : is_live_concept rs target ≡ true → ((n : ℕ) (h : History) → entry_at hs n ≡ Some h → passes h
       ≡ true → place h ≢ target) → move_count moved_all < 2 ^ 32 → AreLegalPostings rs moved_all
   postings_moved live apart few_moves = record {
@@ -310,7 +311,7 @@ module _ (rs : List Resource) (hs : List History) (passes : History → Bool) (t
           subst (λ (x : History). AllMoves (λ m. m.number ≤ move_count moved_all) x.moves) (sym is)
           (all_moves _ _ (λ m l. omega (arith, l, grown)) h.moves (legal.numbers.bounded n h e))
 
-      -- An old history keeps its number.
+      -- Each old history has a successor after the moves, with the same number.
       forward : (n : ℕ) (h : History) → entry_at hs n ≡ Some h → (new : History) × (entry_at moved_all n ≡ Some new)
           × (IsAfterMoveAt passes target start hs (n - 1) h new)
       forward zero h e = absurd (cc)
@@ -348,7 +349,8 @@ module _ (rs : List Resource) (hs : List History) (passes : History → Bool) (t
             (r.0, f.0, f.1, kept_has k (r.0 - 1) r.1 f.0 f.2 r.3)
       ]
 
-      -- A move number belongs to an old move or to the new one.
+      -- The number of a move in the new histories is that of an old move, or of the new move of a posting that passes
+      -- the test.
       whose : (k n : ℕ) (new : History) → entry_at moved_all n ≡ Some new → HasMove k new.moves
           → ((h : History) × (entry_at hs n ≡ Some h) × HasMove k h.moves)
           ⊎ ((i : ℕ) × (n ≡ suc i) × (h : History) × (slice_get hs i ≡ Some h) × (passes h ≡ true)
@@ -371,7 +373,7 @@ module _ (rs : List Resource) (hs : List History) (passes : History → Bool) (t
               ]
           split h at (inr (miss, is)) has = inl (h, at, subst (λ (x : History). HasMove k x.moves) is has)
 
-      -- Each number belongs to one move.
+      -- No two histories have a move with the same number.
       once_at : (k m n : ℕ) (g h : History) → entry_at moved_all m ≡ Some g → entry_at moved_all n ≡ Some h
           → HasMove k g.moves → HasMove k h.moves → m ≡ n
       once_at k m n g h eg eh kg kh = pair (whose k m g eg kg) (whose k n h eh kh)

@@ -25,7 +25,7 @@ pub path_map : {A : Type 0} → (S U : A → A → Type 0) → ((x y : A) → S 
 path_map S U each x [] y one = each x y one
 path_map S U each x (z ∷ zs) y path = (each x z path.0, path_map S U each z zs y path.1)
 
--- The scheme of a concept or a collection is a scheme.
+-- In legal resources, the scheme of a concept or a collection is a resource of kind scheme.
 pub scheme_known : (rs : List Resource) → ((n : ℕ) (r : Resource) → entry_at rs n ≡ Some r → IsLegalResource rs n r)
     → (n m : ℕ) → IsConcept rs n ⊎ IsCollection rs n → scheme_of rs n ≡ Some m → IsScheme rs m
 scheme_known rs each n m (inl (r, at, hit)) within = let has = (each n r at).scheme (inl hit) in
@@ -33,7 +33,7 @@ scheme_known rs each n m (inl (r, at, hit)) within = let has = (each n r at).sch
 scheme_known rs each n m (inr (r, at, hit)) within = let has = (each n r at).scheme (inr hit) in
     subst (IsScheme rs) (same_Some _ _ (sym has.1 ∙ sym (scheme_at rs n r at) ∙ within)) has.2
 
--- A concept has a scheme.
+-- In legal resources, each concept has a scheme.
 pub own_scheme : (rs : List Resource) → ((n : ℕ) (r : Resource) → entry_at rs n ≡ Some r → IsLegalResource rs n r)
     → (n : ℕ) → IsConcept rs n → (m : ℕ) × (scheme_of rs n ≡ Some m) × IsScheme rs m
 own_scheme rs each n (r, at, hit) = let has = (each n r at).scheme (inl hit) in
@@ -53,7 +53,7 @@ iri_cases iris k iri n x e = go (eq_by_cmp nat_cmp n k) refl (sym (dict.get-inse
     go true tie e = inl (exact_unsigned n k ((Equal-is (nat_cmp n k)).0 tie), cc)
     go false tie e = inr e
 
--- A new resource is live, not replaced, and has a scheme as its kind requires.
+-- The resource may be created: it is live, not replaced, and has a scheme exactly if its kind requires one.
 pub record IsFit (rs : List Resource) (r : Resource) : Type 0 where
   pub live : r.live ≡ true
   pub replaced : r.replaced ≡ None
@@ -158,7 +158,7 @@ module _ (base : List ℕ) (rs : List Resource) (iris : Iris) (r : Resource) (le
       → AreLegalResources base (rs ++ r ∷ []) iris
   resources_push few inside = push_fields few iris (iris_push inside)
 
-  -- The resources stay legal if an outside concept is created with an IRI that no other has.
+  -- The resources stay legal if an outside concept is created with a new IRI that doesn't begin with the base.
   pub resources_push_outside : (iri : List ℕ) → length rs + 1 < 2 ^ 32 → is_outside_kind r.kind ≡ true
       → (BeginsWith iri base → ⊥) → ((n : ℕ) → dict.get iris n ≢ Some iri) → AreLegalResources base (rs ++ r ∷ [])
       (dict.insert iris (length rs + 1) iri)
@@ -213,7 +213,7 @@ module _ (base : List ℕ) (rs : List Resource) (iris : Iris) (r : Resource) (le
       foreign_at n x (inl (_, is)) begins = foreign (subst (λ y. BeginsWith y base) is begins)
       foreign_at n x (inr e) begins = legal.outside.foreign n x e begins
 
--- Assumes that a live concept dies, and that its replacement, if it has one, is a live concept of its scheme.
+-- Assumes that a concept dies, and that its replacement, if it has one, is another live concept of its scheme.
 module _ (base : List ℕ) (rs : List Resource) (iris : Iris) (n : ℕ) (rep : Option ℕ) (r : Resource)
     (at : entry_at rs n ≡ Some r) (legal : AreLegalResources base rs iris) (concept : is_concept_kind r.kind ≡ true)
     (fit : (m : ℕ) → rep ≡ Some m → (m ≢ n) × IsConcept rs m × IsLive rs m × (scheme_of rs m ≡ r.scheme)) where
@@ -272,7 +272,7 @@ module _ (base : List ℕ) (rs : List Resource) (iris : Iris) (n : ℕ) (rep : O
           go (inl (_, same)) = inr (sym (ap (λ (z : Resource). z.replaced) same) ∙ by)
           go (inr (_, old)) = inl (q, old, by)
 
-      -- The replacement isn't replaced.
+      -- The dead concept's replacement isn't itself replaced.
       stays : (x y : ℕ) → rep ≡ Some x → IsReplacedBy (set_entry_at rs n (resource_after_death rep r)) x y → ⊥
       stays x y is (q, found, by) = go (dead_cases rs n rep r at x q found)
         where
@@ -285,7 +285,7 @@ module _ (base : List ℕ) (rs : List Resource) (iris : Iris) (n : ℕ) (rep : O
               let hit = lives.2 in
               cc
 
-      -- A path begins with a step.
+      -- The concept at the start of a path of replacements is replaced.
       first : (x : ℕ) (zs : List ℕ) (y : ℕ) → Path (IsReplacedBy (set_entry_at rs n (resource_after_death rep r))) x zs
           y → (z : ℕ)
           × IsReplacedBy (set_entry_at rs n (resource_after_death rep r)) x z
@@ -302,7 +302,7 @@ module _ (base : List ℕ) (rs : List Resource) (iris : Iris) (n : ℕ) (rep : O
         | inr is ↦ absurd (let f = first z zs y path.1 in stays z f.0 is f.1)
       ]
 
--- The resources stay legal if a concept is replaced by a live one of its scheme.
+-- The resources stay legal if a concept is replaced by another live concept of its scheme.
 pub resources_merged : (base : List ℕ) (rs : List Resource) (iris : Iris) (source target : ℕ) (r : Resource)
     → entry_at rs source ≡ Some r → AreLegalResources base rs iris
     → IsConcept rs source → IsConcept rs target → IsLive rs target → source ≢ target → scheme_of rs source

@@ -43,7 +43,7 @@ formed_insert : (labels : Labels) (l : Label) → IsFormed l → AreFormed label
 formed_insert labels l form each q held = elim (inserted_cases labels l q held)
     [ inl is ↦ subst IsFormed (sym is) form | inr old ↦ each q old ]
 
--- A tag and a text that a preferred label may have, an alternative label may have also.
+-- A tag and a text with the forms for a preferred label have those for an alternative label.
 alternative : (tag text : List ℕ) → IsLabelForm Pref tag text → IsLabelForm Alt tag text
 alternative tag text form = record { tag_form = form.tag_form; text_form = form.text_form }
 
@@ -59,7 +59,7 @@ formed_renamed labels owner tag text keep form each (Some old) is =
       | inr (inr before) ↦ each q before.1
     ]
 
--- A copied label has the form for its kind.
+-- The copy of a lexical label has the forms for its kind.
 taken_form : (kind : LabelKind) (tag text : List ℕ) → is_lexical_kind kind ≡ true → IsLabelForm kind tag text
     → IsLabelForm (copied_label_kind kind) tag text
 taken_form Pref tag text name form = alternative tag text form
@@ -89,7 +89,7 @@ forms_pushed hs new form each n h e =
       | inr is ↦ subst (λ (x : History). IsPostingForm x.key x.rec) (sym is.1) form
     ]
 
--- A move changes neither key nor record.
+-- The moves of a request change neither the key nor the record name of a posting.
 module _ (passes : History → Bool) (target number : ℕ) (hs : List History) (each : ArePostingForms hs) where
   forms_at : (n : ℕ) (h new : History) → entry_at hs n ≡ Some h → IsAfterMove passes target number
       (number + count_by passes hs) h new → IsPostingForm new.key new.rec

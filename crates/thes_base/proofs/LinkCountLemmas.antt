@@ -1,4 +1,4 @@
--- A merge leaves at most as many links as there were.
+-- A merge doesn't raise the number of links.
 use Rattle.std.proofs.Common.{◌≡◌, ◌≤◌, ◌+◌, ℕ, List, [], ◌∷◌, inl, inr, sym, ap, ◌∙◌, arith, Bool, true, false, cond}
 use Rattle.std.proofs.Common.{not, map}
 use Rattle.std.specs.Prelude.{◌==◌, filter}
@@ -23,7 +23,7 @@ len_grows links l = elim (cases_Bool (set.contains links l)) [
   | inr fresh ↦ let e = len_new links l fresh in (omega (arith, e), omega (arith, e))
 ]
 
--- Maps the links of a list that pass a test, and collects the results in a set.
+-- The set of the images of those links of a list that pass a test.
 module _ (passes : Link → Bool) (send : Link → Link) where
   abbrev image : List Link → Links
   image ls = set.from_list (map send (filter passes ls))

@@ -24,7 +24,7 @@ links_total =
     then_total (on_total (λ (l : Link). link_kind_no l.kind) nat_cmp_total)
     (then_total (on_total (λ (l : Link). l.a) nat_cmp_total) (on_total (λ (l : Link). l.b) nat_cmp_total))
 
--- Each kind is in the list of kinds at the place of its number.
+-- In the list of kinds of links, each is at the position of its number.
 kind_found : (k : LinkKind) → entry_at link_kinds (link_kind_no k) ≡ Some k
 kind_found Broader = refl
 kind_found _ = refl
@@ -51,7 +51,8 @@ pub link_retained : (links : Links) (test : Link → Bool) (m : Link) → Holds 
     × (test m ≡ true)
 link_retained = retained_from links_total links_exact
 
--- A link is held after a merge exactly when it is the redirected normal form of one held before.
+-- A link is held after a merge exactly when it is the normal form of a link held before, redirected, whose ends stay
+-- different.
 module _ (is_outside : ℕ → Bool) (source target : ℕ) (links : Links) where
   abbrev stays : Link → Bool
   stays l = not (redirect source target l.a == redirect source target l.b)
@@ -75,7 +76,7 @@ module _ (is_outside : ℕ → Bool) (source target : ℕ) (links : Links) where
       subst (Holds (links_after_merge is_outside source target links)) (sym is)
       (from_list_has links_total links_exact _ (becomes l) (Contains-map becomes (filter stays (items links)) l kept))
 
--- A link is held after a deprecation exactly when it was held before and the concept is none of its ends.
+-- A link is held after a deprecation exactly when it was held before and the concept is neither of its ends.
 module _ (n : ℕ) (links : Links) where
   abbrev away : Link → Bool
   away l = not (l.a == n || l.b == n)

@@ -1,4 +1,4 @@
--- The members of a list, of its image under a function, and of its filtering by a test.
+-- The members of a list, of its image under a function, and of the list of its elements that pass a test.
 use Rattle.std.proofs.Common.{◌≡◌, ◌⊎◌, inl, inr, zero, suc, List, [], ◌∷◌, Bool, true, false, cond, Contains, map}
 use Rattle.std.proofs.Common.{refl, sym, ap, subst, ◌∙◌, arith}
 use Rattle.std.specs.Prelude.{filter}

@@ -22,7 +22,7 @@ either_one true false apart = refl
 either_one false true apart = refl
 either_one false false apart = refl
 
--- If every history that passes one test fails the other, the number that pass either is the sum of both numbers.
+-- If no history passes both tests, the number of those that pass either is the sum of the numbers that pass each.
 count_either : (p q : History → Bool) → ((h : History) → p h ≡ true → q h ≡ false) → (hs : List History)
     → count_by (λ h. p h || q h) hs ≡ count_by p hs + count_by q hs
 count_either p q apart [] = refl
@@ -52,7 +52,7 @@ numbered_from first (h ∷ hs) each = (
   numbered_from (first + 1) hs (λ i g at. let e = each (suc i) g at in omega (arith, e)),
 )
 
--- The list has no history with a number outside its range, and one with each number of the range.
+-- Of numbered histories, none has a number outside their range, and exactly one has a given number of the range.
 module _ (n : ℕ) where
   abbrev has_number : History → Bool
   has_number h = eqb n h.number
@@ -74,7 +74,7 @@ module _ (n : ℕ) where
       let at = from.0 in
       count_miss h hs (ne_eqb n h.number (omega (arith, at))) ∙ count_above (first + 1) hs from.1 (omega arith)
 
-  -- Exactly one history has a number of the range.
+  -- Each number of the range is that of exactly one history.
   count_once : (first : ℕ) (hs : List History) → NumberedFrom first hs → first ≤ n → n < first + length hs
       → count_by has_number hs ≡ 1
   count_once first [] from least most = absurd (omega arith)
@@ -91,7 +91,7 @@ module _ (n : ℕ) where
             count_miss h hs miss ∙ count_once (first + 1) hs from.1 (omega (arith, other, at)) (omega arith)
       ]
 
--- A list of different known numbers lists as many histories as it has numbers.
+-- A list of numbers of different postings lists as many histories as it has numbers.
 count_listed : (hs : List History) → NumberedFrom 1 hs → (ns : List ℕ) → EachOnce ns → EachListed (IsKnownPosting hs)
     ns → count_by (is_listed ns) hs ≡ length ns
 count_listed hs from [] once known = count_nothing hs

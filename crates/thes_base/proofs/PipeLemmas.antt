@@ -30,7 +30,7 @@ appends_front_then a b c xs ys f s = record {
   front = rw (take-append-add xs ys s.count) (Appends-trans a b c xs (take s.count ys) f s.front);
 }
 
--- A call of an engine with two pipes has `left` of its budget left.
+-- A call that uses a reader and a writer has `left` reads and writes left in its budget.
 pub record HasLeft {R W : Type 0} (reader reader' : Pipe R) (writer writer' : Pipe W) (left : ℕ) : Type 0 where
   pub reads : ℕ
   pub writes : ℕ

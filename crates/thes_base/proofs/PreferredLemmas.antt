@@ -1,4 +1,4 @@
--- A preferred label is found in a tag exactly when the owner has one.
+-- The look-up of an owner's preferred label in a tag finds one exactly when the owner has one.
 use Rattle.std.proofs.Common.{◌≡◌, ◌⊎◌, ℕ, List, [], ◌∷◌, refl, sym, ap, ◌∙◌, subst, inl, inr, Bool, true, false}
 use Rattle.std.proofs.Common.{◌&&◌, eqb-true, eq-eqb, cond, Contains}
 use Rattle.std.specs.Prelude.{Option, None, Some, find, option_map, ◌==◌}

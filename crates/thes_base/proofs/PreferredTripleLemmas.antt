@@ -1,4 +1,4 @@
--- Preferred labels are unique in each scheme exactly when they are by the triples.
+-- Preferred labels are unique in each scheme exactly when the triples meet the condition MeetsUniquePreferred.
 use Rattle.std.proofs.Common.{◌≡◌, ◌⊎◌, ℕ, List, refl, sym, ap, ◌∙◌, subst, inl, inr, Bool, true, false}
 use Rattle.std.specs.Prelude.{Some, ◌↔◌}
 use Rattle.std.specs.FinSet.{contains}
@@ -39,7 +39,7 @@ module _ (base : List ℕ) (s : State) (apart : (m n : ℕ) → Exists s.resourc
           never : r.live ≡ false → r.live ≡ true → ⊥
           never f t = cc
 
-  -- If preferred labels are unique by the rule, they are by the triples.
+  -- If preferred labels are unique in each scheme, the triples meet the condition.
   holds : UniquePreferred s.resources s.labels → skos.MeetsUniquePreferred T
   holds unique = record { one = λ x y scheme tag text cx cy hx hy. go x y scheme tag text cx cy hx hy }
     where
@@ -80,7 +80,7 @@ module _ (base : List ℕ) (s : State) (apart : (m n : ℕ) → Exists s.resourc
           (subst (λ k. HasLabel s.labels k Pref tag text) qb hq) in
           a.5 ∙ ap iri same ∙ sym b.5
 
-  -- If preferred labels are unique by the triples, they are by the rule.
+  -- If the triples meet the condition, preferred labels are unique in each scheme.
   back : skos.MeetsUniquePreferred T → UniquePreferred s.resources s.labels
   back rule m n scheme tag text live_m live_n in_m in_n has_m has_n =
       apart m n (known m live_m) (known n live_n)

@@ -1,4 +1,4 @@
--- The refusals of labels, links, merges and splits can be read off the triples of the state after them.
+-- The refusals of new concepts, labels, relabellings, links, merges and splits can be read off the triples after them.
 use Rattle.std.proofs.Common.{◌≡◌, ◌⊎◌, ℕ, ◌++◌, ◌∷◌, [], List, refl, arith, length-append, sym, subst, inl, inr}
 use Rattle.std.proofs.Common.{Bool, true, false, ◌&&◌, ◌||◌, nat_lt}
 use Rattle.std.specs.Prelude.{◌↔◌, Option, None, Some, if◌then◌else◌, ◌==◌}
@@ -81,7 +81,7 @@ unless_same C D name rest other answer same says = (
       says.1,
 )
 
--- If the conditions on triples agree with the rules, the rules of refusal are equivalent.
+-- If the conditions on triples agree with the rules of links and labels, checks of either refuse alike.
 module _ (base : List ℕ) (s : State) (seen : RulesAgreeWithTriples base s) (rest : RefusalRule)
     (answer : Option Refusal) where
   abbrev held : Link → Type 0
@@ -152,7 +152,7 @@ module _ (base : List ℕ) (s : State) (legal : IsLegalState base s) where
       ends_at m (inl is) = subst (HasEnds s.resources) (sym is) (norm_ends s.resources (is_outside s.resources) l known)
       ends_at m (inr old) = held_ends m old
 
-  -- The ends of links after a merge are resources.
+  -- The ends of each link after a merge are resources.
   contracted_ends : (source target : ℕ) → Exists s.resources target → (m : Link)
       → Holds (links_after_merge (is_outside s.resources) source target s.links) m → HasEnds s.resources m
   contracted_ends source target to m held =
@@ -166,7 +166,7 @@ module _ (base : List ℕ) (s : State) (legal : IsLegalState base s) where
             known.1,
       ))
 
-  -- The conditions agree with the rules after a merge.
+  -- The conditions on triples agree with the rules after a merge.
   merge_seen : (source target : ℕ) → unless_pair s.resources source target accepted None → RulesAgreeWithTriples base
       (state_after_merge source target s)
   merge_seen source target pair =
@@ -198,7 +198,7 @@ module _ (base : List ℕ) (s : State) (legal : IsLegalState base s) where
   owner_known : (l : Label) → contains s.labels l ≡ true → Exists s.resources l.owner
   owner_known l held = owner_exists s.resources l.owner (legal.labels.owners l held)
 
-  -- The conditions agree with the rules after a resource other than an outside concept is created.
+  -- The conditions on triples agree with the rules after a resource other than an outside concept is created.
   pushed_seen : (r : Resource) (tag text : List ℕ) (histories : List History) → IsFit s.resources r
       → is_outside_kind r.kind ≡ false → RulesAgreeWithTriples base
       (record (state_after_creation r tag text s) { histories = histories })
@@ -219,7 +219,7 @@ module _ (base : List ℕ) (s : State) (legal : IsLegalState base s) where
           (r, push_new s.resources r)
       owner_at l (inr old) = still l.owner (owner_known l old)
 
-  -- The conditions agree with the rules for other labels, if their owners exist.
+  -- The conditions on triples agree with the rules after a change of labels, if the owners of the new labels exist.
   relabelled_seen : (labels : Labels) → ((l : Label) → contains labels l ≡ true → Exists s.resources l.owner)
       → RulesAgreeWithTriples base (record s { labels = labels })
   relabelled_seen labels owners = triples_match_rules base (record s { labels = labels }) legal.resources held_ends

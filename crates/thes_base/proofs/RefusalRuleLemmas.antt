@@ -40,7 +40,8 @@ some_first_refusal (name for_some sentence ∷ checks) none =
     some_first_refusal checks
     (λ rest. none (rest.0, inr (λ n holds. none (Some (name n), inl (n, holds, refl)), rest.1)))
 
--- If a check with a condition accepts, its condition doesn't hold.
+-- If a request passes a check that refuses when a condition holds, the condition doesn't hold, and the remaining rule
+-- accepts the request.
 pub passed_if : {sentence rest : Type 0} {name : Refusal} → (sentence × (None ≡ Some name)) ⊎ ((¬ sentence) × rest)
     → (¬ sentence) × rest
 passed_if {sentence} {rest} {name} row = ⊎_elim (λ (p : sentence × (None ≡ Some name)). absurd (cc))

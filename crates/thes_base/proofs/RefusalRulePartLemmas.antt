@@ -1,4 +1,4 @@
--- A part of a rule, checked alone, decides for the rule: if it refuses, the rule refuses alike, or else the remaining
+-- A part of a rule can be checked alone: if it refuses, the rule gives the same refusal; if it accepts, the remaining
 -- rule decides.
 use Rattle.std.proofs.Common.{ℕ, inl, inr, refl}
 use Rattle.std.specs.Prelude.{Option, None, Some, List}
@@ -14,14 +14,14 @@ use Rattle.thes_base.specs.RuleParts.{unless_unique, unless_resource, unless_sch
 use Rattle.thes_base.specs.RuleParts.{unless_replaceable_preferred}
 use Rattle.thes_base.specs.RuleParts.{unless_ends, unless_live_concept, unless_pair, unless_split_postings}
 
--- The function is a part of a rule: what it does before `accepted` it does before any remaining rule.
+-- The function is a part of a rule: before every remaining rule it refuses and accepts as it does before `accepted`.
 pub record IsRulePart (part : RefusalRule → RefusalRule) : Type 1 where
   pub stops : (rest : RefusalRule) (name : Refusal) → part accepted (Some name) → part rest (Some name)
   pub passes : (rest : RefusalRule) (answer : Option Refusal) → part accepted None → rest answer → part rest answer
   pub opens : (rest : RefusalRule) → part rest None → part accepted None × rest None
   pub past : (rest : RefusalRule) (answer : Option Refusal) → part accepted None → part rest answer → rest answer
 
--- The part without checks.
+-- The part that has no checks.
 nothing : IsRulePart (λ rest. rest)
 nothing = record {
   stops = λ rest name e. absurd (cc);

@@ -23,7 +23,8 @@ module _ (labels : Labels) (owner : ℕ) (tag text old : List ℕ) (keep : Bool)
   abbrev after : Labels
   after = replace_preferred owner tag text keep old labels
 
-  -- The label is the new one, the old text as an alternative label, or another old label.
+  -- The label is the new preferred one, the old text as an alternative label if it is kept, or another label held
+  -- before.
   abbrev pub IsReplacedLabel : Label → Type 0
   IsReplacedLabel q = (q ≡ fresh) ⊎ ((keep ≡ true) × (q ≡ kept)) ⊎ ((q ≢ was) × (contains labels q ≡ true))
 

@@ -19,7 +19,7 @@ or_swap true true c = refl
 or_swap true false c = refl
 or_swap false b c = refl
 
--- Two orders in sequence are equal exactly when both are.
+-- A comparison by two orders in sequence gives `Equal` exactly when both orders do.
 pub both_equal : (a b : Ordering) → is_eq (ordering_then a b) ≡ (is_eq a && is_eq b)
 both_equal Less b = refl
 both_equal Equal b = refl

@@ -1,4 +1,5 @@
--- A sound state is legal except for the forms of its texts, which requests without forms could break.
+-- A sound state is legal, except that its texts may lack their forms. The machine is also defined for requests whose
+-- texts lack theirs.
 use Rattle.std.proofs.Common.{List, ℕ}
 use Rattle.thes_base.specs.State.{State}
 use Rattle.thes_base.specs.Legal.{IsLegalState, AreLegalResources, AreLegalLabels, AreLegalLinks, AreLegalPostings}

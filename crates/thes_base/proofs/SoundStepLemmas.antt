@@ -247,7 +247,7 @@ module _ (setting : Setting) (fit : IsSetting setting) (s : State) (sound : IsSo
         sound.postings;
   }
 
-  -- If no posting is assigned to a concept, no history is.
+  -- If the number of postings assigned to a concept is 0, none of the histories is assigned to it.
   none_stands : (concept : ℕ) (hs : List History) (i : ℕ) (h : History) → assigned_count concept hs ≡ 0
       → slice_get hs i ≡ Some h → is_assigned_to concept h ≡ false
   none_stands concept [] i h none e = absurd (cc)
@@ -339,7 +339,7 @@ module _ (setting : Setting) (fit : IsSetting setting) (s : State) (sound : IsSo
       at_source : (w : Bool) (p q : ℕ) → (not w && (p == q)) ≡ true → p ≡ q
       at_source w p q e = eqb-true p q (and_parts (not w) (p == q) e).1
 
-      -- After the moves no posting is assigned to the source.
+      -- After the moves of a merge, no posting has the source as its place unless it is withdrawn.
       gone : (n : ℕ) (h : History) → entry_at (state_after_merge source target s).histories n ≡ Some h → h.withdrawn
           ≡ false → place h ≢ source
       gone n new e w = let was = numbered_moved (is_assigned_to source) target (move_count s.histories + 1)
@@ -362,7 +362,7 @@ module _ (setting : Setting) (fit : IsSetting setting) (s : State) (sound : IsSo
             postings_withdrawn s posting known.0.0 sound.postings known.0.1;
       }
 
-  -- The state after a posting is sound.
+  -- The state after a Post is sound.
   pub post_sound : (key rec : List ℕ) (concept : ℕ) → Accepted (request.Post key rec concept)
       → HasNewKey (request.Post key rec concept) s → KeptBy (request.Post key rec concept)
   post_sound key rec concept row fresh =

@@ -29,7 +29,7 @@ whole_tag text short none =
       },
     )
 
--- A text with a hyphen is a tag exactly when what precedes the hyphen is a part of letters, and all further parts are
+-- A text with a hyphen is a tag exactly when the part before the first hyphen is of letters, and all further parts are
 -- of letters and digits.
 pub cut_tag : (text first rest : List ℕ) → length text ≤ 35 → position_or_len is_hyphen text < length text → first
     ≡ before_first is_hyphen text → rest ≡ after_first is_hyphen text → IsTag text
@@ -93,7 +93,7 @@ lower_twice (x ∷ xs) = rw (lowercase-lowercase x, lower_twice xs) refl
 pub kept_tag : (text : List ℕ) → IsTag text → HasStoredForm IsTag true (stored_text true text)
 kept_tag text tag = record { form = lower_tag text tag; stays = lower_twice text }
 
--- A loop that stops at the first part that fails returns whether all parts pass.
+-- A loop that stops at the first part that fails returns true exactly when all parts pass.
 pub all_or_one_fails : {X : Type 0} (P : X → Type 0) (r : Bool) (xs : List X)
     → MatchBool r (AllWithin P xs 0 (length xs)) ((k : ℕ) × (k < length xs) × HoldsAt (λ x. ¬ P x) xs k) → IsTrue r
     ↔ All P xs

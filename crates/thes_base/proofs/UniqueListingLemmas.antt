@@ -30,7 +30,7 @@ module _ {X : Type 0} {cmp : X → X → Ordering} (o : IsTotalOrder cmp) where
       (each_of (λ z. cmp y z ≡ Less) ys x above later))) (Contains-cons_cases x xs y d))
       (Contains-cons_cases y ys x c)
 
-  -- A member of one list after its first is a member of the other after its first.
+  -- If two sorted lists begin with the same member, a later member of one isn't the first of the other.
   kept : (x y : X) (xs ys : List X) → x ≡ y → AllByRecursion (λ z. cmp x z ≡ Less) xs → (z : X) → Contains xs z
       → Contains (y ∷ ys) z → Contains ys z
   kept x y xs ys same below z c d =

@@ -15,7 +15,7 @@ use Rattle.thes_base.proofs.NumberedLemmas.{push_old, push_new, push_cases, numb
 abbrev Owners : List Resource → Labels → Type 0
 Owners rs labels = (l : Label) → contains labels l ≡ true → (1 ≤ l.owner) × (l.owner ≤ length rs)
 
--- A preferred label after a creation is that of the new resource or an old one.
+-- A preferred label after a creation is that of the new resource, or was held before.
 label_cases : (rs : List Resource) (labels : Labels) (tag text : List ℕ) → Owners rs labels → (n : ℕ) (t x : List ℕ)
     → HasLabel (insert labels (label (length rs + 1) Pref tag text)) n Pref t x
     → ((n ≡ length rs + 1) × (t ≡ tag) × (x ≡ text)) ⊎ ((n ≤ length rs) × HasLabel labels n Pref t x)
@@ -29,7 +29,7 @@ label_cases rs labels tag text owners n t x h =
     (λ (e : contains labels (label n Pref t x) ≡ true). inr ((owners _ e).1, e))
     (inserted_cases labels (label (length rs + 1) Pref tag text) (label n Pref t x) h)
 
--- Preferred labels stay unique after a creation if no live concept of the scheme has the new one.
+-- Preferred labels stay unique after a creation if no live concept of the scheme already has the preferred label.
 pub made_unique : (rs : List Resource) (labels : Labels) (r : Resource) (tag text : List ℕ) → Owners rs labels
     → UniquePreferred rs labels → ((scheme : ℕ) → (is_concept_kind r.kind && r.live) ≡ true → r.scheme ≡ Some scheme
     → ¬ IsPreferredTaken rs labels scheme tag text) → UniquePreferred (rs ++ r ∷ [])
@@ -84,7 +84,7 @@ made_unique rs labels r tag text owners p1 free m n scheme t x lm ln sm sn hm hn
         (λ (c : (k ≤ length rs) × HasLabel labels k Pref t x). absurd (omega (arith, c.0, ok)))
         (label_cases rs labels tag text owners k t x hk)
 
--- Preferred labels aren't unique after a creation if a live concept of the scheme has the new one.
+-- Preferred labels aren't unique after a creation if a live concept of the scheme already has the preferred label.
 pub taken_breaks : (rs : List Resource) (labels : Labels) (scheme : ℕ) (r : Resource) (tag text : List ℕ)
     → (is_concept_kind r.kind && r.live) ≡ true → r.scheme ≡ Some scheme → IsPreferredTaken rs labels scheme tag text
     → ¬ UniquePreferred (rs ++ r ∷ []) (insert labels (label (length rs + 1) Pref tag text))

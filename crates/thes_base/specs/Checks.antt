@@ -1,5 +1,5 @@
 -- The checks of each request, in the order of docs/REQUESTS.md. Each check covers all arguments of the request before
--- the next one. A Post with a known key is answered before its checks (Machine).
+-- the next check begins. A Post with a known key is answered before its checks (Machine).
 use Rattle.std.specs.Prelude.{◌≡◌, List, [], ◌∷◌, Some}
 use Rattle.thes_base.specs.Types.{Text}
 use Rattle.std.specs.FinMap as dict

@@ -1,4 +1,4 @@
--- The number and the name of each refusal and each fault, and the texts that messages print for them.
+-- The number and the name of each refusal and each fault, the names of the tables, and the texts that messages print.
 use Rattle.std.specs.Prelude.{ℕ, codes, ◌++◌}
 use Rattle.thes_base.specs.Types.{Bytes}
 use Rattle.thes_base.specs.declared.fault.Refusal.{Refusal}
@@ -63,7 +63,7 @@ refusal_code KeyReused = record { number = 31; name = codes "KeyReused" }
 refusal_code (OutsideKnown n) = record { number = 32; name = codes "OutsideKnown" }
 refusal_code TooMany = record { number = 33; name = codes "TooMany" }
 
--- The code of a fault of an office: 40 to 44. That of a bad store doesn't name the table.
+-- The code of a fault of an office: 40 to 44. The name of `BadStore` doesn't include the table.
 abbrev pub fault_code : outer.Fault → Code
 fault_code OutOfMemory = record { number = 40; name = codes "OutOfMemory" }
 fault_code Store = record { number = 41; name = codes "Store" }

@@ -6,14 +6,14 @@ use Rattle.std.specs.FinSet.{insert}
 use Rattle.thes_base.specs.declared.data.Link.{Link}
 use Rattle.thes_base.specs.Links.{Links, Holds, HasEnd, IsBelow, IsExactMatch, links_after_merge}
 
--- An edit of the links to check: a link added in normal form, a merge, or no change, with a concept to check around.
+-- An edit to check: a link added in normal form, a merge, or a recheck of the links around a concept, without a change.
 pub data EditToCheck : Type 0 where
   Add : (new : Link) → EditToCheck
   Merge : (source target : Number) → EditToCheck
   Recheck : (pivot : Number) → EditToCheck
 
--- The concept is edited: the first end of the added link, the source or target of the merge, or the concept to check
--- around.
+-- The concept is edited: it is the first end of the added link, the source or target of the merge, or the concept
+-- around which the links are rechecked.
 abbrev pub IsEdited : EditToCheck → Number → Type 0
 IsEdited (Add new) n = n ≡ new.a
 IsEdited (Merge source target) n = (n ≡ source) ⊎ (n ≡ target)
@@ -45,7 +45,7 @@ module _ (is_outside : Number → Bool) (edit : EditToCheck) (links : Links) whe
   IsNeighbouring l = IsHeldOrNew edit links l × ((n : Number) × (m : Number) × IsEdited edit n × IsNear n m
       × HasEnd m l)
 
-  -- The list has each link of the neighbourhood. A list that has each of them once and no others is a shortest one, so
-  -- that a bound by the length of every list with the property is a bound by the number of links in the neighbourhood.
+  -- The list has each link of the neighbourhood. The shortest such list has each of them once and no others. So a
+  -- number that is at most the length of every such list is at most the number of links in the neighbourhood.
   abbrev pub HasNeighbourhood : List Link → Type 0
   HasNeighbourhood ns = (l : Link) → IsNeighbouring l → Contains ns l

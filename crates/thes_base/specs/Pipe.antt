@@ -20,7 +20,7 @@ failed_of p = p.failed
 abbrev pub ended_of : {T : Type 0} → Pipe T → Bool
 ended_of p = p.ended
 
--- A read or write was denied because a call had no budget left.
+-- A read or write was denied because no budget was left.
 abbrev pub denied_of : {T : Type 0} → Pipe T → Bool
 denied_of p = p.denied
 
@@ -28,15 +28,15 @@ denied_of p = p.denied
 abbrev pub IsFresh : {T : Type 0} → Pipe T → Type 0
 IsFresh p = (failed_of p ≡ false) × (ended_of p ≡ false) × (denied_of p ≡ false)
 
--- The number of reads and writes made on the device.
+-- The number of reads and writes made on the device, which saturates at 2 ^ 64 - 1.
 abbrev pub calls_of : {T : Type 0} → Pipe T → ℕ
 calls_of p = p.calls
 
--- The number of calls after `more` further ones, which saturates at 2 ^ 64 - 1.
+-- The number of calls after `more` further ones, saturating at 2 ^ 64 - 1.
 abbrev pub calls_after : ℕ → ℕ → ℕ
 calls_after calls more = calls + min more (2 ^ 64 - 1 - calls)
 
--- The greatest number of reads and writes that one call may make over all its pipes.
+-- The greatest number of reads and writes that one call, for example the run of a script, may make on all its pipes.
 abbrev pub calls_limit : ℕ
 calls_limit = 100000000
 
@@ -45,13 +45,13 @@ pub record PaysCalls {T : Type 0} (old new : Pipe T) (before after : ℕ) : Type
   pub fell : after ≤ before
   pub calls : calls_of new ≡ calls_after (calls_of old) (before - after)
 
--- A call that used only this pipe kept to the limit.
+-- A call that used only this pipe stayed within the limit.
 pub record KeepsCallLimit {T : Type 0} (old new : Pipe T) : Type 0 where
   pub calls : ℕ
   pub within : calls ≤ calls_limit
   pub counts : calls_of new ≡ calls_after (calls_of old) calls
 
--- A call that used a reader and a writer kept to the limit on the sum of reads and writes.
+-- A call that used a reader and a writer stayed within the limit on the sum of reads and writes.
 pub record KeepsSharedCallLimit {R W : Type 0} (reader reader' : Pipe R) (writer writer' : Pipe W) : Type 0 where
   pub reads : ℕ
   pub writes : ℕ

@@ -18,8 +18,8 @@ abbrev pub refused_unless : Type 0 → Refusal → RefusalRule → RefusalRule
 refused_unless condition name rest answer =
     ((¬ condition) × (answer ≡ Some name)) ⊎ (condition × rest answer)
 
--- Refuses with the refusal that names a number for which the condition holds, or if there is none decides by the
--- remaining rule.
+-- Refuses with the refusal that names a number for which the condition holds; if there is no such number, decides by
+-- the remaining rule.
 abbrev pub refused_for : (Number → Type 0) → (Number → Refusal) → RefusalRule → RefusalRule
 refused_for condition name rest answer =
     ((n : Number) × condition n × (answer ≡ Some (name n)))
@@ -29,7 +29,7 @@ refused_for condition name rest answer =
 abbrev pub accepted : RefusalRule
 accepted answer = answer ≡ None
 
--- Refuses with the refusal found so far, or if there is none decides by the remaining rule.
+-- Refuses with the refusal found so far; if there is none, decides by the remaining rule.
 abbrev pub refusal_or_rest : Option Refusal → RefusalRule → RefusalRule
 refusal_or_rest (Some name) rest answer = answer ≡ Some name
 refusal_or_rest None rest answer = rest answer

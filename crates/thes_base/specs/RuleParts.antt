@@ -1,5 +1,5 @@
--- Rules that check a part of a request, for contracts of the functions that check these parts. No request's rule is
--- defined by them: Checks lists the checks of each request. The name of each part states the condition on which it
+-- Rules that check a part of a request, for the contracts of the functions that check these parts. They don't define
+-- the rule of any request: Checks lists the checks of each. The name of each part states the condition under which it
 -- leaves the decision to the remaining rule.
 use Rattle.std.specs.Prelude.{◌≡◌, List, Some, true}
 use Rattle.std.specs.FinMap as dict
@@ -43,7 +43,7 @@ unless_scheme resources scheme = unless_resource (IsScheme resources) resources 
 abbrev pub unless_concept : State → Number → RefusalRule
 unless_concept s n = unless_resource (IsConcept s.resources) s.resources n accepted
 
--- Refuses an IRI that begins with the base, or that an outside concept has.
+-- Refuses an IRI that begins with the base, or that an outside concept already has.
 abbrev pub unless_new_foreign_iri : Iri → Iris → Iri → RefusalRule → RefusalRule
 unless_new_foreign_iri base iris iri rest =
     refused_if (BeginsWith iri base) no.WrongKind
@@ -93,7 +93,7 @@ unless_live_concept resources n rest =
     unless_resource (IsConcept resources) resources n
     (refused_unless (IsLive resources n) no.NotLive rest)
 
--- Refuses unless the number is that of a concept whose replacements, if any, end at a live one.
+-- Refuses unless the number is a concept's, and the concept, or the last of its replacements if it has any, is live.
 abbrev pub unless_forwardable : List Resource → Number → RefusalRule → RefusalRule
 unless_forwardable resources n rest =
     unless_resource (IsConcept resources) resources n

@@ -26,6 +26,6 @@ Key = Bytes
 abbrev pub RecordName : Type 0
 RecordName = Bytes
 
--- The number of a resource, a posting or a move, in a sequence of its own sort.
+-- The number of a resource, a posting or a move. Resources, postings and moves are numbered separately.
 abbrev pub Number : Type 0
 Number = ℕ

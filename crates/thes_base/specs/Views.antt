@@ -39,8 +39,8 @@ assigned_histories concept histories = filter (is_assigned_to concept) histories
 abbrev pub HasLink : Links → LinkKind → Number → Number → Type 0
 HasLink links kind a b = Holds links (record { kind = kind; a = a; b = b })
 
--- Concept n has the mapping, as seen from n: a broader match of one end is a narrower match of the other (SKOS: S43),
--- and the other kinds are symmetric (SKOS: S44).
+-- Concept n has the mapping of the kind to m, as seen from n. A broader match of one end is a narrower match of the
+-- other (SKOS: S43), and the other kinds are symmetric (SKOS: S44).
 abbrev pub IsMapping : Links → Number → LinkKind × Number → Type 0
 IsMapping links n (Exact, m) = HasLink links Exact n m ⊎ HasLink links Exact m n
 IsMapping links n (Close, m) = HasLink links Close n m ⊎ HasLink links Close m n
@@ -57,11 +57,11 @@ kind_name_cmp word x y = ordering_then (slice_cmp nat_cmp (word x.0) (word y.0))
 abbrev pub mapping_cmp : LinkKind × Number → LinkKind × Number → Ordering
 mapping_cmp = kind_name_cmp link_kind_name
 
--- Concept a has the broader concept b in its scheme, by a link of any type.
+-- Concept a has the broader concept b in its scheme, by a hierarchical link of any type.
 abbrev pub HasBroader : Links → Number → Number → Type 0
 HasBroader links a b = (kind : LinkKind) × IsHierarchical kind × HasLink links kind a b
 
--- Concept n has the typed hierarchical link, as seen from n.
+-- Concept n has the typed hierarchical link to m, as seen from n.
 abbrev pub IsTypedLink : Links → Number → TypedKind × Number → Type 0
 IsTypedLink links n (typed.BroaderGeneric, m) = HasLink links BroaderGeneric n m
 IsTypedLink links n (typed.BroaderPartitive, m) = HasLink links BroaderPartitive n m
@@ -103,7 +103,7 @@ pub record ConceptDetails : Type 0 where
   pub typed : List (TypedKind × Number)
 
 module _ (s : State) (n : Number) where
-  -- The texts are the labels of the kind that resource n has, each once, ordered by tag and text.
+  -- The list has the texts that resource n has as labels of the kind, each once, ordered by tag and text.
   abbrev pub AreLabels : LabelKind → List TaggedText → Type 0
   AreLabels kind labels = IsListing tagged_text_cmp (λ t. HasLabel s.labels n kind t.tag t.text) labels
 

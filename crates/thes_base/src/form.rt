@@ -8,8 +8,8 @@ ghost use Rattle.thes_base.specs.declared.fault.FormFault.TheVariants.{BadText, 
 
 use crate::fault::FormFault;
 
-/// A rule for texts, with the fault for a text that breaks it, and whether texts are stored in
-/// lower case.
+/// A rule for texts, with the fault for a text that breaks it, and the choice whether texts are
+/// stored in lower case.
 pub trait Form {
     ghost is_form: { List ℕ → Type 0 };
 
@@ -131,7 +131,8 @@ impl Form for TagForm {
     }
 }
 
-/// The form of the IRI of an outside concept: at most 512 bytes.
+/// The form of an outside concept's IRI: a scheme, a colon and at least one character, in at most
+/// 512 bytes.
 #[derive(Drop)]
 pub enum IriForm {}
 
@@ -151,7 +152,8 @@ impl Form for IriForm {
     }
 }
 
-/// The form of a store's base, the prefix of the IRIs of its own resources: at most 200 bytes.
+/// The form of a store's base, the prefix of the IRIs of its own resources: an IRI of at most 200
+/// bytes.
 #[derive(Drop)]
 pub enum BaseForm {}
 

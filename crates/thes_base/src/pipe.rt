@@ -1,4 +1,5 @@
-//! A reader or writer that records the failures, the end and the calls of its device.
+//! Pipes: readers and writers that record failures, the end of the input, denied calls, and the
+//! number of calls.
 ghost use Rattle.std.specs.Prelude.{◌≡◌, ◌≢◌, ◌+◌, ◌<◌, length, true, false, IsTrue, IfOk, IfErr, OnOk, OnErr, IsErrOf, ◌↔◌, ◌⊎◌};
 ghost use Rattle.std.specs.Io.{ReadsAtMost, WritesAtMost};
 ghost use Rattle.std.specs.Io.KnownBytes.{ReadConsumes, WriteAppends, Appends};
@@ -10,7 +11,8 @@ use std::io;
 use std::io::{ErrorKind, Read, Write};
 use std::marker::Model;
 
-/// The number of reads and writes that one call may still make over all its pipes.
+/// The number of reads and writes that one call, for example the run of a script, may still make on
+/// all its pipes.
 #[derive(Drop)]
 pub struct Budget {
     left: u32,
@@ -34,7 +36,7 @@ impl Budget {
 }
 
 /// A reader or writer with a record of its use: whether it failed, whether its input ended, whether
-/// a read or write was denied for lack of budget, and the number of its reads and writes.
+/// a read or write was denied because no budget was left, and the number of its reads and writes.
 #[derive(Drop)]
 pub struct Pipe<T> {
     device: T,
@@ -50,7 +52,7 @@ pub struct Pipe<T> {
 pub enum Stop {
     /// The device failed to read or to write.
     Failed,
-    /// The call has used up its budget of reads and writes.
+    /// The budget of reads and writes was used up.
     TooLong,
 }
 
@@ -99,7 +101,7 @@ impl<T> Pipe<T> {
         }
     }
 
-    /// Returns whether a read or a write has failed: `Interrupted` isn't a failure, a write of no
+    /// Returns whether a read or a write has failed. `Interrupted` is no failure, but a write of no
     /// bytes is one.
     pub fn failed(&self) -> bool
         ensures { result ≡ failed_of self.now }
@@ -114,14 +116,14 @@ impl<T> Pipe<T> {
         self.ended
     }
 
-    /// Returns whether a read or write was denied because a call had no budget left.
+    /// Returns whether a read or write was denied because no budget was left.
     pub fn denied(&self) -> bool
         ensures { result ≡ denied_of self.now }
     {
         self.denied
     }
 
-    /// Returns the number of reads or writes made; it saturates at `u64::MAX`.
+    /// Returns the number of reads and writes made, which saturates at `u64::MAX`.
     pub fn calls(&self) -> u64
         ensures { result ≡ calls_of self.now }
     {
@@ -138,7 +140,8 @@ impl<T> Pipe<T> {
 }
 
 impl<R: Read> Pipe<R> {
-    /// Calls the device's `read` once, whatever it returns, and takes one call off the budget.
+    /// Calls the device's `read` once, without a retry after `Interrupted`; the budget falls by
+    /// one.
     pub fn read_once(&mut self, budget: &mut Budget, buf: &mut [u8]) -> io::Result<usize>
         requires room { 0 < length buf.old }
         requires left { 0 < budget.old }
@@ -146,7 +149,7 @@ impl<R: Read> Pipe<R> {
         ensures bytes { ReadConsumes (unread_bytes R.remaining self.old)
             (unread_bytes R.remaining self.new) result buf.new }
 
-        // Records the end exactly if the call returned no byte, and a failure exactly if it
+        // The end is recorded exactly if the call returned no byte, a failure exactly if it
         // returned an error other than Interrupted.
         ensures ended { IfOk result (λ n. IsTrue (ended_of self.new)
             ↔ (IsTrue (ended_of self.old) ⊎ (n ≡ 0))) }
@@ -200,7 +203,8 @@ impl<R: Read> Pipe<R> {
 }
 
 impl<W: Write> Pipe<W> {
-    /// Calls the device's `write` once, whatever it returns, and takes one call off the budget.
+    /// Calls the device's `write` once, without a retry after `Interrupted`; the budget falls by
+    /// one.
     pub fn write_once(&mut self, budget: &mut Budget, bytes: &[u8]) -> io::Result<usize>
         requires some { 0 < length bytes.now }
         requires left { 0 < budget.old }
@@ -208,7 +212,7 @@ impl<W: Write> Pipe<W> {
         ensures bytes { WriteAppends (written_bytes W.contents self.old)
             (written_bytes W.contents self.new) result bytes.now }
 
-        // Records a failure exactly if the call wrote no byte, or returned an error other than
+        // A failure is recorded exactly if the call wrote no byte, or returned an error other than
         // Interrupted.
         ensures stuck { IfOk result (λ n. IsTrue (failed_of self.new)
             ↔ (IsTrue (failed_of self.old) ⊎ (n ≡ 0))) }
@@ -268,7 +272,7 @@ impl<W: Write> Pipe<W> {
         Ok(())
     }
 
-    /// Writes a text within a new budget; after a fault a prefix of it may have been written.
+    /// Writes a text with a new budget; after a fault, a prefix of the text may have been written.
     pub fn write_text(&mut self, text: &[u8]) -> Result<(), PipeFault>
         requires { IsFresh self.old }
         ensures ok { OnOk result (Appends (written_bytes W.contents self.old)

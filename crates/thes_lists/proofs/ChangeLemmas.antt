@@ -25,14 +25,14 @@ module _ {A : Type 0} (old new : Lists A) (n : ℕ) (v : Vec A Global) (written 
   rooms_elsewhere : (m : ℕ) → m ≢ n → HasSpare old m → HasSpare new m
   rooms_elsewhere m apart room = subst (λ o. IsSomeAnd o IsRoomy) (sym (elsewhere m apart)) room
 
-  -- A list written with the same values leaves all values unchanged.
+  -- Writing a list with the values that it had leaves the values under all numbers unchanged.
   same_written : v.items ≡ listed_at old n → HaveSameValues old new
   same_written same m = elim (cases_eq m n) [
     | inl here ↦ ap (listed_at new) here ∙ changes_written.here ∙ same ∙ ap (listed_at old) (sym here)
     | inr apart ↦ changes_written.others m apart
   ]
 
-  -- A list written with at least as much room keeps the room of each list.
+  -- Each list keeps its room for one more value, if the written list has such room whenever the replaced one did.
   rooms_written : (HasSpare old n → IsRoomy v) → KeepsSpare old new
   rooms_written keeps m room = elim (cases_eq m n) [
     | inl here ↦ subst (HasSpare new) (sym here)
@@ -40,7 +40,7 @@ module _ {A : Type 0} (old new : Lists A) (n : ℕ) (v : Vec A Global) (written 
     | inr apart ↦ rooms_elsewhere m apart room
   ]
 
-  -- Assumes that the list is written in place of the one that was there.
+  -- Assumes that number n had the list `before`, which the written list replaces.
   module _ (before : Vec A Global) (was : Some before ≡ slice_get old.lists.items n) where
     same_grown : v.items ≡ before.items → HaveSameValues old new
     same_grown same = same_written (same ∙ ap (λ o. option_map_or (λ (w : Vec A Global). w.items) o []) was)
@@ -51,7 +51,7 @@ module _ {A : Type 0} (old new : Lists A) (n : ℕ) (v : Vec A Global) (written 
         more : IsRoomy before → IsRoomy v
         more room = omega arith
 
--- Assumes that the list is that of a number that has one.
+-- Assumes that number n has a list, and that the list v replaces it.
 module _ {A : Type 0} (lists : Lists A) (n i : ℕ) (at : i ≡ n) (found : ltb i (length lists.lists.items) ≡ true)
     (v : Vec A Global) where
   inside : i < length lists.lists.items
@@ -82,7 +82,7 @@ module _ {A : Type 0} (lists : Lists A) (n i : ℕ) (at : i ≡ n) (found : ltb 
   pub rooms_stay : (m : ℕ) → m ≢ n → HasSpare lists m → HasSpare wrote m
   rooms_stay = rooms_elsewhere lists wrote n v wrote_here wrote_elsewhere
 
-  -- Assumes that it replaces the list read before.
+  -- Assumes that `before` is the list that v replaces.
   module _ (before : Vec A Global) (is : before ≡ get_or lists.lists.items i before) where
     was_there : Some before ≡ slice_get lists.lists.items n
     was_there = ap Some is ∙ sym (slice_get-get_or lists.lists.items i before inside)

@@ -77,7 +77,7 @@ module _ {A : Type 0} (c : A → A → Ordering) (o : IsTotalOrder c) (exact : I
     ];
   }
 
-  -- A value listed after a removal isn't the removed one.
+  -- A value that is still listed after a removal isn't the removed one.
   pub remove_apart : (ks : List A) (x m : A) → IsStrictlySortedBy c ks → Has (remove_key (is_at (c x)) ks) m → m ≢ x
   remove_apart [] x m sorted has = absurd has
   remove_apart (y ∷ ys) x m sorted has = go (is_eq (c x y)) refl has (remove_apart ys x m (sorted_tail c y ys sorted))
@@ -115,7 +115,7 @@ module _ {A : Type 0} (c : A → A → Ordering) (o : IsTotalOrder c) (exact : I
         (remove_keeps xs x m p.1 (Has-from xs m (is.complete m p.0)));
   }
 
-  -- Assumes that one list changes by an insertion or a removal.
+  -- Assumes that the lists of the old index are the listings of P.
   module _ (P Q : ℕ → A → Type 0) (old new : Lists A) (n : ℕ) (x : A) (are : AreListings c P old) where
     pub listings_insert : ChangesOnlyAt old new n (insert_key c (listed_at old n) x) → Q n x
         → ((m : ℕ) (y : A) → P m y → Q m y) → ((m : ℕ) (y : A) → Q m y → P m y ⊎ ((m ≡ n) × (y ≡ x)))

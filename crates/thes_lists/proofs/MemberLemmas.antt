@@ -3,7 +3,7 @@ use Rattle.std.proofs.Common.{◌≡◌, ◌⊎◌, inl, inr, zero, suc, List, [
 use Rattle.std.specs.List.{AllByRecursion}
 
 module _ {A : Type 0} where
-  -- The list has the value, by recursion.
+  -- The list has the value, as a definition by recursion on the list.
   abbrev pub Has : List A → A → Type 0
   Has [] x = ⊥
   Has (k ∷ ks) x = (k ≡ x) ⊎ Has ks x

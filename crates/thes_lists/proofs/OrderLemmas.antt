@@ -51,7 +51,7 @@ module _ {A : Type 0} (c : A → A → Ordering) where
       go Greater (inl same) later = inl same
       go Greater (inr has) later = inr (later has)
 
-  -- The members after a removal were members before.
+  -- The members after a removal were members before it.
   pub remove_had : (ks : List A) (test : A → Bool) (m : A) → Has (remove_key test ks) m → Has ks m
   remove_had [] test m has = absurd has
   remove_had (y ∷ ys) test m has = go (test y) has (remove_had ys test m)
@@ -69,7 +69,7 @@ module _ {A : Type 0} (c : A → A → Ordering) (o : IsTotalOrder c) where
   pub never_below_itself : (x : A) → c x x ≡ Less → ⊥
   never_below_itself x e = let tied = tied_itself o x in cc
 
-  -- A rising list rises after an insertion.
+  -- A rising list still rises after an insertion.
   pub insert_sorted : (ks : List A) (x : A) → IsStrictlySortedBy c ks → IsStrictlySortedBy c (insert_key c ks x)
   insert_sorted [] x sorted = sorted_cons c x [] (λ y none. absurd none) (sorted_none c)
   insert_sorted (y ∷ ys) x sorted = go (c x y) refl (insert_sorted ys x (sorted_tail c y ys sorted))
@@ -114,7 +114,8 @@ module _ {A : Type 0} (c : A → A → Ordering) (o : IsTotalOrder c) where
     λ k d low lt. above (suc k) d (omega arith) (omega arith),
   )
 
-  -- A missing value is inserted at the place that the search found.
+  -- If a list doesn't have a value, inserting it where a binary search ended gives the same list as inserting it in
+  -- order.
   pub insert_missing : (ks : List A) (i : ℕ) (x : A) → i ≤ length ks → IsInsertionPoint ks x i → insert ks i x
       ≡ insert_key c ks x
   insert_missing [] zero x within is = refl
@@ -127,7 +128,7 @@ module _ {A : Type 0} (c : A → A → Ordering) (o : IsTotalOrder c) where
       ∙ sym (ap (λ r. match_ordering r (x ∷ y ∷ ys) (y ∷ ys) (y ∷ insert_key c ys x))
       (turn y x Less (is.0 0 y (omega arith) (omega arith))))
 
-  -- A value before another one in a rising list is below all that compare equal to the other.
+  -- A value that compares equal to a later entry of a rising list is greater than the first entry.
   before_found : (y : A) (ys : List A) (i : ℕ) (x : A) → i < length ys → IsStrictlySortedBy c (y ∷ ys)
       → HoldsAt (λ z. c z x ≡ Equal) ys i → c x y ≡ Greater
   before_found y ys i x within sorted is =

@@ -36,7 +36,7 @@ module _ {A : Type 0} (c : A → A → Ordering) (o : IsTotalOrder c) where
   alike : (x y q : A) → c x y ≡ Equal → eq_by_cmp c q x ≡ eq_by_cmp c q y
   alike x y q tied = ap is_eq (o.antisymm q x ∙ ap ordering_reverse (o.congr x y q tied) ∙ sym (o.antisymm q y))
 
-  -- A list has after an insertion the inserted value and the old values.
+  -- After an insertion a list has the inserted value and the old values.
   pub has_insert : (ks : List A) (x q : A) → has_key (insert_key c ks x) q ≡ (eq_by_cmp c q x || has_key ks q)
   has_insert [] x q = refl
   has_insert (y ∷ ys) x q = go (c x y) refl (has_insert ys x q)
@@ -54,7 +54,7 @@ module _ {A : Type 0} (c : A → A → Ordering) (o : IsTotalOrder c) where
       go Greater above later = ap (λ b. eq_by_cmp c q y || b) later ∙ or_swap (eq_by_cmp c q y) (eq_by_cmp c q x)
           (has_key ys q)
 
-  -- A list has after a removal the old values other than the removed one.
+  -- After a removal a list has the old values other than the removed one.
   pub has_remove : (ks : List A) (x q : A) → IsStrictlySortedBy c ks → has_key (remove_key (is_at (c x)) ks) q
       ≡ (not (eq_by_cmp c q x) && has_key ks q)
   has_remove [] x q sorted = sym (and-false (not (eq_by_cmp c q x)))

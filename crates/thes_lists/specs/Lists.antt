@@ -9,7 +9,7 @@ use Rattle.thes_base.specs.Listing.{IsListing}
 use Rattle.thes_lists.specs.declared.lists.Lists.{Lists}
 
 module _ {A : Type 0} where
-  -- The values listed under the number, none if it has no list.
+  -- The values listed under the number; none if it has no list.
   abbrev pub listed_at : Lists A → Number → List A
   listed_at lists n = option_map_or (λ v. v.items) (slice_get lists.lists.items n) []
 

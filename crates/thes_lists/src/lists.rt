@@ -11,8 +11,8 @@ use std::alloc::{AllocError, Global};
 use thes_base::number::ResNo;
 
 /// A sorted list of values for each number of a resource. Room for a value is reserved before its
-/// insertion, which then can't fail. Memory grows with the greatest number that has a list, since
-/// the lists are indexed by number.
+/// insertion, which then can't fail. Lists are indexed by number, so memory grows with the greatest
+/// number that has a list.
 #[derive(Drop)]
 pub struct Lists<T> {
     alloc: Global,
@@ -30,7 +30,8 @@ impl<T: Ord + Drop> Lists<T> {
         }
     }
 
-    /// Returns the values listed under a number, in ascending order; none if it has no list.
+    /// Returns the values listed under a number in ascending order, or an empty slice if it has no
+    /// list.
     pub fn at(&self, n: ResNo) -> &[T]
         ensures { result.now ≡ listed_at self.now n }
     {
@@ -41,7 +42,7 @@ impl<T: Ord + Drop> Lists<T> {
     }
 
     // Creates empty lists for the numbers up to `n` that have none; if memory runs out, perhaps
-    // only some of them.
+    // only for some of them.
     fn create_list(&mut self, n: ResNo) -> Result<(), AllocError>
         ensures same { HaveSameValues self.old self.new }
         ensures rooms { KeepsSpare self.old self.new }
@@ -84,7 +85,8 @@ impl<T: Ord + Drop> Lists<T> {
         }
     }
 
-    /// Inserts a value under the number, at its place in the order, unless an equal value is there.
+    /// Inserts a value into the number's list, in order, unless the list has an equal one.
+    /// `make_room` must have reserved room for it.
     pub fn insert(&mut self, n: ResNo, x: T)
         requires room { HasSpare self.old n }
         requires rises { IsStrictlySortedBy T.cmp (listed_at self.old n) }
@@ -111,7 +113,7 @@ impl<T: Ord + Drop> Lists<T> {
     }
 }
 
-// Inserts a value at its place in the order, unless an equal value is there. Doesn't allocate.
+// Inserts a value in order, without allocating, unless the list has an equal one.
 fn insert_in<T: Ord + Drop>(list: &mut Vec<T>, x: T)
     requires room { vec_len list.old < vec_capacity list.old }
     requires rises { IsStrictlySortedBy T.cmp list.old.items }

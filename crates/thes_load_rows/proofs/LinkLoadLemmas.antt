@@ -1,4 +1,4 @@
--- The checks of the tables link and hier, row by row and at their end, are their rules.
+-- The checks of the tables link and hier, row by row and at the end, decide whether the tables meet their rules.
 use Rattle.std.proofs.Common.{◌≡◌, ◌≢◌, ◌⊎◌, ◌≤◌, ℕ, ◌+◌, length, List, [], ◌∷◌, ◌++◌, map, refl, sym, ap, ◌∙◌, subst}
 use Rattle.std.proofs.Common.{inl, inr, arith, Bool, true, false, append_assoc}
 use Rattle.std.proofs.lemmas.List.{append-nil, map-append}
@@ -71,7 +71,7 @@ module _ (rs : List Resource) (i : ℕ) (graph : GraphView) (has : MarksFirst rs
       either n le e (inl at) = let g = ap (is_outside rs) at in absurd (cc)
       either n le e (inr differ) = has.complete n (omega (arith, le, differ)) e
 
-  -- The marks are right after a further outside concept is marked.
+  -- After one more outside concept is marked, all outside concepts up to it are marked.
   pub marks_more : is_outside rs (i + 1) ≡ true → MarksFirst rs (i + 1)
       (record graph { outside = insert graph.outside (i + 1) })
   marks_more outside = record {
@@ -116,7 +116,7 @@ link_push K l =
     ∙ ap (λ (ks : List Link). insert (from_list {R = link_cmp} ks) l) (sym (append-nil K))
 
 module _ (rs : List Resource) (old new : GraphView) (K : List Link) (l : Link) (has : HasLinks rs old K []) where
-  -- The link of the row is added, or no rows that begin with these and it meet the rule.
+  -- Either the link of the row is added, or no rows that begin with the rows so far and this one meet the rule.
   pub link_step : (good : Bool) → HasLinkForm l → AddLinkResult rs old new l good
       → TakeResult (λ more. HasLinks rs new more []) (LinkRule rs) K l good
   link_step true form (legal, free, is) = record {
@@ -144,7 +144,7 @@ hier_push K H row =
 
 module _ (rs : List Resource) (old new : GraphView) (K : List Link) (H : List HierRow) (row : HierRow)
     (has : HasLinks rs old K H) where
-  -- The link of the row is added, or no rows that begin with these and it meet the rule.
+  -- Either the link of the row is added, or no rows that begin with the rows so far and this one meet the rule.
   pub hier_step : (good : Bool) → AddLinkResult rs old new (hier_link row) good → TakeResult (HasLinks rs new K)
       (HierRule rs K) H row good
   hier_step true (legal, free, is) = record {
@@ -163,7 +163,7 @@ module _ (rs : List Resource) (old new : GraphView) (K : List Link) (H : List Hi
       once_twice H row more ((hier_lists K H has.rule.kinds has.once).complete row held) rule.once
 
 module _ (rs : List Resource) (graph : GraphView) (K : List Link) (H : List HierRow) (has : HasLinks rs graph K H) where
-  -- If the links of the graph break no rule, the rows meet the rule of table hier.
+  -- If the links of the graph meet Cycle, S27 and S46, the rows meet the rule of table hier.
   pub rule_whole : IsFirstBroken (Holds graph.links) None → HierRule rs K H
   rule_whole whole = record {
     once = has.once;

@@ -1,4 +1,4 @@
--- The result at the end of a load is the verdict on its rows.
+-- The result of a load is the verdict on its rows.
 use Rattle.std.proofs.Common.{◌≡◌, ◌↔◌, List, map, sym, ◌∙◌, subst, Bool, true, false, true≢false}
 use Rattle.std.specs.Prelude.{Ok, Err, IsTrue}
 use Rattle.std.proofs.lemmas.Option.{same_Some}

@@ -1,4 +1,4 @@
--- Each stage is right after the report that a table can't be queried.
+-- Each stage is right (HasRead) after a table that can't be queried.
 use Rattle.std.proofs.Common.{◌≡◌, sym, ◌∙◌, inl, List, true, false, true≢false}
 use Rattle.std.specs.Prelude.{None, Some}
 use Rattle.thes_base.specs.declared.fault.Fault.TheVariants.{BadStore}

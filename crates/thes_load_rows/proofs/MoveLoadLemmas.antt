@@ -1,4 +1,4 @@
--- The checks of table move, row by row and at its end, are its rule.
+-- The checks of table move, row by row and at the end, decide whether the table meets its rule.
 use Rattle.std.proofs.Common.{◌≡◌, ◌≢◌, ◌<◌, ℕ, zero, suc, ◌-◌, ◌+◌, length, List, [], ◌∷◌, ◌++◌, map, refl, sym, ap}
 use Rattle.std.proofs.Common.{◌∙◌, subst, arith, inl, inr, false, eqb, eqb-true, length-append, lit<, ◌^◌}
 use Rattle.std.proofs.lemmas.Bool.{cases_Bool, eq-eqb, eqb-false}
@@ -46,7 +46,7 @@ follows_from above source_place (x ∷ moves) m more follows = follows_from x.nu
 
 module _ (rs : List Resource) (ps : List PostingRow) (taken : ℕ) (places : List ℕ) (rows : List MoveRow)
     (has : HasMoves rs ps taken places rows) where
-  -- A row of a list that meets the rule may be the next one after the rows before it.
+  -- In rows that meet the rule, each row may be the next one after the rows before it.
   pub next_of : (r : MoveRow) (more : List MoveRow) → MoveRule rs ps (rows ++ r ∷ more) → IsNextMove rs places taken r
   next_of r more all =
       let there = in_next rows r more in
@@ -71,7 +71,7 @@ module _ (rs : List Resource) (ps : List PostingRow) (taken : ℕ) (places : Lis
     known = let b = numbered_bound places r.posting r.source next.source_place in let f = has.place_is.fit in
         numbered_some ps r.posting b.0 (let q = b.1 in omega (arith, q, f))
 
-    -- The posting of the row is at the source after the moves before it.
+    -- The place of the row's posting, after the moves before the row, is the row's source.
     from_here : (n : ℕ) (p : PostingRow) → entry_at ps n ≡ Some p → r.posting ≡ p.number → r.source
         ≡ place_after_moves p.first (moves_of p.number rows)
     from_here n p e same = same_Some _ _ (sym next.source_place ∙ ap (entry_at places) (same ∙ has.order n p e)
@@ -99,7 +99,7 @@ module _ (rs : List Resource) (ps : List PostingRow) (taken : ℕ) (places : Lis
           (has.so_far.well_formed p h)
     ]
 
-    -- The places are right after the move.
+    -- After the move, the places are those of the postings after all rows so far.
     places_more : ArePlacesAfterMoves ps (rows ++ r ∷ []) (set_entry_at places r.posting r.target)
     places_more = record { fit = length-set places (r.posting - 1) r.target ∙ has.place_is.fit; place_is = place_is }
       where
@@ -119,7 +119,7 @@ module _ (rs : List Resource) (ps : List PostingRow) (taken : ℕ) (places : Lis
               ∙ ap (λ l. Some (place_after_moves p.first l)) (sym (moves_other p.number rows r miss))
         ]
 
-    -- The move is added, and the rows with it meet the rule.
+    -- After the move, the load has the rows with this one.
     pub move_taken : HasMoveForm r → HasMoves rs ps (taken + 1) (set_entry_at places r.posting r.target)
         (rows ++ r ∷ [])
     move_taken form = record {

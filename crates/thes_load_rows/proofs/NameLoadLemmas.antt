@@ -1,4 +1,4 @@
--- The checks of the tables outside and label, row by row and at their end, are their rules.
+-- The checks of the tables outside and label, row by row and at the end, decide whether the tables meet their rules.
 use Rattle.std.proofs.Common.{◌≡◌, ◌<◌, ◌≤◌, ℕ, List, [], ◌∷◌, ◌++◌, refl, sym, ap, ◌∙◌, subst, arith, inl, inr, Bool}
 use Rattle.std.proofs.Common.{true, false, true≢false}
 use Rattle.std.proofs.lemmas.Map.Lookups.{exact_unsigned}
@@ -49,7 +49,7 @@ module _ (base : List ℕ) (rs : List Resource) (old new : Vocabulary) (last : �
   abbrev v : Vocabulary
   v = vocabulary_of_rows base rs rows []
 
-  -- A row whose number doesn't exceed the last one breaks the rule.
+  -- Rows break the rule of table outside if a row's number doesn't exceed the number before it.
   pub not_above : x.0 ≤ last → (more : List IriRow) → OutsideRule base rs (rows ++ x ∷ more) → ⊥
   not_above le more rule =
       let after = after_rows 0 rows x more rule.ascends in
@@ -58,7 +58,7 @@ module _ (base : List ℕ) (rs : List Resource) (old new : Vocabulary) (last : �
         | inr row ↦ (let b = after.1 row.0 row.1 in let e = row.2 in omega (arith, b, e, le))
       ]
 
-  -- The IRI of a row of a list that meets the rule may be loaded.
+  -- In rows that meet the rule, the IRI of each row may be loaded after the rows before it.
   fits_all : (more : List IriRow) → OutsideRule base rs (rows ++ x ∷ more) → MayLoadIri v x.0 x.1
   fits_all more rule =
       let after = after_rows 0 rows x more rule.ascends in
@@ -81,7 +81,7 @@ module _ (base : List ℕ) (rs : List Resource) (old new : Vocabulary) (last : �
       none None e below = e
       none (Some iri) e below = let lt = below (x.0, iri) (iri_row rows x.0 iri e) in absurd (omega (arith, lt))
 
-  -- The IRI of the row is added, or no rows that begin with these and it meet the rule.
+  -- Either the IRI of the row is added, or no rows that begin with the rows so far and this one meet the rule.
   pub outside_step : (good : Bool) → last < x.0 → HasOutsideForm x → LoadIriResult old new x.0 x.1 good
       → TakeResult (HasOutside base rs new x.0) (OutsideRule base rs) rows x good
   outside_step true up form (fits, is) =
@@ -103,7 +103,7 @@ module _ (base : List ℕ) (rs : List Resource) (old new : Vocabulary) (last : �
   outside_step false up form (none, is) =
       λ more rule. none (subst (λ (w : Vocabulary). MayLoadIri w x.0 x.1) (sym has.are) (fits_all more rule))
 
--- The check at the end of table outside is its rule.
+-- If each outside concept has an IRI after the last row, table outside meets its rule.
 pub outside_whole : (base : List ℕ) (rs : List Resource) (v : Vocabulary) (last : ℕ) (rows : List IriRow)
     → HasOutside base rs v last rows → AreIrisSoFar v.base v.resources v.iris → HaveIris v → OutsideRule base rs rows
 outside_whole base rs v last rows has so_far all =
@@ -129,7 +129,7 @@ module _ (base : List ℕ) (rs : List Resource) (outside : List IriRow) (old new
   abbrev labels : Labels
   labels = labels_of rows
 
-  -- The labels of the rows read so far are among those of all rows.
+  -- The labels of the rows so far, with the next one, are among those of all rows.
   fewer : (more : List Label) (q : Label) → set.contains (set.insert labels l) q ≡ true
       → set.contains (labels_of (rows ++ l ∷ more)) q ≡ true
   fewer more q h = in_set labels_total labels_exact (rows ++ l ∷ more) q (elim (inserted_cases labels l q h) [
@@ -151,7 +151,7 @@ module _ (base : List ℕ) (rs : List Resource) (outside : List IriRow) (old new
         (fewer more _ hm) (fewer more _ hn);
   }
 
-  -- The label of the row is added, or no rows that begin with these and it meet the rule.
+  -- Either the label of the row is added, or no rows that begin with the rows so far and this one meet the rule.
   pub label_step : (good : Bool) → HasLabelForm l → LoadLabelResult old new l good
       → TakeResult (HasLabels base rs outside new) (LabelRule rs) rows l good
   label_step true form (fits, is) =

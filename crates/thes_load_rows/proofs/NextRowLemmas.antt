@@ -11,7 +11,7 @@ use Rattle.thes_tables.proofs.MoveRowLemmas.{get_at}
 use Rattle.thes_load_rules.specs.Rules.{EachRow, AreInOrder}
 
 module _ {A : Type 0} where
-  -- The row after the first ones has the next number.
+  -- The row that follows `rows` has the next number.
   pub numbered_next : (rows : List A) (x : A) (more : List A) → entry_at (rows ++ x ∷ more) (length rows + 1) ≡ Some x
   numbered_next rows x more = ap (entry_at (rows ++ x ∷ more)) (let q : length rows + 1 ≡ suc (length rows) =
       omega arith in q) ∙ get_at rows x more
@@ -33,7 +33,7 @@ module _ {A : Type 0} where
     | inr new ↦ elim new [ inl is ↦ subst P (sym is) p | inr none ↦ absurd none ]
   ]
 
-  -- A list in which a row occurs twice has duplicates.
+  -- If a row that occurred before follows, the list has duplicates.
   pub once_twice : (rows : List A) (x : A) (more : List A) → IsIn x rows → AreDistinct (rows ++ x ∷ more) → ⊥
   once_twice [] x more h once = h
   once_twice (y ∷ rows) x more (inl e) once = once.0 (append_right y rows (x ∷ more) (inl (sym e)))
@@ -46,7 +46,7 @@ module _ {A : Type 0} where
     | inr new ↦ ap number new.1 ∙ last ∙ sym new.0
   ]
 
-  -- If the next number is in range, there are fewer than 2³² rows.
+  -- If the number of the last row is in range, there are fewer than 2³² rows.
   pub few_push : (number : A → ℕ) (rows : List A) (x : A) → number x ≡ length rows + 1 → IsNumber (number x)
       → length (rows ++ x ∷ []) < 2 ^ 32
   few_push number rows x last form = let l = length-append rows (x ∷ []) in let f = form.1 in omega (arith, l, last, f)

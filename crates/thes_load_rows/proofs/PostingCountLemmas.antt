@@ -18,7 +18,7 @@ use Rattle.thes_load_rows.specs.PostingCounts.{AreCountsOfRows}
 abbrev number_of : Bool → ℕ
 number_of b = cond b 1 0
 
--- The counts are right after a further row.
+-- The counts after one more row are those of the rows with it.
 pub sums_push : (rows : List PostingRow) (p : PostingRow) (old new : PostingCounts) → AreCountsOfRows rows old
     → CountsAfterTally p.place p.withdrawn old new → AreCountsOfRows (rows ++ p ∷ []) new
 sums_push rows p old new are told = record {

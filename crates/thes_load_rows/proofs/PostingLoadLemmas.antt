@@ -1,4 +1,4 @@
--- The checks of table posting, row by row, are its rule.
+-- The checks of table posting, row by row, decide whether the table meets its rule.
 use Rattle.std.proofs.Common.{subst, ◌≡◌, ◌⊎◌, ◌<◌, ◌^◌, lit<, ℕ, ◌+◌, length, List, [], ◌∷◌, ◌++◌, map, refl, sym}
 use Rattle.std.proofs.Common.{ap, ◌∙◌, arith, inl, inr, true, false, cond, ◌||◌}
 use Rattle.std.specs.Prelude.{Some}
@@ -63,7 +63,7 @@ module _ (rs : List Resource) (keys : List (List ℕ)) (firsts stored_places : L
       let b = (numbered_bound rows at.0 row.0 at.1).1 in
       omega (arith, same, b)
 
-  -- The key of a row is among the keys that the load has.
+  -- If an earlier row has the key of the next row, the key is among those of the load.
   row_held : (n : ℕ) (row : PostingRow) → entry_at rows n ≡ Some row → row.key ≡ p.key → has_key keys p.key ≡ true
   row_held n row e same = has.keys_are p.key ∙ ap (has_key (map key_of rows)) (sym same) ∙ any_in nat_list_cmp_total
       keys_exact row.key (map key_of rows) (map_in key_of row rows (numbered_in rows n row e))
@@ -79,7 +79,7 @@ module _ (rs : List Resource) (keys : List (List ℕ)) (firsts stored_places : L
       both (inr (at, is)) (inl b) = clash (has_key keys p.key) (row_held n y b (sym same ∙ ap key_of is)) free
       both (inr (at, is)) (inr (bt, js)) = at ∙ sym bt
 
-  -- The load is right after a row that meets the rule is added.
+  -- After a row that may be the next one is added, the load has the rows with this one.
   pub next_taken : (new : List (List ℕ)) → IsNextPosting rs (length firsts) p → HasPostingForm p → has_key keys p.key
       ≡ false → ((q : List ℕ) → has_key new q ≡ cond (eq_by_cmp (slice_cmp nat_cmp) p.key q) true (has_key keys q))
       → (told : PostingCounts) → CountsAfterTally p.place p.withdrawn posting_counts told
@@ -109,7 +109,7 @@ module _ (rs : List Resource) (keys : List (List ℕ)) (firsts stored_places : L
         posting_counts_are = sums_push rows p posting_counts told has.posting_counts_are is;
       }
 
--- The load is right without rows.
+-- A new load has no rows.
 pub postings_none : (rs : List Resource) (keys : List (List ℕ)) (firsts stored_places : List ℕ)
     (posting_counts : PostingCounts) → keys ≡ [] → firsts ≡ [] → stored_places ≡ [] → posting_counts ≡ record {
       counts = [];

@@ -1,4 +1,5 @@
--- Rules that are met stay met as rows come, and each stage is right after a row that is added or faulty.
+-- Tables that meet their rules still meet them when rows of later tables follow. Each stage is right (HasRead) after a
+-- row of its table is added or found faulty.
 use Rattle.std.proofs.Common.{◌≡◌, List, [], ◌∷◌, ◌++◌, map, sym, ap, ◌∙◌, subst, inl, inr, true}
 use Rattle.std.specs.Prelude.{Some, option_map}
 use Rattle.std.proofs.lemmas.Option.{same_Some}
@@ -25,7 +26,7 @@ use Rattle.thes_load_rows.specs.NamesSoFar.{HasOutside, HasLabels}
 use Rattle.thes_load_rows.specs.LinksSoFar.{HasLinks}
 use Rattle.thes_load_rows.specs.RowsSoFar.{HasPostings}
 
--- Rows that begin with faulty rows are faulty, whatever follows.
+-- A table that begins with faulty rows breaks its rule, whatever rows follow.
 pub faulty_none : {A : Type 0} (cells_of : List A → List (List Cell)) (Rule : List A → Type 0)
     (begun : List (List Cell)) → IsFaulty cells_of Rule begun → (queried : RawTable) → Grows (Some begun) queried
     → HasNoRows cells_of Rule queried
@@ -83,7 +84,7 @@ posting_stays raw more t e0 e1 e2 e3 e4 e5 e6 (a, b) = (
   subst (λ (q : RawTable). IsTable (map posting_cells) (PostingRule t.resource) q t.posting) (sym e6) b,
 )
 
--- A faulty row of table resource is the verdict on all rows.
+-- If a row of table resource is faulty, the verdict is the fault of this table, whatever rows follow.
 pub resource_fault : (raw : Raw) (t : Tables) (cells : List Cell) → MetaPasses raw t → raw.resource
     ≡ Some (resource_rows 1 t.resource) → IsFaulty (resource_rows 1) ResourceRule (resource_rows 1 t.resource ++ cells
     ∷ []) → HasRead (stage.Stopped (BadStore table.Resource) table.Resource) (raw_with_row table.Resource cells raw)
@@ -93,7 +94,7 @@ resource_fault raw t cells passes read faulty more (e0, grown) =
     (subst (λ (q : RawTable). Grows q more.resource)
     (ap (option_map (λ (rows : List (List Cell)). rows ++ cells ∷ [])) read) grown))
 
--- A faulty row of table outside is the verdict on all rows.
+-- If a row of table outside is faulty, the verdict is the fault of this table, whatever rows follow.
 pub outside_fault : (raw : Raw) (t : Tables) (cells : List Cell) → ResourcePasses raw t → raw.outside
     ≡ Some (map outside_cells t.outside) → IsFaulty (map outside_cells) (OutsideRule t.base t.resource)
     (map outside_cells t.outside ++ cells ∷ []) → HasRead (stage.Stopped (BadStore table.Outside) table.Outside)
@@ -105,7 +106,7 @@ outside_fault raw t cells passes read faulty more (e0, e1, grown) =
     (subst (λ (q : RawTable). Grows q more.outside)
     (ap (option_map (λ (rows : List (List Cell)). rows ++ cells ∷ [])) read) grown))
 
--- A faulty row of table label is the verdict on all rows.
+-- If a row of table label is faulty, the verdict is the fault of this table, whatever rows follow.
 pub label_fault : (raw : Raw) (t : Tables) (cells : List Cell) → OutsidePasses raw t → raw.label
     ≡ Some (map label_cells t.label) → IsFaulty (map label_cells) (LabelRule t.resource) (map label_cells t.label
     ++ cells ∷ []) → HasRead (stage.Stopped (BadStore table.Label) table.Label) (raw_with_row table.Label cells raw)
@@ -115,7 +116,7 @@ label_fault raw t cells passes read faulty more (e0, e1, e2, grown) =
     (subst (λ (q : RawTable). Grows q more.label)
     (ap (option_map (λ (rows : List (List Cell)). rows ++ cells ∷ [])) read) grown))
 
--- A faulty row of table link is the verdict on all rows.
+-- If a row of table link is faulty, the verdict is the fault of this table, whatever rows follow.
 pub link_fault : (raw : Raw) (t : Tables) (cells : List Cell) → LabelPasses raw t → raw.link
     ≡ Some (map link_cells t.link) → IsFaulty (map link_cells) (LinkRule t.resource) (map link_cells t.link ++ cells
     ∷ []) → HasRead (stage.Stopped (BadStore table.Link) table.Link) (raw_with_row table.Link cells raw)
@@ -125,7 +126,7 @@ link_fault raw t cells passes read faulty more (e0, e1, e2, e3, grown) =
     (subst (λ (q : RawTable). Grows q more.link)
     (ap (option_map (λ (rows : List (List Cell)). rows ++ cells ∷ [])) read) grown))
 
--- A faulty row of table hier is the verdict on all rows.
+-- If a row of table hier is faulty, the verdict is the fault of this table, whatever rows follow.
 pub hier_fault : (raw : Raw) (t : Tables) (cells : List Cell) → LinkPasses raw t → raw.hier
     ≡ Some (map hier_cells t.hier) → IsFaulty (map hier_cells) (HierRule t.resource t.link)
     (map hier_cells t.hier ++ cells ∷ []) → HasRead (stage.Stopped (BadStore table.Hier) table.Hier)
@@ -136,7 +137,7 @@ hier_fault raw t cells passes read faulty more (e0, e1, e2, e3, e4, grown) =
     (subst (λ (q : RawTable). Grows q more.hier)
     (ap (option_map (λ (rows : List (List Cell)). rows ++ cells ∷ [])) read) grown))
 
--- A faulty row of table posting is the verdict on all rows.
+-- If a row of table posting is faulty, the verdict is the fault of this table, whatever rows follow.
 pub posting_fault : (raw : Raw) (t : Tables) (cells : List Cell) → HierPasses raw t → raw.posting
     ≡ Some (map posting_cells t.posting) → IsFaulty (map posting_cells) (PostingRule t.resource)
     (map posting_cells t.posting ++ cells ∷ []) → HasRead (stage.Stopped (BadStore table.Posting) table.Posting)
@@ -148,7 +149,7 @@ posting_fault raw t cells passes read faulty more (e0, e1, e2, e3, e4, e5, grown
     (subst (λ (q : RawTable). Grows q more.posting)
     (ap (option_map (λ (rows : List (List Cell)). rows ++ cells ∷ [])) read) grown))
 
--- A faulty row of table move is the verdict on all rows.
+-- If a row of table move is faulty, the verdict is the fault of this table, whatever rows follow.
 pub move_fault : (raw : Raw) (t : Tables) (cells : List Cell) → PostingPasses raw t → raw.move
     ≡ Some (map move_cells t.move) → IsFaulty (map move_cells) (MoveRule t.resource t.posting)
     (map move_cells t.move ++ cells ∷ []) → HasRead (stage.Stopped (BadStore table.Move) table.Move)

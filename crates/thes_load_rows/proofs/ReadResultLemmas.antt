@@ -1,4 +1,4 @@
--- The result of parsing a row, for all typed rows whose cells begin with the same ones.
+-- The result of reading a row, derived from its parser and from the result of adding the typed row.
 use Rattle.std.proofs.Common.{◌≡◌, ◌≢◌, ℕ, ◌+◌, length, List, [], ◌∷◌, ◌++◌, map, refl, sym, ap, ◌∙◌, subst, arith}
 use Rattle.std.proofs.Common.{Bool, true, false}
 use Rattle.std.proofs.lemmas.List.{map-append}
@@ -19,7 +19,8 @@ use Rattle.thes_load_rows.specs.RowsSoFar.{TakeResult}
 use Rattle.thes_load_rows.specs.ReadResults.{ReadResult}
 
 module _ {A : Type 0} (f : A → List Cell) where
-  -- Typed rows whose cells continue with a further row's cells have a row with these cells.
+  -- If the cells of typed rows begin with those of `rows` and then have `cells`, the typed rows begin with `rows` and a
+  -- row that has these cells.
   pub goes_on : ((x y : A) → f x ≡ f y → x ≡ y) → (rows : List A) (cells : List Cell) (more : List (List Cell))
       (others : List A) → map f others ≡ (map f rows ++ cells ∷ []) ++ more
       → (y : A) × (rest : List A) × (others ≡ rows ++ y ∷ rest) × (cells ≡ f y)
@@ -31,7 +32,7 @@ module _ {A : Type 0} (f : A → List Cell) where
       (r.0, r.1, (λ i. one y x (head_one e) i ∷ r.2 i), r.3)
 
   module _ (one : (x y : A) → f x ≡ f y → x ≡ y) (Has Rule : List A → Type 0) (rows : List A) (cells : List Cell) where
-    -- If the cells are those of a typed row, the result of reading them is that of taking the row.
+    -- If the cells are those of a typed row, reading them has the result of adding this row.
     pub reads_row : (x : A) → cells ≡ f x → (good : Bool) → TakeResult Has Rule rows x good → ReadResult (map f) Has
         Rule rows cells good
     reads_row x spelled true has =
@@ -41,7 +42,7 @@ module _ {A : Type 0} (f : A → List Cell) where
         let same = one r.0 x (sym r.3 ∙ spelled) in
         none r.1 (subst Rule (r.2 ∙ ap (λ (y : A). rows ++ y ∷ r.1) same) rule)
 
-    -- If the cells are those of no typed row of the form, no typed rows that begin so meet the rule.
+    -- If no typed row of the form has the cells, no typed rows that begin with `rows` and these cells meet the rule.
     pub reads_none : (Form : A → Type 0) → ((x : A) → Form x → cells ≢ f x)
         → ((y : A) (rest : List A) → Rule (rows ++ y ∷ rest) → Form y) → ReadResult (map f) Has Rule rows cells false
     reads_none Form none form = λ more others e rule.

@@ -1,4 +1,4 @@
--- The checks of table resource are its rule; replacements are checked as links of a graph.
+-- The checks of table resource decide whether it meets its rule. Replacements are checked as links of a graph.
 use Rattle.std.proofs.Common.{◌≡◌, ◌≢◌, ◌⊎◌, ◌<◌, ◌≤◌, ◌^◌, ℕ, zero, suc, ◌+◌, length, List, refl, sym, ap, ◌∙◌}
 use Rattle.std.proofs.Common.{subst, arith, inl, inr, true, false}
 use Rattle.std.proofs.lemmas.Option.{same_Some}
@@ -98,7 +98,7 @@ module _ (rs : List Resource) where
       none zero n le is = let e = is.1 in cc
       none (suc m) n le is = omega arith
 
-  -- The links are right after a resource without a replacement.
+  -- After a resource without a replacement, the graph has the replacements of all resources so far without a new link.
   pub replacements_skip : (i : ℕ) (links : Links) → replacement_of rs (i + 1) ≡ None → HasReplacements rs i links
       → HasReplacements rs (i + 1) links
   replacements_skip i links none has = record {
@@ -113,7 +113,7 @@ module _ (rs : List Resource) where
           absurd (cc)
       either m n le is (inr differ) = has.complete m n (omega (arith, le, differ)) is
 
-  -- The links are right after a resource with a replacement.
+  -- After the link for a resource's replacement is added, the graph has the replacements of all resources so far.
   pub replacements_more : (i by : ℕ) (links : Links) → replacement_of rs (i + 1) ≡ Some by
       → HasReplacements rs i links → HasReplacements rs (i + 1)
       (insert links (record { kind = Broader; a = i + 1; b = by }))

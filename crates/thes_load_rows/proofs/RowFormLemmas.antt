@@ -1,4 +1,4 @@
--- Rows that meet the rule of their table have their form.
+-- Rows that meet the rule of a table have the form of its rows.
 use Rattle.std.proofs.Common.{◌≡◌, ◌<◌, ◌^◌, ℕ, length, List, refl, sym, ap, ◌∙◌, subst, arith, inl, inr, ◌≢◌}
 use Rattle.std.specs.Prelude.{Option, None, Some}
 use Rattle.std.proofs.lemmas.Option.{same_Some}
@@ -70,7 +70,7 @@ module _ (rs : List Resource) (few : length rs < 2 ^ 32) where
         number_of rs row.place c.1.0 few c.1.1,
       )
 
-  -- Rows of table move that meet its rule have their form.
+  -- Rows of table move that meet its rule have the form of its rows.
   pub move_form : (ps : List PostingRow) (rows : List MoveRow) (row : MoveRow) → PostingRule rs ps
       → MoveRule rs ps rows → IsIn row rows → HasMoveForm row
   move_form ps rows row posting rule h =
@@ -91,7 +91,7 @@ module _ (rs : List Resource) (few : length rs < 2 ^ 32) where
         number_of rs row.target legal.1.0 few legal.1.1,
       )
 
--- Rows of table resource that meet its rule have their form.
+-- Rows of table resource that meet its rule have the form of its rows.
 pub resource_form : (others : List Resource) (n : ℕ) (y : Resource) → ResourceRule others → entry_at others n ≡ Some y
     → HasResourceForm (record { number = n; resource = y })
 resource_form others n y rule e = (

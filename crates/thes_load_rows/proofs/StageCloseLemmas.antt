@@ -1,4 +1,4 @@
--- Each stage is right after the end of a table, whether or not the table meets its rule.
+-- Each stage is right (HasRead) after the end of a table, whether or not the table meets its rule.
 use Rattle.std.proofs.Common.{◌≡◌, ℕ, List, [], ◌∷◌, refl, sym, ap, ◌∙◌, subst, inr}
 use Rattle.std.specs.Prelude.{None, Some}
 use Rattle.std.proofs.lemmas.List.{append-nil}
@@ -114,7 +114,7 @@ label_bad vocab broken = (
       (subst (LabelRule t.resource) same rule).legal.named)),
 )
 
--- Each outside concept has an IRI since the end of table outside, so this branch can't be reached.
+-- Since each outside concept has an IRI after the end of table outside, this branch can't be reached.
 pub label_without : (vocab : Vocabulary) → (HaveIris vocab → ⊥) → Closes (stage.Label vocab)
     (stage.Stopped (BadStore table.Label) table.Link)
 label_without vocab broken = (

@@ -1,4 +1,4 @@
--- Each stage is right after a row, whether or not the row meets its table's rule.
+-- Each stage is right (HasRead) after a row, whether or not the row meets its table's rule.
 use Rattle.std.proofs.Common.{◌≡◌, ◌≢◌, ◌⊎◌, ◌<◌, ◌^◌, ℕ, length, List, [], ◌∷◌, ◌++◌, map, refl, sym, ap, ◌∙◌, subst}
 use Rattle.std.proofs.Common.{inl, inr, Bool, true, false, append_assoc}
 use Rattle.std.specs.Prelude.{None, Some, Err, option_map}

@@ -1,4 +1,4 @@
--- The order of tables in a load; each list of rows extends itself.
+-- The order of tables in a load. Rows of cells extend themselves at every table.
 use Rattle.std.proofs.Common.{◌≡◌, ◌<◌, ◌≤◌, ◌+◌, ℕ, zero, suc, refl, sym, ap, ◌∙◌, arith}
 use Rattle.thes_base.specs.declared.fault.Table.{Table}
 use Rattle.thes_base.specs.declared.fault.Table.TheVariants as table

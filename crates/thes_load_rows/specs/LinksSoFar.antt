@@ -19,19 +19,19 @@ pub record IsFitLink (resources : List Resource) (l : Link) : Type 0 where
   pub two : l.a ≢ l.b
   pub schemes : HaveSchemes resources (form_of l.kind) l.a l.b
 
--- The graph has no links, and marks exactly the outside concepts among the first `most` resources.
+-- The graph has no links. It marks only outside concepts, and all those among the first `most` resources.
 pub record MarksFirst (resources : List Resource) (most : ℕ) (graph : GraphView) : Type 0 where
   pub links : graph.links ≡ empty
   pub sound : (n : ℕ) → is_marked graph n ≡ true → is_outside resources n ≡ true
   pub complete : (n : ℕ) → n ≤ most → is_outside resources n ≡ true → is_marked graph n ≡ true
 
--- The result of adding a link: true if it is legal and new and was added, false if it isn't legal or isn't new.
+-- The result of adding a link: true if it is legal and new and was added, false if it isn't legal or was there before.
 abbrev pub AddLinkResult : List Resource → GraphView → GraphView → Link → Bool → Type 0
 AddLinkResult resources old new l true =
     IsLegalLink resources l × (Holds old.links l → ⊥) × (new ≡ record old { links = insert old.links l })
 AddLinkResult resources old new l false = IsLegalLink resources l → Holds old.links l
 
--- The graph has exactly the links of these rows, all of them legal, and marks the outside concepts.
+-- The graph has exactly the links of these rows, which are legal, and marks exactly the outside concepts.
 pub record HasLinks (resources : List Resource) (graph : GraphView) (links : List Link) (hier : List HierRow) : Type 0
   where
     pub rule : LinkRule resources links

@@ -1,4 +1,4 @@
--- The result of a load at its end.
+-- The result of a load after its last row.
 use Rattle.std.specs.Prelude.{Result, Ok, Err}
 use Rattle.thes_base.specs.declared.fault.Fault.{Fault}
 use Rattle.thes_tables.specs.Tables.{Tables}

@@ -47,13 +47,14 @@ raw_with_row table.Hier cells raw = record raw { hier = with_row cells raw.hier 
 raw_with_row table.Posting cells raw = record raw { posting = with_row cells raw.posting }
 raw_with_row table.Move cells raw = record raw { move = with_row cells raw.move }
 
--- The second table begins with the rows of the first, or can't be queried; if the first can't be, the second can't be.
+-- The second table begins with the rows of the first, or can't be queried. If the first can't be queried, neither can
+-- the second.
 abbrev pub Grows : RawTable → RawTable → Type 0
 Grows None queried = queried ≡ None
 Grows (Some rows) queried = (queried ≡ None) ⊎ ((more : List (List Cell)) × (queried ≡ Some (rows ++ more)))
 
--- The second rows extend the first at this table: the tables before it are equal, it may have more rows, and the tables
--- after it are arbitrary.
+-- The second rows extend the first at this table. The tables before it are equal, the table itself may have more rows
+-- or be one that can't be queried, and the tables after it are arbitrary.
 abbrev pub ExtendsTable : Table → Raw → Raw → Type 0
 ExtendsTable table.Meta raw more = Grows raw.meta more.meta
 ExtendsTable table.Resource raw more = (more.meta ≡ raw.meta) × Grows raw.resource more.resource
@@ -74,11 +75,11 @@ ExtendsTable table.Move raw more =
     (more.meta ≡ raw.meta) × (more.resource ≡ raw.resource) × (more.outside ≡ raw.outside) × (more.label ≡ raw.label)
     × (more.link ≡ raw.link) × (more.hier ≡ raw.hier) × (more.posting ≡ raw.posting) × Grows raw.move more.move
 
--- Table move, the one after posting, has no rows.
+-- The table after posting, which is move, has no rows.
 abbrev pub NoneAfterPosting : Raw → Type 0
 NoneAfterPosting raw = raw.move ≡ Some []
 
--- The tables after hier, posting and move, have no rows.
+-- The tables after hier have no rows.
 abbrev pub NoneAfterHier : Raw → Type 0
 NoneAfterHier raw = (raw.posting ≡ Some []) × NoneAfterPosting raw
 
@@ -111,8 +112,8 @@ HasMeta (Some row) raw = (cells : List Cell) × (raw ≡ Some (cells ∷ [])) ×
 abbrev pub HasNames : Vocabulary → Tables → Type 0
 HasNames v t = v ≡ vocabulary_of_rows t.base t.resource t.outside t.label
 
--- The stage is right for the rows read so far: the tables before the current one meet their rules, and the stage has
--- what the rows of the current one encode; or it has stopped with a fault that is the verdict whatever rows come.
+-- The stage is right for the rows read so far. The tables before the current one meet their rules, and the stage has
+-- what the rows of the current one encode. If it has stopped, its fault is the verdict, whatever rows follow.
 abbrev pub HasRead : Stage → Raw → Type 0
 HasRead (stage.Meta row) raw = HasMeta row raw.meta × NoneAfterMeta raw
 HasRead (stage.Resource base load) raw =
@@ -155,7 +156,7 @@ stage_table (stage.Posting linked_vocab load) = table.Posting
 stage_table (stage.Move linked_vocab placed load) = table.Move
 stage_table (stage.Stopped fault at) = at
 
--- The test of whether a stage has stopped with a fault.
+-- Tests whether a stage has stopped with a fault.
 abbrev pub is_stopped : Stage → Bool
 is_stopped (stage.Stopped fault at) = true
 is_stopped (stage.Meta row) = false
@@ -188,11 +189,11 @@ next_table table.Hier = table.Posting
 next_table table.Posting = table.Move
 next_table table.Move = table.Move
 
--- The new stage is right after the end of the current table, and reads the next one.
+-- The new stage is right after the end of the old stage's table, and its table is the next one.
 abbrev pub Closes : Stage → Stage → Type 0
 Closes old new = (stage_table new ≡ next_table (stage_table old)) × ((raw : Raw) → HasRead old raw → HasRead new raw)
 
--- The new stage is right for the same rows as the old one, and reads this table.
+-- The new stage is right for the same rows as the old one, and its table is `table`.
 abbrev pub ReachesTable : Stage → Stage → Table → Type 0
 ReachesTable old new table = (stage_table new ≡ table) × ((raw : Raw) → HasRead old raw → HasRead new raw)
 
@@ -210,7 +211,7 @@ empty_raw =
       move = Some [];
     }
 
--- The rows, with this table as one that can't be queried.
+-- The rows, but with this table as one that can't be queried.
 abbrev pub raw_without_table : Table → Raw → Raw
 raw_without_table table.Meta raw = record raw { meta = None }
 raw_without_table table.Resource raw = record raw { resource = None }
@@ -221,12 +222,12 @@ raw_without_table table.Hier raw = record raw { hier = None }
 raw_without_table table.Posting raw = record raw { posting = None }
 raw_without_table table.Move raw = record raw { move = None }
 
--- The new stage is right if this table can't be queried, and reads it.
+-- The new stage is right for the rows in which this table can't be queried, and this is its table.
 abbrev pub HasUnqueried : Stage → Stage → Table → Type 0
 HasUnqueried old new table =
     (stage_table new ≡ table) × ((raw : Raw) → HasRead old raw → HasRead new (raw_without_table table raw))
 
--- The new stage is right after one more row of this table, and reads it.
+-- The new stage is right after one more row of this table, and this is its table.
 abbrev pub HasRow : Stage → Stage → Table → List Cell → Type 0
 HasRow old new table cells =
     (stage_table new ≡ table) × ((raw : Raw) → HasRead old raw → HasRead new (raw_with_row table cells raw))

@@ -12,12 +12,13 @@ use Rattle.thes_base.specs.Resources.{is_concept_kind}
 use Rattle.thes_base.specs.Links.{Links, Holds, Chain}
 use Rattle.thes_load_rows.specs.declared.rows.ResourceRow.{ResourceRow}
 
--- The result of appending a row: true if it has the next number and its resource was appended, false if it has another.
+-- The result of appending a row: true if it has the next number and its resource was appended, false if it has another
+-- number.
 abbrev pub AppendResourceResult : List Resource → List Resource → ResourceRow → Bool → Type 0
 AppendResourceResult old new row true = (row.number ≡ length old + 1) × (new ≡ old ++ row.resource ∷ [])
 AppendResourceResult old new row false = row.number ≢ length old + 1
 
--- The scheme is as the kind requires: a scheme's number for a concept or a collection, and None for other kinds.
+-- The scheme is one that the kind requires: a scheme's number for a concept or a collection, and None for other kinds.
 abbrev pub SchemeFits : List Resource → ResourceKind → Option ℕ → Type 0
 SchemeFits resources Scheme scheme = scheme ≡ None
 SchemeFits resources Outside scheme = scheme ≡ None
@@ -33,16 +34,16 @@ ReplacementFits resources n r None = Unit {0}
 ReplacementFits resources n r (Some m) = (r.live ≡ false) × (m ≢ n) × IsConcept resources m
     × (scheme_of resources m ≡ r.scheme)
 
--- The resource has a scheme, a status and a replacement as its kind requires.
+-- The resource may have its scheme, its live flag and its replacement: only a concept may be dead.
 abbrev pub ResourceFits : List Resource → ℕ → Resource → Type 0
 ResourceFits resources n r = SchemeFits resources r.kind r.scheme
     × (r.live ≡ false → is_concept_kind r.kind ≡ true) × ReplacementFits resources n r r.replaced
 
--- Each resource has a scheme, a status and a replacement as its kind requires.
+-- Each resource may have its scheme, its live flag and its replacement.
 abbrev pub EachResourceFits : List Resource → Type 0
 EachResourceFits resources = (n : ℕ) (r : Resource) → entry_at resources n ≡ Some r → ResourceFits resources n r
 
--- The test of whether the first broken rule is Cycle.
+-- Tests whether the first broken rule is Cycle.
 abbrev pub is_cycle : Option Refusal → Bool
 is_cycle (Some no.Cycle) = true
 is_cycle _ = false
@@ -56,7 +57,7 @@ abbrev pub HasReturn : List Resource → Bool → Type 0
 HasReturn resources true = (n : ℕ) × Chain (IsReplacedBy resources) n n
 HasReturn resources false = (n : ℕ) → Chain (IsReplacedBy resources) n n → ⊥
 
--- The links are exactly the broader links from the first `most` resources to their replacements.
+-- The links are broader links from resources to their replacements, with all those from the first `most` resources.
 pub record HasReplacements (resources : List Resource) (most : ℕ) (links : Links) : Type 0 where
   pub sound : (l : Link) → Holds links l → (l.kind ≡ Broader) × IsReplacedBy resources l.a l.b
   pub complete : (m n : ℕ) → m ≤ most → IsReplacedBy resources m n

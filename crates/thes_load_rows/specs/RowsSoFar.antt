@@ -1,4 +1,4 @@
--- The rows of a table read so far, and what a load has of them in memory.
+-- The rows of a table read so far, and what a load keeps of them in memory.
 use Rattle.std.specs.Prelude.{◌≡◌, ◌≢◌, ◌<◌, ◌^◌, ◌+◌, ℕ, List, [], ◌∷◌, ◌++◌, Bool, true, false, cond, not, Some}
 use Rattle.std.specs.Prelude.{length, map, slice_get}
 use Rattle.std.specs.List.{list_any}
@@ -13,23 +13,23 @@ use Rattle.thes_post.specs.PostingCounts.{PostingCounts}
 use Rattle.thes_load_rules.specs.Rules.{EachRow, AreInOrder, PostingRule, history_of}
 use Rattle.thes_load_rows.specs.PostingCounts.{AreCountsOfRows}
 
--- The result of adding a row: true if it was added, false if no rows that begin with these and it meet the rule.
+-- The result of adding a row: true if it was added, false if no rows that begin with the rows so far and this one meet
+-- the rule.
 abbrev pub TakeResult : {A : Type 0} → (List A → Type 0) → (List A → Type 0) → List A → A → Bool → Type 0
 TakeResult Has Rule rows x true = Has (rows ++ x ∷ [])
 TakeResult {A} Has Rule rows x false = (more : List A) → Rule (rows ++ x ∷ more) → ⊥
 
--- The test of whether the list has the key.
+-- Tests whether the list has the key.
 abbrev pub has_key : List (List ℕ) → List ℕ → Bool
 has_key keys q = list_any (eq_by_cmp (slice_cmp nat_cmp) q) keys
 
--- The key was inserted, and the flag states whether it is new.
+-- The key was inserted, and the flag `fresh` states whether it is new.
 abbrev pub KeyInsertResult : List (List ℕ) → List (List ℕ) → List ℕ → Bool → Type 0
 KeyInsertResult old new key fresh =
     (fresh ≡ not (has_key old key))
     × ((q : List ℕ) → has_key new q ≡ cond (eq_by_cmp (slice_cmp nat_cmp) key q) true (has_key old q))
 
--- The load has these rows of table posting, which meet the rule: the keys, first concepts, places and counts are
--- theirs.
+-- The load has the keys, first concepts, places and counts of these rows of table posting, and the rows meet the rule.
 pub record HasPostings (resources : List Resource) (keys : List (List ℕ)) (firsts stored_places : List ℕ)
     (posting_counts : PostingCounts) (rows : List PostingRow) : Type 0 where
   pub rule : PostingRule resources rows
@@ -38,7 +38,7 @@ pub record HasPostings (resources : List Resource) (keys : List (List ℕ)) (fir
   pub stored_places_are : stored_places ≡ map (λ (row : PostingRow). row.place) rows
   pub posting_counts_are : AreCountsOfRows rows posting_counts
 
--- The row may be the next one of table posting if its key is new.
+-- The row may be the next one of table posting, after `taken` rows, if its key is new.
 pub record IsNextPosting (resources : List Resource) (taken : ℕ) (row : PostingRow) : Type 0 where
   pub number : row.number ≡ taken + 1
   pub first : IsConcept resources row.first
@@ -60,7 +60,7 @@ pub record ArePlacesAfterMoves (postings : List PostingRow) (rows : List MoveRow
       (n : ℕ) (p : PostingRow) → entry_at postings n ≡ Some p
       → entry_at places n ≡ Some (place (history_of rows p))
 
--- The load has these rows of table move: their number is `taken`, and the places are those after them.
+-- The load has read these rows of table move, `taken` in number, and has the place of each posting after them.
 pub record HasMoves (resources : List Resource) (postings : List PostingRow) (taken : ℕ)
     (places : List ℕ) (rows : List MoveRow) : Type 0 where
   pub order : AreInOrder (λ (posting : PostingRow). posting.number) postings
@@ -68,14 +68,14 @@ pub record HasMoves (resources : List Resource) (postings : List PostingRow) (ta
   pub count : length rows ≡ taken
   pub place_is : ArePlacesAfterMoves postings rows places
 
--- The row may be the next one of table move, given the places before it.
+-- The row may be the next one of table move, after `taken` rows and given the places after them.
 pub record IsNextMove (resources : List Resource) (places : List ℕ) (taken : ℕ) (row : MoveRow) : Type 0 where
   pub number : row.number ≡ taken + 1
   pub source_place : entry_at places row.posting ≡ Some row.source
   pub two : row.source ≢ row.target
   pub target_concept : IsConcept resources row.target
 
--- The list of places has each stored place at the same index.
+-- Each stored place is at the same index in the list of places.
 abbrev pub HasStoredPlaces : List ℕ → List ℕ → Type 0
 HasStoredPlaces places stored_places = (i : ℕ) (y : ℕ) → slice_get stored_places i ≡ Some y
     → slice_get places i ≡ Some y

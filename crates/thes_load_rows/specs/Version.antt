@@ -10,8 +10,8 @@ use Rattle.thes_load_rows.specs.declared.meta.MetaRow.TheVariants.{Newer, Older,
 abbrev pub version_cells : ℕ → Cell → List Cell
 version_cells version base = number_cell 1 ∷ number_cell version ∷ base ∷ []
 
--- The result of parsing a row of table meta: that of a newer version, of version 1, or of version 2 with this base; or
--- None if the cells are those of no version.
+-- The result of parsing a row of table meta: `Newer`, `Older`, or the base of version 2. It is None if the cells aren't
+-- those of a row of any version.
 abbrev pub SpellsMeta : List Cell → Option MetaRow → Type 0
 SpellsMeta cells (Some Newer) = (version : ℕ) × (base : Cell) × (2 < version) × (cells ≡ version_cells version base)
 SpellsMeta cells (Some Older) = (base : Cell) × (cells ≡ version_cells 1 base)

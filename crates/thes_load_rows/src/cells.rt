@@ -28,7 +28,8 @@ pub fn number_in(cell: &Cell) -> Option<u32>
     }
 }
 
-/// Parses the number of a resource, or Null, for which it returns `Some(None)`.
+/// Parses the number of a resource, or Null, for which it returns `Some(None)`; other cells give
+/// None.
 pub fn optional_in(cell: &Cell) -> Option<Option<ResNo>>
     ensures { Spells optional_cell IsNumberOrNone cell.now result }
 {
@@ -125,7 +126,7 @@ pub fn text_in<F: Form>(alloc: Global, cell: &Cell) -> Result<Option<Formed<F>>,
     }
 }
 
-/// Parses the text of a label of this kind, which for a scope note may be longer.
+/// Parses the text of a label of this kind; a scope note may be longer than other labels.
 pub fn value_in(
     alloc: Global,
     kind: LabelKind,

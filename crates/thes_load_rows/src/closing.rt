@@ -14,8 +14,8 @@ use thes_base::fault::{Fault, Table};
 use thes_base::text::Base;
 use thes_vocab::VocabLoad;
 
-/// Begins table resource if table meta has a row of the current version; stops with `OlderStore` or
-/// `NewerStore` for another version, and with `BadStore` without a row.
+/// Begins table resource if table meta has a row of the current version. Stops with `OlderStore` or
+/// `NewerStore` for another version, and with `BadStore` if there is no row.
 pub fn close_meta(alloc: Global, row: Option<MetaRow>) -> Stage
     ensures { Closes (stage.Meta row) result }
 {
@@ -27,8 +27,8 @@ pub fn close_meta(alloc: Global, row: Option<MetaRow>) -> Stage
     }
 }
 
-/// Begins table outside if all rows of table resource together meet the table's rule; stops with
-/// `BadStore` otherwise.
+/// Begins table outside if the rows of table resource meet the table's rule; otherwise stops with
+/// `BadStore`.
 pub fn close_resource(alloc: Global, base: Base, load: ResourceLoad) -> Result<Stage, AllocError>
     ensures { IfOk result (Closes (stage.Resource base load)) }
 {
@@ -40,7 +40,7 @@ pub fn close_resource(alloc: Global, base: Base, load: ResourceLoad) -> Result<S
     }
 }
 
-/// Begins table label if each outside concept has an IRI; stops with `BadStore` otherwise.
+/// Begins table label if each outside concept has an IRI; otherwise stops with `BadStore`.
 pub fn close_outside(load: OutsideLoad) -> Stage
     ensures { Closes (stage.Outside load) result }
 {
@@ -51,12 +51,12 @@ pub fn close_outside(load: OutsideLoad) -> Stage
     }
 }
 
-/// Begins table link if each scheme, concept and collection has a preferred label; stops with
-/// `BadStore` otherwise.
+/// Begins table link if each scheme, concept and collection has a preferred label; otherwise stops
+/// with `BadStore`.
 pub fn close_label(alloc: Global, vocab: VocabLoad) -> Result<Stage, AllocError>
     ensures { IfOk result (Closes (stage.Label vocab)) }
 {
-    // No effect; states what is known of the labels for the proof.
+    // No effect; states the rules that the labels so far meet, for the proof.
     vocab.so_far();
     if vocab.has_all_iris() {
         match vocab.close() {
@@ -72,7 +72,7 @@ pub fn close_label(alloc: Global, vocab: VocabLoad) -> Result<Stage, AllocError>
 }
 
 /// Begins table posting if the links of the tables link and hier together meet Cycle, S27 and S46;
-/// stops with `BadStore` otherwise.
+/// otherwise stops with `BadStore`.
 pub fn close_hier(alloc: Global, linked_vocab: LinkedVocab) -> Result<Stage, AllocError>
     ensures { IfOk result (Closes (stage.Hier linked_vocab)) }
 {

@@ -6,7 +6,7 @@ ghost use Rattle.thes_load_rows.specs.LinksSoFar.{IsFitLink};
 use thes_base::data::{Link, Resource, ResourceKind};
 use thes_base::number::ResNo;
 
-/// Returns the resource with this number, at index `n - 1`.
+/// Returns the resource with this number, which is at index `n - 1`, or None if there is none.
 pub fn resource_at(resources: &[Resource], n: ResNo) -> Option<&Resource>
     ensures { option_copied result ≡ entry_at resources.now n }
 {

@@ -1,4 +1,4 @@
-//! A loaded vocabulary, with the links loaded so far.
+//! A loaded vocabulary, with the links of the tables link and hier loaded so far.
 ghost use Rattle.std.specs.Prelude.{◌≡◌, List, [], IfOk, map};
 ghost use Rattle.thes_base.specs.declared.data.Link.{Link};
 ghost use Rattle.thes_tables.specs.declared.rows.HierRow.{HierRow};
@@ -13,7 +13,7 @@ use std::alloc::{AllocError, Global};
 use thes_tables::cells::Cell;
 use thes_vocab::Vocab;
 
-/// A loaded vocabulary, with the links of the rows read so far.
+/// A loaded vocabulary, with the links of the rows of the tables link and hier read so far.
 #[derive(Drop)]
 pub struct LinkedVocab {
     pub vocab: Vocab,
@@ -22,7 +22,7 @@ pub struct LinkedVocab {
 }
 
 impl LinkedVocab {
-    /// Creates a load over a vocabulary, without links.
+    /// Creates a linked vocabulary without links.
     pub fn new(alloc: Global, vocab: Vocab) -> Result<LinkedVocab, AllocError>
         ensures same { IfOk result (λ linked_vocab. linked_vocab.vocab ≡ vocab) }
         ensures none { IfOk result (λ linked_vocab.
@@ -33,7 +33,7 @@ impl LinkedVocab {
     }
 
     /// Parses the next row of table link and adds its link; returns false if the row has another
-    /// form, is a duplicate, or its link isn't legal.
+    /// form or is a duplicate, or if its link isn't legal.
     pub fn read_link(&mut self, cells: &[Cell]) -> Result<bool, AllocError>
         ensures same { self.new.vocab ≡ self.old.vocab }
         ensures reads { let resources = self.old.vocab.resources in
@@ -46,8 +46,8 @@ impl LinkedVocab {
     }
 
     /// Parses the next row of table hier and adds its link; returns false if the row has another
-    /// form, is a duplicate, or its link isn't legal. `LinkLoad::close` checks the links together
-    /// (Cycle, S27, S46).
+    /// form or is a duplicate, or if its link isn't legal. `LinkLoad::close` checks the links
+    /// together (Cycle, S27, S46).
     pub fn read_hier(&mut self, cells: &[Cell]) -> Result<bool, AllocError>
         ensures same { self.new.vocab ≡ self.old.vocab }
         ensures reads { let resources = self.old.vocab.resources in

@@ -1,4 +1,4 @@
-//! The rows of the tables link and hier, and the check of their links.
+//! The rows of the tables link and hier, and their checks.
 ghost use Rattle.std.specs.Prelude.{◌≡◌, ◌↔◌, ◌<◌, ◌^◌, [], List, IsTrue, IfOk, length, map};
 ghost use Rattle.thes_base.specs.declared.data.Resource.{Resource};
 ghost use Rattle.thes_base.specs.declared.data.Link.{Link};
@@ -23,14 +23,14 @@ use thes_graph::judge::normalize_ends;
 use thes_tables::cells::Cell;
 use thes_tables::rows::{HierRow, HierType};
 
-/// The links of the rows of the tables link and hier that were read so far.
+/// The links of the rows of the tables link and hier read so far.
 #[derive(Drop)]
 pub struct LinkLoad {
     pub graph: Graph,
 }
 
 impl LinkLoad {
-    /// Creates a load without links, in whose graph the outside concepts are marked.
+    /// Creates a load without links, with the outside concepts marked in its graph.
     pub fn new(alloc: Global, resources: &[Resource]) -> Result<LinkLoad, AllocError>
         requires { length resources.now < 2 ^ 32 }
         ensures { IfOk result (λ load. HasLinks resources.now load.graph [] []) }
@@ -45,8 +45,8 @@ impl LinkLoad {
         Ok(LinkLoad { graph })
     }
 
-    /// Adds the link of the next row of table link; returns false if it is a duplicate or isn't
-    /// legal.
+    /// Adds the link of the next row of table link; returns false if the link is a duplicate or
+    /// isn't legal.
     pub fn take(&mut self, resources: &[Resource], link: &Link) -> Result<bool, AllocError>
         requires { HasLinkForm link.now }
         ensures same { self.new.graph.outside ≡ self.old.graph.outside }
@@ -59,8 +59,8 @@ impl LinkLoad {
         Ok(good)
     }
 
-    /// Adds the link of the next row of table hier; returns false if it is a duplicate or isn't
-    /// legal.
+    /// Adds the link of the next row of table hier; returns false if the link is a duplicate or
+    /// isn't legal.
     pub fn take_hier(&mut self, resources: &[Resource], row: &HierRow) -> Result<bool, AllocError>
         ensures same { self.new.graph.outside ≡ self.old.graph.outside }
         ensures takes { IfOk result (λ good. (links : List Link) (rows : List HierRow)
@@ -73,7 +73,7 @@ impl LinkLoad {
     }
 
     /// Parses the next row of table link and adds its link; returns false if the row has another
-    /// form, is a duplicate, or its link isn't legal.
+    /// form or is a duplicate, or if its link isn't legal.
     pub fn read(&mut self, resources: &[Resource], cells: &[Cell]) -> Result<bool, AllocError>
         requires { length resources.now < 2 ^ 32 }
         ensures same { self.new.graph.outside ≡ self.old.graph.outside }
@@ -92,8 +92,8 @@ impl LinkLoad {
     }
 
     /// Parses the next row of table hier and adds its link; returns false if the row has another
-    /// form, is a duplicate, or its link isn't legal. `close` checks the links together (Cycle,
-    /// S27, S46).
+    /// form or is a duplicate, or if its link isn't legal. `close` checks the links together
+    /// (Cycle, S27, S46).
     pub fn read_hier(&mut self, resources: &[Resource], cells: &[Cell]) -> Result<bool, AllocError>
         requires { length resources.now < 2 ^ 32 }
         ensures same { self.new.graph.outside ≡ self.old.graph.outside }
@@ -125,7 +125,7 @@ impl LinkLoad {
     }
 }
 
-// Adds a link if it is legal and new, and returns whether it is.
+// Adds a link if it is legal and new; otherwise returns false.
 fn add_legal(graph: &mut Graph, resources: &[Resource], link: &Link) -> Result<bool, AllocError>
     ensures same { graph.new.outside ≡ graph.old.outside }
     ensures adds { IfOk result (λ good. MarksOutside resources.now graph.old

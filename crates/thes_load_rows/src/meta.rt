@@ -1,4 +1,4 @@
-//! The row of table meta, by its version.
+//! The row of table meta, and its parser.
 ghost use Rattle.std.specs.Prelude.{IfOk};
 ghost use Rattle.thes_load_rows.specs.Version.{SpellsMeta};
 
@@ -8,7 +8,7 @@ use thes_base::form::BaseForm;
 use thes_base::text::Base;
 use thes_tables::cells::Cell;
 
-/// The row of table meta: of a newer version, of an older one, or of the current one with the base.
+/// The row of table meta: a row of a newer version, of an older one, or of the current one.
 #[derive(Debug, Drop)]
 pub enum MetaRow {
     /// The row of a later version, which this program doesn't know.
@@ -19,7 +19,7 @@ pub enum MetaRow {
     Base(Base),
 }
 
-/// Parses a row of table meta; returns None if its cells aren't those of any version.
+/// Parses a row of table meta; returns None if the cells aren't those of a row of any version.
 pub fn meta_in(alloc: Global, cells: &[Cell]) -> Result<Option<MetaRow>, AllocError>
     ensures { IfOk result (SpellsMeta cells.now) }
 {

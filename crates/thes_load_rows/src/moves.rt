@@ -17,7 +17,7 @@ use thes_base::number::{PostNo, ResNo};
 use thes_tables::cells::Cell;
 use thes_tables::rows::MoveRow;
 
-/// The number of rows of table move read so far, and the place of each posting after them.
+/// The number of rows of table move read so far, and the place of each posting after their moves.
 #[derive(Drop)]
 pub struct MoveLoad {
     pub places: Vec<ResNo>,
@@ -77,7 +77,7 @@ fn follow_in(places: &mut Vec<ResNo>, resources: &[Resource], taken: u64, step: 
 }
 
 impl MoveLoad {
-    /// Applies the next move; changes nothing and returns false if it can't be the next one.
+    /// Applies a move; changes nothing and returns false if it can't be the next one.
     pub fn take(&mut self, resources: &[Resource], step: &MoveRow) -> bool
         requires { HasMoveForm step.now }
         ensures { (postings : List PostingRow) (rows : List MoveRow)
@@ -122,7 +122,7 @@ impl MoveLoad {
     }
 }
 
-// Checks whether `places` has each stored place at the same index.
+// Checks whether each stored place is at the same index in `places`.
 fn has_stored_places(places: &[ResNo], stored_places: &[ResNo]) -> bool
     ensures { IsTrue result ↔ HasStoredPlaces places.now stored_places.now }
 {

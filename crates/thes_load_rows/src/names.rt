@@ -16,7 +16,7 @@ use thes_tables::rows::{LabelRow, OutsideRow};
 use thes_vocab::{Vocab, VocabLoad};
 
 /// The rows of table outside read so far: a vocabulary with their IRIs, and the number of the last
-/// row, 0 without rows.
+/// row, or 0 without rows.
 #[derive(Drop)]
 pub struct OutsideLoad {
     pub vocab: VocabLoad,
@@ -33,8 +33,8 @@ impl OutsideLoad {
         OutsideLoad { vocab, last: 0 }
     }
 
-    /// Adds the IRI of the next row; returns false if its number isn't greater than the last, or
-    /// `VocabLoad::take_iri` doesn't allow it.
+    /// Adds the IRI of the next row; returns false if the row's number isn't greater than the last,
+    /// or `VocabLoad::take_iri` doesn't allow the IRI.
     pub fn take(&mut self, row: OutsideRow) -> Result<bool, AllocError>
         requires { HasOutsideForm row }
         ensures { IfOk result (λ good.
@@ -76,20 +76,20 @@ impl OutsideLoad {
         }
     }
 
-    /// Checks whether each outside concept has an IRI.
+    /// Checks whether each outside concept has an IRI, the last condition of the table's rule.
     pub fn close(&self) -> bool
         ensures { (base : List ℕ) (resources : List Resource) (rows : List (ℕ × List ℕ))
             → HasOutside base resources self.now.vocab self.now.last rows
             → IsTrue result ↔ OutsideRule base resources rows }
     {
-        // No effect; states what is known of the IRIs for the proof.
+        // No effect; states the rules that the IRIs so far meet, for the proof.
         self.vocab.so_far();
         self.vocab.has_all_iris()
     }
 }
 
-/// Adds the label of the next row of table label; returns false if it is a duplicate or
-/// `VocabLoad::take_label` doesn't allow it.
+/// Adds the label of the next row of table label; returns false if `VocabLoad::take_label` doesn't
+/// allow it, for example a duplicate.
 pub fn take_label(vocab: &mut VocabLoad, row: LabelRow) -> Result<bool, AllocError>
     requires { HasLabelForm row }
     ensures { IfOk result (λ good.

@@ -33,15 +33,16 @@ pub struct PostingLoad {
     ghost told: { tally.accepted ≤ length firsts.items },
 }
 
-/// The places of all postings as table posting states them, and the counts of postings.
+/// The places of all postings that table posting states, and the counts of postings.
 #[derive(Drop)]
 pub struct PlacedPostings {
     pub stored_places: Vec<ResNo>,
     pub tally: LoadedCounts,
 }
 
-// Checks whether a row may be the next one if its key is new: it has the next number, its first
-// concept and its place are concepts, and the place is live unless the posting was withdrawn.
+// Checks whether a row may be the next one if its key is new. It must have the next number; its
+// first concept and its place must be concepts, and the place must be live unless the posting was
+// withdrawn.
 fn is_next(resources: &[Resource], taken: usize, row: &PostingRow) -> bool
     requires { taken < usize.MAX }
     ensures { IsTrue result ↔ IsNextPosting resources.now taken row.now }
@@ -129,8 +130,8 @@ impl PostingLoad {
         }
     }
 
-    /// Splits the load into the first concepts, at which moves start, and the places, at which they
-    /// must end, with the counts.
+    /// Splits the load. The first result has the first concepts, at which moves start; the second
+    /// has the counts, and the places at which moves must end.
     pub fn close(self) -> (MoveLoad, PlacedPostings)
         ensures { (resources : List Resource) (rows : List PostingRow)
             → HasPostings resources self.keys.keys self.firsts.items

@@ -62,7 +62,7 @@ impl ResourceLoad {
         }
     }
 
-    /// Checks whether all resources together meet the table's rule.
+    /// Checks whether the resources meet the rule of the table.
     pub fn close(&self, alloc: Global) -> Result<bool, AllocError>
         ensures { IfOk result (λ good. IsTrue good ↔ ResourceRule self.now.resources.items) }
     {
@@ -70,7 +70,7 @@ impl ResourceLoad {
     }
 }
 
-// Checks whether each resource is legal among the others, and replacements form no cycle.
+// Checks whether each resource is legal, and replacements form no cycle.
 fn are_legal(alloc: Global, resources: &[Resource]) -> Result<bool, AllocError>
     requires { length resources.now < 2 ^ 32 }
     ensures { IfOk result (λ good. IsTrue good ↔ ResourceRule resources.now) }
@@ -86,7 +86,7 @@ fn are_legal(alloc: Global, resources: &[Resource]) -> Result<bool, AllocError>
     }
 }
 
-// Checks whether each resource has a scheme, a status and a replacement as its kind requires.
+// Checks whether each resource may have its scheme, its live flag and its replacement.
 fn each_fits(resources: &[Resource]) -> bool
     requires { length resources.now < 2 ^ 32 }
     ensures { IsTrue result ↔ EachResourceFits resources.now }
@@ -102,7 +102,7 @@ fn each_fits(resources: &[Resource]) -> bool
     true
 }
 
-// Checks whether a resource has a scheme, a status and a replacement as its kind requires.
+// Checks whether resource n may have its scheme, its live flag and its replacement.
 fn fits(resources: &[Resource], n: ResNo, r: &Resource) -> bool
     ensures { IsTrue result ↔ ResourceFits resources.now n r.now }
 {
@@ -145,7 +145,8 @@ fn scheme_fits(resources: &[Resource], kind: ResourceKind, scheme: Option<ResNo>
     }
 }
 
-// Checks whether the replacement, if there is one, is another concept of the scheme, and the resource is dead.
+// Checks whether the resource has no replacement, or is dead and is replaced by another concept of
+// its scheme.
 fn replacement_fits(resources: &[Resource], n: ResNo, r: &Resource) -> bool
     ensures { IsTrue result ↔ ReplacementFits resources.now n r.now r.now.replaced }
 {
@@ -157,8 +158,7 @@ fn replacement_fits(resources: &[Resource], n: ResNo, r: &Resource) -> bool
     }
 }
 
-// Checks whether replacements form a cycle, by the check of a graph that has each of them as a
-// broader link.
+// Checks whether replacements form a cycle: checks a graph in which each of them is a broader link.
 fn returns(alloc: Global, resources: &[Resource]) -> Result<bool, AllocError>
     requires few { length resources.now < 2 ^ 32 }
     requires apart { NoneReplacesItself resources.now }

@@ -1,4 +1,5 @@
-//! Parsers of rows of cells, one for each table, which return None for a row of another form.
+//! Parsers of rows of cells, one for each table but meta. They return None for a row of another
+//! form.
 ghost use Rattle.std.specs.Prelude.{IfOk};
 ghost use Rattle.thes_tables.specs.Cells.{outside_cells, label_cells, link_cells, hier_cells, posting_cells, move_cells};
 ghost use Rattle.thes_load_rows.specs.Forms.{HasResourceForm, HasOutsideForm, HasLabelForm, HasLinkForm, HasHierForm, HasPostingForm, HasMoveForm};

@@ -1,4 +1,5 @@
-//! The stages of a load, one for each table whose rows are read.
+//! The stages of a load: one for each table whose rows are read, and one for a load that has
+//! stopped with a fault.
 ghost use Rattle.std.specs.Prelude.{◌≡◌, ◌↔◌, ◌<◌, ◌≤◌, IsTrue, IfOk};
 ghost use Rattle.thes_load_rows.specs.Progress.{stage_table, is_stopped, next_table, table_no, ReadsRow, Closes, ReachesTable};
 
@@ -17,7 +18,8 @@ use thes_base::text::Base;
 use thes_tables::cells::Cell;
 use thes_vocab::VocabLoad;
 
-/// A stage of a load: the table whose rows are read, with what the rows read so far encode, or the first fault.
+/// A stage of a load: the table whose rows are read, with what the rows read so far encode, or the
+/// first fault.
 #[derive(Drop)]
 pub enum Stage {
     /// Table meta, with its row if that has been read.
@@ -30,7 +32,8 @@ pub enum Stage {
     Label(VocabLoad),
     /// Table link, with the vocabulary and the links that aren't hierarchical read so far.
     Link(LinkedVocab),
-    /// Table hier, with the vocabulary, the links of table link, and the hierarchical links read so far.
+    /// Table hier, with the vocabulary, the links of table link, and the hierarchical links read so
+    /// far.
     Hier(LinkedVocab),
     /// Table posting, with the vocabulary and all links, and the postings read so far.
     Posting(LinkedVocab, PostingLoad),
@@ -42,7 +45,7 @@ pub enum Stage {
 }
 
 impl Stage {
-    /// Returns the table whose rows are read.
+    /// Returns the current table, whose rows are read; a stopped load also has one.
     pub fn current_table(&self) -> Table
         ensures { result ≡ stage_table self.now }
     {
@@ -77,8 +80,8 @@ impl Stage {
     }
 
     /// Parses the next row of the current table and adds it; returns false if the row can't follow
-    /// the rows read so far in a table that meets its rule. What only the whole table shows is
-    /// checked at its end. After a fault it does nothing and returns true.
+    /// the rows read so far in a table that meets its rule. Conditions on the table as a whole are
+    /// checked after its last row. After a fault, `read` does nothing and returns true.
     pub(crate) fn read(&mut self, alloc: Global, cells: &[Cell]) -> Result<bool, AllocError>
         ensures { IfOk result (ReadsRow self.old self.new cells.now) }
     {
@@ -111,7 +114,7 @@ impl Stage {
         }
     }
 
-    // Checks the current table after its last row, and makes the next one current; keeps the first
+    // Checks the current table after its last row, and makes the next one current; keeps an earlier
     // fault. Does nothing at table move, the last one.
     fn close(self, alloc: Global) -> Result<Stage, AllocError>
         ensures { IfOk result (Closes self) }
@@ -129,7 +132,7 @@ impl Stage {
         }
     }
 
-    /// Closes the tables before this one, which becomes the current table.
+    /// Closes the tables before this one, and makes it the current table.
     pub(crate) fn reach(self, alloc: Global, table: Table) -> Result<Stage, AllocError>
         requires { table_no (stage_table self) ≤ table_no table }
         ensures { IfOk result (λ new. ReachesTable self new table) }

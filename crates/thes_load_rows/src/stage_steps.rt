@@ -15,7 +15,8 @@ use thes_base::fault::{Fault, Table};
 use thes_post::book::Book;
 use thes_tables::cells::Cell;
 
-/// The parts of a state that loaded rows encode: the vocabulary with its links, and the counts of postings.
+/// The parts of a state that loaded rows encode: the vocabulary with its links, and the counts of
+/// postings.
 #[derive(Drop)]
 pub struct LoadedParts {
     pub linked_vocab: LinkedVocab,
@@ -23,8 +24,8 @@ pub struct LoadedParts {
 }
 
 impl Stage {
-    /// Closes the tables before `table`, and adds its next row, or stops with its fault if the row
-    /// can't follow those read so far; keeps an earlier fault.
+    /// Closes the tables before `table`, and adds the next row of `table`. If the row can't follow
+    /// those read so far, stops with `BadStore`; keeps an earlier fault.
     pub fn row(self, alloc: Global, table: Table, cells: &[Cell]) -> Result<Stage, AllocError>
         requires { table_no (stage_table self) ≤ table_no table }
         ensures { IfOk result (λ next. HasRow self next table cells.now) }
@@ -43,7 +44,7 @@ impl Stage {
         }
     }
 
-    /// Closes the tables before `table`, which the database can't query, and stops with its fault;
+    /// Closes the tables before `table`, which the database can't query, and stops with `BadStore`;
     /// keeps an earlier fault.
     pub fn report_unqueried(self, alloc: Global, table: Table) -> Result<Stage, AllocError>
         requires { table_no (stage_table self) ≤ table_no table }
@@ -57,7 +58,8 @@ impl Stage {
         Ok(Stage::Stopped(Fault::BadStore(table), table))
     }
 
-    /// Closes all tables, and returns the parts of the state, or the first fault.
+    /// Closes all tables, and returns the parts of the state, or the first fault. The outer error
+    /// is a failed allocation.
     pub fn finish(self, alloc: Global) -> Result<Result<LoadedParts, Fault>, AllocError>
         ensures { IfOk result (λ answer. (raw : Raw) → HasRead self raw → LoadResult raw answer) }
     {
@@ -72,7 +74,7 @@ impl Stage {
     }
 }
 
-// Checks table move, the last one, after its last row; returns the loaded parts, or the table's
+// Checks table move, the last one, after its last row, and returns the loaded parts, or the table's
 // fault.
 fn close_moves(
     linked_vocab: LinkedVocab,

@@ -29,7 +29,7 @@ use Rattle.thes_load_rules.proofs.LinkTableLemmas.{same_links}
 use Rattle.thes_load_rules.proofs.MoveOrderLemmas.{own_moves, numbered_in_order, row_count_is_move_count}
 use Rattle.thes_load_rules.proofs.OpenTableLemmas.{IsOpen, loads_open}
 
--- The state that the tables encode is the state whose tables they are.
+-- If the tables encode a legal state, the state computed from them is that state.
 module _ (base : List ℕ) (s : State) (t : Tables) (legal : IsLegalState base s) (are : IsRowsOf base s t) where
   same_histories : map (history_of t.move) t.posting ≡ s.histories
   same_histories = ap (map (history_of t.move)) are.posting ∙ go s.histories (λ h there. let at =
@@ -66,7 +66,7 @@ number_above above (x ∷ rows) row ascends (inl e) = let n = ap (λ (y : ℕ ×
 number_above above (x ∷ rows) row ascends (inr h) = let q = number_above x.0 rows row ascends.1 h in let r =
     ascends.0 in omega (arith, q, r)
 
--- The map of IRIs has the IRI of each row.
+-- The map of IRIs has the IRI of each row under the row's number.
 pub row_iri : (above : ℕ) (rows : List (ℕ × List ℕ)) (row : ℕ × List ℕ) → IriNumbersAscend above rows → IsIn row rows
     → dict.get (iris_of rows) row.0 ≡ Some row.1
 row_iri above [] row ascends h = absurd h
@@ -86,7 +86,7 @@ row_iri above (x ∷ rows) row ascends (inr h) =
         number_above x.0 rows row ascends.1 h in absurd (omega (arith, same, q))
     apart (inr miss) = miss
 
--- Assumes tables that encode a legal state, which meet their rules.
+-- Assumes that the tables encode a legal state.
 module _ (t : Tables) (legal : IsLegalState t.base (state_of t)) (are : IsRowsOf t.base (state_of t) t) where
   abbrev s : State
   s = state_of t
@@ -101,7 +101,7 @@ module _ (t : Tables) (legal : IsLegalState t.base (state_of t)) (are : IsRowsOf
     legal = legal.resources.outside;
   }
 
-  -- The history under a number is that of the row with this number.
+  -- The history with a number is the one of the row with this number.
   history_at : (n : ℕ) (p : PostingRow) → entry_at t.posting n ≡ Some p → entry_at s.histories n
       ≡ Some (history_of t.move p)
   history_at n p e = map_numbered (history_of t.move) t.posting n p e

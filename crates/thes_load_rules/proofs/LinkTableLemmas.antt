@@ -61,7 +61,7 @@ module _ (K : List Link) (H : List HierRow) where
     once = once;
   }
 
-  -- Tables that are listings of a set of links encode exactly that set.
+  -- If the tables link and hier list the links of a set, they encode exactly that set.
   pub same_links : (links : Links) → IsUnsortedListing (IsLinkOf links) K → IsUnsortedListing (IsHierOf links) H
       → links_of K H ≡ links
   same_links links plain typed = same_members links_total links_exact _ _ to from

@@ -28,7 +28,7 @@ use Rattle.thes_load_rules.proofs.MoveCountLemmas.{rows_counted_as_moves}
 use Rattle.thes_load_rules.proofs.MoveOrderLemmas.{rises_of_order}
 use Rattle.thes_load_rules.proofs.OpenTableLemmas.{IsOpen, open_of, open_listed}
 
--- A row of table move is determined by its posting and its move.
+-- Two rows of table move with the same posting and the same move are equal.
 row_one : (x y : MoveRow) → x.posting ≡ y.posting → recorded_move x ≡ recorded_move y → x ≡ y
 row_one x y p e = λ i. record {
   number = ap (λ (m : Move). m.number) e i;
@@ -38,7 +38,7 @@ row_one x y p e = λ i. record {
   target = ap (λ (m : Move). m.target) e i;
 }
 
--- The sources of a posting's moves are concepts, if its first place is one.
+-- Consecutive moves that start at a concept are legal if each leads to a concept other than its source.
 pub sources : (rs : List Resource) (above from : ℕ) (moves : List Move) → IsConcept rs from
     → AreConsecutiveMoves above from moves → AllMoves (λ (m : Move). IsConcept rs m.target × (m.source ≢ m.target))
     moves → AllMoves (IsLegalMove rs) moves
@@ -53,7 +53,7 @@ module _ (rs : List Resource) (P : List PostingRow) (M : List MoveRow) (posting 
   abbrev hs : List History
   hs = map (history_of M) P
 
-  -- Each history is that of a row of table posting.
+  -- Each history comes from a row of table posting.
   history_row : (n : ℕ) (h : History) → entry_at hs n ≡ Some h → (p : PostingRow) × (entry_at P n ≡ Some p)
       × (h ≡ history_of M p)
   history_row n h e = numbered_unmap (history_of M) P n h e
@@ -66,7 +66,7 @@ module _ (rs : List Resource) (P : List PostingRow) (M : List MoveRow) (posting 
   history_moves n h e = let was = history_row n h e in ap (λ (x : History). x.moves) was.2 ∙ ap (λ k. moves_of k M)
       (sym (ap (λ (x : History). x.number) was.2))
 
-  -- The number of rows of table move is the number of moves.
+  -- Table move has as many rows as the histories have moves.
   pub row_count_of_moves : length M ≡ move_count hs
   row_count_of_moves = rows_counted_as_moves M hs history_number (λ row h. let p = move.known row h in let b =
       numbered_bound P row.posting p.0 p.1 in let l = length-map P (history_of M) in
@@ -119,7 +119,7 @@ module _ (rs : List Resource) (P : List PostingRow) (M : List MoveRow) (posting 
         subst (λ i. HasMove k (moves_of i M)) (sym (posting.numbers row.posting p.0 p.1)) has,
       )
 
-  -- Each move number of a history is that of a row of table move.
+  -- Each number of a move of a history is that of a row of table move.
   row_with : (k n : ℕ) (h : History) → entry_at hs n ≡ Some h → HasMove k h.moves → (row : MoveRow)
       × (entry_at M k ≡ Some row) × (row.posting ≡ n)
   row_with k n h e has =
@@ -218,7 +218,7 @@ module _ (raw : Raw) (t : Tables) (all : IsOpen raw t) where
     postings = postings_legal t.resource t.posting t.move all.posting.1 all.move.1;
   }) state_has_forms
 
-  -- The tables encode the state.
+  -- Tables that meet their rules encode the state computed from them.
   tables_hold_state : IsRowsOf t.base (state_of t) t
   tables_hold_state = record {
     base_is = refl;
@@ -231,7 +231,7 @@ module _ (raw : Raw) (t : Tables) (all : IsOpen raw t) where
     move = moves_of_histories t.resource t.posting t.move all.posting.1 all.move.1;
   }
 
--- Tables that load encode a legal state, and the rows are their cells.
+-- Tables that load encode a legal state, and the rows of cells are those of the tables.
 pub loaded_state_legal : (raw : Raw) (t : Tables) → HasVerdict raw (Ok t) → IsLegalState t.base (state_of t)
     × IsRowsOf t.base (state_of t) t × (raw ≡ cells_of_tables t)
 loaded_state_legal raw t loads = let all = open_of raw t loads in

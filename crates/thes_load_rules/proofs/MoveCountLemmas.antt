@@ -1,4 +1,4 @@
--- Rows of table move and moves of the histories are in one-to-one correspondence.
+-- The rows of table move correspond one to one to the moves of the histories.
 use Rattle.std.proofs.Common.{◌≡◌, ◌⊎◌, ◌<◌, ◌≤◌, ℕ, suc, ◌+◌, length, List, [], ◌∷◌, refl, sym, ap, ◌∙◌, subst}
 use Rattle.std.proofs.Common.{arith, inl, inr, Bool, true, false, cond, eqb, eqb-true, ne_eqb, map}
 use Rattle.std.proofs.lemmas.Bool.{cases_Bool, eq-eqb, eqb-false}
@@ -18,7 +18,7 @@ use Rattle.thes_load_rules.specs.Rules.{EachRow}
 abbrev rows_of_posting : ℕ → List MoveRow → List MoveRow
 rows_of_posting n rows = filter (λ (row : MoveRow). row.posting == n) rows
 
--- The moves of a posting begin with the first row if that is the posting's, and don't if it isn't.
+-- The first row's move is the first of a posting's moves if the row names the posting; otherwise the row adds none.
 pub hit_is : (n : ℕ) (m : MoveRow) (rows : List MoveRow) → eqb m.posting n ≡ true → moves_of n (m ∷ rows)
     ≡ recorded_move m ∷ moves_of n rows
 hit_is n m rows e = ap (λ b. map recorded_move (cond b (m ∷ rows_of_posting n rows) (rows_of_posting n rows))) e
@@ -27,7 +27,7 @@ pub miss_is : (n : ℕ) (m : MoveRow) (rows : List MoveRow) → eqb m.posting n 
     ≡ moves_of n rows
 miss_is n m rows e = ap (λ b. map recorded_move (cond b (m ∷ rows_of_posting n rows) (rows_of_posting n rows))) e
 
--- Each move of a posting has a row.
+-- Each move of a posting comes from a row that names the posting.
 pub row_of_move : (n : ℕ) (m : Move) (rows : List MoveRow) → IsIn m (moves_of n rows) → (row : MoveRow)
     × IsIn row rows × (row.posting ≡ n) × (recorded_move row ≡ m)
 row_of_move n m [] h = absurd h
@@ -46,7 +46,7 @@ row_of_move n m (x ∷ rows) h = either (λ g. row_of_move n m rows g) (cases_Bo
     ]
     either ih (inr miss) = later (ih (subst (IsIn m) (miss_is n x rows miss) h))
 
--- Each row is a move of its posting.
+-- Each row's move is among the moves of the posting that it names.
 pub move_of_row : (rows : List MoveRow) (row : MoveRow) → IsIn row rows → IsIn (recorded_move row)
     (moves_of row.posting rows)
 move_of_row [] row h = absurd h
@@ -84,7 +84,7 @@ none_of k p (h ∷ hs) num lt =
     ap (λ b. cond {A = ℕ} b 1 0) (ne_eqb p h.number (λ e. let n = num.0 in omega (arith, n, e))) in
     omega (arith, a, ih, q)
 
--- Exactly one history has a number in range.
+-- Each number of the range is that of exactly one history.
 one_of : (k p : ℕ) (hs : List History) → NumberedFrom k hs → k ≤ p → p < k + length hs
     → count_by (λ h. eqb p h.number) hs ≡ 1
 one_of k p [] num le lt = absurd (omega arith)
@@ -110,7 +110,7 @@ sum_none [] = refl
 sum_none (h ∷ hs) = let a = sum_by-cons (λ (x : History). length (moves_of x.number [])) h hs in let ih =
     sum_none hs in omega (arith, a, ih)
 
--- A further row adds 1 to the sum for each history with its number.
+-- One more row adds 1 to the sum of the moves for each history whose number the row names.
 sum_more : (m : MoveRow) (rows : List MoveRow) (hs : List History)
     → sum_by (λ (h : History). length (moves_of h.number (m ∷ rows))) hs ≡ count_by (λ h. eqb m.posting h.number) hs
     + sum_by (λ (h : History). length (moves_of h.number rows)) hs

@@ -1,4 +1,5 @@
--- The rows of table move of a legal state have no gaps, and those of each posting are its moves.
+-- In the tables of a legal state, the rows of table move are numbered without gaps, and each posting's rows are its
+-- moves.
 use Rattle.std.proofs.Common.{◌≡◌, ◌⊎◌, ◌<◌, ◌≤◌, ℕ, zero, suc, ◌+◌, length, List, [], ◌∷◌, refl, sym, ap, ◌∙◌, subst}
 use Rattle.std.proofs.Common.{arith, inl, inr, eqb}
 use Rattle.std.proofs.lemmas.Bool.{cases_Bool}
@@ -166,7 +167,7 @@ same_moves above below (x ∷ xs) (y ∷ ys) cx cy to from = λ i. head i ∷ sa
 
 module _ (rs : List Resource) (hs : List History) (legal : AreLegalPostings rs hs) (rows : List MoveRow)
     (are : AreMoves hs rows) where
-  -- The moves of a posting are those of its rows.
+  -- The moves of a posting are those of the rows that name it.
   pub own_moves : (n : ℕ) (h : History) → entry_at hs n ≡ Some h → h.moves ≡ moves_of h.number rows
   own_moves n h e = same_moves 0 0 h.moves (moves_of h.number rows)
       (rising_of_follows 0 h.first h.moves sound.well_formed) (rising_of_rises h.number 0 rows are.rises) to from
@@ -209,7 +210,7 @@ module _ (rs : List Resource) (hs : List History) (legal : AreLegalPostings rs h
           } in
           (other, are.complete other (reached.1, reached.2, m.1), m.2)
 
-  -- The number of rows is the number of moves.
+  -- Table move has as many rows as the histories have moves.
   pub row_count_is_move_count : length rows ≡ move_count hs
   row_count_is_move_count = rows_counted_as_moves rows hs (λ n h e. (legal.sound n h e).number) (λ row h. let is =
       are.sound row h in numbered_bound hs row.posting is.0 is.1) own_moves

@@ -15,7 +15,7 @@ use Rattle.thes_tables.proofs.CellLemmas.{label_one, link_one, hier_one, posting
 use Rattle.thes_load_rules.specs.Verdicts.{IsTable, IsMeta, IsNewer, IsOlder, Verdict, stopped_if, faulty_unless}
 use Rattle.thes_load_rules.specs.Verdicts.{tables_of, HasVerdict}
 
--- The verdict is that of at most one result.
+-- At most one result has the verdict.
 pub record IsSingle (verdict : Verdict) : Type 0 where
   pub same : (a b : Result Tables Fault) → verdict a → verdict b → a ≡ b
 
@@ -52,7 +52,7 @@ table_one cells_of Rule raw one xs ys p q = one xs ys (same_Some _ _ (sym p.0 �
 meta_one : (raw : RawTable) (x y : List ℕ) → IsMeta raw x → IsMeta raw y → x ≡ y
 meta_one raw x y p q = text_one (head_one (tail_one (tail_one (head_one (same_Some _ _ (sym p.0 ∙ q.0))))))
 
--- Two verdicts on the same rows are equal.
+-- Two results that are verdicts on the same rows are equal.
 pub loads_single : (raw : Raw) (a b : Result Tables Fault) → HasVerdict raw a → HasVerdict raw b → a ≡ b
 loads_single raw =
     (stopped_single (IsNewer raw.meta) NewerStore _ (

@@ -99,7 +99,7 @@ loads_open raw t all =
       ),
     )
 
--- If all tables meet their rules, the rows are their cells.
+-- If all tables meet their rules, the rows of cells are those of the tables.
 pub open_listed : (raw : Raw) (t : Tables) → IsOpen raw t → raw ≡ cells_of_tables t
 open_listed raw t all = λ i. record {
   meta = all.meta.0 i;

@@ -1,4 +1,4 @@
--- Numbers, sets and maps of a list of rows, and the rows from which they come.
+-- The number of each row in a list, and the sets and maps that lists of rows encode.
 use Rattle.std.proofs.Common.{◌≡◌, ◌⊎◌, ◌≤◌, ℕ, zero, suc, length, List, [], ◌∷◌, map, refl, sym, ap, ◌∙◌, arith, inl}
 use Rattle.std.proofs.Common.{inr, true, false, cond}
 use Rattle.std.proofs.lemmas.Bool.{cases_Bool}
@@ -66,7 +66,7 @@ module _ {A : Type 0} {R : A → A → Ordering} (total : IsTotalOrder R) (exact
 nat_tied : (m n : ℕ) → eq_by_cmp nat_cmp m n ≡ true → m ≡ n
 nat_tied m n e = exact_unsigned m n ((Equal-is (nat_cmp m n)).0 e)
 
--- Each IRI of the map is that of a row.
+-- Each entry of the map of IRIs comes from a row.
 pub iri_row : (rows : List (ℕ × List ℕ)) (n : ℕ) (iri : List ℕ) → dict.get (iris_of rows) n ≡ Some iri
     → IsIn (n, iri) rows
 iri_row [] n iri e = let none = dict.get-empty {X = List ℕ} nat_cmp n in absurd (cc)

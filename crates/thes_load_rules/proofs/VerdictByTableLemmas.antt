@@ -8,7 +8,7 @@ use Rattle.thes_load_rules.specs.Verdicts.{IsNewer, IsOlder}
 use Rattle.thes_load_rules.specs.Laws.{VerdictByTable}
 use Rattle.thes_load_rules.proofs.OpenTableLemmas.{not_newer, not_older, loads_open}
 
--- Each case of the check table by table gives the verdict.
+-- Whatever the check table by table finds is the verdict.
 pub verdict_by_table : (raw : Raw) (t : Tables) → VerdictByTable raw t
 verdict_by_table raw t = record {
   newer = λ is. inl (is, refl);

@@ -17,7 +17,7 @@ use Rattle.thes_load_rules.specs.Verdicts.{HasVerdict, IsTable, IsMeta, IsNewer,
 abbrev pub OneVerdict : Type 0
 OneVerdict = (raw : Raw) (a b : Result Tables Fault) → HasVerdict raw a → HasVerdict raw b → a ≡ b
 
--- Tables that load encode a legal state, and the rows are their cells.
+-- Tables that load encode a legal state, and the rows of cells are those of the tables.
 abbrev pub LoadedIsLegal : Type 0
 LoadedIsLegal =
     (raw : Raw) (t : Tables) → HasVerdict raw (Ok t)
@@ -66,8 +66,8 @@ MovePasses raw t = PostingPasses raw t × IsTable (map move_cells) (MoveRule t.r
 abbrev pub HasNoRows : {A : Type 0} → (List A → List (List Cell)) → (List A → Type 0) → RawTable → Type 0
 HasNoRows {A} cells_of Rule raw = (rows : List A) → IsTable cells_of Rule raw rows → ⊥
 
--- The verdict on the rows, table by table: version 1 or a version after 2 is reported first; otherwise the first table
--- that breaks its rule, whatever the tables after it are; if all meet their rules, the tables load.
+-- The verdict on the rows, table by table. Version 1 or a version after 2 is reported first; otherwise the first table
+-- that breaks its rule, whatever the tables after it are. If all tables meet their rules, they load.
 pub record VerdictByTable (raw : Raw) (t : Tables) : Type 0 where
   pub newer : IsNewer raw.meta → HasVerdict raw (Err NewerStore)
   pub older : IsOlder raw.meta → HasVerdict raw (Err OlderStore)
@@ -97,6 +97,6 @@ pub record VerdictByTable (raw : Raw) (t : Tables) : Type 0 where
       → HasVerdict raw (Err (BadStore table.Move))
   pub all : MovePasses raw t → HasVerdict raw (Ok t)
 
--- The verdict on rows is always the one found table by table.
+-- The verdict on rows is the one that the check table by table gives.
 abbrev pub TablesCheckedInTurn : Type 0
 TablesCheckedInTurn = (raw : Raw) (t : Tables) → VerdictByTable raw t

@@ -61,15 +61,16 @@ state_of t =
       histories = map (history_of t.move) t.posting;
     }
 
--- The rule of table resource: each resource is legal, and replacements form no cycle. Number n is at index n - 1.
+-- The rule of table resource: there are fewer than 2³² resources, each is legal, and replacements form no cycle.
+-- Resource number 1 is at index 0.
 pub record ResourceRule (resources : List Resource) : Type 0 where
   pub few : length resources < 2 ^ 32
   pub each : (n : ℕ) (r : Resource) → entry_at resources n ≡ Some r → IsLegalResource resources n r
   -- Replacements form no cycle.
   pub no_return : (n : ℕ) → Chain (IsReplacedBy resources) n n → ⊥
 
--- The rule of table outside: a row for each outside concept, sorted by number, with an IRI of its own that doesn't
--- begin with the base.
+-- The rule of table outside: one row for each outside concept, sorted by number. Each has an IRI of its own, which
+-- doesn't begin with the base.
 pub record OutsideRule (base : List ℕ) (resources : List Resource) (rows : List (ℕ × List ℕ)) : Type 0 where
   pub ascends : IriNumbersAscend 0 rows
   pub forms : EachRow (λ row. IsIri row.1) rows
@@ -88,13 +89,14 @@ pub record LinkRule (resources : List Resource) (rows : List Link) : Type 0 wher
   pub kinds : EachRow (λ l. hier_type l.kind ≡ None) rows
   pub each : EachRow (IsLegalLink resources) rows
 
--- The rule of table hier: no duplicates, and with table link links that are legal together (Cycle, SKOS S27, S46).
+-- The rule of table hier: no duplicates, and links that are legal together with those of table link (Cycle, SKOS S27,
+-- S46).
 pub record HierRule (resources : List Resource) (links : List Link) (rows : List HierRow) : Type 0 where
   pub once : AreDistinct rows
   pub legal : AreLegalLinks resources (links_of links rows)
 
--- The rule of table posting: numbers without gaps, texts of their forms, different keys, and first concepts and places
--- that are concepts; the place is live unless the posting was withdrawn.
+-- The rule of table posting: numbers from 1 without gaps, below 2³², texts of their forms, and different keys. First
+-- concepts and places are concepts, and the place is live unless the posting was withdrawn.
 pub record PostingRule (resources : List Resource) (rows : List PostingRow) : Type 0 where
   pub few : length rows < 2 ^ 32
   pub numbers : AreInOrder (λ (row : PostingRow). row.number) rows
@@ -105,11 +107,12 @@ pub record PostingRule (resources : List Resource) (rows : List PostingRow) : Ty
   pub concepts : EachRow (λ row. IsConcept resources row.first × IsConcept resources row.place) rows
   pub live : EachRow (λ row. row.withdrawn ≡ false → is_live_concept resources row.place ≡ true) rows
 
--- The rule of table move: numbers without gaps, and moves that lead each posting from its first concept to its place.
+-- The rule of table move: numbers from 1 without gaps, below 2³², and moves that lead each posting from its first
+-- concept to its place.
 pub record MoveRule (resources : List Resource) (postings : List PostingRow) (rows : List MoveRow) : Type 0 where
   pub few : length rows < 2 ^ 32
   pub numbers : AreInOrder (λ (row : MoveRow). row.number) rows
-  -- The posting of each row exists, and the target is another concept than the source.
+  -- The posting of each row exists, and the target is a concept other than the source.
   pub known : EachRow (λ row. (posting : PostingRow) × (entry_at postings row.posting ≡ Some posting)) rows
   pub ends : EachRow (λ row. IsConcept resources row.target × (row.source ≢ row.target)) rows
   -- The moves of a posting lead from its first concept to its place.

@@ -17,7 +17,7 @@ use Rattle.thes_base.specs.declared.data.Link.{Link}
 use Rattle.thes_base.specs.Labels.{Label}
 use Rattle.thes_load_rules.specs.Rules.{ResourceRule, OutsideRule, LabelRule, LinkRule, HierRule, PostingRule, MoveRule}
 
--- A verdict: the property of being the right result, which is tables or a fault.
+-- A verdict: a property of results, which are tables or a fault. Only the right result has it.
 abbrev pub Verdict : Type 1
 Verdict = Result Tables Fault → Type 0
 
@@ -25,7 +25,7 @@ Verdict = Result Tables Fault → Type 0
 abbrev pub stopped_if : Type 0 → Fault → Verdict → Verdict
 stopped_if condition fault rest answer = (condition × (answer ≡ Err fault)) ⊎ ((condition → ⊥) × rest answer)
 
--- The fault that names the table if no rows pass, or else the remaining verdict, given rows that pass.
+-- The fault BadStore with the table's name if no typed rows pass, or else the remaining verdict, given rows that pass.
 abbrev pub faulty_unless : {A : Type 0} → (A → Type 0) → Table → (A → Verdict) → Verdict
 faulty_unless {A} passes name rest answer =
     (((x : A) → passes x → ⊥) × (answer ≡ Err (BadStore name))) ⊎ ((x : A) × passes x × rest x answer)
@@ -67,8 +67,8 @@ tables_of base resources outside labels links hier postings moves =
       move = moves;
     }
 
--- The verdict on the rows: the version is checked first, and then the tables meta, resource, outside, label, link,
--- hier, posting and move in order; the first that breaks its rule is reported.
+-- The verdict on the rows. The version is checked first, and then the tables meta, resource, outside, label, link,
+-- hier, posting and move in order; the first table that breaks its rule is reported.
 abbrev pub HasVerdict : Raw → Verdict
 HasVerdict raw =
     stopped_if (IsNewer raw.meta) NewerStore

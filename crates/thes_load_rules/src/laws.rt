@@ -16,8 +16,8 @@ pub fn legal_state_loads()
     ensures { LegalStateLoads }
 {}
 
-/// No effect; states for the proof that tables are checked in order, and that the first one to break its rule is
-/// reported.
+/// No effect; states for the proof that the version is checked first, then the tables in order, and
+/// that the first table to break its rule is reported.
 pub fn tables_checked_in_turn()
     ensures { TablesCheckedInTurn }
 {}

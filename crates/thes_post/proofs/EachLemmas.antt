@@ -1,11 +1,11 @@
--- A property of each number of a list, by induction on the list.
+-- The consequences of a property that each number of a list has.
 use Rattle.std.proofs.Common.{◌≡◌, ◌<◌, ℕ, zero, suc, ◌+◌, length, List, [], ◌∷◌, sym, ap, ◌∙◌, subst, arith, ⊎_elim}
 use Rattle.std.proofs.Common.{true, false, ◌||◌, eqb, eqb-true, get_or, take}
 use Rattle.std.proofs.lemmas.Bool.{cases_Bool}
 use Rattle.thes_base.specs.Refusals.{EachListed}
 use Rattle.thes_post.proofs.OnceLemmas.{has_number}
 
--- A number of the list has the property that each of its numbers has.
+-- If each number of a list has a property, a number that is found in the list has it.
 pub has_of_each : (P : ℕ → Type 0) (ls : List ℕ) → EachListed P ls → (n : ℕ) → has_number ls n ≡ true → P n
 has_of_each P [] each n e = absurd (cc)
 has_of_each P (l ∷ ls) each n e = ⊎_elim (λ (same : eqb l n ≡ true). subst P (eqb-true l n same) each.0)

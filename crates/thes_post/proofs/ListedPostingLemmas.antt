@@ -1,4 +1,4 @@
--- The checks of the postings that a split lists, by a loop over them.
+-- The loop that checks the postings listed by a split.
 use Rattle.std.proofs.Common.{◌≡◌, ◌<◌, ℕ, ◌+◌, length, List, refl, sym, ap, ◌∙◌, subst, ⊎_elim, Bool, true, false}
 use Rattle.std.proofs.Common.{not, ◌||◌, get_or, take}
 use Rattle.std.specs.Prelude.{Some, None}
@@ -11,7 +11,7 @@ use Rattle.thes_base.proofs.RefusalRuleLemmas.{passed_unless}
 use Rattle.std.proofs.lemmas.Bool.{cases_Bool, not-true}
 use Rattle.thes_post.proofs.EachLemmas.{each_more, each_at}
 
--- Assumes a loop over the listed postings, with a flag that is set when one fails a test.
+-- Assumes a step of the loop over the listed postings, whose flag `mark` is set once a posting fails the test.
 module _ (hs : List History) (test : History → Bool) (ns : List ℕ) (i item : ℕ) (h : History) (mark fails : Bool)
     (inside : i < length ns) (is : item ≡ get_or ns i item) (at : entry_at hs item ≡ Some h)
     (told : test h ≡ not fails) where

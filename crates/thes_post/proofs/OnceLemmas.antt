@@ -14,11 +14,11 @@ use Rattle.thes_post.specs.Rising.{RisesFrom}
 abbrev pub as_number : Bool → ℕ
 as_number b = cond b 1 0
 
--- The test of whether the list has the number.
+-- Tests whether the list has the number.
 abbrev pub has_number : List ℕ → ℕ → Bool
 has_number ns n = list_any (λ m. eqb m n) ns
 
--- A strictly rising list has no number below its least.
+-- A strictly rising list has no number below its lower bound.
 pub has_below : (least n : ℕ) (ns : List ℕ) → n < least → RisesFrom least ns → has_number ns n ≡ false
 has_below least n [] l r = refl
 has_below least n (m ∷ ns) l r =
@@ -54,7 +54,7 @@ times_some n (m ∷ ns) e = ⊎_elim
     let both = times_cons n m ns in
     omega (arith, rest, both)) (cases_Bool (eqb m n))
 
--- A list without duplicates has each number at most once.
+-- Each number occurs at most once in a list without duplicates.
 once_times : (ns : List ℕ) → EachOnce ns → (n : ℕ) → occurrences n ns ≤ 1
 once_times [] e n = omega arith
 once_times (m ∷ ns) e n = ⊎_elim
@@ -69,7 +69,7 @@ once_times (m ∷ ns) e n = ⊎_elim
     let both = times_cons n m ns in
     omega (arith, rest, here, both)) (cases_Bool (eqb m n))
 
--- A list that has each number at most once lists none twice.
+-- A list in which each number occurs at most once has no duplicates.
 times_once : (ns : List ℕ) → ((n : ℕ) → occurrences n ns ≤ 1) → EachOnce ns
 times_once [] f = tt
 times_once (m ∷ ns) f = (
@@ -84,7 +84,7 @@ times_once (m ∷ ns) f = (
   times_once ns (λ n. let both = times_cons n m ns in let most = f n in omega (arith, both, most)),
 )
 
--- A permutation of a list without duplicates has none.
+-- A permutation of a list without duplicates has no duplicates.
 pub once_permutation : (ms ns : List ℕ) → IsPermutation ms ns → EachOnce ms → EachOnce ns
 once_permutation ms ns p e = times_once ns (λ n. let same = sum_by-IsPermutation (λ m. cond (eqb m n) 1 0) ms ns p in
     let most = once_times ms e n in omega (arith, same, most))

@@ -1,4 +1,4 @@
--- The counts of postings stay those of the histories.
+-- After each change of the histories, the changed counts of postings are those of the new histories.
 use Rattle.std.proofs.Common.{◌≡◌, ◌≢◌, ◌<◌, ◌≤◌, ℕ, zero, suc, ◌+◌, ◌-◌, length, List, [], ◌∷◌, refl, sym, ap, ◌∙◌}
 use Rattle.std.proofs.Common.{subst, arith, inl, inr, Bool, true, false, cond, not, ◌&&◌, eqb, eqb-true, ne_eqb}
 use Rattle.std.proofs.Common.{length-append}
@@ -28,12 +28,13 @@ stands_not c h apart = elim (cases_Bool (not h.withdrawn)) [
   | inr gone ↦ ap (λ b. b && eqb (place h) c) gone
 ]
 
--- A posting assigned to a concept isn't withdrawn, and has it as its place.
+-- A posting assigned to a concept isn't withdrawn, and has the concept as its place.
 pub stands_parts : (c : ℕ) (h : History) → is_assigned_to c h ≡ true → (h.withdrawn ≡ false) × (place h ≡ c)
 stands_parts c h s = let parts = and_parts (not h.withdrawn) (eqb (place h) c) s in
     (not-true h.withdrawn parts.0, eqb-true (place h) c parts.1)
 
--- Replacing a history changes a count by the difference of the two.
+-- If a history is replaced, the number of histories that pass a test falls by one if the old one passes, and rises by
+-- one if the new one does.
 count_set : (test : History → Bool) (hs : List History) (i : ℕ) (h new : History) → slice_get hs i ≡ Some h
     → count_by test (slice_set hs i new) + cond (test h) 1 0 ≡ count_by test hs + cond (test new) 1 0
 count_set test [] i h new e = absurd (cc)
@@ -62,7 +63,7 @@ module _ (hs : List History) (key rec : List ℕ) (first : ℕ) (way : List ℕ)
   more : (c : ℕ) → assigned_count c posted ≡ assigned_count c hs + cond (is_assigned_to c last) 1 0
   more c = sum_by_push (λ (x : History). cond (is_assigned_to c x) 1 0) hs last
 
-  -- The counts after a posting are those of the histories.
+  -- The counts after a new posting are those of the histories.
   pub sums_posted : (old new : PostingCounts) → ArePostingCounts hs old → CountsAfterPost (path_end first way)
       (length way) old new → ArePostingCounts posted new
   sums_posted old new are one = record {
@@ -90,7 +91,7 @@ module _ (hs : List History) (key rec : List ℕ) (first : ℕ) (way : List ℕ)
         omega (arith, a, b, m));
   }
 
--- Assumes that a posting is withdrawn.
+-- Assumes a withdrawal of posting n, whose history is h and which wasn't withdrawn before.
 module _ (hs : List History) (n : ℕ) (h : History) (at : entry_at hs n ≡ Some h) (stays : h.withdrawn ≡ false) where
   abbrev less : List History
   less = set_entry_at hs n (history_after_withdrawal h)
@@ -106,7 +107,7 @@ module _ (hs : List History) (n : ℕ) (h : History) (at : entry_at hs n ≡ Som
           ≡ count_by test hs + cond (test (history_after_withdrawal h)) 1 0) (let q : m ≡ suc m - 1 = omega arith in
           q) (count_set test hs m h (history_after_withdrawal h) e)
 
-  -- The posting is counted at its place, and not as withdrawn.
+  -- At least one posting is assigned to the posting's place.
   pub one_stands : 0 < assigned_count (place h) hs
   one_stands =
       let c = set_count (is_assigned_to (place h)) in
@@ -162,7 +163,7 @@ module _ (passes : History → Bool) (source target : ℕ) (apart : source ≢ t
   AllAssigned [] = Unit {0}
   AllAssigned (h ∷ hs) = (passes h ≡ true → is_assigned_to source h ≡ true) × AllAssigned hs
 
-  -- The test has one value for a posting assigned to the source, and another after its move.
+  -- The test gives `before` for the posting, and `after` once the posting has moved to the target.
   abbrev Turns : (History → Bool) → Bool → Bool → History → Type 0
   Turns test before after h = (test h ≡ before) × ((n : ℕ) → test (history_after_move n target h) ≡ after)
 
@@ -170,7 +171,8 @@ module _ (passes : History → Bool) (source target : ℕ) (apart : source ≢ t
   one_more true k = refl
   one_more false k = refl
 
-  -- The moves change the number of histories that pass a test by the number of postings moved.
+  -- If a test gives `before` for each posting of the source, and `after` once it has moved, the moves change the number
+  -- of histories that pass it by the number of postings moved, or not at all.
   turned : (test : History → Bool) (before after : Bool) → ((h : History) → is_assigned_to source h ≡ true
       → Turns test before after h) → (number : ℕ) (hs : List History) → AllAssigned hs
       → count_by test (histories_after_moves passes target number hs) + cond before (count_by passes hs) 0
@@ -253,7 +255,7 @@ module _ (passes : History → Bool) (source target : ℕ) (apart : source ≢ t
         number hs all in
         omega (arith, e)
 
-    -- The postings assigned to both concepts are together at most all postings.
+    -- The postings assigned to the target and those that move to it are together at most all postings.
     pub both_fit : assigned_count target hs + count_by passes hs ≤ length hs
     both_fit =
         let m = more_there in
@@ -293,7 +295,7 @@ module _ (passes : History → Bool) (source target : ℕ) (apart : source ≢ t
           omega (arith, a, b, m, is));
     }
 
--- Each posting that passes the test of being assigned to the source is assigned to it.
+-- The test `is_assigned_to source` picks only postings that are assigned to the source.
 pub all_assigned : (source target : ℕ) (apart : source ≢ target) (hs : List History)
     → AllAssigned (is_assigned_to source) source target apart hs
 all_assigned source target apart [] = tt

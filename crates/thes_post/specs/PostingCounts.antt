@@ -28,13 +28,13 @@ pub record HasRoomForPost (concept : Number) (steps : ℕ) (posting_counts : Pos
   pub accepted : posting_counts.accepted + 1 < 2 ^ 32
   pub moves : posting_counts.moves + steps < 2 ^ 32
 
--- A posting that isn't withdrawn is assigned to the concept.
+-- At least one posting is assigned to the concept, and not all accepted postings are withdrawn.
 pub record HasPostingToWithdraw (concept : Number) (posting_counts : PostingCounts) : Type 0 where
   pub here : 0 < count_of posting_counts concept
   pub accepted : posting_counts.withdrawn < posting_counts.accepted
 
--- There is room to move `moved` postings from the source to the target, with one move each: the source has at least as
--- many, and all counts stay below 2 ^ 32.
+-- There is room to move `moved` postings from the source to the target, with one move each: the source has that many,
+-- and all counts stay below 2 ^ 32.
 pub record HasRoomForMoves (source target : Number) (moved : ℕ) (posting_counts : PostingCounts) : Type 0 where
   pub standing : moved ≤ count_of posting_counts source
   pub there : count_of posting_counts target + moved < 2 ^ 32
@@ -65,14 +65,14 @@ pub record CountsAfterMoves (source target : Number) (moved : ℕ) (old new : Po
   pub withdrawn : new.withdrawn ≡ old.withdrawn
   pub moves : new.moves ≡ old.moves + moved
 
--- The counts of a `LoadedCounts`: no more postings are assigned to a concept, or withdrawn, than were accepted, and
--- there are no moves.
+-- The counts that a `LoadedCounts` may have: no more postings are assigned to a concept, or withdrawn, than were
+-- accepted, and there are no moves.
 pub record AreTallyCounts (posting_counts : PostingCounts) : Type 0 where
   pub standing : (n : Number) → count_of posting_counts n ≤ posting_counts.accepted
   pub withdrawn : posting_counts.withdrawn ≤ posting_counts.accepted
   pub moves : posting_counts.moves ≡ 0
 
--- The counts after one more posting, which is withdrawn or assigned to the place.
+-- The counts after one more posting, which is withdrawn if `gone` is set, or else assigned to the concept `place`.
 pub record CountsAfterTally (place : Number) (gone : Bool) (old new : PostingCounts) : Type 0 where
   pub standing : (n : Number) → count_of new n ≡ count_of old n + cond (not gone && place == n) 1 0
   pub accepted : new.accepted ≡ old.accepted + 1

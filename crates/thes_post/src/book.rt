@@ -40,7 +40,8 @@ fn count_at(counts: &[u32], place: usize) -> u32
     counts.get(place).copied().unwrap_or(0)
 }
 
-// Appends zeros until the counts have an entry at the index `place`; does nothing if they have one.
+// Appends zeros until the counts have an entry at the index `place`; after an error they are as
+// before.
 fn grow_counts(counts: &mut Vec<u32>, place: usize) -> Result<(), AllocError>
     requires { place < 2 ^ 32 }
     ensures same { (n : ℕ) → slice_index counts.new.items n ≡ slice_index counts.old.items n }
@@ -66,8 +67,8 @@ impl Book {
         }
     }
 
-    /// Counts a new posting, assigned to the concept after `moves` moves, and returns its number;
-    /// counts saturate at 2³² - 1.
+    /// Counts a new posting, assigned to the concept after `moves` moves, and returns the posting's
+    /// number. Counts saturate at 2³² - 1.
     pub fn post(&mut self, concept: ResNo, moves: u64) -> Result<PostNo, AllocError>
         ensures number { IfOk result (λ n.
             HasRoomForPost concept moves self.old → n ≡ self.old.accepted + 1) }
@@ -85,7 +86,8 @@ impl Book {
         Ok(PostNo::new(self.accepted))
     }
 
-    /// Counts a posting assigned to the concept as withdrawn; changes nothing if there is none.
+    /// Counts a posting assigned to the concept as withdrawn; changes nothing if no posting is
+    /// assigned to it.
     pub fn withdraw(&mut self, concept: ResNo)
         ensures { HasPostingToWithdraw concept self.old
             → CountsAfterWithdrawal concept self.old self.new }
@@ -98,7 +100,7 @@ impl Book {
     }
 
     /// Counts all postings of the source as moved to the target, with one move each, and returns
-    /// their number; counts saturate at 2³² - 1.
+    /// the number of postings moved. Counts saturate at 2³² - 1.
     pub fn move_all(&mut self, source: ResNo, target: ResNo) -> Result<u32, AllocError>
         requires apart { source ≢ target }
         ensures count { IfOk result (λ k. k ≡ count_of self.old source) }
@@ -174,7 +176,7 @@ impl Book {
         self.moves
     }
 
-    // Sets the number of moves, which a `LoadedCounts` doesn't count.
+    // Sets the number of moves, because a `LoadedCounts` doesn't count them.
     pub(crate) fn set_moves(&mut self, moves: u32)
         ensures { self.new ≡ record self.old { moves = moves } }
     {

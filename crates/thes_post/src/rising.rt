@@ -7,7 +7,7 @@ ghost use Rattle.thes_post.specs.Rising.{RisesFrom};
 use std::alloc::{AllocError, Global};
 use thes_base::number::PostNo;
 
-/// Returns a copy of the numbers in ascending order, with their duplicates.
+/// Returns a copy of the numbers in ascending order, including duplicates.
 pub fn sorted_numbers(alloc: Global, numbers: &[PostNo]) -> Result<Vec<PostNo>, AllocError>
     ensures permutation { IfOk result (λ v. IsPermutation numbers.now v.items) }
     ensures in_order { IfOk result (λ v. IsNonDecreasing v.items) }
@@ -33,7 +33,7 @@ fn is_rising(numbers: &[PostNo]) -> bool
     true
 }
 
-/// Checks whether no number is listed twice; fails only if memory for a sorted copy runs out.
+/// Checks whether all numbers are different; fails only if memory for a sorted copy runs out.
 pub fn is_each_once(alloc: Global, numbers: &[PostNo]) -> Result<bool, AllocError>
     ensures { IfOk result (λ once. IsTrue once ↔ EachOnce numbers.now) }
 {

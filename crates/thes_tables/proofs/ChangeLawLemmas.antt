@@ -1,4 +1,5 @@
--- The law of row changes: the changes of an accepted request turn the rows of its state into those of the next state.
+-- The law of row changes: the changes of an accepted request turn the rows of the state before it into those of the
+-- next state.
 use Rattle.std.proofs.Common.{◌≡◌, ◌≢◌, ◌<◌, ◌≤◌, inl, inr, ℕ, suc, ◌+◌, ◌-◌, length, List, [], ◌∷◌, ◌++◌, refl, sym}
 use Rattle.std.proofs.Common.{ap, ◌∙◌, subst, arith, true, false, Bool, cond, map, append_assoc}
 use Rattle.std.proofs.lemmas.List.{map-append, append-nil, map-set}
@@ -66,7 +67,7 @@ ascends_push above [] row up lt below = (lt, tt)
 ascends_push above (r ∷ rows) row up lt below =
     (up.0, ascends_push r.0 rows row up.1 (below r (inl refl)) (λ other h. below other (inr h)))
 
--- The map of rows has an IRI for the number of each row.
+-- A look-up by number in the rows of table outside finds an IRI for each row.
 found_row : (rows : List (ℕ × List ℕ)) (row : ℕ × List ℕ) → IsIn row rows → (iri : List ℕ)
     × (dict.find nat_cmp row.0 rows ≡ Some iri)
 found_row [] row h = absurd h
@@ -115,7 +116,7 @@ fit_places [] t = tt
 fit_places (r ∷ rows) t =
     (tt, fit_places rows (record t { posting = with_posting (row_at_place r.target) r.posting t.posting }))
 
--- Rows of moves with rising numbers above all others can be inserted.
+-- Rows can be inserted into table move if their numbers rise, and are above those of all rows that it has.
 fit_moves : (bound : ℕ) (rows : List MoveRow) (t : Tables) → ((row : MoveRow) → IsIn row t.move → row.number ≤ bound)
     → MoveNumbersAscend bound rows → DeltaFits (map change.AddMove rows) t
 fit_moves bound [] t below rises = tt
@@ -134,7 +135,7 @@ fit_moves bound (row ∷ rows) t below rises = (
       ]
     ]
 
--- The rows of a state with other histories are those of the old state, but for the tables posting and move.
+-- Replacing the histories of a state changes only the tables posting and move.
 with_histories : (base : List ℕ) (s : State) (t : Tables) → IsRowsOf base s t
     → (hs : List History) (posting : List PostingRow) (move : List MoveRow) → posting ≡ map posting_row hs
     → AreMoves hs move → IsRowsOf base (record s { histories = hs }) (record t { posting = posting; move = move })
@@ -158,7 +159,7 @@ module _ (base : List ℕ) (s : State) (legal : IsLegalState base s) where
       go (inr (inl (r, at, _))) = let b = numbered_bound s.resources l.owner r at in omega (arith, own, b)
       go (inr (inr (r, at, _))) = let b = numbered_bound s.resources l.owner r at in omega (arith, own, b)
 
-  -- The rows of a state in which a resource has died are those of the old state, but for its row.
+  -- The death of a resource changes only its row in table resource.
   dead_rows : (n : ℕ) (by : Option ℕ) (t : Tables) → IsRowsOf base s t
       → IsRowsOf base (record s { resources = resources_after_death n by s.resources })
       (record t { resource = resources_after_death n by t.resource })
@@ -173,7 +174,7 @@ module _ (base : List ℕ) (s : State) (legal : IsLegalState base s) where
     move = is.move;
   }
 
-  -- The changes of a new scheme, concept or collection lead to its state.
+  -- The changes of a new scheme, concept or collection lead to the state after its creation.
   pub leads_new_resource : (r : Resource) (tag text : List ℕ) → AreChangesBetween base
       (changes_of_new_resource r tag text s) s (state_after_creation r tag text s)
   leads_new_resource r tag text = record {
@@ -198,7 +199,7 @@ module _ (base : List ℕ) (s : State) (legal : IsLegalState base s) where
     );
   }
 
-  -- The changes of a new outside concept lead to its state.
+  -- The changes of a new outside concept lead to the state after its creation.
   pub leads_outside : (iri : List ℕ) → AreChangesBetween base (change.AddResource (next_number s) outside_resource
       ∷ change.AddOutside (next_number s) iri ∷ []) s (state_after_outside iri s)
   leads_outside iri = record {
@@ -258,7 +259,7 @@ module _ (base : List ℕ) (s : State) (legal : IsLegalState base s) where
     fit = λ t is. fits t is.label;
   }
 
-  -- The rows of a state with other links are those of the old state, but for the tables link and hier.
+  -- Replacing the links of a state changes only the tables link and hier.
   relinked_rows : (z : State) (t u : Tables) (held : Links) → IsRowsOf base z t → u ≡ with_link_tables t u
       → LinkRows held u → IsRowsOf base (record z { links = held }) u
   relinked_rows z t u held is only rows = subst (IsRowsOf base (record z { links = held })) (sym only) (record {
@@ -300,7 +301,8 @@ module _ (base : List ℕ) (s : State) (legal : IsLegalState base s) where
 
   -- Assumes a relabelling, which replaces one preferred label by another.
   module _ (owner : ℕ) (tag text : List ℕ) (keep : Bool) where
-    -- The owner has one preferred label with the tag (SKOS S14).
+    -- Once the old preferred label is removed, the new one is not among the labels: the owner has no other preferred
+    -- label in the tag (SKOS S14).
     preferred_free : (old : List ℕ) → HasLabel s.labels owner Pref tag old
         → set.contains (set.remove s.labels (label owner Pref tag old)) (label owner Pref tag text) ≡ false
     preferred_free old has = absent_of_never labels_total labels_exact _ _ (λ h.
@@ -308,7 +310,7 @@ module _ (base : List ℕ) (s : State) (legal : IsLegalState base s) where
         (label owner Pref tag text) h in
         c.0 (ap (label owner Pref tag) (legal.labels.one_preferred owner tag text old c.1 has)))
 
-    -- The owner doesn't have the old preferred label as an alternative label also (SKOS S13).
+    -- The old text is not among the alternative labels of the owner, since it is a preferred label (SKOS S13).
     kept_free : (old : List ℕ) → HasLabel s.labels owner Pref tag old
         → set.contains (set.insert (set.remove s.labels (label owner Pref tag old)) (label owner Pref tag text))
         (label owner Alt tag old) ≡ false
@@ -536,7 +538,7 @@ module _ (base : List ℕ) (s : State) (legal : IsLegalState base s) where
   numbers : NumberedFrom 1 s.histories
   numbers = numbered_from 1 s.histories (λ i h e. let n = (legal.postings.sound (suc i) h e).number in omega (arith, n))
 
-  -- The changes of a split lead to its state.
+  -- The changes of a split lead to the state after it.
   pub leads_split : (source : ℕ) (tag text : List ℕ) (postings : List ℕ) → AreChangesBetween base
       (changes_of (request.Split source tag text postings) s) s (state_after_split source tag text postings s)
   leads_split source tag text postings = record {
@@ -600,7 +602,7 @@ module _ (base : List ℕ) (s : State) (legal : IsLegalState base s) where
       found (h ∷ hs) (inl same) = (0, h, refl, same)
       found (h ∷ hs) (inr later) = let f = found hs later in (suc f.0, f.1, f.2, f.3)
 
-  -- The changes of a post lead to its state.
+  -- The changes of a Post lead to the state after it.
   pub leads_post : (key rec : List ℕ) (concept : ℕ) → ((h : History) → ¬ IsOfKey key s.histories h)
       → AreChangesBetween base (changes_of (request.Post key rec concept) s) s (state_after_post key rec concept s)
   leads_post key rec concept fresh = record {

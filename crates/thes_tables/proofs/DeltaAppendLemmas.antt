@@ -1,4 +1,4 @@
--- Applying two lists of changes in sequence is applying their concatenation.
+-- Applying two lists of changes, one after the other, has the effect of applying their concatenation.
 use Rattle.std.proofs.Common.{◌≡◌, List, [], ◌∷◌, ◌++◌, refl}
 use Rattle.thes_tables.specs.declared.change.Change.{Change}
 use Rattle.thes_tables.specs.Tables.{Tables}

@@ -32,7 +32,7 @@ type_back ht.Generic = refl
 type_back ht.Partitive = refl
 type_back ht.Instantial = refl
 
--- A hierarchical kind is the kind of its type.
+-- The kind of link for the type of a hierarchical kind is that kind.
 kind_back : (kind : LinkKind) (typ : HierType) → hier_type kind ≡ Some typ → hier_kind typ ≡ kind
 kind_back kinds.Broader typ e = ap hier_kind (sym (same_Some ht.Untyped typ e))
 kind_back kinds.BroaderGeneric typ e = ap hier_kind (sym (same_Some ht.Generic typ e))
@@ -85,7 +85,7 @@ module _ (l : Link) (links : Links) (t : Tables) where
   more_new : Holds more l
   more_new = inserted_new links_total links_exact links l
 
-  -- A link that isn't hierarchical is inserted into table link.
+  -- After the insertion of a link that isn't hierarchical into table link, the tables encode the links with this one.
   link_plain : hier_type l.kind ≡ None → set.contains links l ≡ false → LinkRows links t
       → LinkRows more (record t { link = t.link ++ l ∷ [] })
   link_plain none out are = record {
@@ -97,7 +97,7 @@ module _ (l : Link) (links : Links) (t : Tables) where
         are.hier;
   }
 
-  -- A hierarchical link is inserted into table hier.
+  -- After the insertion of a hierarchical link into table hier, the tables encode the links with this one.
   link_hier : (typ : HierType) → hier_type l.kind ≡ Some typ → set.contains links l ≡ false → LinkRows links t
       → LinkRows more (record t { hier = t.hier ++ hier_row typ l ∷ [] })
   link_hier typ e out are = record {
@@ -145,7 +145,7 @@ module _ (l : Link) (links : Links) (t : Tables) where
   less_kept : (q : Link) → (q ≡ l → ⊥) → Holds links q → Holds less q
   less_kept q ne h = removed_kept links_total links_exact links l q ne h
 
-  -- A link that isn't hierarchical is deleted from table link.
+  -- After the deletion of a link that isn't hierarchical from table link, the tables encode the links without this one.
   drop_plain : hier_type l.kind ≡ None → LinkRows links t → LinkRows less (tables_after_change (change.DropLink l) t)
   drop_plain none are = record {
     link = lists_drop links_total links_exact t.link l (λ q h. let c = less_cases q h.0 in (c.0, (c.1, h.1)))
@@ -154,7 +154,7 @@ module _ (l : Link) (links : Links) (t : Tables) where
         (λ row h. (less_cases (hier_link row) h).1) are.hier;
   }
 
-  -- A hierarchical link is deleted from table hier.
+  -- After the deletion of a hierarchical link from table hier, the tables encode the links without this one.
   drop_hier : (typ : HierType) → hier_type l.kind ≡ Some typ → LinkRows links t
       → LinkRows less (tables_after_change (change.DropHier (hier_row typ l)) t)
   drop_hier typ e are = record {

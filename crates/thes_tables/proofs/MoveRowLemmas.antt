@@ -107,13 +107,14 @@ push_in m x moves h = elim (in_append m moves (x ∷ []) h)
     [ inl old ↦ inl old | inr new ↦ inr (elim new [ inl e ↦ e | inr h ↦ absurd h ]) ]
 
 module _ (rs : List _) (hs : List History) (legal : AreLegalPostings rs hs) where
-  -- The number of a move is at most the number of moves.
+  -- No row of table move has a number above the count of all moves.
   pub number_within_count : (rows : List MoveRow) → AreMoves hs rows → (row : MoveRow) → IsIn row rows → row.number
       ≤ move_count hs
   number_within_count rows are row h = let is = are.sound row h in in_all (λ m. m.number ≤ move_count hs)
       (recorded_move row) is.0.moves (legal.numbers.bounded row.posting is.0 is.1) is.2
 
-  -- The rows of table move stay right when each history that passes the test gains a move.
+  -- If each history that passes the test gains a move, table move with the new rows encodes the moves of the new
+  -- histories.
   pub moves_more : (passes : History → Bool) (target : ℕ) (rows : List MoveRow) → AreMoves hs rows
       → AreMoves (histories_after_moves passes target (move_count hs + 1) hs)
       (rows ++ new_moves passes target (move_count hs + 1) hs)
@@ -219,20 +220,20 @@ module _ (rs : List _) (hs : List History) (legal : AreLegalPostings rs hs) wher
                             (same ∙ is) there,
                       ))
 
--- The rows of moves along a path have rising numbers.
+-- The rows of the moves along a path have rising numbers.
 pub rises_along : (posting above number from : ℕ) (way : List ℕ) → above < number
     → MoveNumbersAscend above (map (move_row posting) (moves_along number from way))
 rises_along posting above number from [] less = tt
 rises_along posting above number from (n ∷ way) less =
     (less, rises_along posting number (number + 1) n way (omega arith))
 
--- The rows of table move stay right when a history with the next number is appended.
+-- Assumes that a history with the next number is appended.
 module _ (rs : List _) (hs : List History) (legal : AreLegalPostings rs hs) (h : History)
     (is_next : h.number ≡ length hs + 1) where
   abbrev rows_of : List MoveRow
   rows_of = map (move_row h.number) h.moves
 
-  -- The rows of moves with those of the new history appended.
+  -- Table move with the rows of the new history's moves encodes the moves of all histories.
   pub moves_posted : (rows : List MoveRow) → MoveNumbersAscend (move_count hs) rows_of → AreMoves hs rows
       → AreMoves (hs ++ h ∷ []) (rows ++ rows_of)
   moves_posted rows rising are = record {
@@ -261,7 +262,7 @@ module _ (rs : List _) (hs : List History) (legal : AreLegalPostings rs hs) (h :
       mine row e there = subst (λ (n : ℕ). IsIn (record row { posting = n }) rows_of) (sym e)
           (map_in (move_row h.number) (recorded_move row) h.moves there)
 
--- The rows of table move stay right when a history changes without its moves.
+-- Table move encodes the moves of the histories also after a history is replaced by one with the same moves.
 pub moves_set : (hs : List History) (n : ℕ) (h new : History) (rows : List MoveRow) → entry_at hs n ≡ Some h
     → new.moves ≡ h.moves → AreMoves hs rows → AreMoves (set_entry_at hs n new) rows
 moves_set hs n h new rows e same are = record {
@@ -313,7 +314,7 @@ pub with_at : (f : PostingRow → PostingRow) (n : ℕ) (rows : List PostingRow)
     ≡ Some row → with_posting f n rows ≡ set_entry_at rows n (f row)
 with_at f n rows row e = ap (λ o. elim o [ None ↦ rows | Some r ↦ set_entry_at rows n (f r) ]) e
 
--- The rows of table posting stay right when all postings of the source move to the target.
+-- Moving all rows of the source to the target gives the rows of the histories after these moves.
 pub rows_moved : (source target number : ℕ) (hs : List History) → map (row_after_move_all source target)
     (map posting_row hs) ≡ map posting_row (histories_after_moves (is_assigned_to source) target number hs)
 rows_moved source target number [] = refl
@@ -354,7 +355,8 @@ with_here f n pre row rest e =
     ∙ set_at pre row (f row) rest
 
 module _ (passes : History → Bool) (target : ℕ) where
-  -- The rows of table posting stay right when each history that passes the test moves to the target.
+  -- Setting the place of each listed row gives the rows of the histories after the postings that pass the test have
+  -- moved.
   pub rows_placed : (number : ℕ) (pre : List PostingRow) (hs : List History) → NumberedFrom (length pre + 1) hs
       → placed_all (new_moves passes target number hs) (pre ++ map posting_row hs) ≡ pre
       ++ map posting_row (histories_after_moves passes target number hs)

@@ -1,4 +1,4 @@
--- The migration turns version 1's rows of a state into version 2's rows of that state, and of no other.
+-- The law of the migration from version 1 of the schema to version 2.
 use Rattle.std.proofs.Common.{arith, inl, inr, ◌≡◌, ◌≤◌, ◌↔◌, ℕ, List, [], ◌∷◌, map, filter, Bool, true, false, not}
 use Rattle.std.proofs.Common.{cond, ◌==◌, Option, None, Some, refl, sym, ap, subst, ◌∙◌}
 use Rattle.std.proofs.lemmas.Bool.{cases_Bool}
@@ -66,7 +66,7 @@ plain_kind kinds.BroaderGeneric e = absurd (cc)
 plain_kind kinds.BroaderPartitive e = absurd (cc)
 plain_kind kinds.BroaderInstantial e = absurd (cc)
 
--- A kind of version 1 with another number than 1 isn't hierarchical.
+-- A kind of version 1 whose number isn't 1 isn't hierarchical.
 old_plain : (kind : LinkKind) → link_kind_no kind ≤ 8 → not (link_kind_no kind == 1) ≡ true → hier_type kind ≡ None
 old_plain kinds.Broader le e = absurd (cc)
 old_plain kinds.Related le e = refl
@@ -80,7 +80,7 @@ old_plain kinds.BroaderGeneric le e = absurd (omega (arith, le))
 old_plain kinds.BroaderPartitive le e = absurd (omega (arith, le))
 old_plain kinds.BroaderInstantial le e = absurd (omega (arith, le))
 
--- A type whose kind has a number of version 1 is untyped.
+-- A type of hierarchical relationship whose kind of link has a number of version 1 is `Untyped`.
 old_type : (typ : HierType) → link_kind_no (hier_kind typ) ≤ 8 → typ ≡ ht.Untyped
 old_type ht.Untyped le = refl
 old_type ht.Generic le = absurd (omega (arith, le))
@@ -114,7 +114,7 @@ module _ (links : Links) (ls : List Link) where
         (λ l h. (h.0, (plain_kind l.kind h.1).0))
         (λ l h e. (h, old_plain l.kind (old l h) e)) are
 
-    -- Table hier has, after the migration, exactly the links of kind broader.
+    -- After the migration, table hier has exactly the links of kind broader.
     hier_renewed : IsUnsortedListing (IsHierOf links) rows_of_broader
     hier_renewed = record {
       sound = λ row h.
@@ -166,7 +166,7 @@ module _ (links : Links) (ls : List Link) where
       once = once_parts is_broader ls (once_unmap untyped_row (filter is_broader ls) hier.once) link.once;
     }
 
--- The law of the migration: both directions.
+-- Tables encode a state in version 1 exactly when the migrated tables encode it in version 2.
 pub migration_law : (base : List ℕ) (s : State) (t : Tables) → IsOldRowsOf base s t
     ↔ IsRowsOf base s (tables_after_migration t)
 migration_law base s t = (

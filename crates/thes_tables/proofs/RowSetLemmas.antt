@@ -1,4 +1,4 @@
--- Listings of a set by rows after each change of the set.
+-- Unsorted listings of a property after an insertion, a deletion or a filtering, and the sets that they encode.
 use Rattle.std.proofs.Common.{◌≡◌, ◌⊎◌, List, [], ◌∷◌, ◌++◌, map, refl, sym, ap, ◌∙◌, subst, inl, inr, Bool, true}
 use Rattle.std.proofs.Common.{false, not, cond, append_assoc}
 use Rattle.std.proofs.lemmas.Bool.{cases_Bool, or_cases, or_left, or_right, not-true, not_from_false}
@@ -61,7 +61,7 @@ in_map f y [] h = absurd h
 in_map f y (x ∷ xs) (inl e) = (x, inl refl, e)
 in_map f y (x ∷ xs) (inr h) = let later = in_map f y xs h in (later.0, inr later.1, later.2)
 
--- A map that is injective on a list keeps it free of duplicates.
+-- The image of a list without duplicates under a map that is injective on the list has no duplicates.
 pub once_map : {A B : Type 0} (f : A → B) (xs : List A)
     → ((x y : A) → IsIn x xs → IsIn y xs → f x ≡ f y → x ≡ y) → AreDistinct xs → AreDistinct (map f xs)
 once_map f [] one once = tt
@@ -97,7 +97,7 @@ once_push (y ∷ xs) x new once = (
   once_push xs x (λ h. new (inr h)) once.1,
 )
 
--- Rows that list a property list it with one further element when that element's row is appended.
+-- If rows list a property, the rows with an element appended list the property that also holds of this element.
 pub lists_push : {K : Type 0} {Has More : K → Type 0} (rows : List K) (k : K) → (Has k → ⊥)
     → ((q : K) → More q → (q ≡ k) ⊎ Has q) → More k → ((q : K) → Has q → More q) → IsUnsortedListing Has rows
     → IsUnsortedListing More (rows ++ k ∷ [])
@@ -114,7 +114,7 @@ lists_push {More = More} rows k new cases last kept are = record {
   once = once_push rows k (λ h. new (are.sound k h)) are.once;
 }
 
--- Rows that list a property list its part that passes a test when they are filtered.
+-- If rows list a property, those that pass a test list the elements that have the property and pass the test.
 pub lists_filter : {K : Type 0} {Has Less : K → Type 0} (test : K → Bool) (rows : List K)
     → ((q : K) → Less q → Has q × (test q ≡ true)) → ((q : K) → Has q → test q ≡ true → Less q)
     → IsUnsortedListing Has rows
@@ -125,7 +125,7 @@ lists_filter test rows less more are = record {
   once = once_filter test rows are.once;
 }
 
--- Rows that list a property list each equivalent one.
+-- If rows list a property, they list every equivalent property.
 pub lists_same : {K : Type 0} {Has Other : K → Type 0} (rows : List K) → ((q : K) → Has q → Other q)
     → ((q : K) → Other q → Has q) → IsUnsortedListing Has rows → IsUnsortedListing Other rows
 lists_same rows to from are = record {
@@ -161,7 +161,7 @@ module _ {K : Type 0} {R : K → K → Ordering} (o : IsTotalOrder R) (exact : I
   pub item_held : (s : FinSet R) (q : K) → set.contains s q ≡ true → IsIn q (set.items s)
   item_held s q h = in_any q (set.items s) (sym (set.contains-items s q) ∙ h)
 
-  -- A set of which it is contradictory to contain an element doesn't contain it.
+  -- The test for an element of a set gives false if it is contradictory that the set has the element.
   pub absent_of_never : (s : FinSet R) (q : K) → (set.contains s q ≡ true → ⊥) → set.contains s q ≡ false
   absent_of_never s q never = elim (cases_Bool (set.contains s q)) [ inl h ↦ absurd (never h) | inr h ↦ h ]
 
@@ -212,7 +212,7 @@ module _ {K : Type 0} {R : K → K → Ordering} (o : IsTotalOrder R) (exact : I
         | inr new ↦ all_new (set.items t) s q (item_held t q new)
       ]))
 
-  -- Removing what another set lacks, and then inserting all of its elements, gives that set.
+  -- Removing from one set what another lacks, and then inserting all elements of the other, gives the other set.
   pub turn_into : (s t : FinSet R) → set_with_list (set.items t)
       (without_elements (filter (λ l. not (set.contains t l)) (set.items s)) s) ≡ t
   turn_into s t = set.same_set o exact _ _ (λ q. both_ways _ _
@@ -263,7 +263,8 @@ module _ {K : Type 0} {R : K → K → Ordering} (o : IsTotalOrder R) (exact : I
         [ inl e ↦ once.0 (let Q : K → Type 0 = λ x. IsIn x ks in subst Q e h) | inr old ↦ new q (inr h) old ]) once.1,
   )
 
-  -- Removing one list from a set and inserting another gives the second set, if the lists are the two differences.
+  -- Removing one list from a set and inserting another gives a second set, if the lists are the differences of the two
+  -- sets.
   pub turn_into_by : (s t : FinSet R) (go come : List K)
       → IsUnsortedListing (λ q. (set.contains s q ≡ true) × (set.contains t q ≡ true → ⊥)) go
       → IsUnsortedListing (λ q. (set.contains t q ≡ true) × (set.contains s q ≡ true → ⊥)) come
@@ -298,7 +299,7 @@ module _ {K : Type 0} {R : K → K → Ordering} (o : IsTotalOrder R) (exact : I
         (new, coming_absent ks (set.insert s k))
   ]
 
-  -- Rows that list a property list it without one element when that element's row is deleted.
+  -- If rows list a property, the rows without an element list the property that holds of all others.
   pub lists_drop : {Has Less : K → Type 0} (rows : List K) (k : K) → ((q : K) → Less q → (q ≡ k → ⊥) × Has q)
       → ((q : K) → (q ≡ k → ⊥) → Has q → Less q) → IsUnsortedListing Has rows
       → IsUnsortedListing Less (without_row R k rows)

@@ -94,7 +94,7 @@ posting_cells row =
     number_cell row.number ∷ Text row.key ∷ Text row.rec ∷ number_cell row.first ∷ number_cell row.place
     ∷ flag_cell row.withdrawn ∷ []
 
--- The row of a move: its number, its posting, and the concepts from which and to which it moved.
+-- The row of a move: its number, its posting, its source and its target.
 abbrev pub move_cells : MoveRow → List Cell
 move_cells row = number_cell row.number ∷ number_cell row.posting ∷ number_cell row.source ∷ number_cell row.target ∷ []
 

@@ -25,8 +25,8 @@ use Rattle.thes_tables.specs.Tables.{hier_type, posting_row}
 use Rattle.thes_tables.specs.declared.change.Change.{Change}
 use Rattle.thes_tables.specs.declared.change.Change.TheVariants as change
 
--- The rows of table move for the postings that pass the test, in the order of the list: each leads from the posting's
--- place to the target, and they are numbered from `number` on.
+-- The rows of table move for the postings that pass the test, in the order of the list. Each move leads from the
+-- posting's place to the target, and they are numbered from `number` on.
 abbrev pub new_moves : (History → Bool) → ℕ → ℕ → List History → List MoveRow
 new_moves passes target number [] = []
 new_moves passes target number (h ∷ hs) =
@@ -68,14 +68,14 @@ drop_link l = elim (hier_type l.kind) [ None ↦ change.DropLink l | Some typ �
 abbrev pub links_to_remove : Links → Links → List Link
 links_to_remove old new = filter (λ l. not (set.contains new l)) (set.items old)
 
--- The changes that turn the old set of links into the new one: deletions, and then insertions.
+-- The changes that turn the old set of links into the new one: first deletions, then insertions.
 abbrev pub link_changes : Links → Links → List Change
 link_changes old new =
     map drop_link (links_to_remove old new)
     ++ map add_link (missing_items (without_elements (links_to_remove old new) old) (set.items new))
 
--- The changes of a relabelling: a new preferred label in place of the old one, which is inserted as an alternative
--- label if `keep` is set; no changes if there is no old one.
+-- The changes of a relabelling: a new preferred label replaces the old one, whose text is inserted as an alternative
+-- label if `keep` is set. There are no changes if the owner has no preferred label in the tag.
 abbrev pub changes_of_relabel : ℕ → List ℕ → List ℕ → Bool → Labels → List Change
 changes_of_relabel owner tag text keep labels =
     elim (preferred_label_in labels owner tag) [

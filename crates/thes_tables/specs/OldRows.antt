@@ -7,8 +7,8 @@ use Rattle.thes_tables.specs.declared.rows.HierRow.{HierRow}
 use Rattle.thes_tables.specs.declared.rows.HierType.TheVariants as typ
 use Rattle.thes_tables.specs.Tables.{Tables, IsUnsortedListing, AreIris, AreMoves, IsLabelOf, IsRowsOf, posting_row}
 
--- The tables encode the state in version 1: table link has all links, of kinds 1 to 8, of which only kind 1 (broader)
--- is hierarchical. Version 1 has no table hier, so `t.hier` is arbitrary.
+-- The tables encode the state in version 1. Table link has all links; their kinds have the numbers 1 to 8, and only
+-- kind 1 (broader) is hierarchical. Version 1 has no table hier, so `t.hier` is arbitrary.
 pub record IsOldRowsOf (base : List ℕ) (s : State) (t : Tables) : Type 0 where
   pub base_is : t.base ≡ base
   pub resource : t.resource ≡ s.resources
@@ -19,7 +19,7 @@ pub record IsOldRowsOf (base : List ℕ) (s : State) (t : Tables) : Type 0 where
   pub posting : t.posting ≡ map posting_row s.histories
   pub move : AreMoves s.histories t.move
 
--- The test of whether a link has kind 1, broader, which is the only hierarchical kind of version 1.
+-- Tests whether a link has kind 1 (broader), the only hierarchical kind of version 1.
 abbrev pub is_broader : Link → Bool
 is_broader l = link_kind_no l.kind == 1
 
@@ -27,8 +27,7 @@ is_broader l = link_kind_no l.kind == 1
 abbrev pub untyped_row : Link → HierRow
 untyped_row l = record { a = l.a; b = l.b; typ = typ.Untyped }
 
--- The tables after migration: the links of kind broader leave table link, and become the rows of table hier, without a
--- type.
+-- The tables after migration: the links of kind broader leave table link, and become the untyped rows of table hier.
 abbrev pub tables_after_migration : Tables → Tables
 tables_after_migration t = record t {
   link = filter (λ l. not (is_broader l)) t.link;

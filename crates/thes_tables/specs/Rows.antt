@@ -1,4 +1,4 @@
--- The tables after changes of rows, and the conditions on which a change can be applied.
+-- The tables after changes of rows, and the conditions under which a change can be applied.
 use Rattle.std.specs.Prelude.{◌≡◌, ◌≢◌, ◌<◌, ◌+◌, ℕ, List, [], ◌∷◌, ◌++◌, map, if◌then◌else◌, ◌==◌, true, not, ◌&&◌}
 use Rattle.std.specs.Prelude.{length, Some, None, filter}
 use Rattle.std.specs.declared.cmp.Ordering.{Ordering}
@@ -39,7 +39,7 @@ without_row cmp row rows = filter (λ x. not (eq_by_cmp cmp x row)) rows
 abbrev pub without_hier : HierRow → List HierRow → List HierRow
 without_hier row rows = filter (λ x. not (eq_by_cmp link_cmp (hier_link x) (hier_link row))) rows
 
--- The tables after one change: a new row is appended, and a change to a row that doesn't exist changes nothing.
+-- The tables after one change. A new row is appended; a change to a row that doesn't exist changes nothing.
 abbrev pub tables_after_change : Change → Tables → Tables
 tables_after_change (change.AddResource n r) t = record t { resource = t.resource ++ r ∷ [] }
 tables_after_change (change.Retire n) t = record t { resource = resources_after_death n None t.resource }
@@ -63,8 +63,9 @@ abbrev pub tables_after_delta : List Change → Tables → Tables
 tables_after_delta [] t = t
 tables_after_delta (c ∷ changes) t = tables_after_delta changes (tables_after_change c t)
 
--- The change can be applied: a row that it inserts is new, and its number, if it has one, is the next one or greater
--- than all others. A change that inserts no row can always be applied.
+-- The change can be applied. A row that it inserts is new; its number, if it has one, is the next one, or, in the
+-- tables outside and move, greater than all others. A new posting also has a new key. Changes that insert no row can
+-- always be applied.
 abbrev pub ChangeFits : Change → Tables → Type 0
 ChangeFits (change.AddResource n r) t = n ≡ length t.resource + 1
 ChangeFits (change.AddOutside n iri) t = (other : ℕ × List ℕ) → IsIn other t.outside → other.0 < n

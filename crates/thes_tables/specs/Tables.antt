@@ -20,8 +20,8 @@ use Rattle.thes_tables.specs.declared.rows.HierType.TheVariants as typ
 use Rattle.thes_tables.specs.declared.rows.PostingRow.{PostingRow}
 use Rattle.thes_tables.specs.declared.rows.MoveRow.{MoveRow}
 
--- The eight tables as typed rows. Rows of resource and posting are numbered from 1 without gaps: number n is at index
--- n - 1. Rows of outside and move are in the order of their numbers, those of label, link and hier in any order. Table
+-- The eight tables as typed rows. Rows of resource and posting are numbered from 1 without gaps: number 1 is at index
+-- 0. Rows of outside and move are in the order of their numbers; rows of label, link and hier are in any order. Table
 -- hier has the hierarchical links, table link all others.
 pub record Tables : Type 0 where
   -- The base, from the row of table meta.
@@ -125,7 +125,7 @@ recorded_move row = record { number = row.number; source = row.source; target = 
 abbrev pub moves_of : ℕ → List MoveRow → List Move
 moves_of n rows = map recorded_move (filter (λ (row : MoveRow). row.posting == n) rows)
 
--- The test of whether the row's posting is assigned to the concept.
+-- Tests whether the row's posting is assigned to the concept.
 abbrev pub is_assigned_row : ℕ → PostingRow → Bool
 is_assigned_row concept row = not row.withdrawn && row.place == concept
 

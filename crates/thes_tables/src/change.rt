@@ -6,8 +6,8 @@ use thes_base::data::{Link, Resource};
 use thes_base::number::{PostNo, ResNo};
 use thes_base::text::Iri;
 
-/// A change of one row of a table; only `MoveAll` changes several rows, those of all postings
-/// assigned to a concept.
+/// A change of one row of a table, except `MoveAll`: it changes the rows of all postings assigned
+/// to a concept.
 #[derive(Debug, Drop)]
 pub enum Change {
     /// Inserts the row of a resource; the resource has the next number.
@@ -28,23 +28,23 @@ pub enum Change {
     DropLink(Link),
     /// Inserts the row of a hierarchical link, with its type.
     AddHier(HierRow),
-    /// Deletes the row of a hierarchical link, with its type.
+    /// Deletes the row of a hierarchical link, found by its ends and its type.
     DropHier(HierRow),
     /// Inserts the row of a posting; the posting has the next number.
     AddPosting(PostingRow),
-    /// Marks a posting as withdrawn; its place stays.
+    /// Marks a posting as withdrawn, and leaves its place unchanged.
     Withdraw(PostNo),
     /// Assigns a posting to the concept, without inserting a row of table move.
     SetPlace(PostNo, ResNo),
     /// Assigns each posting of the first concept to the second, without inserting rows of table
-    /// move; withdrawn postings are unchanged.
+    /// move. Withdrawn postings are unchanged.
     MoveAll(ResNo, ResNo),
     /// Inserts the row of a move of a posting; the move has the next number.
     AddMove(MoveRow),
 }
 
-/// No effect; states for the proof that the changes of an accepted request turn the rows of its
-/// state into those of the next state.
+/// No effect; states for the proof that the changes of an accepted request turn the rows of the
+/// state before it into those of the next state.
 pub fn changes_lead()
     ensures { ChangesLead }
 {}

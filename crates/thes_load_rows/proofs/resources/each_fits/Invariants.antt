@@ -5,6 +5,6 @@ use Rattle.thes_base.specs.Resources.{entry_at}
 use Rattle.thes_load_rows.specs.ResourceChecks.{ResourceFits}
 use Rattle.thes_load_rows.proofs.resources.each_fits.Given as goal
 
--- The resources checked so far are legal among the others.
+-- The resources checked so far may have their schemes, live flags and replacements.
 abbrev pub invariant-loop-i : goal.invariant-loop-i
 invariant-loop-i l = (n : ℕ) (r : Resource) → n ≤ l.i → entry_at l.resources n ≡ Some r → ResourceFits l.resources n r
