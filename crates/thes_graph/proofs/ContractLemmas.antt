@@ -1,4 +1,4 @@
--- The links after an edit break the same rules as the set that holds them in normal form.
+-- The links after an edit break the same rules as the set that has their normal forms.
 use Rattle.std.proofs.Common.{◌≡◌, ◌≢◌, inl, inr, ℕ, Bool, true, false, ◌==◌, Option, Some, None, refl, sym, ap}
 use Rattle.std.proofs.Common.{subst, if◌then◌else◌}
 use Rattle.std.specs.FinSet.{insert}

@@ -84,7 +84,8 @@ pub CoversNear-held : (held : Links) (p : ℕ) (ns : List Link) → CoversEdit N
     ns
 CoversNear-held held p ns all n near l has touch = all l has n (inr near) touch
 
--- The new link, which isn't held, allows one visit more: the held links near it are one fewer than the neighbourhood.
+-- The held links near a new link, which isn't held, are at least one fewer than the links of a neighbourhood. This
+-- leaves one visit for the look-up of the new link.
 pub CoversNear-with : (held : Links) (new : Link) (ns : List Link) → (Holds held new → ⊥) → Contains ns new
     → CoversEdit (WithLink new) held new.a ns
     → (rest : List Link) × (length rest + 1 ≡ length ns) × CoversNear (WithLink new) held new.a rest

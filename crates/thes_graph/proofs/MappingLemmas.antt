@@ -91,7 +91,8 @@ module _ (links : Links) (n : ℕ) where
           seen_backward l.kind l.a p (subst (λ (k : ℕ). HasLink links l.kind l.a k) (second (other_of l.a n other) at)
           held) e
 
-  -- A link from n, or to n, seen from n.
+  -- A link with n as its first end is seen from n in its own direction, and one with n as its second end in the
+  -- opposite one.
   seen_as_first : (k : LinkKind) (m : ℕ) → mapping_seen_from n (record { kind = k; a = n; b = m })
       ≡ mapping_of_kind true k m
   seen_as_first k m = ap (λ t. mapping_of_kind t k (if t then m else n)) ((Decides-eqb n n).1 refl)

@@ -1,5 +1,5 @@
--- Reading two sides of distinct nodes takes at most two visits for each link, and reading one side, up or down, takes
--- at most one.
+-- Reading two sides of distinct nodes takes at most two visits for each link; reading one side, up or down, takes at
+-- most one.
 use Rattle.std.proofs.Common.{◌≡◌, ◌≢◌, ◌==◌, ◌+◌, ◌*◌, ◌≤◌, inl, inr, ℕ, List, length, sym, subst, ◌∙◌, arith}
 use Rattle.std.proofs.Common.{sum_by, Bool, true, false, refl, ◌&&◌, ◌||◌, if◌then◌else◌, nat_eq}
 use Rattle.std.specs.List.{IsDistinct}

@@ -263,7 +263,7 @@ side_of_lead relation.Related walked l n y two leads = beside_side l.a l.b n y t
 side_of_lead relation.Exact walked l n y two leads = alike_side l.a l.b n y two l.kind leads
 side_of_lead relation.Apart walked l n y two leads = absurd walked
 
--- A node with an empty range of links leads nowhere in the relation.
+-- If the range of a node's links on the side of the relation is empty, no link leads from the node in the relation.
 pub no_steps : (held : Links) (r : Relation) (n : ℕ) (row : List Link) (part : Part) → IsOneSided r
     → HaveTwoEnds (Holds held) → IsRow held n row → IsPart row n (side_in r) part → part.to ≤ part.from
     → (y : ℕ) → Steps r (Holds held) n y → ⊥
