@@ -139,7 +139,7 @@ next_parts t hs (request.Split source tag text postings) = refl
 next_parts t hs (request.Post key rec concept) = refl
 next_parts t hs (request.Withdraw posting) = refl
 
--- If the new parts are those of the next state for no histories, they are for any.
+-- If the new parts are those of the next state without postings, they are those of the next state for any histories.
 pub remade_for : (old new : Thesaurus) (hs : List History) (command : Command) → PartsAfter command old new
     → PartsOfState old (next_state command (parts_state old hs)) new
 remade_for old new hs command made = record {
