@@ -6,7 +6,7 @@ use Rattle.thes_tables.specs.declared.rows.MoveRow.{MoveRow}
 abbrev pub is_move_of : ℕ → MoveRow → Bool
 is_move_of posting row = row.posting == posting
 
--- A list of the value, or the empty list if there is none or it fails the test.
+-- The list of the value alone, or the empty list if there is no value or it fails the test.
 abbrev pub filtered_option : {A : Type 0} → (A → Bool) → Option A → List A
 filtered_option p None = []
 filtered_option p (Some row) = if p row then row ∷ [] else []

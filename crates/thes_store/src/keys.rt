@@ -11,9 +11,9 @@ use std::collections::btree_map::Entry;
 use std::hash::{FoldHasher, Hasher};
 use thes_base::text::Key;
 
-/// A position at which the posting of a key may be, for each key. A look-up checks the row at a position, so further
-/// positions do no harm. A key is entered under its digest, since comparing texts costs cache misses, or under its text
-/// if another key has that digest.
+/// For each key, a position at which its posting may be. A look-up checks the row at a position, so
+/// further positions do no harm. A key is entered under its digest, since comparing texts costs
+/// cache misses, or under its text if another key has that digest.
 #[derive(Drop)]
 pub struct Keys {
     numbers: BTreeMap<u64, usize>,
