@@ -54,7 +54,7 @@ fn check_link(
     }
 }
 
-// Returns the number of allocations that are granted before one fails.
+// Returns the number of allocations that are granted before one fails, at most 1,000,000.
 fn count_grants(alloc: Global) -> u32 {
     for granted in 0..1000000 {
         if Vec::<u32>::with_capacity(alloc, 1).is_err() {

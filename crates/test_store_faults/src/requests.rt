@@ -77,7 +77,7 @@ impl<'a> Requests<'a> {
         run.ran
     }
 
-    // Returns whether the store has the rows that it should when it is opened again.
+    // Checks whether the store has the rows that it should when it is opened again.
     fn is_right(&self, alloc: Global, run: &Run) -> Result<bool, TrialStop> {
         if run.is_made {
             self.is_kept(alloc, run)
@@ -87,14 +87,15 @@ impl<'a> Requests<'a> {
         }
     }
 
-    // Returns whether a store with tables gave the right answers and has the right rows.
+    // Checks whether a store with tables gave the right answers and has the right rows.
     fn is_kept(&self, alloc: Global, run: &Run) -> Result<bool, TrialStop> {
         let mut wanted = Wanted::new(alloc);
         self.report_prefixes(alloc, &run.run_report, &mut wanted)?;
         Ok(wanted.is_kept(run))
     }
 
-    // Performs the confirmed requests without failures, and then also the next one, which may have been performed.
+    // Performs the confirmed requests without failures, and then all of these again with the next
+    // one, which may have been performed.
     fn report_prefixes(
         &self,
         alloc: Global,
@@ -201,7 +202,7 @@ impl Wanted {
         }
     }
 
-    // Returns whether the store gave the expected answers.
+    // Checks whether the store gave the expected answers.
     fn has_wanted_answers(&self, run_report: &RunReport) -> bool {
         are_answers(
             run_report.answers.as_str(),
@@ -209,7 +210,7 @@ impl Wanted {
         ) && run_report.rows == self.after_answers.rows
     }
 
-    // Returns whether the store gave the expected answers and has the expected rows.
+    // Checks whether the store gave the expected answers and has the expected rows.
     fn is_kept(&self, run: &Run) -> bool {
         let after_answers = self.after_answers.listing.text.as_str();
         let more = self.more.listing.text.as_str();

@@ -140,7 +140,7 @@ fn try_keepers(
     Ok(())
 }
 
-// Returns whether all answers are the stored ones.
+// Checks whether all answers are the stored ones.
 fn is_as_stored(run_report: &RunReport, stored: &StoredExample) -> bool {
     run_report.answers == stored.answers
         && run_report.rows.as_str() == stored.outcomes
