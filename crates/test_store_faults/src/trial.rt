@@ -1,4 +1,4 @@
-//! Runs examples over failing stores, and prints the outcomes.
+//! Runs examples over failing stores, and appends the outcomes to a page.
 use crate::disk::Failing;
 use crate::example::{Example, StoredExample};
 use crate::faults::outcome_of_calls;

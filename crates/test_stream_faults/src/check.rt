@@ -59,7 +59,7 @@ fn outcome_in(alloc: Global, before: u32, example: &Example, mut store: Store) -
 }
 
 // Checks whether a store in which only the performed steps are run gives the same answers and has
-// the same views at its end, and whether every step was performed unless memory ran out.
+// the same views at its end. Also checks whether every step was performed, unless memory ran out.
 fn is_right(
     alloc: Global,
     example: &Example,

@@ -1,4 +1,4 @@
--- Rows that the changes of a request insert.
+-- The rows that a merge or a split inserts, and the places that it sets.
 use Rattle.std.specs.Prelude.{ℕ, List, [], ◌∷◌, ◌+◌, ◌==◌, ◌||◌, map, filter, if◌then◌else◌, Option, None, Some}
 use Rattle.std.specs.FinSet as set
 use Rattle.thes_base.specs.declared.data.Link.{Link}

@@ -131,7 +131,7 @@ module _ (links : Links) (terms : List Term) (b : ℕ) where
   same_test true false p q = absurd (true≢false (sym (q.1 (p.0 refl))))
   same_test false true p q = absurd (true≢false (sym (p.1 (q.0 refl))))
 
-  -- The types of the links between two ranks are determined.
+  -- Only one value of types fits the links between two ranks.
   pub one_types : (k : ℕ) (x y : Types) → AreTypes links terms x k b → AreTypes links terms y k b → x ≡ y
   one_types k x y p q =
       let lower = one_concept terms q.lower p.lower k q.lower_rank p.lower_rank in

@@ -117,7 +117,7 @@ module _ (links : Links) (terms : List Term) (shut : IsClosed links terms) (cycl
   concept_is : (m k : ℕ) → HasRank terms m k → m ≡ concept_of k
   concept_is m k h = one_concept terms m (concept_of k) k h (rank_at k (rank_within terms m k h))
 
-  -- If one rank is broader than another, a link makes the one's concept broader than the other's.
+  -- If the rank `b` is broader than `k`, a link leads from the concept of `k` up to that of `b`.
   concepts_linked : (k b : ℕ) → IsNarrowerTerm links terms k b → HasBroader links (concept_of k) (concept_of b)
   concepts_linked k b r = subst (λ x. HasBroader links x (concept_of b)) (concept_is r.lower k r.lower_rank)
       (subst (λ y. HasBroader links r.lower y) (concept_is r.upper b r.upper_rank) r.link)

@@ -64,7 +64,7 @@ listing_joined cmp P R Q xs ys new l m e less split keep come = subst (IsListing
       (λ r. among_right x xs ys (among_from x ys (m.complete x r))) (split x q));
 })
 
--- Each element before another in a sorted list is less.
+-- Each element of a sorted list is less than each one after it.
 pub before_rest : {X : Type 0} (cmp : X → X → Ordering) (xs rest : List X) (z w : X) → IsStrictlySortedBy cmp
     (xs ++ z ∷ rest) → IsOneOf w xs → cmp w z ≡ Less
 unfolding IsStrictlySortedBy

@@ -1,5 +1,5 @@
--- Proves that exactly the live concepts of a scheme have ranks, that each of them has one rank, and that a link within
--- the scheme has both ends among them or neither.
+-- Proves that exactly the live concepts of a scheme have ranks, each of them one. A link within the scheme has both its
+-- ends among these concepts or neither.
 use Rattle.std.proofs.Common.{◌≡◌, ◌↔◌, ◌∙◌, ◌<◌, sym, ap, refl, subst, ℕ, List, get_or, Some, arith, Ordering, Less}
 use Rattle.std.proofs.Common.{Equal, ⊎_elim}
 use Rattle.std.specs.Prelude.{Contains, slice_get}

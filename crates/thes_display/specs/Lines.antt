@@ -28,9 +28,9 @@ line_cmp x y = slice_cmp nat_cmp (path x) (path y)
 abbrev pub untyped : Types
 untyped = record { generic = false; partitive = false; instantial = false }
 
--- The arguments: `IsTop k` states that `k` is the rank of a top concept, `IsHome k b` that `b` is the home of `k`,
--- `IsAway k b` that `b` is broader than `k` but not its home, and `AreTypes types k b` which types the links from `k`
--- to `b` have.
+-- The arguments: `IsTop k` states that `k` is the rank of a top concept; `IsHome k b` that `b` is the home of `k`;
+-- `IsAway k b` that `b` is broader than `k` but not its home; `AreTypes types k b` that these are the types of the
+-- links from `k` to `b`.
 module _ (IsTop : ℕ → Type 0) (IsHome IsAway : ℕ → ℕ → Type 0) (AreTypes : Types → ℕ → ℕ → Type 0) where
   -- The ranks are the path of homes from a concept up to a top concept.
   abbrev pub IsHomeward : List ℕ → Type 0

@@ -27,7 +27,8 @@ module _ (held : Links) (new : Link) (two : new.a ≢ new.b) (all_two : HaveTwoE
   with_two l (inl has) = all_two l has
   with_two l (inr same) = λ ends. two (ap (λ (w : Link). w.a) same ∙ ends ∙ sym (ap (λ (w : Link). w.b) same))
 
-  -- The links after the addition that have no end at the first end of the new link were held before.
+  -- The links after the addition without an end at the first end of the new link break no rule, since they were held
+  -- before.
   with_away : BreakNone (HeldAwayFrom (HeldAfter (WithLink new) held) new.a)
   with_away = BreakNone-within (HeldAwayFrom (HeldAfter (WithLink new) held) new.a) (Holds held) old legal
     where

@@ -140,7 +140,7 @@ test_of_ends n l (inr at) = go (l.a == n)
     go true = refl
     go false = (Decides-eqb l.b n).1 at
 
--- The link is in the list and has an end at the node, and has the side on which it lies there.
+-- The sided link is a link of the list with an end at the node, and the side of the node on which it lies.
 abbrev CoversSide : List Link → ℕ → SidedLink → Type 0
 CoversSide ks n s = Contains ks s.link × HasEnd n s.link × (sided_link_at n s.link ≡ s)
 

@@ -277,8 +277,8 @@ module _ (Held : Link → Type 0) (low high : ℕ) where
   no_chain_to off (ms, path) = let last = Path-last (IsNarrower Held) low ms high path in
       off last.0 (narrower_to Held high last.0 high last.2)
 
--- A new link up breaks no rule if nothing is narrower than its low end or related to it, or nothing is broader than
--- its high end or related to it.
+-- A new link up breaks no rule if its low end has no narrower and no related concept, or its high end no broader and no
+-- related one.
 module _ (Held : Link → Type 0) (new : Link) (two : new.a ≢ new.b) (legal : BreakNone Held)
     (up : broader_direction new.kind ≡ Forward) (beside : related_direction new.kind ≡ Never)
     (alike : exact_direction new.kind ≡ Never) (apart : disjoint_direction new.kind ≡ Never) where

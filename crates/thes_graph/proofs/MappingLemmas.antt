@@ -1,4 +1,4 @@
--- The mappings and typed links of a concept are those of the links at it.
+-- The mappings and typed links of a concept are the links with an end at it, as seen from it.
 use Rattle.std.proofs.Common.{◌≡◌, ◌≢◌, inl, inr, ◌==◌, ◌<◌, ◌≤◌, ℕ, List, Bool, true, false, length, Some, Ordering}
 use Rattle.std.proofs.Common.{if◌then◌else◌, Result, Ok, Err, refl, sym, ap, subst, ◌∙◌}
 use Rattle.std.specs.List.{insert}

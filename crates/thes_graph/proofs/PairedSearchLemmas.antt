@@ -1,5 +1,5 @@
--- Two searches, one from each end of a link, decide whether a chain leads from the first to the second, in at most two
--- visits for each link near the first end.
+-- Two searches, one from each end of a link, decide whether a chain leads from the first end to the second. They make
+-- at most two visits for each link near the first end.
 use Rattle.std.proofs.Common.{◌≡◌, ◌≢◌, ◌+◌, ◌-◌, ◌≤◌, ◌<◌, ◌⊎◌, inl, inr, ℕ, List, [], ◌∷◌, length, sym, subst}
 use Rattle.std.proofs.Common.{arith, Bool, true, false, refl}
 use Rattle.std.specs.Bool.{MatchBool}

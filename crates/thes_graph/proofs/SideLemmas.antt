@@ -95,7 +95,7 @@ module _ (links : Links) (n : ℕ) (side : Side) (part : Part) (in_range : part.
   abbrev link_of : SidedLink → Link
   link_of s = s.link
 
-  -- A link at an index of the row has its side there.
+  -- The row of links and the row of sided links have the same link at each index.
   stands : (k : ℕ) (l : Link) → slice_get (links_at links n) k ≡ Some l → (s : SidedLink)
       × (slice_get (sided_links_at links n) k ≡ Some s) × (s.link ≡ l)
   stands k l at = go (slice_get (sided_links_at links n) k) refl
@@ -184,7 +184,7 @@ module _ (links : Links) (n : ℕ) (side : Side) (part : Part) (in_range : part.
               absurd (above_itself (number_of s) (side_no side) here (let P : SidedLink → Type 0 =
               λ w. leb (number_of w) (side_no side) ≡ false in subst P is (high.1 k s lt on_side)))
 
--- The number of links before a side, and up to it, are the bounds of the side's range.
+-- The numbers of links before a side and up to it are the bounds of the side's range.
 pub part_found : (links : Links) (n : ℕ) (side : Side) (row : List SidedLink) (number from to : ℕ) → row
     ≡ sided_links_at links n → number ≡ side_no side → to ≤ length row
     → (IsPartitionedBy (λ s. ltb (number_of s) number) row → IsPartitionPoint (λ s. ltb (number_of s) number ≡ true)

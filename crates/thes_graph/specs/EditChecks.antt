@@ -23,7 +23,7 @@ IsChanged NoEdit p n = p ≡ n
 IsChanged (WithLink new) p n = p ≡ n
 IsChanged (AfterMerge source target) p n = (source ≡ n) ⊎ (p ≡ n)
 
--- The list has each held link with an end at a changed node, or at a node that after the edit is above p, below p or in
+-- The list has each held link with an end at a changed node, or at a node near p after the edit: above p, below p or in
 -- p's class of exact matches. Every neighbourhood of the edit is such a list.
 abbrev pub CoversEdit : LinkEdit → Links → (p : ℕ) → List Link → Type 0
 CoversEdit edit held p ns =

@@ -123,8 +123,9 @@ fn follow<L: Links>(
     Ok(found)
 }
 
-// Appends the nodes to which the target of a merge leads in the relation after it, by the links held at the source and
-// at the target, up to the first goal. Returns whether there is a goal.
+// Appends the nodes to which the target of a merge leads in the relation after it, up to the first
+// goal. Returns whether there is a goal. Reads the links held at the target, and then those held at
+// the source.
 fn follow_merged<L: Links>(
     links: &mut L,
     nodes: &mut Nodes,

@@ -2,7 +2,7 @@
 use Rattle.std.specs.Prelude.{ℕ, List, [], ◌∷◌, Bool, Option, None, Some, slice_get, slice_set, if◌then◌else◌, ◌==◌}
 use Rattle.thes_tables.specs.declared.rows.MoveRow.{MoveRow}
 
--- The test of whether the move is one of the posting.
+-- The test of whether the row is that of a move of the posting.
 abbrev pub is_move_of : ℕ → MoveRow → Bool
 is_move_of posting row = row.posting == posting
 

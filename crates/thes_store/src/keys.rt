@@ -29,7 +29,7 @@ impl Keys {
         }
     }
 
-    /// Inserts a position under a key, by its digest if that is free and else by its text.
+    /// Inserts a position under a key, by its digest if that is free, or else by its text.
     pub fn insert(&mut self, alloc: Global, key: &Key, place: usize) -> Result<(), AllocError>
         ensures keeps { KeepsOtherKeys key.now self.old self.new }
         ensures ok { OnOk result (KeyHasPosition self.new key.now place) }

@@ -621,7 +621,7 @@ numbered_at {A = A} xs (suc n) x y e f =
     go (z ∷ xs) zero e f = ap Some (sym f)
     go (z ∷ xs) (suc n) e f = go xs n e f
 
--- A number has at most one scheme.
+-- The resource with a number has at most one scheme.
 pub one_scheme_of : (rs : List Resource) (n : ℕ) (o p : Option ℕ) → IsSchemeOf rs n o → IsSchemeOf rs n p → o ≡ p
 one_scheme_of rs n None None a b = refl
 one_scheme_of rs n None (Some t) a b = absurd (a t b)

@@ -1,5 +1,5 @@
 -- After an entry of the index of preferred labels is set or removed, a look-up of its label gives the new holder or
--- none, and look-ups of all other labels give the old holders.
+-- none. Look-ups of all other labels give the old holders.
 use Rattle.std.proofs.Common.{◌≡◌, ◌⊎◌, inl, inr, ℕ, List, [], refl, sym, ap, ◌∙◌, subst, Bool, true, false, Global}
 use Rattle.std.specs.Prelude.{Option, None, Some, option_and_then}
 use Rattle.std.specs.Ordering.{nat_cmp, is_eq}
