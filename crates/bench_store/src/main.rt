@@ -34,7 +34,7 @@ use thes_sqlite::keeper::SqlKeeper;
 use thes_store::keeper::Keeper;
 use thes_store::mem::MemKeeper;
 
-// The use of generated rows: loading them to cores, or counting them.
+// The use made of generated rows: they are loaded to cores, or counted.
 enum LoadOutput {
     Cores,
     Rows,

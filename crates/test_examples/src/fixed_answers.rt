@@ -19,7 +19,7 @@ pub struct FixedAnswers {
 }
 
 impl FixedAnswers {
-    /// Returns the handler, which is open.
+    /// Creates an open handler.
     pub fn new() -> FixedAnswers {
         FixedAnswers { is_closed: false }
     }

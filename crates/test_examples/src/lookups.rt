@@ -154,7 +154,7 @@ fn outside_iri(alloc: Global, core: &Core, words: &str) -> Option<String>
     String::from_str(alloc, iri.as_str()).ok()
 }
 
-// Returns `yes` if the core has the link that a request names, or else `no`.
+// Returns `yes` if the core has the link that a Link request names, or else `no`.
 fn has_link(alloc: Global, core: &Core, words: &str) -> Option<String>
     requires { core.now.spent ≡ false }
 {
@@ -170,7 +170,7 @@ fn form_fault(alloc: Global, text: &str) -> Option<String> {
     }
 }
 
-// Returns the link in a request to add or remove one.
+// Returns the link in a Link request.
 fn link_in(alloc: Global, words: &str) -> Option<Link> {
     let command = command_in(alloc, words).ok()?;
     let link = link_of(&command);

@@ -39,7 +39,7 @@ impl Failing {
     }
 }
 
-// Writes bytes to a file, and returns whether all were written.
+// Writes bytes to a file and syncs it, and returns whether both succeeded.
 fn fill<D: Disk>(disk: &mut D, bytes: &[u8]) -> bool
     requires { IsTrue (D.Disk.is_usable disk.old) }
 {

@@ -185,8 +185,8 @@ fn image_of(alloc: Global, files: Disks, is_made: bool) -> Result<Image, TrialSt
     }
 }
 
-// A job that migrates a store: whether it succeeded, whether its files were closed and each call succeeded, and its
-// rows when it is opened again.
+// A job that migrates a store, with its results: whether the migration succeeded, whether the files
+// were closed and each call succeeded, and the rows when the store is opened again.
 #[derive(Drop)]
 struct Run {
     is_answered: bool,

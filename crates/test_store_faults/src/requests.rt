@@ -149,8 +149,9 @@ impl<'a> Trial for Requests<'a> {
     }
 }
 
-// A job that performs an example in a new store: its report, whether its tables were created, whether its files were
-// closed and each call succeeded, and its rows when it is opened again.
+// A job that performs an example in a new store, with its results: the report, whether the tables
+// were created, whether the files were closed and each call succeeded, and the rows when the store
+// is opened again.
 #[derive(Drop)]
 struct Run<'a> {
     example: Example<'a>,

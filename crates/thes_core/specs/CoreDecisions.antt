@@ -31,8 +31,8 @@ pub record AcceptedVerdict (setting : Setting) (s : State) (command : Command) (
   pub answer_is : answer ≡ answer_of command s
   pub leads : AreChangesBetween setting.base changes s (next_state command s)
 
--- The verdict is right. A settled answer is that of a machine's step that leaves the state unchanged. An accepted
--- verdict has the machine's answer, and changes of rows that lead to the machine's next state.
+-- The verdict is right: a settled answer is that of a machine's step that leaves the state unchanged; an accepted
+-- verdict has the machine's answer, and changes of rows that lead to its next state.
 abbrev pub IsVerdict : Setting → State → Command → Verdict → Type 0
 IsVerdict setting s command (Settled answer) = Step setting s command answer s
 IsVerdict setting s command (Accepted answer changes) = AcceptedVerdict setting s command answer changes

@@ -1,6 +1,6 @@
 -- The hierarchical display of a scheme in a language (ISO 25964-1, clause 12). The rank of a concept is the index of
--- its term in alphabetical order. The home of a concept is its broader concept with the least rank, under which its own
--- narrower concepts are written.
+-- its term in alphabetical order. The home of a concept is its broader concept with the least rank. Only below its home
+-- are the concept's own narrower concepts written.
 use Rattle.std.specs.Prelude.{◌≡◌, ◌≤◌, ◌↔◌, ℕ, List, true, Some, slice_get, Contains, IsTrue}
 use Rattle.thes_base.specs.declared.data.LinkKind.TheVariants.{BroaderGeneric, BroaderPartitive, BroaderInstantial}
 use Rattle.thes_base.specs.Legal.{IsLegalState}
