@@ -41,7 +41,8 @@ fn link_node(
     Ok(())
 }
 
-/// Returns a hierarchy of a hundred layers, with `count` broader and `count` related links from each node.
+/// Returns a hierarchy of a hundred layers, with up to `count` broader and `count` related links
+/// from each node.
 pub fn layers(alloc: Global, nodes: u32, count: u32) -> Result<Graph, AllocError> {
     let mut numbers = Numbers(1);
     let width = nodes / 100;

@@ -72,7 +72,8 @@ fn is_refused(
     Ok(answer.is_some())
 }
 
-// Returns a random pair of nodes on one level or, for a merge, of a node and one in the level below.
+// Returns a related link between two random nodes of one level or, for a merge, from a random node
+// to the one below it.
 fn pair(numbers: &mut Numbers, width: u32, merges: bool) -> Link {
     let level = numbers.below(11);
     let a = level

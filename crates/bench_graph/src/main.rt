@@ -1,9 +1,10 @@
 //! Builds a graph of broader links and checks all of it, for `bench/graph` to time.
 //!
-//! Arguments: `ladder` or `tree`, the number of nodes and the width; `layers`, the number of nodes and of links from
-//! each, and `made` to check nothing; or `levels`, the number of nodes, the number of links to check, and `merges` to
-//! check merges in place of related links. For `tests/builds/count-requests`: `requests`, the number of further nodes,
-//! and `judged` to check a link.
+//! Arguments: `ladder` or `tree`, the number of nodes and the width, or `layers`, the number of
+//! nodes and of links from each, each followed by `made` to check nothing; or `levels`, the number
+//! of nodes, the number of links to check, and `merges` to check merges in place of related links.
+//! For `tests/builds/count-requests`: `requests`, the number of further nodes, and `judged` to
+//! check a link.
 #![tactic(auto)]
 
 mod layers;
@@ -90,7 +91,7 @@ fn first_broken_rule(alloc: Global, words: &[String]) -> Result<Option<Refusal>,
     graph.check_whole(alloc)
 }
 
-// Returns whether the argument at this index is the wanted one.
+// Checks whether the argument at this index is the wanted one.
 fn has_argument(words: &[String], place: usize, wanted: &str) -> bool {
     match words.get(place) {
         Some(word) => word.as_str() == wanted,
@@ -98,8 +99,8 @@ fn has_argument(words: &[String], place: usize, wanted: &str) -> bool {
     }
 }
 
-// Prints the number of allocations granted after the check, and returns the exit status: 1 if the graph or the link
-// breaks a rule.
+// Prints the number of allocations granted after the check, and returns the exit status 0, or 1 if
+// the graph or the link breaks a rule.
 fn print_left<R: Print + Alloc<A = Global>>(rt: &R, words: &[String]) -> Result<u8, AllocError> {
     match grants_after_check(
         rt.alloc(),

@@ -54,7 +54,7 @@ fn check_link(
     }
 }
 
-// Returns the number of allocations that are granted before one fails.
+// Returns the number of allocations that are granted before one fails, at most 1,000,000.
 fn count_grants(alloc: Global) -> u32 {
     for granted in 0..1000000 {
         if Vec::<u32>::with_capacity(alloc, 1).is_err() {
@@ -64,9 +64,9 @@ fn count_grants(alloc: Global) -> u32 {
     1000000
 }
 
-/// Returns the number of allocations granted after a check of the graph and, if `judged` is true, of a related link
-/// from 2 to 4, in a graph with `further` nodes that are linked to neither; or None if the graph or the link breaks a
-/// rule.
+/// Returns the number of allocations granted after a check of a graph and, if `judged` is true, of
+/// a related link from 2 to 4 in it. The graph has `further` nodes that are linked to neither.
+/// Returns None if the graph or the link breaks a rule.
 pub fn grants_after_check(
     alloc: Global,
     further: u32,

@@ -15,8 +15,8 @@ use thes_tables::numbers::resource_number;
 /// The number of labels of each resource.
 const LABELS: u32 = 10;
 
-/// The numbers of resources and postings of a store. Each posting has one move; the number of links is that of
-/// resources, half of them in a tree.
+/// The numbers of resources and postings of a store. Each posting has one move. The number of links
+/// is about that of resources; half of the links form a tree.
 #[derive(Clone, Copy)]
 pub struct Size {
     pub resources: u32,
@@ -83,7 +83,8 @@ fn yield_labels<S: RowSink>(alloc: Global, size: Size, sink: &mut S) -> Result<(
     Ok(())
 }
 
-// Yields a link of kind Related from each resource of the second half to the next one.
+// Yields a link of kind Related from each resource of the second half, if its number is above 20,
+// to the next one.
 fn yield_links<S: RowSink>(size: Size, sink: &mut S) -> Result<(), Fault> {
     for number in size.resources / 2..size.resources {
         if 20 < number {
@@ -97,7 +98,8 @@ fn yield_links<S: RowSink>(size: Size, sink: &mut S) -> Result<(), Fault> {
     Ok(())
 }
 
-// Yields a hierarchical link for each concept of the first half, in a tree in which each has eight narrower ones.
+// Yields a hierarchical link for each concept of the first half from number 3 on, in a tree in
+// which each concept has up to eight narrower ones.
 fn yield_hier<S: RowSink>(size: Size, sink: &mut S) -> Result<(), Fault> {
     for made in 3..size.resources / 2 {
         let above = (made.saturating_sub(3) / 8).saturating_add(2);

@@ -34,7 +34,7 @@ use thes_sqlite::keeper::SqlKeeper;
 use thes_store::keeper::Keeper;
 use thes_store::mem::MemKeeper;
 
-// The use of generated rows: loading them to cores, or counting them.
+// The use made of generated rows: they are loaded to cores, or counted.
 enum LoadOutput {
     Cores,
     Rows,
@@ -63,7 +63,7 @@ fn number(words: &[String], place: usize) -> u32 {
     }
 }
 
-// Times the posts of `posts` postings, and the merge of a tenth of them.
+// Times the commits of `posts` postings, and the merge of a tenth of them.
 fn time_commits<R: Clock + Print + Alloc<A = Global>, K: Keeper>(
     rt: &R,
     keeper: &mut K,
@@ -125,7 +125,7 @@ fn time_memory<R: Clock + Print + Alloc<A = Global>>(
     timed
 }
 
-// Times the same commits by statements on a database.
+// Creates a store in a database, and times the commits of the workload by statements on it.
 fn time_stores<R: Clock + Print + Alloc<A = Global>, S: Alter>(
     rt: &R,
     conn: &mut Connection<S>,
@@ -169,7 +169,7 @@ fn time_idle<R: Clock + Print + Alloc<A = Global>, S: Alter>(
     }
 }
 
-// Times commits if no look-ups are asked for, and else look-ups and a load.
+// Times commits if `looks` is 0, or else look-ups and a load.
 fn time_conn<R: Clock + Print + Alloc<A = Global>, S: Alter>(
     rt: &R,
     mut conn: Connection<S>,

@@ -1,4 +1,4 @@
-//! Look-ups in any storage, and its load.
+//! Look-ups in a storage of any kind, and the load of all its rows.
 
 use crate::failure::Failure;
 use std::alloc::Global;
@@ -10,7 +10,7 @@ use thes_store::keeper::Keeper;
 use thes_store::sink::RowSink;
 use thes_tables::cells::Cell;
 
-// Returns whether the key of this number has a posting.
+// Checks whether the key with this number has a posting.
 fn is_found<K: Keeper>(alloc: Global, keeper: &mut K, number: u32) -> Result<bool, Failure> {
     let key = Key::read(alloc, name_with_number(alloc, "k", number)?.as_str())?;
     Ok(keeper.find(&key)?.is_some())

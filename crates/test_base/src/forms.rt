@@ -153,7 +153,7 @@ fn a_text_of_another_form_is_refused(rt: HostRuntime) -> Result<(), Fail> {
     Ok(())
 }
 
-// Returns a text of a start and a letter `count` times.
+// Returns the start, followed by the letter `count` times.
 fn with_repeated_letter(
     alloc: Global,
     start: &str,

@@ -1,5 +1,5 @@
 //! Tests of thes_base. They are in a crate of their own, so that a changed test needs no new proof
-//! of thes_base; functions without contracts are proved quickly.
+//! of thes_base. Their functions have no contracts, and so are proved quickly.
 #![tactic(auto)]
 
 #[cfg(test)]

@@ -56,7 +56,7 @@ fn refusals_and_faults_have_names_and_numbers(rt: HostRuntime) {
     expect_faults(&rt, &FAULTS);
 }
 
-// Returns whether a fault is printed as this text.
+// Checks whether a refusal or a fault is printed as this text.
 fn is_printed(alloc: Global, fault: impl Display + Drop, wanted: &str) -> Result<bool, AllocError> {
     let text = format!(in alloc; "{}", fault)?;
     Ok(text.as_str() == wanted)

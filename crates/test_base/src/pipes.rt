@@ -6,7 +6,7 @@ use std::process::Abort;
 use test_devices::{Filling, Halting};
 use thes_base::pipe::{Budget, Pipe, Stop};
 
-// The event that a pipe has recorded, if there is only one.
+// The events that a pipe has recorded: none, one of three, or several.
 #[derive(Clone, Copy, Debug, PartialEq, Eq)]
 enum Noted {
     Nothing,
@@ -37,8 +37,8 @@ fn read_from<R: Read + Drop>(
     (result, buffer, notes_of(&pipe))
 }
 
-// A row of a table: the bytes of a reader, the number of calls before it fails, and the outcome of
-// one read.
+// A row of a table: the bytes of a reader, the number of calls before the reader fails, and the
+// outcome of one read.
 type Reading = (&'static [u8], u32, Result<usize, Stop>, [u8; 4], Noted);
 
 static READINGS: [Reading; 3] = [

@@ -7,7 +7,7 @@ use thes_base::number::{MoveNo, PostNo, ResNo};
 use thes_base::request::{Command, PostNos};
 use thes_base::text::{Key, Note, RecordName, Tag, Text};
 
-// Returns whether a value equals its clone. Both are dropped here, since a function that drops a
+// Checks whether a value equals its clone. Both are dropped here, since a function that drops a
 // value of many parts is slow to prove.
 fn is_equal<T: PartialEq + Drop>(value: T, clone: Result<T, AllocError>) -> bool {
     match clone {
@@ -41,7 +41,7 @@ fn label(alloc: Global, kind: LabelKind, text: &str) -> Result<Label, ReadStop> 
     })
 }
 
-// Returns whether a label has its kind and its text, and equals its clone.
+// Checks whether a label has its kind and its text, and equals its clone.
 fn returns_its_parts(alloc: Global, kind: LabelKind, text: &str) -> Result<bool, ReadStop> {
     let label = label(alloc, kind, text)?;
     let shows = label.kind() == kind && label.text() == text;
@@ -62,7 +62,7 @@ fn a_label_shows_its_kind_and_its_text(rt: HostRuntime) -> Result<(), Fail> {
     Ok(())
 }
 
-// Returns a history of the posting 1 with these moves.
+// Returns a history of posting 1 with these moves.
 fn history(alloc: Global, moves: Moves) -> Result<History, ReadStop> {
     let key = Key::read(alloc, "k1")?;
     let rec = RecordName::read(alloc, "r1")?;

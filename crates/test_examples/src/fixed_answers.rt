@@ -10,15 +10,16 @@ use thes_requests::handler::{QueryAnswer, RequestHandler, ViewLine};
 use thes_requests::request::Query;
 use thes_requests::script::{ScriptEnd, script};
 
-/// A handler that answers each withdrawal by the number of its posting, and refuses every other request. Posting 7 runs
-/// out of memory, and a later one also closes the handler.
+/// A handler that answers each withdrawal by the number of its posting, and refuses all other
+/// commands. The withdrawal of posting 7 runs out of memory, and that of a later one also closes
+/// the handler.
 #[derive(Drop)]
 pub struct FixedAnswers {
     is_closed: bool,
 }
 
 impl FixedAnswers {
-    /// Returns the handler, which is open.
+    /// Creates an open handler.
     pub fn new() -> FixedAnswers {
         FixedAnswers { is_closed: false }
     }

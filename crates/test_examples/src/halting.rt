@@ -26,7 +26,7 @@ enum Outcome {
     Whole,
     /// The script stopped, and the same store answered the other requests as stored.
     Resumed,
-    /// The script gave another answer, or stopped otherwise.
+    /// The script gave another answer, or stopped in another way.
     Wrong,
 }
 

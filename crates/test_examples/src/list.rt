@@ -41,7 +41,7 @@ fn push_commands(alloc: Global, requests: &str, commands: &mut Vec<Command>) -> 
     Ok(())
 }
 
-/// Parses the command of a line; a query is an error.
+/// Parses the command of a line; anything else, such as a query, is an error.
 pub fn command_in(alloc: Global, line: &str) -> io::Result<Command> {
     match read_request(&mut RequestScratch::new(alloc), line.as_bytes()) {
         Ok(Request::Do(command)) => Ok(command),

@@ -14,7 +14,8 @@ use thes_core::reading::Sizes;
 use thes_office::numbers::Numbers;
 use thes_requests::request::{RequestScratch, read_request};
 
-/// Performs the look-up that a line gives by its name and arguments, and returns the result as a text.
+/// Performs the look-up that a line gives by its name and arguments. Returns the result as a text,
+/// or None if nothing is found.
 pub fn look_up(alloc: Global, store: &mut Store, words: &str) -> Option<String> {
     let (name, words) = words.split_once(' ').unwrap_or((words, ""));
     match name {
@@ -92,7 +93,7 @@ fn numbers_text(alloc: Global, numbers: &[PostNo]) -> Result<String, AllocError>
     Ok(text)
 }
 
-// Returns whether a number is that of a live resource.
+// Returns `yes` if the number is that of a live resource, or else `no`.
 fn is_live(alloc: Global, core: &Core, words: &str) -> Option<String>
     requires { core.now.spent ≡ false }
 {
@@ -153,7 +154,7 @@ fn outside_iri(alloc: Global, core: &Core, words: &str) -> Option<String>
     String::from_str(alloc, iri.as_str()).ok()
 }
 
-// Returns whether the core has the link that a request names.
+// Returns `yes` if the core has the link that a Link request names, or else `no`.
 fn has_link(alloc: Global, core: &Core, words: &str) -> Option<String>
     requires { core.now.spent ≡ false }
 {
@@ -169,7 +170,7 @@ fn form_fault(alloc: Global, text: &str) -> Option<String> {
     }
 }
 
-// Returns the link in a request to add or remove one.
+// Returns the link in a Link request.
 fn link_in(alloc: Global, words: &str) -> Option<Link> {
     let command = command_in(alloc, words).ok()?;
     let link = link_of(&command);

@@ -31,7 +31,8 @@ fn report_difference<R: Print>(rt: &R, example: &Example, answers: &str) -> io::
     println!(rt; "  {}: {}", example.name, answers.next().unwrap_or(""))
 }
 
-// Runs the examples of a file, and prints their number and that of those that differ from the stored answers.
+// Runs the examples of a file. Prints the differences from the stored answers, the number of
+// examples, and how many of them differ.
 fn run_file<R: Print>(rt: &R, alloc: Global, name: &str, text: &str) -> io::Result<()> {
     let mut parts = text.split("\n% ");
     let start = parts.next().unwrap_or("");
@@ -49,7 +50,8 @@ fn run_file<R: Print>(rt: &R, alloc: Global, name: &str, text: &str) -> io::Resu
     println!(rt; "  {examples} examples, {differing} other than stored")
 }
 
-// Loads the tables of a file, and prints their number and that of those whose verdict isn't the expected one.
+// Loads the tables of each example of a file. Prints each verdict that isn't the expected one, the
+// number of examples, and how many of them differ.
 fn run_tables<R: Print>(rt: &R, alloc: Global, name: &str, text: &str) -> io::Result<()> {
     let mut parts = text.split("\n% ");
     let start = parts.next().unwrap_or("");

@@ -54,8 +54,8 @@ fn fixed_answers(alloc: Global, example: &Example) -> io::Result<String> {
     with_end(text_of(written)?, ended)
 }
 
-/// Appends a line that names the end of a script, unless it ended without a fault, and as refused exactly if an answer
-/// is a refusal.
+/// Appends a line that names the end of a script, unless it is the usual end: without a fault, and
+/// refused exactly when an answer is a refusal.
 pub fn with_end(mut answers: String, ended: Result<ScriptEnd, PipeFault>) -> io::Result<String> {
     let refused = answers.as_str().lines().any(is_refusal);
     let usual = ScriptEnd {

@@ -1,4 +1,5 @@
-//! Stored tables, and the verdict of their load. "Stored tables" in CONTRIBUTING.md defines the form of their files.
+//! Stored tables, and the verdict of their load. "Stored examples" in CONTRIBUTING.md defines the
+//! form of their files.
 use std::alloc::Global;
 use std::io;
 use thes_base::data::Limits;

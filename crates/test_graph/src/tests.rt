@@ -203,13 +203,13 @@ enum Fact {
     Mappings(u32, &'static [(LinkKind, u32)]),
 }
 
-// Returns whether the list has exactly these numbers, in this order.
+// Checks whether the list has exactly these numbers, in this order.
 fn are(found: Result<Vec<ResNo>, AllocError>, wanted: &[u32]) -> Result<bool, AllocError> {
     let found = found?;
     Ok(found.len() == wanted.len() && found.iter().zip(wanted.iter()).all(|(n, m)| n.get() == *m))
 }
 
-// Returns whether the list has exactly these mappings, in this order.
+// Checks whether the list has exactly these mappings, in this order.
 fn are_mappings(
     found: Result<Vec<(LinkKind, ResNo)>, AllocError>,
     wanted: &[(LinkKind, u32)],
@@ -270,7 +270,8 @@ fn merge(graph: &mut Graph, source: u32, target: u32) -> Result<(), AllocError> 
     Ok(())
 }
 
-// Checks that a merge transfers links to the target, removes those to itself, and merges equal ones.
+// Checks that a merge transfers links to the target, drops those that would join it to itself, and
+// merges equal ones.
 fn expect_merge(rt: &impl Abort, alloc: Global, graph: &mut Graph) -> Result<(), Fail> {
     mark(graph, 5)?;
     run(rt, alloc, graph, &BEFORE_THE_MERGE)?;
@@ -354,12 +355,12 @@ fn visits_near_the_edit(rt: HostRuntime) -> Result<(), Fail> {
     for n in 5..505u32 {
         run(&rt, alloc, &mut graph, &[(Broader, n, n + 1, None)])?;
     }
-    // One visit for a look-up: neither the upward nor the downward search leads to 4.
+    // One visit for the look-up of the link: node 4 has no links to read.
     assert_eq!(rt; visits(alloc, &graph, &link(Related, 2, 4))?, Some(1));
     Ok(())
 }
 
-// An upward search reads none of the other links below a broad concept.
+// An upward search reads none of the other links at a concept with many narrower ones.
 #[test]
 fn visits_on_one_side(rt: HostRuntime) -> Result<(), Fail> {
     let alloc = rt.alloc();
@@ -394,7 +395,8 @@ fn visits_of_merge(
     }
 }
 
-// If the upward search is short, no link below a broad concept is read, even if the edit is at this concept.
+// If the upward search is short, no link is read that leads down from a concept with many narrower
+// ones, even if the edit is at that concept.
 #[test]
 fn visits_above_a_broad_concept(rt: HostRuntime) -> Result<(), Fail> {
     let alloc = rt.alloc();
@@ -411,8 +413,8 @@ fn visits_above_a_broad_concept(rt: HostRuntime) -> Result<(), Fail> {
     Ok(())
 }
 
-// Returns the node to which the link leads from `x`, its broader node or, if `exact`, its exact match, for the naive
-// program.
+// Returns the broader node or, if `exact` is true, the exact match to which the link leads from
+// `x`, for the naive program.
 fn next(link: &Link, exact: bool, x: ResNo) -> Option<ResNo> {
     match link.kind {
         Exact if exact && link.a == x => Some(link.b),
@@ -424,7 +426,8 @@ fn next(link: &Link, exact: bool, x: ResNo) -> Option<ResNo> {
     }
 }
 
-// Returns all nodes to which one or more links lead from a node, for the naive program.
+// Returns all nodes to which one or more links lead up from a node or, if `exact` is true, all its
+// exact matches, for the naive program.
 fn chains(
     alloc: Global,
     links: &[Link],
@@ -517,7 +520,8 @@ fn any_link(numbers: &mut Numbers, nodes: u32) -> Link {
     link(kind, a.saturating_add(1), b.saturating_add(1))
 }
 
-// Adds the link to a graph that keeps the rules, and returns what a check at its first end finds.
+// Adds the link to a graph that keeps the rules, and returns the first rule that a check at its
+// first end finds broken.
 fn check_added(
     alloc: Global,
     graph: &mut Graph,
@@ -561,8 +565,8 @@ fn compare(
     Ok(())
 }
 
-// Counts the different links, for the naive program. Those of a symmetric kind are equal in either direction; a mapping
-// is symmetric unless an end is an outside concept.
+// Counts the different links, for the naive program. Links of a symmetric kind are equal in either
+// direction. Exact, close and related matches are symmetric unless an end is an outside concept.
 fn count_different(alloc: Global, graph: &Graph, links: &[Link]) -> Result<usize, AllocError> {
     let mut met = BTreeSet::new(alloc);
     for link in links {

@@ -14,7 +14,7 @@ fn serve_head(alloc: Global, request: &[u8]) -> ConnectionEnd {
     serve_one(alloc, &mut reader, &mut writer, &mut counter)
 }
 
-// Returns a head of `count + 31` bytes, of which `count` are the value of a field.
+// Returns a head of `count + 32` bytes, of which `count` are the value of a field.
 fn long_head(alloc: Global, count: u32) -> Result<Vec<u8>, AllocError> {
     let mut head = Vec::from_slice(alloc, b"GET /totals HTTP/1.1\r\nName: ")?;
     for _ in 0..count {

@@ -108,7 +108,8 @@ pub fn merge_delta(
     Ok(delta)
 }
 
-/// Moves all postings from the source to the target in one commit, with `count` rows of moves.
+/// Moves all postings from the source to the target in one commit, with `count` rows of moves. The
+/// storage has `posts` postings.
 pub fn merge<K: Keeper>(
     alloc: Global,
     keeper: &mut K,

@@ -75,7 +75,8 @@ impl Store {
         self.office().run(commands, answers)
     }
 
-    /// Closes the store, opens its tables again, and returns its views of the first six resources and postings.
+    /// Closes the store, opens its tables again, and returns the views of its totals and of its
+    /// first six resources and postings.
     pub fn shown(self, alloc: Global) -> io::Result<Vec<u8>> {
         let mut store = self.reopen(alloc, Limits::default())?;
         let shown = views(alloc, &mut store);
@@ -129,7 +130,7 @@ fn views(alloc: Global, store: &mut Store) -> io::Result<Vec<u8>> {
     Ok(shown)
 }
 
-// Returns whether each request was performed: no refusal, form fault or fault.
+// Checks whether a script performed all its requests, without a refusal, a form fault or a fault.
 fn is_performed(ended: &Result<ScriptEnd, PipeFault>) -> bool {
     match ended {
         Ok(ended) => !ended.refused && ended.fault.is_none(),

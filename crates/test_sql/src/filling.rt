@@ -41,7 +41,7 @@ impl From<ReadStop> for Failure {
     }
 }
 
-// Returns a preferred label in English.
+// Returns the row of a preferred label in English.
 fn label(alloc: Global, owner: ResNo, text: &str) -> Result<LabelRow, Failure> {
     Ok(LabelRow {
         owner,
@@ -52,7 +52,7 @@ fn label(alloc: Global, owner: ResNo, text: &str) -> Result<LabelRow, Failure> {
     })
 }
 
-// Returns a posting of a record to a concept.
+// Returns the row of a posting of a record to a concept.
 fn posting(
     alloc: Global,
     number: PostNo,

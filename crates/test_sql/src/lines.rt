@@ -61,7 +61,7 @@ impl Lines {
         self.push_line("")
     }
 
-    /// Appends a line with a posting's columns.
+    /// Appends a line with a posting's number, key, record and place.
     pub fn push_posting(&mut self, row: &PostingRow) -> Result<(), AllocError> {
         let (number, place) = (row.number.get(), row.place.get());
         writeln!(

@@ -50,7 +50,8 @@ fn posting<K: Keeper>(keeper: &mut K, number: PostNo, lines: &mut Lines) -> Resu
     }
 }
 
-/// Looks up postings by key, by key in other case, by number and by concept, and appends their lines.
+/// Looks up postings by a key, by the same key in upper case, by number and by concept, and appends
+/// their lines.
 pub fn look_up<K: Keeper>(
     alloc: Global,
     keeper: &mut K,

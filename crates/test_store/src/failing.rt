@@ -10,7 +10,8 @@ use thes_store::fail_once::{FailOnce, Next};
 use thes_store::keeper::Keeper;
 use thes_store::mem::MemKeeper;
 
-/// Returns a storage with ten postings, at the concepts 2 to 11, of which the first was moved to concept 3.
+/// Returns a storage with ten postings, assigned to the concepts 2 to 11, of which the first was
+/// then moved to concept 3.
 pub fn filled_keeper(alloc: Global) -> Result<MemKeeper, Failure> {
     let mut keeper = MemKeeper::new(alloc, Base::read(alloc, "http://example.org/")?);
     post_all(alloc, &mut keeper, 10)?;

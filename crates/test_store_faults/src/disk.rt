@@ -39,7 +39,7 @@ impl Failing {
     }
 }
 
-// Writes bytes to a file, and returns whether all were written.
+// Writes bytes to a file and syncs it, and returns whether both succeeded.
 fn fill<D: Disk>(disk: &mut D, bytes: &[u8]) -> bool
     requires { IsTrue (D.Disk.is_usable disk.old) }
 {
@@ -112,7 +112,8 @@ pub fn cut(mut files: Disks) -> Disks {
     files
 }
 
-// Opens the store in usable files. A checkpoint copies the log into the database file once it has 24 pages.
+// Opens the store in usable files. A checkpoint copies the log into the database file once the log
+// has 24 pages.
 fn open_usable<D: Disk + Drop>(alloc: Global, files: Files<D>) -> Result<Store<D>, Files<D>>
     requires log { IsTrue (D.Disk.is_usable files.log) }
     requires db { IsTrue (D.Disk.is_usable files.db) }
@@ -126,7 +127,7 @@ fn open_usable<D: Disk + Drop>(alloc: Global, files: Files<D>) -> Result<Store<D
     }
 }
 
-/// Opens the store in files, or returns the files.
+/// Opens the store in files, or returns the files if that fails.
 pub fn open<D: Disk + Drop>(alloc: Global, files: Files<D>) -> Result<Store<D>, Files<D>> {
     if files.may_be_used() {
         open_usable(alloc, files)
@@ -148,8 +149,8 @@ fn close<D: Disk + Drop>(conn: Store<D>) -> (Files<D>, bool) {
     }
 }
 
-/// Closes a store if its work is done, and else abandons it. Returns its files, and whether it was closed and each call
-/// succeeded.
+/// Closes a store if its work is done, or else abandons it. Returns its files, and whether it was
+/// closed and each call succeeded.
 pub fn end<D: Disk + Drop>(conn: Store<D>, is_done: bool) -> (Files<D>, bool) {
     if is_done {
         close(conn)

@@ -63,17 +63,17 @@ pub fn push_line(text: &mut String, line: &str) -> Result<(), AllocError> {
 // The answer to a request that failed with the fault Store.
 const FAULT: &str = r#"{"fault":"Store"}"#;
 
-/// Returns whether a line is an answer other than the fault Store.
+/// Checks whether a line is an answer other than the fault Store.
 pub fn is_answer(line: &str) -> bool {
     line != FAULT
 }
 
-/// Returns whether one of the answers is the fault Store.
+/// Checks whether one of the answers is the fault Store.
 pub fn has_fault(answers: &str) -> bool {
     !answers.lines().all(is_answer)
 }
 
-/// Returns whether the lines are the expected answers, except for faults.
+/// Checks whether the lines, apart from the fault Store, are the expected answers.
 pub fn are_answers(told: &str, wanted: &str) -> bool {
     let mut wanted = wanted.lines();
     for answer in told.lines() {
@@ -111,7 +111,8 @@ impl ExamplePrefix {
         }
     }
 
-    /// Appends the requests whose answers aren't faults, and `more` of those after the last of them.
+    /// Appends the requests whose answers aren't faults, and `more` requests after the last of
+    /// these.
     pub fn add_requests(
         &mut self,
         requests: &str,
@@ -130,8 +131,9 @@ impl ExamplePrefix {
         Ok(())
     }
 
-    /// Appends the lines of a posting file for which there are rows, and `more` lines after them. Without rows it
-    /// appends none, since the import of the first line, the heading, makes no call.
+    /// Appends the lines of a posting file that the import answered, and `more` lines after them.
+    /// If the import answered none, appends none, since the import of the first line, the heading,
+    /// makes no call.
     pub fn add_postings(
         &mut self,
         postings: &str,

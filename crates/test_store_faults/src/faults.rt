@@ -26,7 +26,7 @@ struct Tries {
 }
 
 impl Tries {
-    // Returns the report for calls of which `times` fail.
+    // Creates the report of a run in which `times` calls fail.
     fn new(alloc: Global, times: u32) -> Tries {
         Tries {
             run_report: RunReport::new(alloc),
@@ -43,7 +43,8 @@ impl Tries {
         self.faults = self.faults.saturating_add(1);
     }
 
-    // Counts a fault that halted an import, with the number of its lines.
+    // Counts a fault that halted an import, and records the number of lines that the import
+    // returned if it is the greatest so far.
     fn count_import(&mut self) {
         self.count();
         self.before = self
@@ -52,7 +53,7 @@ impl Tries {
         self.run_report.rows.clear();
     }
 
-    // Returns whether the last answer is a fault.
+    // Checks whether the last answer is a fault.
     fn is_fault(&self) -> bool {
         has_fault(self.line.as_str())
     }
@@ -155,8 +156,8 @@ impl Tries {
         Ok(())
     }
 
-    // Returns whether all answers are as stored, with this number of faults before them, and the store has the expected
-    // rows.
+    // Checks whether all answers are as stored, as many faults were returned as calls failed, and
+    // the store has the expected rows.
     fn is_kept(&self, stored: &StoredExample, failures: u64, listing: &str) -> bool {
         self.run_report.answers == stored.answers
             && self.run_report.rows == self.wanted

@@ -58,7 +58,7 @@ impl Migration {
         Ok(())
     }
 
-    /// Returns whether the store has the rows of version 1.
+    /// Checks whether the store has the rows of version 1.
     pub fn is_older(&self, alloc: Global) -> Result<bool, TrialStop> {
         let mut showing = StoreListing::new(alloc);
         self.show(alloc, &mut showing)?;
@@ -82,7 +82,8 @@ impl Migration {
         Ok(StoreOutcome::of(self.is_kept(run), run.is_answered && run.is_closed))
     }
 
-    // Returns whether the store has the rows that it should, of either version.
+    // Checks whether the store has the rows that it should: of version 2, or, unless the migration
+    // succeeded, of version 1.
     fn is_kept(&self, run: &Run) -> bool {
         let newer = self.newer.listing.text.as_str();
         let older = self.older.as_str();
@@ -103,7 +104,7 @@ impl Trial for Migration {
     }
 }
 
-// Returns whether a line of rows belongs after those of links.
+// Checks whether a line belongs after the rows of links.
 fn is_behind_links(line: &str) -> bool {
     line.starts_with("posting ") || line.starts_with("move ") || line == "loads"
 }
@@ -184,8 +185,8 @@ fn image_of(alloc: Global, files: Disks, is_made: bool) -> Result<Image, TrialSt
     }
 }
 
-// A job that migrates a store: whether it succeeded, whether its files were closed and each call succeeded, and its
-// rows when it is opened again.
+// A job that migrates a store, with its results: whether the migration succeeded, whether the files
+// were closed and each call succeeded, and the rows when the store is opened again.
 #[derive(Drop)]
 struct Run {
     is_answered: bool,

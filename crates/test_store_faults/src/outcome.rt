@@ -3,7 +3,7 @@ use crate::disk::Failing;
 use crate::stop::TrialStop;
 use std::alloc::Global;
 
-/// The outcome of a run over files, one of which stops working.
+/// The outcome of a run over a store of which calls fail, in files or in memory.
 #[derive(Clone, Copy)]
 pub enum StoreOutcome {
     /// No call failed, and the store has all changes.

@@ -77,7 +77,7 @@ impl<'a> Requests<'a> {
         run.ran
     }
 
-    // Returns whether the store has the rows that it should when it is opened again.
+    // Checks whether the store has the rows that it should when it is opened again.
     fn is_right(&self, alloc: Global, run: &Run) -> Result<bool, TrialStop> {
         if run.is_made {
             self.is_kept(alloc, run)
@@ -87,14 +87,15 @@ impl<'a> Requests<'a> {
         }
     }
 
-    // Returns whether a store with tables gave the right answers and has the right rows.
+    // Checks whether a store with tables gave the right answers and has the right rows.
     fn is_kept(&self, alloc: Global, run: &Run) -> Result<bool, TrialStop> {
         let mut wanted = Wanted::new(alloc);
         self.report_prefixes(alloc, &run.run_report, &mut wanted)?;
         Ok(wanted.is_kept(run))
     }
 
-    // Performs the confirmed requests without failures, and then also the next one, which may have been performed.
+    // Performs the confirmed requests without failures, and then all of these again with the next
+    // one, which may have been performed.
     fn report_prefixes(
         &self,
         alloc: Global,
@@ -148,8 +149,9 @@ impl<'a> Trial for Requests<'a> {
     }
 }
 
-// A job that performs an example in a new store: its report, whether its tables were created, whether its files were
-// closed and each call succeeded, and its rows when it is opened again.
+// A job that performs an example in a new store, with its results: the report, whether the tables
+// were created, whether the files were closed and each call succeeded, and the rows when the store
+// is opened again.
 #[derive(Drop)]
 struct Run<'a> {
     example: Example<'a>,
@@ -201,7 +203,7 @@ impl Wanted {
         }
     }
 
-    // Returns whether the store gave the expected answers.
+    // Checks whether the store gave the expected answers.
     fn has_wanted_answers(&self, run_report: &RunReport) -> bool {
         are_answers(
             run_report.answers.as_str(),
@@ -209,7 +211,7 @@ impl Wanted {
         ) && run_report.rows == self.after_answers.rows
     }
 
-    // Returns whether the store gave the expected answers and has the expected rows.
+    // Checks whether the store gave the expected answers and has the expected rows.
     fn is_kept(&self, run: &Run) -> bool {
         let after_answers = self.after_answers.listing.text.as_str();
         let more = self.more.listing.text.as_str();

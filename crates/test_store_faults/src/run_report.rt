@@ -49,7 +49,7 @@ fn push_bytes(text: &mut String, bytes: &[u8]) -> Result<(), TrialStop> {
     }
 }
 
-// Appends the answers to requests, none of which may be a fault but Store.
+// Appends the answers to requests, none of which may be a fault other than Store.
 fn push_answers(
     answers: &mut String,
     written: &[u8],
@@ -219,7 +219,8 @@ pub fn new_keeper(alloc: Global) -> Result<MemKeeper, TrialStop> {
     Ok(MemKeeper::new(alloc, base(alloc)?))
 }
 
-/// Performs an example in memory, without failures.
+/// Performs an example in memory without failures, and reports the answers and rows, which are
+/// those expected of other runs.
 pub fn report_wanted(
     alloc: Global,
     example: Example,

@@ -17,7 +17,8 @@ fn make_tables<S: Alter>(conn: &mut Connection<S>, base: &Base) -> bool {
     create_tables(conn, base).unwrap_or(false)
 }
 
-// Opens the storage over the tables of a database, or returns the connection.
+// Opens the storage over the tables of a database, or returns the connection if a transaction is
+// open in it.
 fn adopt<S: Alter>(alloc: Global, conn: Connection<S>) -> Result<SqlKeeper<S>, Connection<S>> {
     if conn.is_autocommit() {
         Ok(SqlKeeper::adopt(alloc, conn))
@@ -141,7 +142,7 @@ pub fn work<D: Disk + Drop, J: Job>(
     }
 }
 
-/// The rows of a store, once it could be opened.
+/// The rows of a store, and whether it could be opened and read.
 #[derive(Drop)]
 pub struct StoreListing {
     pub listing: Rows,
@@ -164,7 +165,7 @@ impl StoreListing {
         self.show_result
     }
 
-    // Returns whether the rows are one of these two texts.
+    // Checks whether the rows are one of these two texts.
     fn is_either(&self, first: &str, second: &str) -> bool {
         let listing = self.listing.text.as_str();
         listing == first || listing == second
@@ -207,7 +208,7 @@ impl After {
         self.kill.show(alloc, files_after_kill(alloc, files)?)
     }
 
-    /// Returns whether the rows are one of these two texts, both times.
+    /// Checks whether the rows are one of these two texts, both times.
     pub fn is_either(&self, first: &str, second: &str) -> bool {
         self.kill.is_either(first, second) && self.cut.is_either(first, second)
     }

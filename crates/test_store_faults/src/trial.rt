@@ -1,4 +1,4 @@
-//! Runs examples over failing stores, and prints the outcomes.
+//! Runs examples over failing stores, and appends the outcomes to a page.
 use crate::disk::Failing;
 use crate::example::{Example, StoredExample};
 use crate::faults::outcome_of_calls;
@@ -12,8 +12,8 @@ use std::alloc::{AllocError, Global};
 use std::fmt::Write;
 use thes_store::fail_once::Next;
 
-// Repeats a trial with 0, 1, 2, .. calls until the outcome isn't `Kept`, and returns the number of calls and the
-// outcome.
+// Repeats a trial with a file that fails after 0, 1, 2, .. calls until the outcome isn't `Kept`.
+// Returns the number of calls and the outcome.
 fn last_outcome<T: Trial>(
     alloc: Global,
     trial: &T,
@@ -94,7 +94,8 @@ fn add_calls(
     Ok(StoreOutcome::Wrong)
 }
 
-// Runs an example over a storage in memory, each call of which fails in turn, `times` times.
+// Runs an example over a storage in memory of which `times` calls in a row fail, beginning with
+// each call in turn.
 fn try_calls(
     alloc: Global,
     name: &str,
@@ -140,7 +141,7 @@ fn try_keepers(
     Ok(())
 }
 
-// Returns whether all answers are the stored ones.
+// Checks whether all answers are the stored ones.
 fn is_as_stored(run_report: &RunReport, stored: &StoredExample) -> bool {
     run_report.answers == stored.answers
         && run_report.rows.as_str() == stored.outcomes

@@ -45,7 +45,7 @@ pub fn outcome_of(alloc: Global, before: u32, example: &Example) -> ExampleOutco
 // Runs an example in a store, and checks its answers and the state of the store.
 fn outcome_in(alloc: Global, before: u32, example: &Example, mut store: Store) -> ExampleOutcome {
     let run = example.run(alloc, &mut store, example.steps);
-    // Makes the allocations up to the one that fails, unless the run has met it.
+    // Makes allocations until the one that fails, unless the run has already met that one.
     let is_met = before > 0 && spend(alloc, MOST).is_ok();
     let shown = store.shown(alloc);
     if !is_right(alloc, example, &run, shown).unwrap_or(false) {
@@ -58,8 +58,8 @@ fn outcome_in(alloc: Global, before: u32, example: &Example, mut store: Store) -
     }
 }
 
-// Returns whether a store with only the steps performed answers them alike and has the same views
-// at its end, and whether every step without a fault was performed.
+// Checks whether a store in which only the performed steps are run gives the same answers and has
+// the same views at its end. Also checks whether every step was performed, unless memory ran out.
 fn is_right(
     alloc: Global,
     example: &Example,

@@ -1,11 +1,11 @@
-//! Examples, and their parsing.
+//! Examples, and the parsing of their files.
 use crate::connections::BEHIND;
 use crate::run::ExampleRun;
 use crate::{connections, import, script, texts};
 use std::alloc::{AllocError, Global};
 use test_office::Store;
 
-/// The kind of an example, which says what its steps are.
+/// The kind of an example, which determines what its steps are.
 #[derive(Clone, Copy, Debug, PartialEq, Eq)]
 pub enum ExampleKind {
     Script,

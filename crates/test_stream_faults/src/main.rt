@@ -3,8 +3,8 @@
 //!
 //! The arguments are the number of allocations to make first, and the files of the examples, whose
 //! form "Stored examples" in CONTRIBUTING.md defines. `tests/builds/refuse-memory` makes one later
-//! allocation fail. With 0 allocations none should fail; then the readers and writers of imports,
-//! exports and displays fail instead.
+//! allocation fail. If the number is 0, no allocation should fail, and the readers and writers of
+//! imports, exports and displays fail instead.
 #![tactic(auto)]
 
 mod check;

@@ -1,6 +1,6 @@
 //! Imports, exports and displays with a reader or a writer that fails after each number of calls.
-//! The output must be a prefix of the whole text; if the reader failed, nothing may be performed,
-//! and if the writer failed after an import's heading, everything.
+//! The output must be a prefix of the whole text. If the reader failed, no row may have been
+//! performed; if the writer failed after an import's heading, all rows must have been.
 use crate::import::import_file;
 use crate::texts::write_text;
 use Failing::{FullWriter, Reader, Writer};
@@ -27,7 +27,7 @@ struct StepResult {
     shown: Vec<u8>,
 }
 
-// Returns whether a step wrote its text, or a prefix of it if this device failed.
+// Checks whether a step wrote its text, or a prefix of it if this device failed.
 fn is_written(ended: Result<(), PipeFault>, written: &[u8], text: &[u8], failing: Failing) -> bool {
     match ended {
         Ok(()) => written == text,
@@ -99,7 +99,7 @@ pub fn check_import(alloc: Global, requests: &str, file: &str) -> io::Result<Fau
     Ok(FaultResult::Right(count))
 }
 
-// Checks a text with this writer failing after each number of calls.
+// Checks the writing of a text with this writer failing after each number of calls.
 fn check_text_with(
     alloc: Global,
     store: &mut Store,
@@ -119,7 +119,7 @@ fn check_text_with(
     FaultResult::Wrong(failing, u32::MAX)
 }
 
-// Checks a text with each kind of writer failing after each number of calls.
+// Checks the writing of a text with each kind of writer failing after each number of calls.
 fn check_text_in(alloc: Global, store: &mut Store, words: &str) -> FaultResult {
     let (text, _) = write_text(alloc, store, words, Vec::new(alloc));
     let mut count = 0u32;
@@ -132,8 +132,8 @@ fn check_text_in(alloc: Global, store: &mut Store, words: &str) -> FaultResult {
     FaultResult::Right(count)
 }
 
-/// Checks a text with the writer failing after each number of calls, and that the views of the
-/// store are the same before and after.
+/// Checks the writing of a text with the writer failing after each number of calls, and that the
+/// views of the store are the same before and after.
 pub fn check_text(alloc: Global, requests: &str, words: &str) -> io::Result<FaultResult> {
     let before = store_after(alloc, requests)?.shown(alloc)?;
     let mut store = store_after(alloc, requests)?;

@@ -13,7 +13,7 @@ pub enum End {
     Done,
     /// A step was answered with the fault `OutOfMemory`.
     OutOfMemory,
-    /// The end isn't one that is allowed.
+    /// The end is one that isn't allowed.
     Wrong,
 }
 

@@ -11,7 +11,7 @@ use thes_base::number::ResNo;
 use thes_base::text::Tag;
 use thes_http::service::Display;
 
-/// Writes texts of a store; of a text that runs out of memory nothing may be written.
+/// Writes texts of a store. If memory runs out for a text, nothing of it may be written.
 pub fn run(alloc: Global, store: &mut Store, input: &str) -> ExampleRun {
     let mut run = ExampleRun::new();
     for (step, words) in input.lines().enumerate() {

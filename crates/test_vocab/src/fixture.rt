@@ -1,4 +1,4 @@
-//! A vocabulary behind calls without contracts, each of which checks a change before it applies it.
+//! A vocabulary whose calls have no contracts. Each change is checked before it is applied.
 ghost use Rattle.std.specs.Prelude.{IsTrue, Some};
 ghost use Rattle.thes_base.specs.Resources.{IsLiveConcept};
 ghost use Rattle.thes_vocab.specs.Vocabulary.{IsLiveOwner, IsReplacement};
@@ -43,7 +43,7 @@ pub fn label(alloc: Global, kind: LabelKind, tag: &str, text: &str) -> Result<La
     Ok(Label { tag, value })
 }
 
-// Returns whether the labels of this resource may be changed.
+// Checks whether the labels of this resource may be changed.
 fn is_owner(vocab: &Vocab, n: ResNo) -> bool
     ensures { IsTrue result → IsLiveOwner vocab.now.resources n }
 {
@@ -62,7 +62,7 @@ fn is_live_concept(vocab: &Vocab, n: ResNo) -> bool
     resource.kind == ResourceKind::Concept && resource.live
 }
 
-// Returns whether the target is another live concept of the source's scheme.
+// Checks whether the target is another live concept of the source's scheme.
 fn may_replace(vocab: &Vocab, source: ResNo, target: ResNo) -> bool
     ensures { IsTrue result → IsReplacement vocab.now.resources source (Some target) }
 {
@@ -197,7 +197,8 @@ impl Fixture {
         Ok(self.rename(no(owner), &tag, &text, keep)?)
     }
 
-    /// Copies to the target the labels of the source that it lacks, and answers with their number.
+    /// Copies the lexical labels of the source that the target lacks to the target, and answers
+    /// with their number.
     pub fn take_labels(&mut self, source: u32, target: u32) -> Result<Answer, AllocError> {
         let target = no(target);
         if !is_live_concept(&self.vocab, target) {
@@ -240,7 +241,7 @@ impl Fixture {
         self.vocab.resource(no(n)).copied()
     }
 
-    /// Returns whether this resource is live.
+    /// Checks whether this resource is live.
     pub fn is_live(&self, n: u32) -> bool {
         self.vocab.is_live(no(n))
     }

@@ -74,7 +74,7 @@ fn answer(fixture: &mut Fixture, call: Call) -> Result<Answer, ReadStop> {
     }
 }
 
-// Returns whether the labels equal the wanted ones, in order.
+// Checks whether the labels equal the wanted ones, in order.
 fn are_labels(labels: &[Label], wanted: &[(LabelKind, &str, &str)]) -> bool {
     labels.len() == wanted.len()
         && labels.iter().zip(wanted.iter()).all(|(l, (kind, tag, text))| {
@@ -82,7 +82,7 @@ fn are_labels(labels: &[Label], wanted: &[(LabelKind, &str, &str)]) -> bool {
         })
 }
 
-// Returns whether the numbers equal the wanted ones, in order.
+// Checks whether the numbers equal the wanted ones, in order.
 fn are_numbers(found: &[ResNo], wanted: &[u32]) -> bool {
     found.len() == wanted.len() && found.iter().zip(wanted.iter()).all(|(n, m)| n.get() == *m)
 }
@@ -272,7 +272,7 @@ fn holders_of_replaced_labels(rt: HostRuntime) -> Result<(), Fail> {
     expect(&rt, rt.alloc(), &HELD)
 }
 
-// The facts about labels and resources before and after a merge.
+// A merge, with facts about labels and resources before and after it.
 static MERGED: [Step; 5] = [
     See(TakenCount(2, 3, 1)),
     Do(TakeLabels(2, 3), Gained(1)),

@@ -139,7 +139,7 @@ next_parts t hs (request.Split source tag text postings) = refl
 next_parts t hs (request.Post key rec concept) = refl
 next_parts t hs (request.Withdraw posting) = refl
 
--- If the new parts are those of the next state for no histories, they are for any.
+-- If the new parts are those of the next state without postings, they are those of the next state for any histories.
 pub remade_for : (old new : Thesaurus) (hs : List History) (command : Command) → PartsAfter command old new
     → PartsOfState old (next_state command (parts_state old hs)) new
 remade_for old new hs command made = record {
@@ -149,7 +149,7 @@ remade_for old new hs command made = record {
   outside = made.outside;
 }
 
--- The moves of a merge can be numbered within 32 bits, and the target's count of postings fits in 32 bits.
+-- The moves of a merge can be numbered within 32 bits.
 pub merge_fits : (t : Thesaurus) (hs : List History) (source target : ℕ)
     → PartsAccept t hs (request.Merge source target) → move_count hs + assigned_count source hs < 2 ^ 32
 merge_fits t hs source target ok =
@@ -161,6 +161,7 @@ pub merge_apart : (t : Thesaurus) (hs : List History) (source target : ℕ)
     → PartsAccept t hs (request.Merge source target) → source ≢ target
 merge_apart t hs source target ok = (passed_if (passed_unless (passed_unless (passed_unless ok.accepts.row).1).1).1).0
 
+-- The count of the target's postings after a merge fits in 32 bits.
 pub merge_there : (t : Thesaurus) (hs : List History) (source target : ℕ)
     → PartsAccept t hs (request.Merge source target) → assigned_count target hs + assigned_count source hs < 2 ^ 32
 merge_there t hs source target ok =
@@ -170,7 +171,7 @@ merge_there t hs source target ok =
     let few = ok.kept.legal.postings.few in
     omega (arith, fit, few)
 
--- The moves of a new posting can be numbered within 32 bits, and so can the posting itself.
+-- The moves of a new posting can be numbered within 32 bits.
 pub post_fits : (t : Thesaurus) (hs : List History) (key rec : List ℕ) (concept : ℕ)
     → PartsAccept t hs (request.Post key rec concept) → move_count hs
     + length (replacements t.vocab.resources concept) < 2 ^ 32
@@ -179,6 +180,7 @@ post_fits t hs key rec concept ok =
     let count = count_posted key rec concept (replacements t.vocab.resources concept) hs in
     omega (arith, few, count)
 
+-- A new posting can be numbered within 32 bits.
 pub post_more : (t : Thesaurus) (hs : List History) (key rec : List ℕ) (concept : ℕ)
     → PartsAccept t hs (request.Post key rec concept) → length hs + 1 < 2 ^ 32
 post_more t hs key rec concept ok =

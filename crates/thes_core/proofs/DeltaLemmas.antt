@@ -125,7 +125,7 @@ in_contains {A} (y ∷ xs) x (inl same) = let Q : A → Type 0 = Contains (y ∷
     subst Q (sym same) (Contains-head y xs)
 in_contains (y ∷ xs) x (inr later) = Contains-later y xs x (in_contains xs x later)
 
--- The prefix up to and with the item at index `i` ends with that item.
+-- The prefix up to and including the item at index `i` ends with that item.
 pub take_got : {A : Type 0} (xs : List A) (i : ℕ) (x : A) → slice_get xs i ≡ Some x → (i < length xs)
     × (take (i + 1) xs ≡ take i xs ++ x ∷ [])
 take_got [] i x e = absurd (cc)

@@ -1,4 +1,4 @@
--- The results of a partial function on a list of links are collected once each.
+-- Collecting the results of a partial function on a list of links lists each result once.
 use Rattle.std.proofs.Common.{◌≡◌, ◌⊎◌, ◌↔◌, inl, inr, List, [], ◌∷◌, ◌++◌, refl, sym, ap, ◌∙◌, subst, Bool, true}
 use Rattle.std.proofs.Common.{false, cond}
 use Rattle.std.specs.Prelude.{Some, Option}

@@ -90,7 +90,7 @@ module _ (t : Thesaurus) (hs : List History) (source target : ℕ) (ok : PartsAc
   Merges changes = AreChangesBetween t.vocab.base changes (parts_state t hs)
       (state_after_merge source target (parts_state t hs))
 
-  -- The changes of a merge lead to the machine's next state.
+  -- A merge's changes of resources, labels, links, places and moves, in this order, lead to the machine's next state.
   pub merged_leads : AreChangesBetween t.vocab.base
       (((((change.Replace source target ∷ rows) ++ map drop_link gone) ++ map add_link come) ++ change.MoveAll source
       target ∷ []) ++ map change.AddMove (move_rows first source target (assigned_posting_numbers source hs)))

@@ -34,7 +34,7 @@ module _ (net : GraphView) (source target : ℕ) (different : source ≢ target)
       elim (norm_ends (is_marked net) (redirect_link source target c.0) source (subst (HasEnd source) c.3 at))
       [ inl a ↦ sent_never source target different c.0.a a | inr b ↦ sent_never source target different c.0.b b ]
 
-  -- A held link without an end at the source is its own redirection.
+  -- Redirection doesn't change a held link without an end at the source.
   stays_itself : (q : Link) → Holds net.links q → (HasEnd source q → ⊥) → redirected_link q ≡ q
   stays_itself q held off =
       ap (normal_form (is_marked net)) (sent_stays source target q (λ a. off (inl a)) (λ b. off (inr b)))
@@ -60,7 +60,7 @@ module _ (net : GraphView) (source target : ℕ) (different : source ≢ target)
     once = once_apart gone row.once;
   }
 
-  -- The redirected link is added unless its ends are equal or it is held.
+  -- A link that a merge adds is a redirected link with two different ends that wasn't held.
   joined_from : (l q : Link) → link_added_by_merge net source target l ≡ Some q
       → (redirect source target l.a ≢ redirect source target l.b) × (q ≡ redirected_link l) × (Holds net.links q → ⊥)
   joined_from l q e = go (redirect source target l.a == redirect source target l.b)

@@ -1,4 +1,4 @@
--- The graph marks exactly the outside concepts, also when a resource is added or marked as dead.
+-- The graph still marks exactly the outside concepts after a resource is added or marked as dead.
 use Rattle.std.proofs.Common.{◌≡◌, ◌⊎◌, ◌+◌, ℕ, length, List, [], ◌∷◌, ◌++◌, refl, sym, ap, ◌∙◌, inl, inr, Bool, true}
 use Rattle.std.proofs.Common.{false}
 use Rattle.std.specs.Prelude.{Option, None, Some}
@@ -52,7 +52,7 @@ module _ (t : Thesaurus) (knows : MarksOutside t.vocab.resources t.graph) where
   abbrev rs : List Resource
   rs = t.vocab.resources
 
-  -- The marks are right after a resource of another kind is added.
+  -- The marks are correct after a resource of another kind is added.
   pub knows_pushed : (r : Resource) → is_outside_kind r.kind ≡ false → (n : ℕ) → set.contains t.graph.outside n
       ≡ is_outside (rs ++ r ∷ []) n
   knows_pushed r kind n = knows n ∙ same_outside rs (rs ++ r ∷ []) n (passes_push rs r is_out n)
@@ -61,7 +61,7 @@ module _ (t : Thesaurus) (knows : MarksOutside t.vocab.resources t.graph) where
   abbrev resources_with_new : List Resource
   resources_with_new = rs ++ outside_resource ∷ []
 
-  -- The marks are right after an outside concept is added and marked.
+  -- The marks are correct after an outside concept is added and marked.
   pub knows_marked : (n : ℕ) → set.contains (set.insert t.graph.outside (length rs + 1)) n
       ≡ is_outside resources_with_new n
   knows_marked n =

@@ -13,7 +13,6 @@ none_numbered : (n : ℕ) (h : History) → entry_at [] n ≡ Some h → ⊥
 none_numbered zero h at = cc
 none_numbered (suc n) h at = cc
 
--- A legal state is legal without its postings.
 pub legal_without : (base : List ℕ) (s : State) → IsLegalState base s → IsLegalState base (without_postings s)
 legal_without base s legal =
     let forms = forms_of_legal base s legal in

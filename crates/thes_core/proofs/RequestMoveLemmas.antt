@@ -176,7 +176,7 @@ listed_sorted hs source postings ordered numbers row same up =
             subst (λ k. has_number (passing_numbers (is_listed postings) hs) k ≡ true) n
             (passing_has (is_listed postings) hs i h at (subst (λ k. has_number postings k ≡ true) (sym n) e))
 
--- The changes of place that the moves state are those of their postings.
+-- The changes of place read off the rows of moves are those made for their postings.
 pub places_of_moves : (number source target : ℕ) (ps : List ℕ)
     → map (λ (m : MoveRow). change.SetPlace m.posting m.target) (move_rows number source target ps)
     ≡ map (place_change target) ps

@@ -31,14 +31,14 @@ pub record AcceptedVerdict (setting : Setting) (s : State) (command : Command) (
   pub answer_is : answer ≡ answer_of command s
   pub leads : AreChangesBetween setting.base changes s (next_state command s)
 
--- The verdict is right: a settled answer is that of a machine's step that leaves the state unchanged, and an accepted
--- one has the machine's answer and changes of rows that lead to the machine's next state.
+-- The verdict is right: a settled answer is that of a machine's step that leaves the state unchanged; an accepted
+-- verdict has the machine's answer, and changes of rows that lead to its next state.
 abbrev pub IsVerdict : Setting → State → Command → Verdict → Type 0
 IsVerdict setting s command (Settled answer) = Step setting s command answer s
 IsVerdict setting s command (Accepted answer changes) = AcceptedVerdict setting s command answer changes
 
--- The request passes the checks that need no postings: a Split those without its list, a Post or a Withdraw none, and
--- any other request all.
+-- The request passes the checks that need no postings. For a Split these are the checks with an empty list of postings;
+-- for a Post or a Withdraw there are none; for any other request they are all its checks.
 abbrev pub IsAcceptedWithoutPostings : Setting → State → Command → Type 0
 IsAcceptedWithoutPostings setting s (request.Split source tag text postings) =
     IsAccepted setting s (request.Split source tag text [])
@@ -50,20 +50,20 @@ IsAcceptedWithoutPostings setting s command = IsAccepted setting s command
 abbrev pub MayApply : CoreView → Command → Type 0
 MayApply core command = IsAcceptedWithoutPostings core.setting (with_histories [] core) command
 
--- The request may be applied, if the verdict accepts it.
+-- If the verdict accepts the request, it may be applied.
 abbrev pub VerdictMayApply : CoreView → Command → Verdict → Type 0
 VerdictMayApply core command (Settled answer) = Unit {0}
 VerdictMayApply core command (Accepted answer changes) = MayApply core command
 
--- The result of applying a request: the answer, with the state `s` in the core, or running out of memory, with an
+-- The result of applying a request: the answer, and a core that is a view of the state `s`; or OutOfMemory, and an
 -- unusable core.
 abbrev pub ApplyResult : CoreView → State → Answer → Result Answer Fault → CoreView → Type 0
 ApplyResult old s answer (Ok given) new =
     (given ≡ answer) × IsViewOf new s × (new.spent ≡ false) × (new.setting ≡ old.setting)
 ApplyResult old s answer (Err fault) new = (fault ≡ OutOfMemory) × (new.spent ≡ true)
 
--- The result of a step: the machine's answer, with the machine's next state in the core, or running out of memory, with
--- an unchanged or unusable core.
+-- The result of a step: the machine's answer, and a core that is a view of the machine's next state; or OutOfMemory,
+-- and an unchanged or unusable core.
 abbrev pub CoreStepResult : CoreView → State → Command → Result Answer Fault → CoreView → Type 0
 CoreStepResult old s command (Ok answer) new =
     (t : State) × Step old.setting s command answer t × IsViewOf new t

@@ -1,4 +1,4 @@
--- Rows that the changes of a request insert.
+-- The rows that a merge or a split inserts, and the places that it sets.
 use Rattle.std.specs.Prelude.{ℕ, List, [], ◌∷◌, ◌+◌, ◌==◌, ◌||◌, map, filter, if◌then◌else◌, Option, None, Some}
 use Rattle.std.specs.FinSet as set
 use Rattle.thes_base.specs.declared.data.Link.{Link}
@@ -29,8 +29,8 @@ link_added_by_merge net source target l =
     let m = normal_form (is_marked net) (redirect_link source target l) in
     if redirect source target l.a == redirect source target l.b || set.contains net.links m then None else Some m
 
--- The copies that a merge adds to the target: of the preferred, alternative and hidden labels of a list whose text in
--- their language the target lacks.
+-- The labels that a merge adds to the target: a copy of each lexical label of the list whose text the target lacks in
+-- the label's language.
 abbrev pub copied_label_rows : Labels → ℕ → List LabelData → List Label
 copied_label_rows labels target own = map (λ l. owned_label target (merged_label l))
     (filter (lacks_name labels target) own)

@@ -1,4 +1,4 @@
--- Labels in lists that a view has for each kind.
+-- The labels of one kind, as a view lists them.
 use Rattle.std.specs.Prelude.{◌==◌, Bool}
 use Rattle.thes_base.specs.declared.data.LabelKind.{LabelKind}
 use Rattle.thes_base.specs.Data.{LabelData}

@@ -37,7 +37,7 @@ amounts_of_parts t =
       moves = t.book.moves;
     }
 
--- There is room for the growth: no number exceeds its limit, unless it doesn't grow.
+-- There is room for the growth: each number that grows stays within its limit.
 pub record HasRoomForGrowth (limits : Limits) (held : Amounts) (growth : Growth) : Type 0 where
   pub for_resources : IsWithinLimit limits.resources held.resources (held.resources + growth.resources)
   pub for_labels : IsWithinLimit limits.labels held.labels (held.labels + growth.labels)

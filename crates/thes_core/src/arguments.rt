@@ -1,5 +1,6 @@
-//! Checks of a request's arguments: whether resources exist, are of the right kind, live, different, and in the right
-//! schemes. Each check returns the refusal by the first condition that fails, or None.
+//! Checks of a request's arguments: whether resources exist, have the right kinds, are live and
+//! different, and belong to the right schemes. Each check returns the refusal for the first
+//! condition that fails, or None.
 ghost use Rattle.std.specs.Prelude.{◌≡◌};
 ghost use Rattle.thes_base.specs.RefusalRules.{accepted};
 ghost use Rattle.thes_base.specs.Resources.{replacements};

@@ -31,7 +31,7 @@ use Rattle.thes_display.proofs.SortLemmas.{rises_by, listing_in_order}
 use Rattle.thes_display.proofs.HomeLemmas.{rank_from, rank_to}
 
 module _ (links : Links) (terms : List Term) (b : ℕ) where
-  -- The children have exactly these ranks.
+  -- The children have exactly these ranks, in order, and each is a child of the concept with the rank `b`.
   pub record AreChildren (ks : List ℕ) (children : List Child) : Type 0 where
     pub ranks_are : map (λ (c : Child). c.rank) children ≡ ks
     pub kinds : (c : Child) → IsOneOf c children → IsChild links terms b c
@@ -83,7 +83,7 @@ module _ (links : Links) (terms : List Term) (b : ℕ) where
   concept_is : (n k : ℕ) → HasRank terms n k → concept_at k ≡ n
   concept_is n k h = ap (λ o. option_map_or (λ (t : Term). t.concept) o 0) h.term_at ∙ h.concept
 
-  -- Whether the concept has a rank.
+  -- The test of whether the concept has a rank.
   abbrev has_rank : (ℕ → Option ℕ) → ℕ → Bool
   has_rank ranks n = is_some (ranks n)
 
@@ -124,14 +124,14 @@ module _ (links : Links) (terms : List Term) (b : ℕ) where
   same_child : (c d : Child) → c.rank ≡ d.rank → c.types ≡ d.types → c.at_home ≡ d.at_home → c ≡ d
   same_child c d e t f = λ i. record { rank = e i; types = t i; at_home = f i }
 
-  -- Two tests of the same property are equal.
+  -- Two tests of the same property have the same result.
   same_test : {P : Type 0} (x y : Bool) → IsTrue x ↔ P → IsTrue y ↔ P → x ≡ y
   same_test true true p q = refl
   same_test false false p q = refl
   same_test true false p q = absurd (true≢false (sym (q.1 (p.0 refl))))
   same_test false true p q = absurd (true≢false (sym (p.1 (q.0 refl))))
 
-  -- A pair of ranks has only one value of types.
+  -- Only one value of types fits the links between two ranks.
   pub one_types : (k : ℕ) (x y : Types) → AreTypes links terms x k b → AreTypes links terms y k b → x ≡ y
   one_types k x y p q =
       let lower = one_concept terms q.lower p.lower k q.lower_rank p.lower_rank in

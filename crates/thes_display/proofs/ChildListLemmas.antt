@@ -22,7 +22,7 @@ at_last [] cs = refl
 at_last (x ∷ below) cs = at_last below cs
 
 module _ (links : Links) (terms : List Term) where
-  -- One more list of children extends the lists.
+  -- Appending the children of the concept with the rank `m` extends the lists by that rank.
   pub below_more : (m : ℕ) (below new : List (Vec Child Global)) (v : Vec Child Global) → AreBelow links terms m
       (lists below) → IsListing child_cmp (IsChild links terms m) v.items → new ≡ below ++ v ∷ []
       → AreBelow links terms (m + 1) (lists new)

@@ -23,7 +23,7 @@ use Rattle.thes_display.specs.Hierarchical.{IsHierarchicalDisplay}
 use Rattle.thes_display.specs.HierarchyParts.{IsGathered, IsChildAt, IsChild, IsClosed, IsRoot}
 use Rattle.thes_display.proofs.WalkLemmas.{IsOneOf, among_from, rises_none}
 
--- Lines by some relations are lines by relations that these imply.
+-- If the relations that define the lines of one hierarchy imply those of another, its lines are lines of the other.
 module _ (T : ℕ → Type 0) (H A : ℕ → ℕ → Type 0) (Y : Types → ℕ → ℕ → Type 0) (T' : ℕ → Type 0)
     (H' A' : ℕ → ℕ → Type 0) (Y' : Types → ℕ → ℕ → Type 0)
     (t : (k : ℕ) → T k → T' k) (h : (k b : ℕ) → H k b → H' k b) (a : (k b : ℕ) → A k b → A' k b)

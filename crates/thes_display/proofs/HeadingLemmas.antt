@@ -123,7 +123,7 @@ module _ (s : State) (tag : List ℕ) (n : ℕ) where
   headings_whole terms seen (t ∷ rest) headings listed e z l = absurd (omega (arith, z))
 
 module _ (s : State) (tag : List ℕ) (concepts : List ℕ) where
-  -- The heading is that of one of these concepts.
+  -- The heading is that of one of these concepts, or of an alternative label of one.
   abbrev pub IsOfThese : List ℕ → Heading → Type 0
   IsOfThese ns h = IsOneOf h.term.concept ns × IsHeadedBy s tag h.lead_in h.term
 

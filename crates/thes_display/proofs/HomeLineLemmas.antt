@@ -30,7 +30,7 @@ use Rattle.thes_display.proofs.SchemeRankLemmas.{scheme_is_closed, rank_of, one_
 abbrev has_link_test : Links → LinkKind → ℕ → ℕ → Bool
 has_link_test links kind a b = contains links (record { kind = kind; a = a; b = b })
 
--- Whether `b` is broader than `a`, by a link within their scheme.
+-- The test of whether `b` is broader than `a`, by a link within their scheme.
 abbrev is_broader : Links → ℕ → ℕ → Bool
 is_broader links a b =
     has_link_test links kinds.Broader a b || (has_link_test links kinds.BroaderGeneric a b ||
@@ -117,7 +117,7 @@ module _ (links : Links) (terms : List Term) (shut : IsClosed links terms) (cycl
   concept_is : (m k : ℕ) → HasRank terms m k → m ≡ concept_of k
   concept_is m k h = one_concept terms m (concept_of k) k h (rank_at k (rank_within terms m k h))
 
-  -- A concept that is broader by rank is broader by a link.
+  -- If the rank `b` is broader than `k`, a link leads from the concept of `k` up to that of `b`.
   concepts_linked : (k b : ℕ) → IsNarrowerTerm links terms k b → HasBroader links (concept_of k) (concept_of b)
   concepts_linked k b r = subst (λ x. HasBroader links x (concept_of b)) (concept_is r.lower k r.lower_rank)
       (subst (λ y. HasBroader links r.lower y) (concept_is r.upper b r.upper_rank) r.link)
@@ -184,8 +184,8 @@ module _ (links : Links) (terms : List Term) (shut : IsClosed links terms) (cycl
   path_from k (inl top) next = ([], top)
   path_from k (inr (b, home)) next = let rest = next b home in (b ∷ rest.0, (home, rest.1))
 
-  -- The path of homes from `k` up to a top concept exists: the ranks passed are all below `k`, so there are at most as
-  -- many as ranks.
+  -- A path of homes leads from `k` up to a top concept. The search for it ends, since the ranks seen are all below `k`
+  -- in the hierarchy, so that none is seen twice.
   find_top : (m : ℕ) (seen : List ℕ) (k : ℕ) → k < length terms → AllByRecursion (IsUp k) seen → IsDistinct eqb seen
       → length seen + m ≡ length terms → (up : List ℕ) × Homeward (k ∷ up)
   find_top zero seen k l ups distinct e =

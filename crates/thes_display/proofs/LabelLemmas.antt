@@ -1,4 +1,4 @@
--- Proves that the labels of a concept in a language are selected from all labels of the kind.
+-- Proves that selecting from a concept's labels of a kind by language lists its labels of the kind in that language.
 use Rattle.std.proofs.Common.{◌≡◌, ◌∙◌, ◌≤◌, ◌+◌, refl, sym, ap, subst, ℕ, List, [], ◌∷◌, ◌++◌, take, take_all}
 use Rattle.std.proofs.Common.{length, Ordering, Less, Equal, ⊎_elim, inl, inr, IsPermutation, IsSorted}
 use Rattle.std.specs.Ordering.{nat_cmp, ordering_then}

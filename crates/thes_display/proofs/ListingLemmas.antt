@@ -1,4 +1,4 @@
--- Proves that lists selected from listings, extended or concatenated are listings again.
+-- Proves that extending a listing, concatenating two and selecting from one give listings again.
 use Rattle.std.proofs.Common.{◌≡◌, ◌∙◌, ◌⊎◌, ◌≤◌, ◌+◌, refl, sym, ap, subst, ℕ, zero, suc, List, [], ◌∷◌, ◌++◌, take}
 use Rattle.std.proofs.Common.{take_all, length, Ordering, Less, ⊎_elim, inl, inr}
 use Rattle.std.specs.List.{AllByRecursion}
@@ -64,7 +64,7 @@ listing_joined cmp P R Q xs ys new l m e less split keep come = subst (IsListing
       (λ r. among_right x xs ys (among_from x ys (m.complete x r))) (split x q));
 })
 
--- Each element before another in a sorted list is less.
+-- Each element of a sorted list is less than each one after it.
 pub before_rest : {X : Type 0} (cmp : X → X → Ordering) (xs rest : List X) (z w : X) → IsStrictlySortedBy cmp
     (xs ++ z ∷ rest) → IsOneOf w xs → cmp w z ≡ Less
 unfolding IsStrictlySortedBy
@@ -90,7 +90,7 @@ pub before_taken : {X : Type 0} (cmp : X → X → Ordering) (all : List X) (i :
 before_taken cmp all i z w s e a =
     before_rest cmp (take i all) [] z w (subst (IsStrictlySortedBy cmp) e (rises_taken cmp (i + 1) all s)) a
 
--- The list of those of the first `i` elements of a sorted list that have a property.
+-- The list has, in order, those of the first `i` elements of a sorted list that have a property.
 abbrev pub IsChosen : {X : Type 0} → (X → X → Ordering) → List X → (X → Type 0) → ℕ → List X → Type 0
 IsChosen cmp all Q i found = IsListing cmp (λ x. IsOneOf x (take i all) × Q x) found
 

@@ -16,7 +16,7 @@ use Rattle.thes_display.proofs.HeadingLemmas.{heading_total}
 use Rattle.thes_base.proofs.UniqueListingLemmas.{one_listing}
 use Rattle.thes_display.proofs.OrderLemmas.{term_total}
 
--- Two such texts are equal if those of each element are.
+-- If each element has only one text, the list has only one concatenation of such texts.
 texts_same : {A : Type 0} (IsOf : A → List ℕ → Type 0) → ((a : A) (x y : List ℕ) → IsOf a x → IsOf a y → x ≡ y)
     → (xs : List A) (x y : List ℕ) → AreTexts IsOf xs x → AreTexts IsOf xs y → x ≡ y
 texts_same IsOf one [] x y a b = a ∙ sym b

@@ -47,7 +47,7 @@ module _ (tops : List Child) (below : List (List Child)) (n : ℕ) (o : AreHiera
   kinds k b g h p q = ap (λ (c : Child). c.at_home) (one_child (children_at below b) (o.rises b) k (child k p.0 g)
       (child k q.0 h) refl refl (among_from _ _ p.1) (among_from _ _ q.1))
 
-  -- A path has only one value of its types.
+  -- The path of a line determines its types.
   same_types : (u : List ℕ) (s t : Types) → HasTypesHere s u → HasTypesHere t u → s ≡ t
   same_types [] s t p q = absurd p
   same_types (k ∷ []) s t p q = p ∙ sym q
@@ -55,7 +55,7 @@ module _ (tops : List Child) (below : List (List Child)) (n : ℕ) (o : AreHiera
       ap (λ (c : Child). c.types) (one_child (children_at below b) (o.rises b) k (child k s p.0) (child k t q.0) refl
       refl (among_from _ _ p.1) (among_from _ _ q.1))
 
-  -- A line is either at home or away.
+  -- The path of a line determines whether the line is at home.
   same_place : (u : List ℕ) (g h : Bool) → IsPlacedHere g u → IsPlacedHere h u → g ≡ h
   same_place u true true p q = refl
   same_place u false false p q = refl
@@ -86,7 +86,7 @@ module _ (tops : List Child) (below : List (List Child)) (n : ℕ) (o : AreHiera
       let b : l.above ≡ p.above = cc in
       λ i. record { rank = a i; above = b i; types = t i; at_home = h i }
 
-  -- No line is below a line that is away.
+  -- No line is below a line that isn't at home.
   pub below_away : (p l : TreeLine) → IsIt p → p.at_home ≡ false → IsIt l → Extends p l → l ≡ p
   below_away p l i away j ([], e) = same_line l p j i e
   below_away p l i away j (x ∷ r, e) =
@@ -128,7 +128,7 @@ module _ (tops : List Child) (below : List (List Child)) (n : ℕ) (o : AreHiera
         (c.0.rank, ap path_up c.2),
       )
 
-  -- A concept has at most one home line.
+  -- A concept has at most one path of homes up to a top concept.
   one_above : (k : ℕ) (xs ys : List ℕ) → Homeward (k ∷ xs) → Homeward (k ∷ ys) → xs ≡ ys
   one_above k [] [] p q = refl
   one_above k [] (c ∷ ys) p q = absurd (o.top_home k c p q.0)

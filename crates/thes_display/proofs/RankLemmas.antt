@@ -9,7 +9,7 @@ use Rattle.thes_display.specs.Order.{Term}
 use Rattle.thes_display.specs.Hierarchical.{HasRank}
 use Rattle.thes_display.specs.HierarchyParts.{HaveOneRank, AreRanks}
 
--- The map of the ranks below `m`.
+-- The map has exactly the ranks below `m`, each under the number of its concept.
 pub record AreRanksBelow (terms : List Term) (m : ℕ) (ranks : ℕ → Option ℕ) : Type 0 where
   pub rank_is : (n k : ℕ) → ranks n ≡ Some k → HasRank terms n k × (k < m)
   pub all : (n k : ℕ) → HasRank terms n k → k < m → ranks n ≡ Some k

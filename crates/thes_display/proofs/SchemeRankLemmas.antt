@@ -1,5 +1,5 @@
--- Proves that exactly the live concepts of a scheme have ranks, each has one, and links within the scheme join only
--- these.
+-- Proves that exactly the live concepts of a scheme have ranks, each of them one. A link within the scheme has both its
+-- ends among these concepts or neither.
 use Rattle.std.proofs.Common.{◌≡◌, ◌↔◌, ◌∙◌, ◌<◌, sym, ap, refl, subst, ℕ, List, get_or, Some, arith, Ordering, Less}
 use Rattle.std.proofs.Common.{Equal, ⊎_elim}
 use Rattle.std.specs.Prelude.{Contains, slice_get}
@@ -32,7 +32,7 @@ module _ (s : State) (scheme : ℕ) (tag : List ℕ) (terms : List Term) (are : 
       same_term g.term h.term ((shown_at n j g).term ∙ ap (term_text s.labels tag) (g.concept ∙ sym h.concept)
       ∙ sym (shown_at n k h).term) (g.concept ∙ sym h.concept)
 
-  -- A concept hasn't two ranks, since the terms are sorted.
+  -- A concept has at most one rank, since the terms are sorted.
   not_before : (n j k : ℕ) → HasRank terms n j → HasRank terms n k → j < k → ⊥
   not_before n j k g h l =
       let below = Less-from_sorted term_cmp terms j k h.term are.rises l (slice_get_within terms k h.term h.term_at) in

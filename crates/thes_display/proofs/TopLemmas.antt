@@ -19,7 +19,7 @@ use Rattle.thes_display.proofs.GatherLemmas.{rank_within}
 less_from : (x y : ℕ) → x < y → nat_cmp x y ≡ Less
 less_from x y l = rw lt-ltb
 
--- The sorted list of the top concepts with ranks below `m`.
+-- The list has the top concepts with ranks below `m`, sorted by rank.
 abbrev pub AreTops : List (Option ℕ) → ℕ → List Child → Type 0
 AreTops homes m tops = IsListing child_cmp (λ c. IsTopByHomes homes c × (c.rank < m)) tops
 

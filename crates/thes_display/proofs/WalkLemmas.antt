@@ -121,7 +121,7 @@ pub less_itself : (front : List ℕ) → slice_cmp nat_cmp front front ≡ Equal
 less_itself [] = refl
 less_itself (c ∷ front) = then_same _ _ (tied_itself nat_cmp_total c) ∙ less_itself front
 
--- The path of a line below `u` continues `u` from its first rank below.
+-- The path of a line below `u` begins with the ranks of `u` from the top down, and continues with the ranks below.
 path_is : (l : TreeLine) (r u : List ℕ) (x : ℕ) → path_up l ≡ path_onto r (x ∷ u) → path l ≡ reverse u ++ x ∷ r
 path_is l r u x e = ap reverse e ∙ reverse_onto (x ∷ r) u
 

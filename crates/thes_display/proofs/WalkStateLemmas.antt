@@ -68,7 +68,7 @@ module _ (terms : List Term) (tops : List Child) (below : List (List Child)) (n 
   onto_more [] k u = refl
   onto_more (x ∷ r) k u = onto_more r k (x ∷ u)
 
-  -- The ranks lead up to a top concept.
+  -- A path of homes ends at a top concept.
   top_of : (u : List ℕ) → Homeward u → (x : ℕ) × IsTopRank tops below x × ((r : List ℕ) × (u ≡ path_onto r (x ∷ [])))
   top_of [] p = absurd p
   top_of (k ∷ []) p = (k, p, ([], refl))

@@ -30,8 +30,7 @@ module _ (tops : List Child) (below : List (List Child)) where
   abbrev pub IsTopRank : ℕ → Type 0
   IsTopRank k = Contains tops (child k untyped true)
 
-  -- The lists have a child with the rank `k` below the rank `b`, and `home` is whether that is its
-  -- home.
+  -- The lists have a child with the rank `k` below the rank `b`, and `home` states whether that is its home.
   abbrev pub IsChildOf : Bool → ℕ → ℕ → Type 0
   IsChildOf home k b = (types : Types) × Contains (children_at below b) (child k types home)
 

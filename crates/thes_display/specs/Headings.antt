@@ -1,4 +1,5 @@
--- The order in which headings are collected: by concept, its own heading before its alternative labels.
+-- The order in which headings are collected: concept by concept, each concept's own heading before those of its
+-- alternative labels.
 use Rattle.std.specs.Prelude.{◌≡◌, ℕ, List, cond}
 use Rattle.std.specs.declared.cmp.Ordering.{Ordering}
 use Rattle.std.specs.Ordering.{nat_cmp, ordering_then}

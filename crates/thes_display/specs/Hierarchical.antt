@@ -1,6 +1,6 @@
 -- The hierarchical display of a scheme in a language (ISO 25964-1, clause 12). The rank of a concept is the index of
--- its term in alphabetical order. The home of a concept is its broader concept with the least rank, under which its own
--- narrower concepts are written.
+-- its term in alphabetical order. The home of a concept is its broader concept with the least rank. Only below its home
+-- are the concept's own narrower concepts written.
 use Rattle.std.specs.Prelude.{◌≡◌, ◌≤◌, ◌↔◌, ℕ, List, true, Some, slice_get, Contains, IsTrue}
 use Rattle.thes_base.specs.declared.data.LinkKind.TheVariants.{BroaderGeneric, BroaderPartitive, BroaderInstantial}
 use Rattle.thes_base.specs.Legal.{IsLegalState}
@@ -19,7 +19,7 @@ pub record IsSchemeTerm (s : State) (scheme : ℕ) (tag : List ℕ) (t : Term) :
   pub in_scheme : IsConceptOf s.resources scheme t.concept
   pub term : t.text ≡ term_text s.labels tag t.concept
 
--- The terms of the live concepts of the scheme, in alphabetical order.
+-- The list has the terms of the live concepts of the scheme, in alphabetical order.
 abbrev pub AreTerms : State → ℕ → List ℕ → List Term → Type 0
 AreTerms s scheme tag terms = IsListing term_cmp (IsSchemeTerm s scheme tag) terms
 
@@ -54,7 +54,7 @@ module _ (links : Links) (terms : List Term) where
     pub broader : IsNarrowerTerm k b
     pub other : IsHome k b → ⊥
 
-  -- The types of the links from the concept with the rank `k` to that with the rank `b`.
+  -- These are the types of the links from the concept with the rank `k` to that with the rank `b`.
   pub record AreTypes (types : Types) (k b : ℕ) : Type 0 where
     pub lower : ℕ
     pub upper : ℕ

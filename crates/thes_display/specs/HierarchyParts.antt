@@ -27,31 +27,30 @@ module _ (links : Links) (terms : List Term) where
     pub rank : HasRank terms concept k
     pub none : (b : ℕ) → IsNarrowerTerm links terms k b → ⊥
 
-  -- The home of the rank `k`, or None if no broader concept has a rank.
+  -- The option is the home of the rank `k`, or None if no broader concept has a rank.
   abbrev pub IsHomeRank : ℕ → Option ℕ → Type 0
   IsHomeRank k None = IsRoot k
   IsHomeRank k (Some b) = IsHome links terms k b
 
-  -- The concept with the rank `k` is a child of that with the rank `b`; the Boolean is whether that
-  -- is its home.
+  -- The concept with the rank `k` is a child of that with the rank `b`; the Boolean states whether that is its home.
   abbrev pub IsChildAt : Bool → ℕ → ℕ → Type 0
   IsChildAt true k b = IsHome links terms k b
   IsChildAt false k b = IsAway links terms k b
 
-  -- The child is one of the concept with the rank `b`, with the types of its links.
+  -- The child is one of the concept with the rank `b`, and has the types of its links to that concept.
   abbrev pub IsChild : ℕ → Child → Type 0
   IsChild b c = IsChildAt c.at_home c.rank b × AreTypes links terms c.types c.rank b
 
--- The homes of the ranks below `m`, in order.
+-- The list has the homes of the ranks below `m`, in order.
 pub record AreHomes (links : Links) (terms : List Term) (m : ℕ) (homes : List (Option ℕ)) : Type 0 where
   pub size : length homes ≡ m
   pub each : (k : ℕ) (home : Option ℕ) → slice_get homes k ≡ Some home → IsHomeRank links terms k home
 
--- A top concept is listed as at home and without types.
+-- The child is listed as a top concept is: at home, and without types.
 abbrev pub IsTopChild : Child → Type 0
 IsTopChild c = (c.at_home ≡ true) × (c.types ≡ untyped)
 
--- The sorted lists of all top concepts, and of the children of each concept.
+-- The lists have all top concepts, and the children of each concept, sorted by rank.
 pub record IsGathered (links : Links) (terms : List Term) (tops : List Child) (below : List (List Child)) : Type 0 where
   pub size : length below ≡ length terms
   pub tops_listed : IsListing child_cmp (λ c. IsTopChild c × IsRoot links terms c.rank) tops
@@ -64,7 +63,7 @@ pub record IsClosed (links : Links) (terms : List Term) : Type 0 where
   pub downward : (kind : LinkKind) (a b k : ℕ) → form_of kind ≡ Within → HasLink links kind a b
       → HasRank terms b k → (j : ℕ) × HasRank terms a j
 
--- The sorted lists of the children of the concepts with ranks below `m`.
+-- The lists have the children of the concepts with ranks below `m`, each list sorted by rank.
 pub record AreBelow (links : Links) (terms : List Term) (m : ℕ) (below : List (List Child)) : Type 0 where
   pub size : length below ≡ m
   pub each : (b : ℕ) → b < m → IsListing child_cmp (IsChild links terms b) (children_at below b)

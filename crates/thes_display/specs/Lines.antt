@@ -1,4 +1,4 @@
--- Lines of a hierarchy: a line is of one concept, given by its rank, and has a path of ranks from a top concept.
+-- Lines of a hierarchy. A line shows one concept, given by its rank, and has a path of ranks from a top concept to it.
 use Rattle.std.specs.Prelude.{◌≡◌, ◌*◌, ◌++◌, ℕ, List, [], ◌∷◌, Bool, true, false, length, reverse, replicate}
 use Rattle.std.specs.Prelude.{flat_map, slice_get, codes, if◌then◌else◌}
 use Rattle.std.specs.Option.{option_map_or}
@@ -28,9 +28,9 @@ line_cmp x y = slice_cmp nat_cmp (path x) (path y)
 abbrev pub untyped : Types
 untyped = record { generic = false; partitive = false; instantial = false }
 
--- The arguments: `IsTop k` states that `k` is the rank of a top concept, `IsHome k b` that `b` is the home of `k`,
--- `IsAway k b` that `b` is broader than `k` but not its home, and `AreTypes types k b` which types the links from `k`
--- to `b` have.
+-- The arguments: `IsTop k` states that `k` is the rank of a top concept; `IsHome k b` that `b` is the home of `k`;
+-- `IsAway k b` that `b` is broader than `k` but not its home; `AreTypes types k b` that these are the types of the
+-- links from `k` to `b`.
 module _ (IsTop : ℕ → Type 0) (IsHome IsAway : ℕ → ℕ → Type 0) (AreTypes : Types → ℕ → ℕ → Type 0) where
   -- The ranks are the path of homes from a concept up to a top concept.
   abbrev pub IsHomeward : List ℕ → Type 0
@@ -45,7 +45,7 @@ module _ (IsTop : ℕ → Type 0) (IsHome IsAway : ℕ → ℕ → Type 0) (AreT
   IsPlaced false (k ∷ []) = ⊥
   IsPlaced false (k ∷ b ∷ above) = IsAway k b × IsHomeward (b ∷ above)
 
-  -- The types of the line's links to the concept directly above; a top concept has none.
+  -- These are the types of the links to the concept directly above; the line of a top concept has none.
   abbrev pub HasTypes : Types → List ℕ → Type 0
   HasTypes types [] = ⊥
   HasTypes types (k ∷ []) = types ≡ untyped

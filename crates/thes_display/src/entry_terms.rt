@@ -18,7 +18,7 @@ use thes_base::number::ResNo;
 use thes_base::text::Tag;
 use thes_core::Core;
 
-// Returns whether `b` is broader than `a` by a link of this kind.
+// Checks whether `b` is broader than `a` by a link of this kind.
 pub(crate) fn has_link(core: &Core, kind: LinkKind, a: ResNo, b: ResNo) -> bool
     requires unspent { core.now.spent ≡ false }
     requires hierarchical { IsHierarchical kind }
@@ -98,7 +98,7 @@ fn concepts_on_side(
     }
 }
 
-// Returns whether `m` is on this side of `n` by a link of this kind.
+// Checks whether `m` is on this side of `n` by a link of this kind.
 fn is_linked(core: &Core, side: Side, kind: LinkKind, n: ResNo, m: ResNo) -> bool
     requires unspent { core.now.spent ≡ false }
     requires hierarchical { IsHierarchical kind }

@@ -1,4 +1,4 @@
-//! Computing the hierarchy of a scheme from the links of a core.
+//! Computes the hierarchy of a scheme from the links of a core, and the text of its display.
 ghost use Rattle.std.specs.Prelude.{◌≡◌, ◌<◌, ◌≤◌, Contains, true, OnOk, IsPermutation, IsSorted, ◌↔◌, ℕ, Some, false, length, slice_get, IfOk, MatchOption, IsTrue};
 ghost use Rattle.std.specs.BTreeMap.{get};
 ghost use Rattle.std.specs.List.{filter_map};
@@ -98,7 +98,7 @@ fn home_of(
     Ok(least(found.as_slice()))
 }
 
-// Returns whether `rank` is the home of `child`.
+// Checks whether `rank` is the home of `child`.
 fn is_home(homes: &[Option<usize>], child: usize, rank: usize) -> bool
     requires { child < length homes.now }
     ensures at { result ≡ true → slice_get homes.now child ≡ Some (Some rank) }
@@ -134,7 +134,7 @@ fn types_at(core: &Core, terms: &[Term], child: usize, rank: usize) -> Types
 }
 
 // Returns the children of a concept, sorted by rank: its narrower concepts that have a rank,
-// whether or not it is their home.
+// whether or not the concept is their home.
 fn children_of(
     alloc: Global,
     core: &Core,

@@ -49,7 +49,7 @@ impl Hierarchy {
 }
 
 impl Symbol {
-    /// Returns all symbols, in the order of their lines.
+    /// Returns all symbols, in the order of their lines in an entry.
     pub fn all() -> [Symbol; 11]
         ensures { result ≡ symbols }
     {

@@ -1,4 +1,4 @@
-//! Writing a hierarchy line by line, by a depth-first walk.
+//! Writes a hierarchy line by line, in a depth-first walk.
 ghost use Rattle.std.specs.Prelude.{◌≡◌, ◌+◌, ◌*◌, ◌<◌, ◌++◌, [], length, reverse, map, replicate, slice_set, IfOk, OnOk, vec_len, if◌then◌else◌};
 ghost use Rattle.thes_display.specs.Lines.{line_end, placed_text, types_text};
 ghost use Rattle.thes_display.specs.ChildLists.{children_at, lists, total, waiting_at, AreHierarchyLists, IsHierarchyText};
@@ -119,7 +119,8 @@ fn take_below(alloc: Global, below: &mut Vec<Vec<Child>>, rank: usize) -> Vec<Ch
 }
 
 /// Returns the lines of a hierarchy in the order of their paths: each concept before its children,
-/// and these in the order of their ranks. Only a line at home has lines of children below it.
+/// and the children in the order of their ranks. Only a line at home has lines of children below
+/// it.
 pub fn hierarchy_text(
     alloc: Global,
     terms: &[Term],

@@ -28,7 +28,7 @@ pub enum DisplayOutcome {
     No(Refusal),
 }
 
-/// Checks that the number is a scheme's: returns None if it is, and else UnknownResource or
+/// Checks that the number is a scheme's: returns None if it is, or else UnknownResource or
 /// WrongKind.
 pub fn check_scheme(core: &Core, scheme: ResNo) -> Option<Refusal>
     requires { core.now.spent ≡ false }

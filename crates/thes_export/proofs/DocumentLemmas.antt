@@ -9,7 +9,7 @@ use Rattle.thes_export.proofs.TerminalLemmas.{head_of, tail_of, heads_differ, no
 use Rattle.thes_export.proofs.WritableLemmas.{IsWritable}
 use Rattle.thes_export.proofs.LineReadingLemmas.{line_then, not_blank, line_same}
 
--- Before the end of a line there is only white space and a comment.
+-- If a text begins with neither white space nor `#`, nothing comes before the end of its line.
 no_line_end : (text : List ℕ) (c : ℕ) (x rest : List ℕ) → text ≡ c ∷ x → ¬ IsBlankByte c → (c ≡ 35 → ⊥)
     → IsLineEnd text rest → rest ≡ c ∷ x
 no_line_end text c x rest e blank hash at_line_end = elim at_line_end.content [
@@ -20,7 +20,7 @@ no_line_end text c x rest e blank hash at_line_end = elim at_line_end.content [
     start : at_line_end.start ≡ c ∷ x
     start = no_gap_before text at_line_end.start c x at_line_end.gap_before e blank
 
--- An end of line is one byte if the next byte is no line end.
+-- An end of line is one byte if the next byte belongs to no line end.
 one_eol : (eol rest text x : List ℕ) → IsEol eol → text ≡ eol ++ rest → text ≡ 10 ∷ x
     → ((c : ℕ) (z : List ℕ) → x ≡ c ∷ z → ¬ IsEolByte c) → rest ≡ x
 one_eol [] rest text x has_form text_is e stops = absurd (let l = has_form.0 in omega arith)

@@ -74,7 +74,7 @@ joined_more xs i x old new below at so_far more =
     more ∙ ap (λ t. t ++ x) so_far ∙ ap (λ t. concat (take i xs) ++ t) (sym (append-nil x))
     ∙ sym (concat-append (take i xs) (x ∷ [])) ∙ ap concat (sym taken)
 
--- The sorted lines about all resources are the export.
+-- If a core is a view of the state, the sorted lines about all its resources are the export.
 
 module _ (core : CoreView) (s : State) (holds : IsViewOf core s) (gathered lines : List (List ℕ))
     (added : Adds (IsLineOf (IsTripleUpTo core (length core.resources))) [] gathered)

@@ -112,7 +112,7 @@ joined_parts : (first : List ℕ) (others : List (List ℕ)) → join_with_byte 
 joined_parts first [] = sym (append-nil first)
 joined_parts first (part ∷ others) = ap (λ l. first ++ 45 ∷ l) (joined_parts part others)
 
--- A tag in its form splits into the parts of the grammar.
+-- A language tag of the right form splits into the parts that the grammar of N-Triples gives it.
 tag_form : (tag : List ℕ) → IsTag tag → IsTagForm tag
 tag_form tag of = go (slice_split (λ b. b == 45) tag) of.parts (join_with_byte-slice_split 45 tag)
   where
@@ -149,7 +149,7 @@ module _ (base : List ℕ) (s : State) (forms : StateHasForms base s) where
   both_iris : (x y : List ℕ) (m n : ℕ) → IsIriOf base s m x → IsIriOf base s n y → BothBytes x y
   both_iris x y m n d e = (named_bytes m x d, named_bytes n y e)
 
-  -- Both IRIs of a triple whose object is a resource have only bytes of an IRI.
+  -- Both IRIs of a triple whose object is a resource have only bytes that are allowed in IRIs.
   node_bytes : (p : Property) (x y : List ℕ) → HasProperty base s x p (Node y) → BothBytes x y
   node_bytes InScheme x y (m, n, stand, d, e) = both_iris x y m n d e
   node_bytes TopConceptOf x y (m, n, stand, d, e) = both_iris x y m n d e

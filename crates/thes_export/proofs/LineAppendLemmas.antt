@@ -12,7 +12,7 @@ use Rattle.thes_export.specs.Topics.{Adds, IsLineOf}
 pub added_none : (Is : List ℕ → Type 0) (xs : List (List ℕ)) → ((l : List ℕ) → Is l → ⊥) → Adds Is xs xs
 added_none Is xs none = record { each = λ l. (inl, ⊎_elim (λ c. c) (λ is. absurd (none l is))) }
 
--- A step appends the lines of an equivalent property also.
+-- A step that appends the lines of a property also appends those of an equivalent one.
 pub added_same : (Is Other : List ℕ → Type 0) (old new : List (List ℕ)) → ((l : List ℕ) → Is l → Other l)
     → ((l : List ℕ) → Other l → Is l) → Adds Is old new → Adds Other old new
 added_same Is Other old new to from adds = record {
@@ -22,7 +22,7 @@ added_same Is Other old new to from adds = record {
   );
 }
 
--- Two steps append the lines of either.
+-- Two steps together append the lines of both their properties.
 pub added_then : (Is More All : List ℕ → Type 0) (old mid new : List (List ℕ))
     → ((l : List ℕ) → All l → Is l ⊎ More l) → ((l : List ℕ) → Is l → All l) → ((l : List ℕ) → More l → All l)
     → Adds Is old mid → Adds More mid new → Adds All old new
@@ -84,7 +84,7 @@ module _ {A : Type 0} (Is : A → Triple → Type 0) where
       (sym (take_more xs i x below ∙ ap (λ z. take i xs ++ z ∷ []) (sym at)))
       (added_each (take i xs) x old mid new inv one)
 
-  -- The loop has appended the lines of all elements at its end.
+  -- At its end the loop has appended the lines of all elements.
   pub all_taken : (xs : List A) (i : ℕ) (old new : List (List ℕ)) → length xs ≤ i
       → Adds (IsLineOf (OfSome (take i xs))) old new → Adds (IsLineOf (OfSome xs)) old new
   all_taken xs i old new all added = subst (λ (ys : List A). Adds (IsLineOf (OfSome ys)) old new) (take_all i xs all)

@@ -16,7 +16,7 @@ use Rattle.thes_export.proofs.WritableLemmas.{boolean_bytes}
 pub not_blank : (c : ℕ) → (c ≡ 32 → ⊥) → (c ≡ 9 → ⊥) → ¬ IsBlankByte c
 not_blank c space tab = ⊎_elim space tab
 
--- The spelling of an object before the remaining text.
+-- The spelling of an object, followed by the remaining text.
 abbrev pub object_then : Object → List ℕ → List ℕ
 object_then (Node iri) y = 60 ∷ (iri ++ 62 ∷ y)
 object_then (Class kind) y = 60 ∷ (class_iri kind ++ 62 ∷ y)
@@ -59,7 +59,7 @@ stops_gap [] x blank = λ is. omega arith
 stops_gap (b ∷ gap) x blank = λ is. elim (All-head IsBlankByte b gap blank)
     [ inl e ↦ omega arith | inr e ↦ omega arith ]
 
--- The bytes of a tag in its form are bytes of tags.
+-- A language tag of the grammar's form has only bytes that are allowed in tags.
 form_bytes : (tag : List ℕ) → IsTagForm tag → All IsTagByte tag
 form_bytes tag form = tag_bytes (64 ∷ (tag ++ [])) tag []
     (record {
@@ -146,7 +146,7 @@ object_same True text x other rest stop fine e read gap_before =
     literal_object text _ other rest e (typed_same text (xsd (codes "boolean")) (codes "true") x other rest stop
     boolean_bytes e gap_before) read
 
--- The spelling of a line before the remaining text.
+-- The spelling of a line, followed by the remaining text.
 abbrev pub line_then : Triple → List ℕ → List ℕ
 line_then t x =
     60 ∷ (t.subject ++ 62 ∷ 32 ∷ 60 ∷ (property_iri t.property ++ 62 ∷ 32 ∷ object_then t.object (32 ∷ 46 ∷ 10 ∷ x)))

@@ -160,12 +160,12 @@ quoted_same text value x other rest e read =
 abbrev pub IsTagByte : ℕ → Type 0
 IsTagByte b = IsAsciiAlphanumeric b ⊎ (b ≡ 45)
 
--- A text doesn't begin with a byte of a tag.
+-- The text doesn't begin with a byte that is allowed in tags.
 abbrev pub Stops : List ℕ → Type 0
 Stops [] = Unit {0}
 Stops (c ∷ x) = IsTagByte c → ⊥
 
--- A run of bytes of a tag ends at only one index.
+-- A run of bytes that are allowed in tags ends at only one index.
 pub run_same : (a b x y : List ℕ) → All IsTagByte a → All IsTagByte b → Stops x → Stops y → a ++ x ≡ b ++ y → (a ≡ b)
     × (x ≡ y)
 run_same [] [] x y h k s t e = (refl, e)

@@ -14,7 +14,7 @@ use Rattle.thes_base.specs.Triples.{Triple, Object, Node, Class, Literal, True}
 use Rattle.thes_export.specs.NTriples.{AreSome}
 use Rattle.thes_export.specs.Spelling.{rdf, skos, owl, dct, xsd, property_iri, class_iri}
 
--- A language tag in the parts of the grammar.
+-- The language tag consists of the parts that the grammar of N-Triples gives it.
 pub record IsTagForm (tag : List ℕ) : Type 0 where
   pub letters : List ℕ
   pub parts : List (List ℕ)
@@ -36,7 +36,7 @@ pub record IsWritable (t : Triple) : Type 0 where
   pub subject : All IsIriByte t.subject
   pub object : IsWritableObject t.object
 
--- Whether a byte may be in an IRI, as a Boolean test.
+-- The test of whether a byte may be in an IRI.
 abbrev is_iri_byte : ℕ → Bool
 is_iri_byte b = nat_lt 32 b && not (list_any (λ c. c == b) (codes "<>\"{}|^`\\"))
 

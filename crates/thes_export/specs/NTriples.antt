@@ -8,7 +8,7 @@ use Rattle.std.specs.Char.{IsAsciiAlphabetic, IsAsciiAlphanumeric, IsAsciiDigit,
 use Rattle.std.specs.Str.Parse.{digits_value}
 use Rattle.thes_base.specs.Forms.{IsIriByte}
 
--- A term of RDF 1.1 as it is read: an IRI, a blank node, or a literal with a type or with a language tag, which keeps
+-- A term of RDF 1.1 as it is read: an IRI, a blank node, or a literal with a type or with a language tag. A tag keeps
 -- its spelling.
 pub data RdfTerm : Type 0 where
   Iri : (iri : List ℕ) → RdfTerm
@@ -119,7 +119,7 @@ IsStringPiece (Plain b) = (b ≢ 34) × (b ≢ 92) × (b ≢ 10) × (b ≢ 13)
 IsStringPiece (Echar letter) = IsEchar letter
 IsStringPiece (Uchar letter digits) = IsUchar letter digits
 
--- The text between the brackets or quotation marks, as pieces, and the value that these encode.
+-- The text between brackets or quotation marks consists of pieces, which encode the value.
 pub record IsMadeOf (IsPiece : Piece → Type 0) (text_is value : List ℕ) : Type 0 where
   pub pieces : List Piece
   pub each : All IsPiece pieces
@@ -166,7 +166,7 @@ pub record IsSpaced (text rest : List ℕ) : Type 0 where
   pub blank : IsGap gap
   pub text_is : text ≡ gap ++ rest
 
--- '^^' IRIREF
+-- '^^' IRIREF, each after white space
 pub record IsTypedAs (text : List ℕ) (value : List ℕ) (literal : RdfTerm) (rest : List ℕ) : Type 0 where
   pub carets : List ℕ
   pub carets_follow : IsSpaced text (94 ∷ 94 ∷ carets)

@@ -55,7 +55,7 @@ module _ (core : CoreView) where
   abbrev pub label_triple : ℕ → LabelData → Triple
   label_triple n l = triple (number_iri core n) (label_property l.kind) (Literal l.tag l.text)
 
-  -- The triple has the subject `n` and the property `p`, and its object has the property `Is`.
+  -- The triple has the subject `n`, the property `p`, and as its object a resource that satisfies `Is`.
   abbrev pub Nodes : Property → (ℕ → Type 0) → ℕ → Triple → Type 0
   Nodes p Is n t = (m : ℕ) × Is m × IsNode n p m t
 

@@ -1,4 +1,4 @@
-//! Collecting the lines of an export, and its text.
+//! Collects the lines of an export, and joins them into its text.
 ghost use Rattle.std.specs.Prelude.{◌≡◌, ◌+◌, ◌++◌, ◌<◌, [], Contains, false, IfOk, OnOk, length};
 ghost use Rattle.std.specs.List.{concat};
 ghost use Rattle.std.specs.Ordering.{nat_cmp};

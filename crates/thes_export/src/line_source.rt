@@ -1,4 +1,4 @@
-//! A resource of a core, as the subject of lines.
+//! The resource of a core about which lines are written.
 ghost use Rattle.std.specs.Prelude.{◌≡◌, false, Some};
 ghost use Rattle.thes_base.specs.Resources.{entry_at};
 

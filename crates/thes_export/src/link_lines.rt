@@ -1,4 +1,4 @@
-//! Lines of a concept's links, as seen from the concept.
+//! Lines of a resource's links: of a concept's relations and mappings, and of memberships.
 ghost use Rattle.std.specs.Prelude.{◌≡◌, Bool, false, OnOk};
 ghost use Rattle.thes_base.specs.Links.{is_symmetric};
 ghost use Rattle.thes_export.specs.Topics.{Adds, AddsTopic, IsLineOf, IsMatch, MapsOne};

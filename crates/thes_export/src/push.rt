@@ -1,4 +1,4 @@
-//! Appending lines to a list.
+//! Appends lines of triples to a list.
 ghost use Rattle.std.specs.Prelude.{◌≡◌, ℕ, List, Contains, OnOk};
 ghost use Rattle.thes_export.specs.Topics.{Adds, IsLineOf, IsNode, Nodes};
 

@@ -1,4 +1,5 @@
-//! Lines of a resource's class, scheme, replacement and labels.
+//! Lines on a resource's class, its scheme, whether it is a top concept or deprecated, its
+//! replacement and its labels.
 ghost use Rattle.std.specs.Prelude.{◌≡◌, ◌&&◌, not, IfOk, OnOk};
 ghost use Rattle.thes_base.specs.Resources.{is_concept_kind};
 ghost use Rattle.thes_export.specs.Topics.{AddsTopic, IsTopScheme, class_in};
@@ -38,7 +39,7 @@ fn replacement_in(resource: &Resource) -> Option<ResNo>
     resource.replaced
 }
 
-/// Returns whether the resource is a concept.
+/// Checks whether the resource is a concept, live or deprecated.
 pub(crate) fn is_concept(resource: &Resource) -> bool
     ensures { result ≡ is_concept_kind resource.now.kind }
 {
@@ -48,14 +49,14 @@ pub(crate) fn is_concept(resource: &Resource) -> bool
     }
 }
 
-// Returns whether the resource is a live concept, one that isn't deprecated.
+// Checks whether the resource is a concept that isn't deprecated.
 fn is_live_concept(resource: &Resource) -> bool
     ensures { result ≡ (is_concept_kind resource.now.kind && resource.now.live) }
 {
     is_concept(resource) && resource.live
 }
 
-// Returns whether the resource is a deprecated concept.
+// Checks whether the resource is a deprecated concept.
 fn is_dead_concept(resource: &Resource) -> bool
     ensures { result ≡ (is_concept_kind resource.now.kind && not resource.now.live) }
 {

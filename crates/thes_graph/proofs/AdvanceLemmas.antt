@@ -142,7 +142,7 @@ module _ (edit : LinkEdit) (held : Links) (relation : Relation) (goals : List �
       (subst P (sym there.2 ∙ get_or_default side_search.nodes there.0 last.0 0 there.1) last.2)
 
 module _ (edit : LinkEdit) (held : Links) where
-  -- A state of a search with some number of visits is one with fewer visits.
+  -- A state of a search after some number of visits is also one after any smaller number.
   pub IsSideSearch-less : (relation : Relation) (goals : List ℕ) (start : ℕ) (side_search : SideSearch) (a b : ℕ) → a
       ≤ b → IsSideSearch edit held relation goals start side_search b → IsSideSearch edit held relation goals start
       side_search a

@@ -1,4 +1,4 @@
--- The members of sets of links after additions and removals.
+-- A set of links has the expected members after links are added and removed.
 use Rattle.std.proofs.Common.{◌≡◌, ◌≢◌, ◌+◌, ◌-◌, ◌<◌, ◌≤◌, ◌⊎◌, inl, inr, ℕ, List, [], ◌∷◌, ◌++◌, cond, not}
 use Rattle.std.proofs.Common.{Contains, length, take, get_or, Option, Some, None, slice_get, refl, sym, ap, subst}
 use Rattle.std.proofs.Common.{◌∙◌, arith}

@@ -1,4 +1,4 @@
--- The links after an edit break the same rules as the set that holds them in normal form.
+-- The links after an edit break the same rules as the set that has their normal forms.
 use Rattle.std.proofs.Common.{◌≡◌, ◌≢◌, inl, inr, ℕ, Bool, true, false, ◌==◌, Option, Some, None, refl, sym, ap}
 use Rattle.std.proofs.Common.{subst, if◌then◌else◌}
 use Rattle.std.specs.FinSet.{insert}
@@ -14,7 +14,7 @@ use Rattle.thes_graph.specs.LinkEdit.{HeldAfter, link_after_merge}
 use Rattle.thes_graph.proofs.NormLemmas.{IsEntailedBy, IsEntailedBy-itself, norm-says, IsFirstBroken-same}
 use Rattle.thes_graph.proofs.SetLemmas.{inserted_held, insert_keeps}
 
--- Each link after an addition is in the new set, in normal form.
+-- Each link after an addition is entailed by a link of the new set.
 pub inserted_to : (held : Links) (new l : Link) → HeldAfter (WithLink new) held l → (m : Link)
     × Holds (insert held new) m × IsEntailedBy l m
 inserted_to held new l (inl old) = (l, insert_keeps held new l old, IsEntailedBy-itself l)
@@ -65,7 +65,7 @@ module _ (is_outside : ℕ → Bool) (source target : ℕ) (held : Links) where
       merged_to is_outside source target held (normal_form is_outside n)
       (l, has, is.0, ap (normal_form is_outside) (sym is.1))
 
-  -- Each link after a merge is in the merged set, in normal form.
+  -- Each link after a merge is entailed by a link of the merged set.
   pub would_to : (n : Link) → HeldAfter (AfterMerge source target) held n → (m : Link)
       × Holds (links_after_merge is_outside source target held) m × IsEntailedBy n m
   would_to n (l, has, gives) = (normal_form is_outside n, contracted_to l n has gives, (norm-says is_outside n).0)

@@ -1,4 +1,4 @@
--- Distinct nodes touch each link at most twice, and at one given end at most once.
+-- At most two of a list of distinct nodes are ends of a given link, and at most one is its first or its second end.
 use Rattle.std.proofs.Common.{◌≡◌, ◌==◌, ◌+◌, ◌*◌, ◌≤◌, ℕ, List, [], ◌∷◌, length, get_or, ap, ◌∙◌, arith, refl}
 use Rattle.std.proofs.Common.{sum_by, true, false, nat_eq, if◌then◌else◌}
 use Rattle.std.specs.List.{IsDistinct, AllByRecursion}
@@ -23,7 +23,7 @@ module _ {X : Type 0} where
   sum_by-none [] = refl
   sum_by-none (x ∷ xs) = omega (arith, sum_by-none xs, sum_by-cons (λ (_ : X). 0) x xs)
 
--- A number occurs at most once in a list of distinct numbers.
+-- A number isn't in the rest of a list of distinct numbers if it is the first.
 absent : (p x : ℕ) (xs : List ℕ) → (p == x) ≡ true → AllByRecursion (λ y. nat_eq x y ≡ false) xs
     → AllByRecursion (λ y. one_at p y ≡ 0) xs
 absent p x [] here apart = tt
@@ -84,6 +84,6 @@ module _ (edit : LinkEdit) (nodes : List ℕ) (distinct : IsDistinct nat_eq node
         sum_by-one_at (node_after edit l.b) nodes distinct,
       )
 
-  -- Distinct nodes have at most two ends of each link.
+  -- Distinct nodes have at most two ends of each link in all.
   pub met_twice : (ns : List Link) → sum_by (λ n. sum_by (ends_at_node edit n) ns) nodes ≤ 2 * length ns
   met_twice ns = omega (arith, met_at_most nodes (ends_at_node edit) 2 link_twice ns)

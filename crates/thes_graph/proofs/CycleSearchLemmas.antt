@@ -303,7 +303,7 @@ last_above above h is = (
   get_or_from_slice_get above (length above - 1) h h (sym is),
 )
 
--- A pop splits the last node off those that are still to be searched from.
+-- A pop removes the last broader node from the list of those still to be searched from.
 pub all_but_last : (above rest : List ℕ) (h : ℕ) → Some h ≡ slice_get above (length above - 1) → rest
     ≡ take (length above - 1) above → above ≡ rest ++ h ∷ []
 all_but_last above rest h is open_nodes =

@@ -27,7 +27,8 @@ module _ (held : Links) (new : Link) (two : new.a ≢ new.b) (all_two : HaveTwoE
   with_two l (inl has) = all_two l has
   with_two l (inr same) = λ ends. two (ap (λ (w : Link). w.a) same ∙ ends ∙ sym (ap (λ (w : Link). w.b) same))
 
-  -- The links after the addition that have no end at the first end of the new link were held before.
+  -- The links after the addition without an end at the first end of the new link break no rule, since they were held
+  -- before.
   with_away : BreakNone (HeldAwayFrom (HeldAfter (WithLink new) held) new.a)
   with_away = BreakNone-within (HeldAwayFrom (HeldAfter (WithLink new) held) new.a) (Holds held) old legal
     where
@@ -84,7 +85,8 @@ pub CoversNear-held : (held : Links) (p : ℕ) (ns : List Link) → CoversEdit N
     ns
 CoversNear-held held p ns all n near l has touch = all l has n (inr near) touch
 
--- The new link, which isn't held, allows one visit more: the held links near it are one fewer than the neighbourhood.
+-- The held links near a new link, which isn't held, are at least one fewer than the links of a neighbourhood. This
+-- leaves one visit for the look-up of the new link.
 pub CoversNear-with : (held : Links) (new : Link) (ns : List Link) → (Holds held new → ⊥) → Contains ns new
     → CoversEdit (WithLink new) held new.a ns
     → (rest : List Link) × (length rest + 1 ≡ length ns) × CoversNear (WithLink new) held new.a rest

@@ -1,4 +1,4 @@
--- The index of a graph stays right: each node has the links of the set with an end there, sorted by side.
+-- The index of a graph stays correct: each node's row has the links of the set with an end there, sorted by side.
 use Rattle.std.proofs.Common.{◌≡◌, ◌≢◌, ◌+◌, ◌⊎◌, inl, inr, ℕ, List, [], ◌∷◌, Bool, true, false, cond, ◌||◌, ◌==◌}
 use Rattle.std.proofs.Common.{◌<◌, Contains, length, get_or, map, Less, refl, sym, ap, subst, ◌∙◌, arith}
 use Rattle.std.specs.Prelude.{filter}
@@ -140,7 +140,7 @@ test_of_ends n l (inr at) = go (l.a == n)
     go true = refl
     go false = (Decides-eqb l.b n).1 at
 
--- The link is in the list and has an end at the node, and has the side on which it lies there.
+-- The sided link is a link of the list with an end at the node, and the side of the node on which it lies.
 abbrev CoversSide : List Link → ℕ → SidedLink → Type 0
 CoversSide ks n s = Contains ks s.link × HasEnd n s.link × (sided_link_at n s.link ≡ s)
 
@@ -246,7 +246,7 @@ pub links_at_to : (links : Links) (n : ℕ) (l : Link) → Holds links l → Has
 links_at_to links n l held ends = Contains-map link_of (sided_links_at links n) (sided_link_at n l)
     (sided_links_to links n l held ends)
 
--- The links at different places of a row differ.
+-- The links at different indexes of a row differ.
 links_once : (links : Links) (n : ℕ) (i j : ℕ) (d : Link) → i < j → j < length (links_at links n)
     → get_or (links_at links n) i d ≢ get_or (links_at links n) j d
 links_once links n i j d lt within same =
@@ -335,7 +335,8 @@ module _ (op : List SidedLink → SidedLink → List SidedLink) (ks later : List
     (was : (n : ℕ) → listed_at old n ≡ sorted_row n ks) (here : (n : ℕ) → HasEnd n l → sorted_row n later
     ≡ op (sorted_row n ks) (sided_link_at n l))
     (others : (n : ℕ) → (HasEnd n l → ⊥) → sorted_row n later ≡ sorted_row n ks) where
-  -- The rows at all nodes are right after the rows at both ends of a link change as the list does.
+  -- The rows of all nodes are correct after the same change is made to the list and to the rows at both ends of the
+  -- link.
   rows_changed : (n : ℕ) → listed_at both n ≡ sorted_row n later
   rows_changed n = go (cases_eq l.a n) (cases_eq l.b n)
     where
@@ -370,7 +371,7 @@ len_is (k ∷ ks) sorted =
     one_more : len (from_list {R = link_cmp} ks) ≡ length ks → len (from_list {R = link_cmp} ks) + 1 ≡ length (k ∷ ks)
     one_more e = omega arith
 
--- An index without links is right.
+-- An index without links is correct.
 pub IsIndexed-none : (ks : List Link) (rows : Lists SidedLink) (outside : List ℕ) → ks ≡ []
     → ((n : ℕ) → listed_at rows n ≡ []) → IsIndexed ks rows outside
 IsIndexed-none ks rows outside none no_rows =
@@ -381,7 +382,7 @@ IsIndexed-none ks rows outside none no_rows =
       rows = no_rows;
     })
 
--- The index stays right if the rows keep their values.
+-- The index stays correct if the rows keep their values.
 pub IsIndexed-same : (ks : List Link) (outside : List ℕ) (old new : Lists SidedLink) → HaveSameValues old new
     → IsIndexed ks old outside → IsIndexed ks new outside
 IsIndexed-same ks outside old new same index = record {
@@ -427,7 +428,7 @@ module _ (ks : List Link) (outside : List ℕ) (old : Lists SidedLink) (index : 
           (subst (λ (w : SidedLink). ChangesOnlyAt one both l.b (op derived_sided_cmp (listed_at one l.b) w)) at_b
           second)
 
-    -- The index stays right if a new link is inserted at both its ends.
+    -- The index stays correct if a new link is inserted at both its ends.
     pub IsIndexed-added : normal_form (contains (from_list {R = nat_cmp} outside)) l ≡ l → keys
         ≡ insert_key derived_link_cmp ks l
         → ChangesOnlyAt old one l.a (insert_key derived_sided_cmp (listed_at old l.a) s) → ChangesOnlyAt one both l.b

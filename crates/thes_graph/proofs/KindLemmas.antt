@@ -30,7 +30,8 @@ turn_either _ a b x y h = absurd h
 pub related_turns : (Held : Link → Type 0) (x y : ℕ) → IsRelated Held x y → IsRelated Held y x
 related_turns Held x y (l, held, leads) = (l, held, turn_either l.kind l.a l.b x y leads)
 
--- A chain after a step was added either does without it, or leads to its start and from its end.
+-- A chain in a relation to which one step was added either doesn't use that step, or reaches its start and continues
+-- from its end.
 module _ (S T : ℕ → ℕ → Type 0) (low high : ℕ) (cases : (x y : ℕ) → T x y → S x y ⊎ ((low ≡ x) × (high ≡ y))) where
   path_split : (x : ℕ) (ms : List ℕ) (y : ℕ) → Path T x ms y → Chain S x y ⊎ (Reaches S x low × Reaches S high y)
   path_split x [] y one =
@@ -167,7 +168,7 @@ module _ (Held : Link → Type 0) (new : Link) where
     near_high n (inr (inr chain)) =
         inl (inr (Chain-map (IsNarrower Held) (IsNarrower WithLink) (more broader_direction) high n chain))
 
-  -- Assumes that the new link leads neither up nor down, so that it keeps what is above or below each node.
+  -- Assumes that the new link leads neither up nor down, so that the same nodes stay above and below each node.
   module _ (level : broader_direction new.kind ≡ Never) where
     pub near_level : (p n : ℕ) → ReachesUp Held n p ⊎ ReachesUp Held p n → IsNearPivot WithLink p n
     near_level p n (inl (inl same)) = inl (inl (sym same))
@@ -276,8 +277,8 @@ module _ (Held : Link → Type 0) (low high : ℕ) where
   no_chain_to off (ms, path) = let last = Path-last (IsNarrower Held) low ms high path in
       off last.0 (narrower_to Held high last.0 high last.2)
 
--- A new link up breaks no rule if nothing is narrower than its low end or related to it, or nothing is broader than
--- its high end or related to it.
+-- A new link up breaks no rule if its low end has no narrower and no related concept, or its high end no broader and no
+-- related one.
 module _ (Held : Link → Type 0) (new : Link) (two : new.a ≢ new.b) (legal : BreakNone Held)
     (up : broader_direction new.kind ≡ Forward) (beside : related_direction new.kind ≡ Never)
     (alike : exact_direction new.kind ≡ Never) (apart : disjoint_direction new.kind ≡ Never) where
@@ -313,7 +314,7 @@ pub unbroken_loose : (Held : Link → Type 0) (new : Link) → BreakNone Held �
 unbroken_loose Held new legal up beside alike apart =
     (no_cycle_kept Held new up legal.0, s27_kept Held new up beside legal.1, s46_kept Held new alike apart legal.2)
 
--- If Cycle or S27 is broken, the first of these two is the first of all three rules.
+-- If Cycle or S27 is broken, the first of these two that is broken is also the first of all three rules.
 pub IsFirstBroken-two : (Held : Link → Type 0) (r : Refusal) → IsFirstOfCycleAndS27 Held (Some r)
     → IsFirstBroken Held (Some r)
 IsFirstBroken-two Held no.Cycle above = above

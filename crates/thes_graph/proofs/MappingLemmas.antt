@@ -1,4 +1,4 @@
--- The mappings and typed links of a concept are those of the links at it.
+-- The mappings and typed links of a concept are the links with an end at it, as seen from it.
 use Rattle.std.proofs.Common.{◌≡◌, ◌≢◌, inl, inr, ◌==◌, ◌<◌, ◌≤◌, ℕ, List, Bool, true, false, length, Some, Ordering}
 use Rattle.std.proofs.Common.{if◌then◌else◌, Result, Ok, Err, refl, sym, ap, subst, ◌∙◌}
 use Rattle.std.specs.List.{insert}
@@ -91,7 +91,8 @@ module _ (links : Links) (n : ℕ) where
           seen_backward l.kind l.a p (subst (λ (k : ℕ). HasLink links l.kind l.a k) (second (other_of l.a n other) at)
           held) e
 
-  -- A link from n, or to n, seen from n.
+  -- A link with n as its first end is seen from n in its own direction, and one with n as its second end in the
+  -- opposite one.
   seen_as_first : (k : LinkKind) (m : ℕ) → mapping_seen_from n (record { kind = k; a = n; b = m })
       ≡ mapping_of_kind true k m
   seen_as_first k m = ap (λ t. mapping_of_kind t k (if t then m else n)) ((Decides-eqb n n).1 refl)

@@ -1,4 +1,4 @@
--- The index stays right after an outside concept without links is marked.
+-- The index stays correct after an outside concept without links is marked.
 use Rattle.std.proofs.Common.{◌≡◌, ◌≢◌, inl, inr, ℕ, List, Bool, true, cond, ◌&&◌, ◌||◌, nat_lt, if◌then◌else◌, sym}
 use Rattle.std.proofs.Common.{ap, ◌∙◌}
 use Rattle.std.specs.List.{list_any}
@@ -42,7 +42,7 @@ norm_same f g l a b =
     ap (λ o. if is_symmetric (o || f l.b) l.kind && nat_lt l.b l.a then reversed_link l else l) a
     ∙ ap (λ o. if is_symmetric (g l.a || o) l.kind && nat_lt l.b l.a then reversed_link l else l) b
 
--- The index stays right if no link has an end at the new outside concept.
+-- The index stays correct if no link has an end at the new outside concept.
 pub IsIndexed-marked : (ks : List Link) (rows : Lists SidedLink) (old new : List ℕ) (n : ℕ) → IsIndexed ks rows old
     → from_list {R = nat_cmp} new ≡ insert (from_list old) n
     → ((l : Link) → Holds (from_list ks) l → HasEnd n l → ⊥) → IsIndexed ks rows new

@@ -178,7 +178,7 @@ module _ (net : GraphView) (source target : ℕ) where
                   (without_node_to source (with_all net.links merge_additions) (normal_form (is_marked net) n)
                   (there l n was gives, never_source l n gives))
 
--- One iteration of a loop appends what the next item is mapped to, if anything.
+-- One iteration of a loop appends the value to which the next item is mapped, if there is one.
 pub filter_map_more : {X Y : Type 0} → (f : X → Option Y) (xs : List X) (i : ℕ) (x : X) (o : Option Y) → i < length xs
     → x ≡ get_or xs i x → o ≡ f x
     → filter_map f (take (i + 1) xs) ≡ filter_map f (take i xs) ++ option_to_list o

@@ -1,4 +1,5 @@
--- The nodes to which a node leads after a merge, and the number of visits in which they are found.
+-- After a merge, the links held at a node, or at source and target, lead to all nodes to which the node then leads;
+-- reading them takes a bounded number of visits.
 use Rattle.std.proofs.Common.{◌≢◌, ◌+◌, ◌≤◌, ◌⊎◌, inl, inr, ℕ, List, sym, subst, arith, sum_by}
 use Rattle.std.proofs.lemmas.List.Sums.{sum_by-le-sum_by}
 use Rattle.thes_base.specs.declared.data.Link.{Link}

@@ -13,7 +13,7 @@ use Rattle.thes_graph.specs.EditChecks.{IsChanged, CoversEdit}
 use Rattle.thes_graph.proofs.NormLemmas.{IsEntailedBy, IsEntailedBy-itself, above_to, exact_to}
 use Rattle.thes_graph.proofs.ContractLemmas.{inserted_to, would_to}
 
--- Nodes that are near one another by some links are near by links that entail these.
+-- Nodes that are near one another by some links are also near by links that entail the same relations.
 near_to : (Would After : Link → Type 0) → ((l : Link) → Would l → (m : Link) × After m × IsEntailedBy l m) → (p n : ℕ)
     → IsNearPivot Would p n
     → (n ≡ p) ⊎ IsBelow After p n ⊎ IsBelow After n p ⊎ IsExactMatch After p n

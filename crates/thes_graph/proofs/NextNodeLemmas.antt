@@ -1,4 +1,4 @@
--- The links of a node's row lead exactly to the nodes to which the relation leads.
+-- The links of a node's row lead exactly to the nodes to which held links lead from it in the relation.
 use Rattle.std.proofs.Common.{◌≡◌, ◌↔◌, ℕ, List, Contains, sym, subst}
 use Rattle.std.specs.List.{filter_map}
 use Rattle.thes_base.specs.declared.data.Link.{Link}

@@ -1,4 +1,4 @@
--- A test of the list of nodes decides whether a node is in it.
+-- A node is in a list of nodes exactly when the test for equality with it succeeds for some node of the list.
 use Rattle.std.proofs.Common.{◌≡◌, ℕ, List, Bool, true, false, nat_eq, Contains, refl, sym, ◌∙◌}
 use Rattle.std.specs.Bool.{MatchBool}
 use Rattle.std.specs.List.{list_any}
@@ -13,7 +13,7 @@ has_of_test nodes n e = Contains-from_any same_of n nodes e
 test_of_has : (nodes : List ℕ) (n : ℕ) → Contains nodes n → list_any (nat_eq n) nodes ≡ true
 test_of_has nodes n has = list_any-from_Contains nat_eq_equiv n nodes has
 
--- The test decides whether the node is in the list.
+-- The result of the test decides whether the node is in the list.
 pub has_met : (nodes : List ℕ) (n : ℕ) (b : Bool) → b ≡ list_any (nat_eq n) nodes → MatchBool b (Contains nodes n)
     (Contains nodes n → ⊥)
 has_met nodes n true e = has_of_test nodes n (sym e)

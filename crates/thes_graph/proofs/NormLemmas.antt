@@ -1,4 +1,4 @@
--- A link and its normal form entail the same relations.
+-- A link and its normal form entail the same relations, so that links and their normal forms break the same rules.
 use Rattle.std.proofs.Common.{◌≡◌, ◌≢◌, ◌⊎◌, inl, inr, ℕ, Option, Some, None, refl, sym, subst, ap, ◌∙◌, Bool, true}
 use Rattle.std.proofs.Common.{false, ◌&&◌, ◌||◌, nat_lt, if◌then◌else◌}
 use Rattle.thes_base.specs.declared.data.Link.{Link}
@@ -24,7 +24,7 @@ ends_or_not n l = elim (cases_eq l.a n) [
   | inr a ↦ elim (cases_eq l.b n) [ inl b ↦ inl (inr b) | inr b ↦ inr (λ at. elim at [ inl e ↦ a e | inr e ↦ b e ]) ]
 ]
 
--- The link m entails each relation that the link l entails.
+-- The link m entails each relation between nodes that the link l entails.
 pub record IsEntailedBy (l m : Link) : Type 0 where
   pub broader : (x y : ℕ) → LinkLeads (broader_direction l.kind) l.a l.b x y → LinkLeads (broader_direction m.kind)
       m.a m.b x y

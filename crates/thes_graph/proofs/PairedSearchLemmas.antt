@@ -1,5 +1,5 @@
--- Two searches, one from each end of a link, decide whether a chain leads from the first to the second, in at most two
--- visits for each link near the first end.
+-- Two searches, one from each end of a link, decide whether a chain leads from the first end to the second. They make
+-- at most two visits for each link near the first end.
 use Rattle.std.proofs.Common.{◌≡◌, ◌≢◌, ◌+◌, ◌-◌, ◌≤◌, ◌<◌, ◌⊎◌, inl, inr, ℕ, List, [], ◌∷◌, length, sym, subst}
 use Rattle.std.proofs.Common.{arith, Bool, true, false, refl}
 use Rattle.std.specs.Bool.{MatchBool}
@@ -151,7 +151,8 @@ module _ (Held : Link → Type 0) (l : Link) where
   pub first_above : Chain (Steps Broader Held) l.a l.b → HasEndAbove Held l
   first_above chain = inl (inr chain)
 
-  -- One end of a link is above the other exactly when a chain leads from one to the other.
+  -- One end of a link is above the other exactly when a chain of broader or narrower links leads from the first to the
+  -- second.
   pub then_above : l.a ≢ l.b → (Chain (Steps Broader Held) l.a l.b → ⊥) → (found : Bool)
       → MatchBool found (Chain (Steps Narrower Held) l.a l.b) (Chain (Steps Narrower Held) l.a l.b → ⊥)
       → MatchBool found (HasEndAbove Held l) (HasNoEndAbove Held l)

@@ -19,7 +19,7 @@ use Rattle.thes_base.specs.declared.data.LinkKind.TheVariants.{Exact}
 use Rattle.thes_base.proofs.LegalResourceLemmas.{path_map}
 use Rattle.thes_base.proofs.LegalLinkLemmas.{fewer_no_cycle, fewer_s27, fewer_s46}
 
--- A chain and one that begins where it ends join to a chain.
+-- A chain can be joined to another chain that begins at its end.
 module _ (S : ℕ → ℕ → Type 0) where
   Path-join : (x : ℕ) (ms : List ℕ) (y : ℕ) (ns : List ℕ) (z : ℕ) → Path S x ms y → Path S y ns z
       → Path S x (ms ++ y ∷ ns) z
@@ -82,7 +82,7 @@ Leads-two Either a b x two (inr (e, f)) = two (f ∙ sym e)
 Leads-two Never a b x two h = h
 
 module _ (Held : Link → Type 0) (p : ℕ) where
-  -- A step uses no link with an end at p, or begins or ends at p.
+  -- A step either uses a link without an end at p, or begins or ends at p.
   step_at : (way : LinkKind → Direction) (x y : ℕ) → IsJoined Held way x y
       → IsJoined (HeldAwayFrom Held p) way x y ⊎ ((x ≡ p) ⊎ (y ≡ p))
   step_at way x y (l, held, leads) =
@@ -94,7 +94,7 @@ module _ (Held : Link → Type 0) (p : ℕ) where
         ]
       ]
 
-  -- A path uses no link with an end at p, or has p on it.
+  -- A path either uses only links without an end at p, or runs through p.
   path_at : (way : LinkKind → Direction) (x : ℕ) (ms : List ℕ) (y : ℕ) → Path (IsJoined Held way) x ms y
       → Path (IsJoined (HeldAwayFrom Held p) way) x ms y
       ⊎ (Reaches (IsJoined Held way) x p × Reaches (IsJoined Held way) p y)
@@ -144,7 +144,7 @@ module _ (Held : Link → Type 0) where
   pub InClassOf-turn : (x y : ℕ) → InClassOf Held x y → InClassOf Held y x
   InClassOf-turn = Reaches-turn (IsJoined Held exact_direction) (IsJoined Held exact_direction) exact_turns
 
--- A rule that is broken at p is broken by the links.
+-- A rule that is broken at p is broken by the links as a whole.
 module _ (Held : Link → Type 0) (two : HaveTwoEnds Held) (p : ℕ) where
   pub S27-witness : (x : ℕ) × (y : ℕ) × ReachesUp Held x p × ReachesUp Held p y × IsRelated Held x y → (x : ℕ)
       × (y : ℕ) × IsRelated Held x y × IsBelow Held x y

@@ -65,7 +65,7 @@ module _ (Would : Link → Type 0) (p : ℕ) where
         none l (alike.complete l would x in_x (Leads-first (disjoint_direction l.kind) l.a l.b x y leads))
         (x, y, in_x, alike.reach.complete y from, leads)
 
-  -- A pivot without exact matches breaks S46 nowhere.
+  -- If the pivot has no exact matches, S46 isn't broken in its class.
   pub class_alone : HaveTwoEnds Would → ((y : ℕ) → Steps Exact Would p y → ⊥) → KeepsS46At Would p
   class_alone two none x y to from (l, would, leads) =
       let P : ℕ → ℕ → Type 0 = λ a b. LinkLeads (disjoint_direction l.kind) l.a l.b a b in

@@ -1,5 +1,5 @@
--- Reading two sides of distinct nodes takes at most two visits for each link, and reading one side, up or down, takes
--- at most one.
+-- Reading two sides of distinct nodes takes at most two visits for each link; reading one side, up or down, takes at
+-- most one.
 use Rattle.std.proofs.Common.{◌≡◌, ◌≢◌, ◌==◌, ◌+◌, ◌*◌, ◌≤◌, inl, inr, ℕ, List, length, sym, subst, ◌∙◌, arith}
 use Rattle.std.proofs.Common.{sum_by, Bool, true, false, refl, ◌&&◌, ◌||◌, if◌then◌else◌, nat_eq}
 use Rattle.std.specs.List.{IsDistinct}
@@ -27,7 +27,7 @@ use Rattle.thes_graph.proofs.CountLemmas.{met_twice, met_at_most, sum_by-one_at}
 abbrev one_end : ℕ → Link → ℕ
 one_end n l = if ends_at n l then 1 else 0
 
--- A link lies on at most one of two sides of a node.
+-- A link lies on at most one of two different sides of a node.
 on_two : (n : ℕ) (j k : Side) (l : Link) → side_no j ≢ side_no k → one_on_side n j l + one_on_side n k l ≤ one_end n l
 on_two n j k l differ = go (ends_at n l) (side_no (side_at n l)) (side_no j) (side_no k) differ
   where
@@ -62,7 +62,7 @@ unless : (e : Bool) (s k : ℕ) → s ≢ k → ◌≡◌ {A = ℕ} (if e && (s 
 unless true s k differ = grind arith
 unless false s k differ = omega arith
 
--- A link that leads neither up nor down lies on neither of these sides.
+-- If neither of two sides has the rank k, the one that `if_either` chooses hasn't this rank.
 level_side : (d : Direction) (x y : Side) (k : ℕ) → side_no x ≢ k → side_no y ≢ k → side_no (if_either d x y) ≢ k
 level_side Forward x y k one other = other
 level_side Backward x y k one other = other

@@ -1,4 +1,5 @@
--- The lists of neighbours, mappings and typed links have exactly what the links at the node are mapped to, sorted.
+-- The lists of neighbours, mappings and typed links have exactly the values to which the links at the node are mapped,
+-- in order.
 use Rattle.std.proofs.Common.{◌≡◌, ◌⊎◌, inl, inr, ◌+◌, ◌<◌, ◌++◌, ℕ, List, [], ◌∷◌, Contains, take, length, get_or}
 use Rattle.std.proofs.Common.{Option, Some, None, Ordering, refl, sym, ap, subst, ◌∙◌, append-nil}
 use Rattle.std.specs.List.{filter_map}
@@ -37,14 +38,14 @@ module _ {K : Type 0} (c : K → K → Ordering) (f : Link → Option K) where
   abbrev seen_standing : SidedLink → Option K
   seen_standing s = f s.link
 
-  -- The list is sorted, and has exactly what these links are mapped to.
+  -- The list is sorted, and has exactly the values to which these links are mapped.
   abbrev pub ListsSeen : List SidedLink → List K → Type 0
   ListsSeen ss found = IsListing c (λ p. Contains (filter_map seen_standing ss) p) found
 
   -- Assumes one iteration of the loop over the node's links.
   module _ (ss : List SidedLink) (i : ℕ) (s : SidedLink) (within : i < length ss) (at : s ≡ get_or ss i s)
       (found : List K) (is : ListsSeen (take i ss) found) where
-    -- The list stays correct after the insertion of what the next link gives.
+    -- The list stays correct after the value of the next link is inserted.
     pub seen_more : IsTotalOrder c → IsAntisymmetric c → (p : K) → Some p ≡ f s.link → ListsSeen (take (i + 1) ss)
         (insert_key c found p)
     seen_more o exact p gives =

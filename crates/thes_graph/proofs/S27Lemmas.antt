@@ -1,4 +1,4 @@
--- What the search finds for the blocks of related concepts decides S27 for all links.
+-- The results for the blocks of related concepts decide whether all links satisfy S27.
 use Rattle.std.proofs.Common.{◌≡◌, inl, inr, ◌↔◌, ◌+◌, ◌<◌, ◌≤◌, ℕ, Bool, true, false, List, []}
 use Rattle.std.proofs.Common.{◌∷◌, ◌++◌, Contains, Some, length}
 use Rattle.std.proofs.Common.{take, get_or, slice_get, refl, sym, ap, subst, ◌∙◌, arith}
@@ -25,7 +25,7 @@ use Rattle.thes_graph.proofs.PivotLemmas.{S27-witness}
 use Rattle.thes_graph.proofs.StepLemmas.{Leads-first}
 use Rattle.thes_graph.proofs.WholeLemmas.{never, pair}
 
--- The rows are those of the nodes, in their order.
+-- Each row lists exactly the broader nodes of its node, and comes after their rows; each of the nodes has a row.
 pub record AreRowsOf (held : Links) (rows : List PathNode) (nodes : List ℕ) : Type 0 where
   pub broader : (r : PathNode) → Contains rows r → (h : ℕ) → Contains r.above.items h ↔ IsNarrower (Holds held) r.node h
   pub above_first : (k : ℕ) (d : PathNode) → k < length rows → (h : ℕ) → Contains (get_or rows k d).above.items h

@@ -95,7 +95,7 @@ module _ (links : Links) (n : ℕ) (side : Side) (part : Part) (in_range : part.
   abbrev link_of : SidedLink → Link
   link_of s = s.link
 
-  -- A link at an index of the row has its side there.
+  -- The row of links and the row of sided links have the same link at each index.
   stands : (k : ℕ) (l : Link) → slice_get (links_at links n) k ≡ Some l → (s : SidedLink)
       × (slice_get (sided_links_at links n) k ≡ Some s) × (s.link ≡ l)
   stands k l at = go (slice_get (sided_links_at links n) k) refl
@@ -184,7 +184,7 @@ module _ (links : Links) (n : ℕ) (side : Side) (part : Part) (in_range : part.
               absurd (above_itself (number_of s) (side_no side) here (let P : SidedLink → Type 0 =
               λ w. leb (number_of w) (side_no side) ≡ false in subst P is (high.1 k s lt on_side)))
 
--- The number of links before a side, and up to it, are the bounds of the side's range.
+-- The numbers of links before a side and up to it are the bounds of the side's range.
 pub part_found : (links : Links) (n : ℕ) (side : Side) (row : List SidedLink) (number from to : ℕ) → row
     ≡ sided_links_at links n → number ≡ side_no side → to ≤ length row
     → (IsPartitionedBy (λ s. ltb (number_of s) number) row → IsPartitionPoint (λ s. ltb (number_of s) number ≡ true)
@@ -263,7 +263,7 @@ side_of_lead relation.Related walked l n y two leads = beside_side l.a l.b n y t
 side_of_lead relation.Exact walked l n y two leads = alike_side l.a l.b n y two l.kind leads
 side_of_lead relation.Apart walked l n y two leads = absurd walked
 
--- A node with an empty range of links leads nowhere in the relation.
+-- If the range of a node's links on the side of the relation is empty, no link leads from the node in the relation.
 pub no_steps : (held : Links) (r : Relation) (n : ℕ) (row : List Link) (part : Part) → IsOneSided r
     → HaveTwoEnds (Holds held) → IsRow held n row → IsPart row n (side_in r) part → part.to ≤ part.from
     → (y : ℕ) → Steps r (Holds held) n y → ⊥

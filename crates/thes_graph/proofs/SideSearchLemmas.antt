@@ -158,7 +158,7 @@ module _ (held : Links) (relation : Relation) where
         (new, inr refl, Leads-from_step (direction_of relation new.kind) new.a new.b x y leads)
 
     module _ (source target : ℕ) where
-      -- The ends of a link after a merge determine its ends before it, up to source and target.
+      -- A link that leads from x after a merge led before it from x, or from the source if x is the target.
       lead_back : (d : Direction) (a b x y : ℕ) → LinkLeads d (node_after (AfterMerge source target) a)
           (node_after (AfterMerge source target) b) x y
           → (at : ℕ) × (z : ℕ) × (node_after (AfterMerge source target) at ≡ x) × LinkLeads d a b at z
@@ -186,7 +186,8 @@ module _ (held : Links) (relation : Relation) where
           let back = lead_back (direction_of relation l.kind) l.a l.b x y (led_same x y l m is leads) in
           (back.0, back.1, back.2, (l, has, back.3))
 
-      -- If no link leads from the node, nor from the source if the node is the target, none does after the merge.
+      -- If no link leads from a node before a merge, and none from the source if the node is the target, then none
+      -- leads from the node after it.
       pub Steps-merged_none : (x : ℕ) → ((z : ℕ) → Steps relation (Holds held) x z → ⊥)
           → (x ≡ target → (z : ℕ) → Steps relation (Holds held) source z → ⊥)
           → (y : ℕ) → Steps relation (HeldAfter (AfterMerge source target) held) x y → ⊥

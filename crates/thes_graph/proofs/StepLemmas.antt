@@ -54,7 +54,7 @@ GrowsBy-then xs ys zs P Q S parts left right g h = record {
     Extends-keeps : (ys zs : List ℕ) → Extends ys zs → (y : ℕ) → Contains ys y → Contains zs y
     Extends-keeps ys zs (more, e) y has = rw e (Contains-append_left ys more y has)
 
--- The computed step of a link is the one that it states.
+-- The function `step_in` computes the step that a link states.
 pub step_from_Leads : (d : Direction) (a b x y : ℕ) → LinkLeads d a b x y → step_in d a b x ≡ Some y
 step_from_Leads Forward a b x y (p, q) = grind arith
 step_from_Leads Backward a b x y (p, q) = grind arith

@@ -1,5 +1,5 @@
--- Two alternating searches, up from the high node and down from the low one, find what a link up would break, in at
--- most four visits for each link near it.
+-- Two alternating searches, up from the high node and down from the low one, find what a link up would break. They make
+-- at most four visits for each link near it.
 use Rattle.std.proofs.Common.{◌≡◌, ◌+◌, ◌-◌, ◌*◌, ◌≤◌, ◌<◌, inl, inr, ℕ, List, [], ◌∷◌, length, sym, subst, arith}
 use Rattle.std.proofs.Common.{Contains, Bool, true, false, Option, Some, None, ap, take, get_or}
 use Rattle.std.proofs.lemmas.List.{take_all}

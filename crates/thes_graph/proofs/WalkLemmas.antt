@@ -1,5 +1,5 @@
--- The collection of reachable nodes keeps its invariant, ends with exactly these nodes, and takes at most two visits
--- for each link.
+-- Collecting the reachable nodes keeps the invariant of the loop, finds exactly these nodes, and takes at most two
+-- visits for each link.
 use Rattle.std.proofs.Common.{◌≡◌, ◌+◌, ◌*◌, ◌≤◌, ◌<◌, inl, inr, ℕ, List, [], ◌∷◌, ◌++◌, length, take, get_or, ap}
 use Rattle.std.proofs.Common.{sym, subst, ◌∙◌, arith, Contains, sum_by, below_more, length-append}
 use Rattle.std.proofs.lemmas.List.{take_more, take-append-le, get_or_append_left, get_or_default}

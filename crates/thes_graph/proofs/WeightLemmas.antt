@@ -7,14 +7,14 @@ use Rattle.std.proofs.lemmas.List.Elements.{Contains-append_left, Contains-appen
 use Rattle.std.proofs.lemmas.List.Sums.{sum_by-append, sum_by-cons}
 use Rattle.thes_base.proofs.ListMemberLemmas.{Contains-none, Contains-head, Contains-later, Contains-cons_cases}
 
--- A prefix and the item after it are a prefix.
+-- A prefix of a list with the next item appended is the next longer prefix.
 pub take_next : {X : Type 0} (xs : List X) (i : ℕ) (x : X) → Some x ≡ slice_get xs i → take (i + 1) xs ≡ take i xs
     ++ x ∷ []
 take_next xs i x e =
     take_more xs i x (slice_get_within xs i x (sym e)) ∙ ap (λ y. take i xs ++ y ∷ [])
     (get_or_from_slice_get xs i x x (sym e))
 
--- A read that finds no item is past the end.
+-- A read at an index finds no item only if the index is past the end.
 pub past_of_none : {X : Type 0} (xs : List X) (i : ℕ) → slice_get xs i ≡ None → length xs ≤ i
 past_of_none xs i none = elim (slice_get_cases xs i).1 [
   | inl (x, inside, is, _) ↦ absurd (none-some x (sym none ∙ is))
@@ -58,7 +58,7 @@ module _ {X : Type 0} where
   once_take (suc i) [] once = once
   once_take (suc i) (x ∷ xs) once = ((λ y has. once.0 y (Contains-take i xs y has)), once_take i xs once.1)
 
-  -- Distinct items of ns, each of weight one or more, are at most as many as the weight of ns.
+  -- A list of distinct items of ns, each of weight one or more, is at most as long as the sum of the weights of ns.
   pub length-once : (weight : X → ℕ) (xs ns : List X) → IsOnce xs → ((x : X) → Contains xs x → Contains ns x)
       → ((x : X) → Contains xs x → 1 ≤ weight x) → length xs ≤ sum_by weight ns
   length-once weight [] ns once within heavy = omega arith

@@ -1,4 +1,4 @@
--- What the check finds for each link decides the rules for all links.
+-- The results of the check for each link decide whether all links satisfy the rules.
 use Rattle.std.proofs.Common.{◌≡◌, ◌≢◌, ◌⊎◌, inl, inr, ◌+◌, ◌<◌, ◌≤◌, ℕ, List, [], ◌∷◌, ◌++◌, Contains, length, take}
 use Rattle.std.proofs.Common.{get_or, refl, sym, subst, ◌∙◌, arith, below_more}
 use Rattle.std.proofs.lemmas.List.{take_more, get_or_default}
@@ -75,7 +75,7 @@ module _ (Held : Link → Type 0) where
       go x [] one = at x one.0 one.1 x one.2 ([], one) (inl refl)
       go x (m ∷ ms) path = at x path.0.0 path.0.1 m path.0.2 (m ∷ ms, path) (inr (ms, path.1))
 
-  -- All members of a class of exact matches break S46 or none does.
+  -- If one member of a class of exact matches keeps S46 there, each member does.
   pub class_free : (p m : ℕ) → KeepsS46At Held p → InClassOf Held p m → KeepsS46At Held m
   class_free p m none to x y in_x in_y apart = none x y (reach_join p m x to in_x) (reach_join p m y to in_y) apart
 
@@ -83,13 +83,14 @@ module _ (Held : Link → Type 0) where
   abbrev pub IsDone : List ℕ → Link → Type 0
   IsDone done l = HasDirection relation.Exact l → Contains done l.a
 
-  -- If the first end of each exact match is done, no class breaks S46.
+  -- If the first end of each exact match is done, S46 holds.
   pub s46_all : (done : List ℕ) → ((n : ℕ) → Contains done n → KeepsS46At Held n)
       → ((l : Link) → Held l → IsDone done l)
       → S46 Held
   s46_all done free each = record { none = λ x y (ms, path) apart. go x y ms path apart }
     where
-      -- If a chain of exact matches begins with the link, its end is in the class of the link's first end.
+      -- If a chain of exact matches begins with a link whose first end is done, the ends of the chain aren't broader or
+      -- related matches.
       first : (x z y : ℕ) (l : Link) → Held l → LinkLeads (exact_direction l.kind) l.a l.b x z → InClassOf Held z y
           → IsDisjointMatch Held x y → ⊥
       first x z y l held leads rest apart = elim (pair (exact_direction l.kind) l.a l.b x z leads) [

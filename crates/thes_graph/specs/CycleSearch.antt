@@ -16,8 +16,8 @@ abbrev pub IsUpwardPath : (ℕ → ℕ → Type 0) → List PathNode → Type 0
 IsUpwardPath S [] = Unit {0}
 IsUpwardPath S (s ∷ ss) = ((t : PathNode) → Contains ss t → Chain S s.node t.node) × IsUpwardPath S ss
 
--- The state of the search: each node met is done or on the stack; each node broader than one on the stack is done or
--- still to be searched from there; and the nodes that are done are in upward order.
+-- The state of the search. The stack is a path upward, and each node met is on it or done. The list of each node on the
+-- stack has only nodes broader than it, and all of these that aren't done. The nodes that are done are in upward order.
 pub record IsCycleSearch (Held : Link → Type 0) (met done : List ℕ) (stack : List PathNode) : Type 0 where
   pub leads : IsUpwardPath (IsNarrower Held) stack
   pub met_nodes : (n : ℕ) → Contains met n → Contains done n ⊎ ((s : PathNode) × Contains stack s × (s.node ≡ n))
@@ -26,12 +26,12 @@ pub record IsCycleSearch (Held : Link → Type 0) (met done : List ℕ) (stack :
   pub sound : (s : PathNode) → Contains stack s → (h : ℕ) → Contains s.above.items h → IsNarrower Held s.node h
   pub order : IsUpwardOrder Held done
 
--- The number of nodes on the stack, plus the number of nodes that are still to be searched from them.
+-- The number of nodes on the stack, plus the number of broader nodes in their lists.
 abbrev pub stack_measure : List PathNode → ℕ
 stack_measure [] = 0
 stack_measure (s ∷ ss) = 1 + length s.above.items + stack_measure ss
 
--- A measure that each step of the search decreases: 2^64 times the number of nodes not yet met, plus the measure of the
--- stack.
+-- A measure that each step of the search decreases: 2^64 times the number of nodes that can still be met, out of 2^63,
+-- plus the measure of the stack.
 abbrev pub search_measure : (met : List ℕ) → List PathNode → ℕ
 search_measure met stack = (2 ^ 63 - length met) * 2 ^ 64 + stack_measure stack

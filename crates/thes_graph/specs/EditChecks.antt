@@ -1,4 +1,4 @@
--- The answers of the checks of edits, and the links that bound their visits.
+-- The answer to the check of an edit, and the links near the edit, whose number bounds the visits.
 use Rattle.std.specs.Prelude.{◌≡◌, ◌⊎◌, ◌+◌, ◌*◌, ◌≤◌, ℕ, Bool, List, Contains, length}
 use Rattle.std.specs.FinSet.{insert}
 use Rattle.thes_base.specs.declared.data.Link.{Link}
@@ -17,13 +17,13 @@ use Rattle.thes_graph.specs.Local.{IsNearPivot}
 abbrev pub checks_of_add : Links → Link → RefusalRule
 checks_of_add held new = refused_if (Holds held new) no.LinkThere (IsFirstBroken (Holds (insert held new)))
 
--- The node n is changed by the edit: it is the pivot p of the check, or the source of the merge.
+-- The edit changes node n: n is the pivot p, around which the edit is checked, or the source of the merge.
 abbrev pub IsChanged : LinkEdit → (p n : ℕ) → Type 0
 IsChanged NoEdit p n = p ≡ n
 IsChanged (WithLink new) p n = p ≡ n
 IsChanged (AfterMerge source target) p n = (source ≡ n) ⊎ (p ≡ n)
 
--- The list has each held link with an end at a changed node, or at a node that after the edit is above p, below p or in
+-- The list has each held link with an end at a changed node, or at a node near p after the edit: above p, below p or in
 -- p's class of exact matches. Every neighbourhood of the edit is such a list.
 abbrev pub CoversEdit : LinkEdit → Links → (p : ℕ) → List Link → Type 0
 CoversEdit edit held p ns =

@@ -18,7 +18,7 @@ abbrev pub link_after_merge : (source target : ℕ) → Link → Option Link
 link_after_merge source target l = if redirect source target l.a == redirect source target l.b then None else Some
     (redirect_link source target l)
 
--- The link is one of those after the edit.
+-- The link is one of those held after the edit. A link that a merge changes needn't be in normal form yet.
 abbrev pub HeldAfter : LinkEdit → Links → Link → Type 0
 HeldAfter NoEdit held m = Holds held m
 HeldAfter (WithLink new) held m = Holds held m ⊎ (new ≡ m)

@@ -60,8 +60,8 @@ IsFirstOfCycleAndS27 Held (Some no.Cycle) = (x : ℕ) × IsBelow Held x x
 IsFirstOfCycleAndS27 Held (Some no.S27) = NoCycle Held × ((x : ℕ) × (y : ℕ) × IsRelated Held x y × IsBelow Held x y)
 IsFirstOfCycleAndS27 Held (Some _) = ⊥
 
--- The nodes are those that the start reaches in the relation; each of the links satisfies `Would`, and each link that
--- satisfies it and has an end at one of the nodes is among them.
+-- The nodes are those that the start reaches in the relation by links that satisfy `Would`. The list has only such
+-- links, and has each one with an end at one of the nodes.
 pub record IsReachableSet (Would : Link → Type 0) (relation : Relation) (start : ℕ) (nodes : List ℕ)
     (links : List Link) : Type 0 where
   pub reach : IsReachOf (Steps relation Would) start nodes

@@ -8,8 +8,8 @@ use Rattle.thes_base.specs.declared.data.LinkKind.TheVariants.{BroaderInstantial
 use Rattle.thes_base.specs.declared.data.TypedKind.{TypedKind}
 use Rattle.thes_base.specs.declared.data.TypedKind.TheVariants as typed
 
--- The mapping that a link of the kind is, with its other end: seen from its first end if `forward` is true, or else
--- from its second. None for a link of another form.
+-- The kind of mapping that a link is, with the number of its other end: seen from its first end if `forward` is true,
+-- or else from its second. None if the link isn't a mapping.
 abbrev pub mapping_of_kind : (forward : Bool) → LinkKind → (other : ℕ) → Option (LinkKind × ℕ)
 mapping_of_kind forward Exact other = Some (Exact, other)
 mapping_of_kind forward Close other = Some (Close, other)
@@ -20,12 +20,13 @@ mapping_of_kind true Narrow other = Some (Narrow, other)
 mapping_of_kind false Narrow other = Some (Broad, other)
 mapping_of_kind forward _ other = None
 
--- The mapping that a link with an end at n is, seen from n; None for a link of another form.
+-- The kind of mapping that a link is, seen from its end n, with the number of its other end; None if it isn't a
+-- mapping.
 abbrev pub mapping_seen_from : ℕ → Link → Option (LinkKind × ℕ)
 mapping_seen_from n l = mapping_of_kind (l.a == n) l.kind (if l.a == n then l.b else l.a)
 
--- The typed hierarchical link (ISO 25964-1, clause 10.2) that a link of the kind is, with its other end: seen from its
--- first end if `forward` is true, or else from its second. None for another link.
+-- The type of a hierarchical link (ISO 25964-1, clause 10.2), with the number of its other end: seen from its first end
+-- if `forward` is true, or else from its second. None for a link without such a type.
 abbrev pub typed_link_of_kind : (forward : Bool) → LinkKind → (other : ℕ) → Option (TypedKind × ℕ)
 typed_link_of_kind true BroaderGeneric other = Some (typed.BroaderGeneric, other)
 typed_link_of_kind false BroaderGeneric other = Some (typed.NarrowerGeneric, other)
@@ -35,7 +36,8 @@ typed_link_of_kind true BroaderInstantial other = Some (typed.BroaderInstantial,
 typed_link_of_kind false BroaderInstantial other = Some (typed.NarrowerInstantial, other)
 typed_link_of_kind forward _ other = None
 
--- The typed hierarchical link that a link with an end at n is, seen from n; None for another link.
+-- The type of a hierarchical link, seen from its end n, with the number of its other end; None for a link without such
+-- a type.
 abbrev pub typed_link_seen_from : ℕ → Link → Option (TypedKind × ℕ)
 typed_link_seen_from n l = typed_link_of_kind (l.a == n) l.kind (if l.a == n then l.b else l.a)
 

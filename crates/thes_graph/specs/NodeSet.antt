@@ -14,6 +14,6 @@ AreMarked nodes marks = (n : ℕ) → mark_at marks n ≡ list_any (nat_eq n) no
 abbrev pub IsOneMore : (old new : List Bool) → ℕ → Type 0
 IsOneMore old new n = (m : ℕ) → mark_at new m ≡ (nat_eq m n || mark_at old m)
 
--- The marked numbers are exactly the nodes of the list, if it has more than 16. A shorter list has arbitrary marks.
+-- The marked numbers are exactly the nodes of the list, if it has more than 16. The marks of other lists are arbitrary.
 abbrev pub IsNodeSet : List ℕ → List Bool → Type 0
 IsNodeSet nodes marks = 16 < length nodes → AreMarked nodes marks

@@ -22,8 +22,9 @@ AreVisitsBounded held relation start before after =
     (ns : List Link) → ((n : ℕ) → Reaches (Steps relation (Holds held)) start n → CoversAt NoEdit held n ns)
     → after ≤ before + 2 * length ns
 
--- The state of the two searches: the first has read at least as many links as the second has read and may still read,
--- and the count has grown from `before` by at most the number of links that the two have read.
+-- The state of the two searches. The links that the second has read, and the `left` that it may still read, are
+-- together at most as many as the first has read. The count has grown from `before` by at most the number of links that
+-- the two have read.
 abbrev pub ArePairedSearches : Links → Relation → (froms tos : List ℕ) → (from to : ℕ) → (first second : SideSearch)
     → (left before count : ℕ) → Type 0
 ArePairedSearches held relation froms tos from to first second left before count =

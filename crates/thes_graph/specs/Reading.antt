@@ -17,7 +17,7 @@ pub record IsRow (held : Links) (node : ℕ) (row : List Link) : Type 0 where
 abbrev pub count_after_visit : ℕ → ℕ
 count_after_visit n = min (n + 1) (2 ^ 64 - 1)
 
--- The count after a read, which is a visit only if there was a link.
+-- The count after a read, which is a visit only if it returned a link.
 abbrev pub count_after_read : ℕ → Option Link → ℕ
 count_after_read n None = n
 count_after_read n (Some l) = count_after_visit n

@@ -27,8 +27,8 @@ abbrev pub if_either : Direction → Side → Side → Side
 if_either Either one other = one
 if_either _ one other = other
 
--- The side of an end on which a link lies, given whether that is its first end, and the directions in which the link
--- leads to a broader concept, a related one and an exact match.
+-- The side of an end on which a link lies. The arguments are the direction in which the link leads to a broader
+-- concept, whether the end is the link's first one, and the directions to a related concept and to an exact match.
 abbrev pub side_by_directions : Direction → (first : Bool) → (related exact : Direction) → Side
 side_by_directions Forward first related exact = if first then Up else Down
 side_by_directions Backward first related exact = if first then Down else Up

@@ -72,7 +72,7 @@ IsHierarchy along.Broader = Unit {0}
 IsHierarchy along.Narrower = Unit {0}
 IsHierarchy _ = ⊥
 
--- The state of a search: the first `next` nodes were read, by `read` visits, and none of them leads to a goal.
+-- The state of a search after `read` visits: the first `next` nodes were read, and none of them leads to a goal.
 pub record IsSideSearch (edit : LinkEdit) (held : Links) (kind : Relation) (goals : List ℕ) (start : ℕ)
     (side_search : SideSearch) (read : ℕ) : Type 0 where
   pub closed : IsSearchedUpTo (Steps kind (HeldAfter edit held)) start side_search.nodes side_search.next
@@ -93,8 +93,8 @@ IsReadBounded edit held relation start read =
     (ns : List Link) → ((n : ℕ) → Reaches (Steps relation (HeldAfter edit held)) start n → CoversAt edit held n ns)
     → read ≤ length ns
 
--- The result of a step: a goal is found within the bound on visits, or the search is again in a state as IsSideSearch
--- describes it.
+-- The result of a step: a goal is found within the bound on visits, or IsSideSearch still describes the state of the
+-- search.
 abbrev pub IsAdvanceResult : LinkEdit → Links → Relation → (goals : List ℕ) → (start : ℕ) → SideSearch → (read : ℕ)
     → (found : Bool) → Type 0
 IsAdvanceResult edit held relation goals start side_search read found =

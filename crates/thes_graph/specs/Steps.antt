@@ -18,7 +18,7 @@ reverse_of Backward = Forward
 reverse_of Either = Either
 reverse_of Never = Never
 
--- The direction in which a link of this kind leads from a node to those in the relation to it.
+-- The direction in which links of this kind lead in the relation: in Broader, to a broader concept.
 abbrev pub direction_of : Relation → LinkKind → Direction
 direction_of Broader kind = broader_direction kind
 direction_of Narrower kind = reverse_of (broader_direction kind)

@@ -1,6 +1,7 @@
-//! Finds links that break no rule because their narrower end has neither narrower nor related concepts, or their
-//! broader end neither broader nor related ones: most links of a hierarchy that is built from its top or its bottom. No
-//! function here makes a visit.
+//! Finds links that break no rule because of their kind, or because their narrower end has neither
+//! narrower nor related concepts, or their broader end neither broader nor related ones. Most links
+//! of a hierarchy that is built from its top or its bottom are such links. No function here makes a
+//! visit.
 ghost use Rattle.std.specs.Prelude.{◌≡◌, ◌≢◌, ℕ, true, MatchBool};
 ghost use Rattle.thes_base.specs.Links.{Holds};
 ghost use Rattle.thes_graph.specs.declared.relation.Relation.TheVariants as relation;
@@ -29,7 +30,8 @@ fn is_end<L: Links>(links: &L, n: ResNo, relation: Relation) -> bool
     part.to <= part.from
 }
 
-/// Returns true if certainly no link leads from the node in the relation after the edit; false decides nothing.
+/// Returns true only if no link leads from the node in the relation after the edit; false decides
+/// nothing.
 pub fn is_end_after<L: Links>(links: &L, edit: &LinkEdit, x: ResNo, relation: Relation) -> bool
     requires { IsOneSided relation }
     ensures two_ends { HaveTwoEnds (Holds (L.net links.now).links) }
@@ -113,8 +115,8 @@ fn is_outermost<L: Links>(links: &L, new: &Link) -> bool
     is_highest(links, new.b)
 }
 
-/// Returns true if the link breaks no rule because of its kind, or because one of its ends is a lowest or highest node;
-/// false decides nothing.
+/// Returns true only if the link breaks no rule, because of its kind, or because its narrower end
+/// is a lowest node or its broader end a highest one; false decides nothing.
 pub fn is_harmless<L: Links>(links: &L, new: &Link) -> bool
     requires ends { new.now.a ≢ new.now.b }
     requires unbroken { BreakNone (Holds (L.net links.now).links) }

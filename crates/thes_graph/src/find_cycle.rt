@@ -1,5 +1,5 @@
-//! The depth-first search for a cycle of broader links. A node is done once all nodes above it are; no cycle runs
-//! through it then, so that each node is searched from once.
+//! The depth-first search for a cycle of broader links. A node is done once all nodes above it are
+//! done: then no cycle runs through it, and no search from it is needed again.
 ghost use Rattle.std.specs.Prelude.{◌≡◌, ◌<◌, ◌↔◌, ◌++◌, ◌∷◌, [], ℕ, false, Contains, IfOk, OnOk, MatchBool};
 ghost use Rattle.thes_base.specs.Links.{Holds, IsNarrower};
 ghost use Rattle.thes_graph.specs.Whole.{HasCycle};
@@ -34,9 +34,9 @@ pub fn path_node_at<L: Links>(
     Ok(PathNode { node: n, above })
 }
 
-// Advances the search from `last`, the node popped from the top of the stack: pushes it and one of its broader nodes,
-// or pushes it without a broader node that is done, or appends it to `done` if it has no more broader nodes. Returns
-// whether this finds a cycle.
+// Advances the search by one broader node of `last`, the node popped from the stack. If that node
+// is done, removes it from the list of `last`; if it is new, pushes it above `last`; otherwise it
+// closes a cycle. If the list is empty, `last` is done. Returns whether a cycle was found.
 fn advance_path<L: Links>(
     alloc: Global,
     links: &mut L,

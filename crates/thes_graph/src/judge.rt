@@ -1,6 +1,6 @@
-//! Checks whether the links, or the links after an edit, keep the rules. It reads only links near the edit: two
-//! alternating searches, for broader and for narrower concepts, and one along exact matches find all that the edit can
-//! break.
+//! Checks the links held, or the links after an edit, against the rules Cycle, S27 and S46. A check
+//! reads only links near the edit. Two searches, for broader and for narrower concepts, decide
+//! Cycle and S27; one along exact matches decides S46.
 ghost use Rattle.std.specs.Prelude.{◌≡◌, ◌≢◌, ◌+◌, ◌*◌, ◌≤◌, List, Contains, OnOk, IfOk, length, nat_lt, if◌then◌else◌, ◌&&◌};
 ghost use Rattle.thes_base.specs.declared.data.Link.{Link};
 ghost use Rattle.thes_base.specs.Links.{Holds, is_symmetric, reversed_link, normal_form, links_after_merge, IsFirstBroken};

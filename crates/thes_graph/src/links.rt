@@ -1,4 +1,5 @@
-//! Links that are read one at a time, with a count of the visits, by which contracts bound the work of a check.
+//! A reader that returns links one at a time and counts its visits. Contracts bound the work of a
+//! check by this count.
 ghost use Rattle.std.specs.Prelude.{◌≡◌, ℕ, List, Bool, slice_get};
 ghost use Rattle.std.specs.FinSet.{contains};
 ghost use Rattle.thes_base.specs.Links.{Holds};

@@ -35,7 +35,8 @@ fn key_of(mapping: &(LinkKind, ResNo)) -> (u8, ResNo)
     (place_of(mapping.0), mapping.1)
 }
 
-/// Returns the mapping as seen from its end `n`: its kind there and the other end; None for a link of another form.
+/// Returns the mapping as seen from its end `n`: its kind there and the other end; None if the link
+/// isn't a mapping.
 pub fn mapping_from(link: &Link, n: ResNo) -> Option<(LinkKind, ResNo)>
     ensures { result ≡ mapping_seen_from n link.now }
 {
@@ -51,8 +52,8 @@ pub fn mapping_from(link: &Link, n: ResNo) -> Option<(LinkKind, ResNo)>
     }
 }
 
-/// Returns the typed hierarchical link as seen from its end `n`: its type there and the other end; None for another
-/// link.
+/// Returns the typed hierarchical link as seen from its end `n`: its type there and the other end;
+/// None for a link without a type.
 pub fn typed_link_from(link: &Link, n: ResNo) -> Option<(TypedKind, ResNo)>
     ensures { result ≡ typed_link_seen_from n link.now }
 {

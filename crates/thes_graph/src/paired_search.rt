@@ -17,8 +17,9 @@ use std::alloc::{AllocError, Global};
 use thes_base::data::Link;
 use thes_base::number::ResNo;
 
-// Advances the first search by a node, and adds the number of links that it reads to `left`, the number that the second
-// may still read. Does nothing if `left` is already at least `size`. Returns whether the first found a goal.
+// Advances the first search by a node, and adds the number of links that it reads to `allowance`,
+// the number that the second may still read. Does nothing if `allowance` is already at least
+// `size`. Returns whether the first found a goal.
 fn advance_first<L: Links>(
     links: &mut L,
     relation: Relation,
@@ -51,9 +52,10 @@ fn advance_first<L: Links>(
     Ok(found)
 }
 
-// Advances the first search by a node if `left`, the number of links that the second may still read, is too small for
-// the second's next node; then advances the second if `left` is enough, and subtracts the links that it reads. Returns
-// whether one of them found a goal.
+// Advances the first search by a node if `allowance`, the number of links that the second may still
+// read, is too small for the second's next node. Then advances the second if `allowance` is large
+// enough, and subtracts the number of links that it reads. Returns whether one of them found a
+// goal.
 fn advance_pair<L: Links>(
     links: &mut L,
     relation: Relation,

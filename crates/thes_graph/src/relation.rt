@@ -49,7 +49,8 @@ fn reverse_direction(direction: Direction) -> Direction
     }
 }
 
-/// Returns the direction in which a link of this kind leads from a node to those in the relation to it.
+/// Returns the direction in which links of this kind lead in the relation: in `Broader`, to a
+/// broader concept.
 pub fn direction(relation: Relation, kind: LinkKind) -> Direction
     ensures { result ≡ direction_of relation kind }
 {

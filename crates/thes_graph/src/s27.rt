@@ -1,5 +1,6 @@
-//! The check of S27 in all links: whether one of two related concepts is above the other. The related concepts are
-//! taken in blocks, so that one pass down the hierarchy answers for all concepts of a block.
+//! The check of S27 in all links: whether one of two related concepts is above the other. The check
+//! splits the related concepts into blocks: one pass down the hierarchy serves all concepts of a
+//! block.
 ghost use Rattle.std.specs.Prelude.{◌≡◌, ◌<◌, ◌≤◌, ◌++◌, ℕ, Contains, OnOk, IfOk, MatchBool, length};
 ghost use Rattle.thes_base.specs.declared.data.Link.{Link};
 ghost use Rattle.thes_base.specs.Links.{Holds, S27};
@@ -19,7 +20,7 @@ use std::alloc::{AllocError, Global};
 use thes_base::data::Link;
 use thes_base::number::ResNo;
 
-// Reads the broader nodes of each node of the list, in its order.
+// Reads the broader nodes of each node of `order`, in the order of that list.
 fn read_upward_rows<L: Links>(
     alloc: Global,
     links: &mut L,
@@ -38,7 +39,7 @@ fn read_upward_rows<L: Links>(
     Ok(rows)
 }
 
-// Appends the ends of the link that aren't there yet, if it states that they are related.
+// Appends the ends of the link, unless they are there, if it is a related link or a related match.
 fn meet_related(nodes: &mut Nodes, link: &Link) -> Result<(), AllocError>
     ensures extends { OnOk result ((n : ℕ) → Contains nodes.old n → Contains nodes.new n) }
     ensures ends { OnOk result (HasDirection relation.Related link.now

@@ -1,4 +1,4 @@
-//! The sides of a node on which its links lie, by which they are sorted.
+//! The sides of a node, by which its links are sorted.
 ghost use Rattle.std.specs.Prelude.{◌≡◌, ◌-◌, ◌≤◌, length};
 ghost use Rattle.std.proofs.Math.Dec.{ltb, leb};
 ghost use Rattle.thes_graph.specs.Side.{side_no, side_in, side_at, sided_link_at, IsPartitionIndex};
@@ -66,7 +66,7 @@ pub struct Part {
 }
 
 impl Part {
-    /// Returns the number of links in the range, 0 if it is empty.
+    /// Returns the number of links in the range: 0 if `to` isn't greater than `from`.
     pub fn size(self) -> usize
         ensures { result ≡ self.to - self.from }
     {

@@ -56,7 +56,8 @@ fn step_at_place<L: Links>(
     step(relation, &after, x)
 }
 
-// Appends the node, if there is one, to those met, unless it is a goal. Returns whether it is one.
+// Appends the next node, if there is one, to the nodes met, unless it is a goal. Returns whether it
+// is a goal.
 fn take(nodes: &mut Nodes, next: Option<ResNo>, goals: &Nodes) -> Result<bool, AllocError>
     ensures { IfOk result
         (λ found. IsSearchResult found nodes.old nodes.new goals.now (λ y. next ≡ Some y)) }
@@ -71,8 +72,9 @@ fn take(nodes: &mut Nodes, next: Option<ResNo>, goals: &Nodes) -> Result<bool, A
     Ok(false)
 }
 
-// Appends the nodes to which this range of the links at `at` leads from `x` in the relation after the edit, up to the
-// first goal. Returns whether there is a goal.
+// Appends the nodes to which this range of the links at `at` leads from `x` in the relation after
+// the edit, up to the first goal. Returns whether there is a goal. The two nodes differ only if a
+// merge moves the links at its source, `at`, to its target, `x`.
 fn follow_part<L: Links>(
     links: &mut L,
     nodes: &mut Nodes,
@@ -121,8 +123,9 @@ fn follow<L: Links>(
     Ok(found)
 }
 
-// Appends the nodes to which the target of a merge leads in the relation after it, by the links held at the source and
-// at the target, up to the first goal. Returns whether there is a goal.
+// Appends the nodes to which the target of a merge leads in the relation after it, up to the first
+// goal. Returns whether there is a goal. Reads the links held at the target, and then those held at
+// the source.
 fn follow_merged<L: Links>(
     links: &mut L,
     nodes: &mut Nodes,
@@ -216,8 +219,8 @@ impl SideSearch {
         self.nodes.as_slice().len() <= self.next
     }
 
-    /// Reads the links that lead from the next node in the relation after the edit, appends the nodes to which they
-    /// lead, up to the first goal, and returns whether there is a goal.
+    /// Reads the links that lead from the next node in the relation after the edit. Appends the
+    /// nodes to which they lead, up to the first goal, and returns whether there is a goal.
     pub fn advance<L: Links>(
         &mut self,
         links: &mut L,
@@ -255,8 +258,8 @@ impl SideSearch {
         links.part(self.nodes.as_slice()[self.next], side_for(relation))
     }
 
-    /// Reads this range of the next node's held links, appends the nodes to which they lead, up to the first goal, and
-    /// returns whether there is a goal.
+    /// Reads this range of the next node's held links. Appends the nodes to which they lead, up to
+    /// the first goal, and returns whether there is a goal.
     pub fn advance_at<L: Links>(
         &mut self,
         links: &mut L,
@@ -286,7 +289,8 @@ impl SideSearch {
         Ok(found)
     }
 
-    /// Advances node after node, until all are read or one leads to a goal, and returns whether one does.
+    /// Advances the search until all nodes are read or one leads to a goal. Returns whether one
+    /// does.
     pub fn finish<L: Links>(
         &mut self,
         links: &mut L,

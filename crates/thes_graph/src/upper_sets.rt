@@ -1,6 +1,6 @@
-//! The nodes of a block that are at or above each node. A block has at most 64 nodes, and each node has a word of 64
-//! bits, of which bit j states whether the j-th node of the block is at or above it. One pass down the hierarchy finds
-//! the words of all nodes.
+//! The nodes of a block that are at or above each node. A block has at most 64 nodes. Each node has
+//! a word of 64 bits: bit j states whether the j-th node of the block is at or above it. One pass
+//! down the hierarchy finds the words of all nodes.
 ghost use Rattle.std.specs.Prelude.{◌≡◌, ◌<◌, ◌≤◌, ◌⊎◌, ◌↔◌, ℕ, Contains, OnOk, MatchBool, Some, length, slice_get};
 ghost use Rattle.thes_base.specs.Links.{Links};
 ghost use Rattle.thes_graph.specs.UpperSets.{word_at, HasBit, HasBitsSet, AreUpwardRows, AreUpperSets};

@@ -22,9 +22,9 @@ use std::alloc::{AllocError, Global};
 use thes_base::fault::Refusal;
 use thes_base::number::ResNo;
 
-// Advances the search that will have read less after its next node, and returns whether it found a goal. What a search
-// has read is estimated by the nodes that it has met, so that neither reads a node's many links while the other has
-// few.
+// Advances the search that will have read less after its next node, and returns whether it found a
+// goal. The number of nodes that a search has met estimates what it has read, so that neither reads
+// a node with many links while the other has few to read.
 fn advance_in_turn<L: Links>(
     links: &mut L,
     edit: &LinkEdit,
@@ -96,8 +96,8 @@ fn search_in_turns<L: Links>(
     Ok(false)
 }
 
-// Returns true if certainly no related link leads from any of the nodes after the edit, without reading a link; false
-// decides nothing.
+// Returns true only if no related link leads from any of the nodes after the edit. Reads no link,
+// so a false result decides nothing.
 fn have_none<L: Links>(links: &L, edit: &LinkEdit, xs: &Nodes) -> bool
     ensures { result ≡ true → (x y : ℕ) → Contains xs.now x
         → Steps Related (HeldAfter edit.now (L.net links.now).links) x y → ⊥ }

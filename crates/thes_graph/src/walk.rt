@@ -120,8 +120,8 @@ fn read<L: Links>(
     }
 }
 
-// Reads the held links that will have an end at the node after the merge: none at the source, and at the target those
-// of both.
+// Reads the held links that will have an end at the node after the merge: none for the source, and
+// for the target those at either of the two.
 fn read_merged<L: Links>(
     alloc: Global,
     links: &mut L,
@@ -157,7 +157,8 @@ pub struct ReachableSet {
     pub links: Vec<Link>,
 }
 
-/// Collects the nodes reachable from `start` in the relation after the edit, `start` included, and their links.
+/// Collects the nodes reachable from `start` in the relation after the edit, `start` included, and
+/// the links there.
 pub fn gather<L: Links>(
     alloc: Global,
     links: &mut L,

@@ -37,7 +37,7 @@ module _ {A : Type 0} where
   at_most_one None = omega arith
   at_most_one (Some x) = omega arith
 
-  -- If the coming rows are expected and one further row is indexed after them, the longer list is expected.
+  -- If the positions of rows to be appended are indexed, and then that of one more row, those of the longer list are.
   pub expected_more : (number : A → ℕ) (old new : Slots A) (coming : List A) (o : Option A) → AreExpected number old
       coming → KeepsPositions old.places new.places → new.rows ≡ old.rows
       → ((row : A) → o ≡ Some row → HasPosition new.places (number row) (vec_len old.rows + length coming))

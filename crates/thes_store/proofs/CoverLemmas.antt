@@ -24,7 +24,7 @@ use Rattle.thes_store.specs.Keys.{KeyHasPosition}
 use Rattle.thes_store.specs.Covers.{Covers, CoversAll, CoversBoth, IndexesByPlace, IndexesGrow, IsOtherKey}
 use Rattle.thes_store.specs.Covers.{CoversChange, added_move_count}
 
--- A row after one was changed is a row from before, or the changed row under its number.
+-- After one row is changed, each row of the list is an old one, or the changed one under its old number.
 with_cases : (f : PostingRow → PostingRow) (n : ℕ) (rows : List PostingRow) (m : ℕ) (y : PostingRow)
     → entry_at (with_posting f n rows) m ≡ Some y
     → (row : PostingRow) × (entry_at rows m ≡ Some row) × ((y ≡ row) ⊎ ((m ≡ n) × (y ≡ f row)))
@@ -46,7 +46,7 @@ map_cases f [] (suc m) y e = absurd (cc)
 map_cases f (x ∷ xs) (suc zero) y e = (x, refl, sym (same_Some _ _ e))
 map_cases f (x ∷ xs) (suc (suc m)) y e = map_cases f xs (suc m) y e
 
--- A bulk move gives a row the target as its place, or leaves it its place.
+-- A bulk move changes a row's place from the source to the target, or leaves the place unchanged.
 moved_cases : (source target : ℕ) (row : PostingRow)
     → ((row.place ≡ source) × ((row_after_move_all source target row).place ≡ target))
     ⊎ ((row_after_move_all source target row).place ≡ row.place)
@@ -185,7 +185,7 @@ with_in f (suc n) rows row key h = go (slice_get rows n) refl
     go (Some r) at = set_in rows (suc n - 1) row r (f r) (ap (slice_get rows) (let e : suc n - 1 ≡ n = omega arith in
         e) ∙ at) (key r) h
 
--- The key of each posting is in the table after a change.
+-- After a change, the table still has a posting with each key that it had.
 key_stays : (c : Change) (t : Tables) (row : PostingRow) → IsIn row t.posting → (z : PostingRow)
     × IsIn z (tables_after_change c t).posting × (z.key ≡ row.key)
 key_stays (change.AddResource n r) t row h = (row, h, refl)
@@ -316,7 +316,7 @@ covers_when_stopped old new changes i c t step lt is fits so_far grows =
     covers_after_growth c old new t grows (λ row h. let z = keys_stay (take i changes) t row h in
     subst (IsOtherKey c) z.2 (other_key c s z.0 (fit_at changes i c t lt is fits) z.1)) so_far.first
 
--- The loop keeps its state in one iteration.
+-- One iteration of the loop keeps its state.
 pub so_far_continues : (old new : Indexes) (changes : List Change) (i : ℕ) (c : Change) (t : Tables) (step next : ℕ)
     → i < length changes → c ≡ get_or changes i c → DeltaFits changes t → SoFar old changes i t step
     → IndexesGrow c old new → ((s : Tables) → ChangeFits c s → Covers old s → CoversChange new c s step)

@@ -23,7 +23,8 @@ in_get [] row h = absurd h
 in_get (x ∷ xs) row (inl same) = (0, ap (λ y. Some y) (sym same))
 in_get (x ∷ xs) row (inr later) = let g = in_get xs row later in (suc g.0, g.1)
 
--- No row has a key if neither the position under its digest nor that under its text has a row with it.
+-- No row has a key if neither the row at the position under its digest nor the one at the position under its text has
+-- it.
 none_found : (x : Keys) (rows : List PostingRow) (key : List ℕ) → ((i : ℕ) (row : PostingRow) → slice_get rows i
     ≡ Some row → KeyHasPosition x row.key i)
     → ((i : ℕ) (row : PostingRow) → get nat_cmp x.numbers (digest_of key) ≡ Some i → slice_get rows i ≡ Some row

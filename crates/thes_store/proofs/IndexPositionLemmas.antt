@@ -172,18 +172,19 @@ module _ {A : Type 0} (p : A → Bool) where
       (slice_get_past rows i (omega (arith, past, a)))
       ∙ picked_past rows places (i + 1) (omega (arith, past, a)) r.1
 
-  -- The positions include, from `least` on, each row that passes the test.
+  -- The positions include that of each row from position `least` on that passes the test.
   abbrev CoversFrom : ℕ → List A → List ℕ → Type 0
   CoversFrom least rows places = (i : ℕ) (row : A) → least ≤ i → slice_get rows i ≡ Some row → p row ≡ true
       → IsIn i places
 
-  -- The induction hypothesis: the claim for the rows after the next one.
+  -- The induction hypothesis of `picked_from`, with the next row moved into the prefix.
   abbrev Later : List A → A → List A → Type 0
   Later pre x rest = (places : List ℕ) → PositionsAscendFrom (length (pre ++ x ∷ [])) places
       → CoversFrom (length (pre ++ x ∷ [])) ((pre ++ x ∷ []) ++ rest) places
       → rows_at_positions p ((pre ++ x ∷ []) ++ rest) places ≡ filter p rest
 
-  -- The passing rows at ascending positions that include each of them are all passing rows, from a prefix on.
+  -- After a prefix, the passing rows at ascending positions that include each passing row are all passing rows, in
+  -- order.
   picked_from : (pre rest : List A) (places : List ℕ) → PositionsAscendFrom (length pre) places
       → CoversFrom (length pre) (pre ++ rest) places → rows_at_positions p (pre ++ rest) places ≡ filter p rest
   picked_from pre [] places r covers = picked_past (pre ++ []) places (length pre) (let e : length (pre ++ [])
@@ -238,7 +239,7 @@ module _ {A : Type 0} (p : A → Bool) where
         | inr apart ↦ let a = r.0 in skip step (i ∷ places) (omega (arith, a, apart), r.1) covers
       ]
 
-  -- The passing rows at ascending positions that include each of them are all passing rows.
+  -- The passing rows at ascending positions that include each passing row are all passing rows, in order.
   pub picked_all : (rows : List A) (places : List ℕ) → IsStrictlySortedBy nat_cmp places
       → ((i : ℕ) (row : A) → slice_get rows i ≡ Some row → p row ≡ true → IsIn i places)
       → rows_at_positions p rows places ≡ filter p rows

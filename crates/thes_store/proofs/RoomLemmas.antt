@@ -1,4 +1,4 @@
--- Room for the rows of some changes is room for those of the first of them.
+-- Tables that have room for the rows of a list of changes have room for those of its first change.
 use Rattle.std.proofs.Common.{◌≡◌, ◌+◌, ◌<◌, ◌≤◌, ◌∙◌, ℕ, zero, suc, List, [], ◌∷◌, length, drop, get_or, refl, sym}
 use Rattle.std.proofs.Common.{ap, arith}
 use Rattle.std.specs.Prelude.{Option, None, Some, slice_get, vec_len}

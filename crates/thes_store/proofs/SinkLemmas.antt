@@ -1,4 +1,4 @@
--- What a sink accepts of a list that is passed to it in parts.
+-- Passing a list to a sink in parts has the same outcome as passing it whole.
 use Rattle.std.proofs.Common.{◌≡◌, ◌<◌, ◌+◌, ◌++◌, ◌∙◌, inl, inr, ℕ, zero, suc, List, [], ◌∷◌, length, map, take}
 use Rattle.std.proofs.Common.{get_or, refl, sym, ap, subst, arith, append_assoc, append-nil}
 use Rattle.std.proofs.lemmas.List.{map-append}

@@ -1,4 +1,4 @@
--- Lists with gaps keep their index and their reserved room at each change.
+-- Each change of a list with gaps keeps its index correct and its reserved memory.
 use Rattle.std.proofs.Common.{◌≡◌, ◌≢◌, ◌+◌, ◌<◌, ◌∙◌, inl, inr, ℕ, zero, suc, List, [], ◌∷◌, ◌++◌, length, Bool}
 use Rattle.std.proofs.Common.{true, false, cond, refl, sym, ap, subst, arith, ⊎_elim}
 use Rattle.std.specs.Prelude.{Option, None, Some, slice_get, slice_set, filter, not, vec_len}
@@ -27,7 +27,7 @@ module _ {A : Type 0} where
   rows_pushed slots x = filter_map-append (λ (slot : Option A). slot) slots (Some x ∷ [])
 
   module _ (number : A → ℕ) (old new : Slots A) where
-    -- An appended row is indexed if its position was.
+    -- An appended row is indexed if its position was inserted before.
     pub found_pushed : (x : A) → new.rows.items ≡ old.rows.items ++ Some x ∷ [] → new.places ≡ old.places
         → HasPosition old.places (number x) (vec_len old.rows) → AreIndexedBy number old → AreIndexedBy number new
     found_pushed x items places at found i row e =
@@ -52,7 +52,7 @@ module _ {A : Type 0} where
           (subst (HasPosition old.places (number row)) at (ready.expected (suc k) row e));
     }
 
-    -- The other rows are indexed after one is removed.
+    -- The other rows stay indexed after one is removed.
     pub found_emptied : (i : ℕ) → new.rows.items ≡ rows_after_change_at (λ slot. None) i old.rows.items
         → KeepsOthers i old.places new.places → AreIndexedBy number old → AreIndexedBy number new
     found_emptied i items keeps found j row e = go (slice_get old.rows.items i) refl

@@ -2,11 +2,11 @@
 use Rattle.std.specs.Prelude.{ℕ, List, [], ◌∷◌, Bool, Option, None, Some, slice_get, slice_set, if◌then◌else◌, ◌==◌}
 use Rattle.thes_tables.specs.declared.rows.MoveRow.{MoveRow}
 
--- The test of whether the move is one of the posting.
+-- The test of whether the row is that of a move of the posting.
 abbrev pub is_move_of : ℕ → MoveRow → Bool
 is_move_of posting row = row.posting == posting
 
--- A list of the value, or the empty list if there is none or it fails the test.
+-- The list of the value alone, or the empty list if there is no value or it fails the test.
 abbrev pub filtered_option : {A : Type 0} → (A → Bool) → Option A → List A
 filtered_option p None = []
 filtered_option p (Some row) = if p row then row ∷ [] else []

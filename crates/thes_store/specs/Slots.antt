@@ -15,12 +15,12 @@ module _ {A : Type 0} where
   AreIndexedBy number s = (i : ℕ) (row : A) → slice_get s.rows.items i ≡ Some (Some row)
       → HasPosition s.places (number row) i
 
-  -- The index has the positions that the coming rows will get, under their numbers.
+  -- The index has the positions that rows to be appended will get, under the numbers of these rows.
   abbrev pub AreExpected : (A → ℕ) → Slots A → List A → Type 0
   AreExpected number s coming = (k : ℕ) (row : A) → slice_get coming k ≡ Some row → HasPosition s.places (number row)
       (vec_len s.rows + k)
 
-  -- The coming rows can be appended without failing: memory is reserved, and the index has their positions.
+  -- These rows can be appended without failing: memory is reserved, and the index has their positions.
   pub record IsReady (number : A → ℕ) (s : Slots A) (coming : List A) : Type 0 where
     pub room : vec_len s.rows + length coming ≤ vec_capacity s.rows
     pub expected : AreExpected number s coming

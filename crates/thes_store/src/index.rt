@@ -9,9 +9,9 @@ ghost use Rattle.thes_store.specs.Index.{HasPosition, HasSet, KeepsPositions, Ke
 use std::alloc::{AllocError, Global};
 use std::collections::BTreeSet;
 
-/// The positions at which rows of a number may be, for each number. A look-up checks the row at a position, so further
-/// positions do no harm. The sets are in a vector by number, so memory grows with the greatest number in use; resources
-/// and postings are numbered without gaps.
+/// For each number, the positions at which its rows may be. A look-up checks the row at a position,
+/// so further positions do no harm. The sets are in a vector by number, so memory grows with the
+/// greatest number in use; resources and postings are numbered without gaps.
 #[derive(Drop)]
 pub struct Index {
     alloc: Global,

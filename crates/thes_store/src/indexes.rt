@@ -72,9 +72,9 @@ impl Indexes {
     }
 }
 
-/// Inserts the positions of the postings and moves that the changes will insert, and of the postings that they will
-/// assign to other concepts. Table move has `moves` rows. If memory runs out, some of these positions remain, which do
-/// no harm.
+/// Inserts the positions of the postings and moves that the changes will insert, and of the
+/// postings that they will assign to other concepts. Table move has `moves` rows. If memory runs
+/// out, some of these positions may remain; they do no harm.
 pub fn cover_all(
     indexes: &mut Indexes,
     alloc: Global,

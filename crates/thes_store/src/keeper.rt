@@ -47,8 +47,8 @@ pub trait Keeper {
     fn failures(&self) -> u64
         ensures { result ≡ failed self.now };
 
-    /// Passes all rows to a sink, table after table, and within a table in its order; reports a table that can't be
-    /// queried in place of its rows.
+    /// Passes all rows to a sink, table after table, each table in its order; reports a table that
+    /// can't be queried in place of its rows.
     fn load<S: RowSink>(&mut self, sink: &mut S) -> Result<(), Fault>
         ensures yields { is_up self.new
             → SinkOutcome S.gives sink.old (sink_rows (rows self.old)) result sink.new }
@@ -74,7 +74,7 @@ pub trait Keeper {
         ensures was { is_up self.new → is_up self.old }
         ensures cause { HasCause (failed self.old) (failed self.new) result };
 
-    /// Returns the posting that has the number with its moves, if there is one.
+    /// Returns the posting with the number, and its moves, if there is one.
     fn posting(&mut self, number: PostNo) -> Result<Option<Posting>, Fault>
         ensures ok { IfOk result (λ told. is_up self.new → (t : Tables)
             → rows self.old ≡ cells_of_tables t → IsPostingOfNumber number t told) }

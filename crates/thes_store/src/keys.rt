@@ -11,9 +11,9 @@ use std::collections::btree_map::Entry;
 use std::hash::{FoldHasher, Hasher};
 use thes_base::text::Key;
 
-/// A position at which the posting of a key may be, for each key. A look-up checks the row at a position, so further
-/// positions do no harm. A key is entered under its digest, since comparing texts costs cache misses, or under its text
-/// if another key has that digest.
+/// For each key, a position at which its posting may be. A look-up checks the row at a position, so
+/// further positions do no harm. A key is entered under its digest, since comparing texts costs
+/// cache misses, or under its text if another key has that digest.
 #[derive(Drop)]
 pub struct Keys {
     numbers: BTreeMap<u64, usize>,
@@ -29,7 +29,7 @@ impl Keys {
         }
     }
 
-    /// Inserts a position under a key, by its digest if that is free and else by its text.
+    /// Inserts a position under a key, by its digest if that is free, or else by its text.
     pub fn insert(&mut self, alloc: Global, key: &Key, place: usize) -> Result<(), AllocError>
         ensures keeps { KeepsOtherKeys key.now self.old self.new }
         ensures ok { OnOk result (KeyHasPosition self.new key.now place) }

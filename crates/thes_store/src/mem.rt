@@ -66,7 +66,8 @@ fn posting_at(rows: &[PostingRow], place: usize) -> Option<&PostingRow>
     rows.get(place)
 }
 
-// Returns the posting at a position if it has the key; under a digest, the index may have the position of another key.
+// Returns the posting at a position if it has the key; under a digest, the index may have the
+// position of another key's posting.
 fn row_with_key<'a>(
     rows: &'a [PostingRow],
     place: Option<usize>,

@@ -12,8 +12,8 @@ use thes_tables::rows::PostingRow;
 /// A consumer of rows of the tables, which gets them one at a time. Its only fault is running out
 /// of memory.
 pub trait RowSink {
-    // How the sink consumes a row of a table: the state before, the row or None for a table that the database can't
-    // query, the result, and the state after.
+    // How the sink consumes a row of a table. The arguments are the state before, the row, or None
+    // for a table that can't be queried, the result, and the state after.
     ghost gives: { Self → Table × Option (List Cell) → Result (Unit {0}) Fault → Self → Type 0 };
 
     /// Consumes one row of a table.
@@ -21,7 +21,8 @@ pub trait RowSink {
         ensures gives { gives self.old (table, Some row.now) result self.new }
         ensures err { IfErr result (λ fault. fault ≡ Fault.OutOfMemory) };
 
-    /// Records that a table can't be queried, or is declared otherwise, in place of its rows.
+    /// Records, in place of a table's rows, that it can't be queried or isn't declared as in a
+    /// store.
     fn report_unqueried(&mut self, table: Table) -> Result<(), Fault>
         ensures gives { gives self.old (table, None) result self.new }
         ensures err { IfErr result (λ fault. fault ≡ Fault.OutOfMemory) };
@@ -29,7 +30,8 @@ pub trait RowSink {
 
 /// A consumer of postings, which gets them one at a time. Its only fault is running out of memory.
 pub trait PostingSink {
-    // How the sink consumes a posting: the state before, the posting, the result, and the state after.
+    // How the sink consumes a posting. The arguments are the state before, the posting, the result,
+    // and the state after.
     ghost gives: { Self → PostingRow → Result (Unit {0}) Fault → Self → Type 0 };
 
     /// Consumes one posting.

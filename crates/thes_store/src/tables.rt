@@ -190,7 +190,8 @@ fn move_at_positions(
     }
 }
 
-// Assigns all postings of the source to the target. `standing` is an index of the postings by place.
+// Assigns all postings assigned to the source to the target. `standing` is an index of the postings
+// by place.
 fn move_all(postings: &mut Vec<PostingRow>, standing: &Index, source: ResNo, target: ResNo)
     requires { IndexesByPlace standing.now postings.old.items }
     ensures items { postings.new.items ≡ map (row_after_move_all source target) postings.old.items }

@@ -14,7 +14,7 @@ pub on_any_err : {T E : Type 0} (P : Type 0) (r : Result T E) → P → OnErr r 
 on_any_err P (Ok x) h = tt
 on_any_err P (Err e) h = h
 
--- A property of the value of an optional result is one of the borrowed result.
+-- A property of the copy of an optional result also holds of the borrowed value.
 pub match_of_copied : {A : Type 0} (P : Type 0) (Q : A → Type 0) (o : Option (Bor A)) → MatchOption (option_copied o)
     P Q → MatchOption o P (λ b. Q b.now)
 match_of_copied P Q None h = h

@@ -70,7 +70,7 @@ IndexesHolders rs labels names = (scheme n : ℕ) (tag text : List ℕ) → IsHo
 same_text : (t x : List ℕ) → (t ≡ x) ⊎ (t ≡ x → ⊥)
 same_text = same_key (slice_cmp nat_cmp) nat_list_cmp_total exact_bytes
 
--- Two preferred labels have the same scheme, language and text, or not.
+-- It can be decided whether two preferred labels have the same scheme, language and text.
 pub same_name : (s t : ℕ) (tag tag' text text' : List ℕ) → ((s ≡ t) × (tag ≡ tag') × (text ≡ text'))
     ⊎ ((s ≡ t) × (tag ≡ tag') × (text ≡ text') → ⊥)
 same_name s t tag tag' text text' = go (cases_eq s t) (same_text tag tag') (same_text text text')
@@ -97,7 +97,7 @@ pub found_forgotten : (old new : Names) (scheme : ℕ) (tag text : List ℕ) →
     → holder_in new s t x ≡ Some n
 found_forgotten old new scheme tag text put s n t x apart found = put.1 s t x apart ∙ found
 
--- A concept holds a preferred label under equal scheme, language and text.
+-- A concept that holds a preferred label also holds it by any equal scheme, language and text.
 holder_by_same_name : (rs : List Resource) (labels : Labels) (s scheme n : ℕ) (t tag x text : List ℕ) → (s ≡ scheme)
     × (t ≡ tag) × (x ≡ text) → IsHolder rs labels s t x n → IsHolder rs labels scheme tag text n
 holder_by_same_name rs labels s scheme n t tag x text same h =
@@ -111,7 +111,7 @@ one_scheme rs n s t at e = same_Some _ _ (sym e ∙ at.1)
 -- Assumes that a label is added.
 module _ (rs : List Resource) (labels : Labels) (l : Label) (old : Names) (finds : IndexesHolders rs labels old)
     (unique : UniquePreferred rs (set.insert labels l)) where
-  -- The label isn't a preferred label of a live concept.
+  -- The index has all holders if the added label isn't a preferred label of a live concept.
   pub finds_other : ((scheme : ℕ) → l.kind ≡ Pref → IsConceptOf rs scheme l.owner → ⊥)
       → IndexesHolders rs (set.insert labels l) old
   finds_other none scheme n tag text h = elim (inserted_cases labels l _ h.1) [
@@ -621,7 +621,7 @@ numbered_at {A = A} xs (suc n) x y e f =
     go (z ∷ xs) zero e f = ap Some (sym f)
     go (z ∷ xs) (suc n) e f = go xs n e f
 
--- A number has at most one scheme.
+-- The resource with a number has at most one scheme.
 pub one_scheme_of : (rs : List Resource) (n : ℕ) (o p : Option ℕ) → IsSchemeOf rs n o → IsSchemeOf rs n p → o ≡ p
 one_scheme_of rs n None None a b = refl
 one_scheme_of rs n None (Some t) a b = absurd (a t b)

@@ -27,7 +27,7 @@ find_is : (es : List (ℕ × List ℕ)) (n : ℕ) → dict.find nat_cmp n es ≡
 find_is [] n = refl
 find_is (e ∷ es) n = ap (cond (is_at (nat_cmp n) e.0) (Some e.1)) (find_is es n)
 
--- A look-up in the map gives what a look-up in its model gives.
+-- A look-up in the stored map and one in the map that models it give the same IRI.
 pub get_iri_at : (m : BTreeMap ℕ (List ℕ)) (n : ℕ) → dict.get (iris_in m.entries) n ≡ get nat_cmp m n
 get_iri_at m n = dict.get-from_entries nat_cmp_total m.entries n ∙ find_is m.entries n
 

@@ -223,7 +223,8 @@ module _ (labels : Labels) (owner : ℕ) (tag text old : List ℕ) (keep : Bool)
           at Hidden nk held = absurd (free (inr (inl held)))
           at Scope nk held = absurd (cc)
 
-      -- No old label other than the replaced one has the text that is kept.
+      -- No other lexical label of the owner has the old text in the language, so it can be kept as an alternative
+      -- label.
       beside_kept : (k : LabelKind) → is_lexical_kind k ≡ true → n ≡ owner → t ≡ tag → x ≡ old → label n k t x
           ≢ label owner Pref tag old → HasLabel labels n k t x → ⊥
       beside_kept k nk en et ex apart held =

@@ -96,7 +96,7 @@ pub has_label : (rows : BTreeMap ℕ (List LabelData)) → IsOrdered nat_cmp row
 has_label rows ordered q = set.contains-from_list labels_total (all_owned rows.entries) q ∙ any_owned q rows.entries
     ∙ found_in q.owner (data_of q) rows.entries ordered
 
--- Rows with the same labels have the same set of labels.
+-- Two maps with the same row for each owner have the same set of labels.
 pub same_labels : (old new : BTreeMap ℕ (List LabelData)) → IsOrdered nat_cmp old → IsOrdered nat_cmp new
     → AreSameLabelRows old new → labels_in new.entries ≡ labels_in old.entries
 same_labels old new o n same = set.same_set labels_total labels_exact _ _

@@ -1,4 +1,4 @@
--- A merge copies the row, and the number of labels, that the machine's definition says.
+-- The target's row after a merge, and the number of labels copied to it, are those of the machine's definition.
 use Rattle.std.proofs.Common.{◌≡◌, ◌⊎◌, inl, inr, ◌<◌, ℕ, zero, suc, ◌+◌, length, List, [], ◌∷◌, refl, sym, ap, ◌∙◌}
 use Rattle.std.proofs.Common.{subst, arith, Bool, true, false, not, ◌&&◌, ◌||◌, cond, get_or, take, map, eqb-true}
 use Rattle.std.proofs.Common.{eq-eqb}
@@ -133,7 +133,7 @@ any_of test (x ∷ own) d hit e = elim (or_cases _ _ e) [
   | inr later ↦ or_right (test x) _ (any_of test own d hit later)
 ]
 
--- The copied labels, in terms of the source's own list.
+-- The labels that a merge copies, computed from the source's own list.
 module _ (labels : Labels) (source target : ℕ) (own : List LabelData) (owns : IsRowOfOwner labels source own) where
   abbrev passes : Label → Bool
   passes l = l.owner == source && (is_lexical_kind l.kind && not (has_lexical_label labels target l.tag l.text))
@@ -316,7 +316,7 @@ module _ (labels : Labels) (source target : ℕ) (s13 : S13 labels) where
           ap (λ ys. set.len (set.union labels (set.from_list (map as_taken ys)))) kept ∙ rest
           ∙ ap (λ ys. set.len labels + length ys) (sym kept)
 
-  -- Membership among the copies is membership in the list.
+  -- A label is among the copies exactly when it is the copy of a label in the list that the target lacks.
   built_any : (own : List LabelData) (q : Label) → list_any (eq_by_cmp label_cmp q)
       (map as_taken (missing_labels own))
       ≡ (eq_by_cmp nat_cmp q.owner target && list_any (λ d. lacks_name labels target d && eq_by_cmp data_cmp

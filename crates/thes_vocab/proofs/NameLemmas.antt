@@ -1,4 +1,5 @@
--- Look-ups in the index of preferred labels after an entry is set or removed.
+-- After an entry of the index of preferred labels is set or removed, a look-up of its label gives the new holder or
+-- none. Look-ups of all other labels give the old holders.
 use Rattle.std.proofs.Common.{◌≡◌, ◌⊎◌, inl, inr, ℕ, List, [], refl, sym, ap, ◌∙◌, subst, Bool, true, false, Global}
 use Rattle.std.specs.Prelude.{Option, None, Some, option_and_then}
 use Rattle.std.specs.Ordering.{nat_cmp, is_eq}
@@ -47,7 +48,7 @@ module _ {K X : Type 0} (R : K → K → Ordering) (o : IsTotalOrder R) (exact :
   set_of_write_through old new key was now w e = set_of_updates old new key (Some now)
       (w.3 (subst (λ x. IsSome x) e refl))
 
--- Look-ups in a map of maps, after an inner map is set.
+-- Defines look-ups in a map of maps, and what they return after an inner map is set.
 module _ {K A Q : Type 0} (R : K → K → Ordering) (o : IsTotalOrder R) (exact : (x y : K) → R x y ≡ Equal → x ≡ y)
     (look : A → Q → Option ℕ) where
   abbrev pub nested_lookup : BTreeMap K A → K → Q → Option ℕ

@@ -108,7 +108,7 @@ pub has_removed : (own : List LabelData) (l : LabelData) (r : Result ℕ ℕ) �
 has_removed own l r sorted at q = ap (λ xs. has_own xs q) (remove_is own l r sorted at)
     ∙ has_remove data_cmp data_total own l q sorted
 
--- The languages of labels of one kind ascend along the list.
+-- If a label comes before another, the second doesn't come before the first by kind and language.
 language_rises : (r s : Ordering) → ordering_then r s ≡ Less → is_lt (ordering_reverse r) ≡ false
 language_rises Less s e = refl
 language_rises Equal s e = refl

@@ -1,4 +1,4 @@
--- The index of live concepts by scheme, and its changes. Without a scheme nothing changes.
+-- The index of live concepts by scheme, and its changes. If no scheme is given, nothing changes.
 use Rattle.std.specs.Prelude.{ℕ, Option, None, Some}
 use Rattle.std.specs.Ordering.{nat_cmp}
 use Rattle.std.specs.BTreeMap.{is_at}
@@ -7,7 +7,7 @@ use Rattle.std.specs.Set.{remove_key}
 use Rattle.thes_lists.specs.declared.lists.Lists.{Lists}
 use Rattle.thes_lists.specs.Lists.{listed_at, HasSpare, HaveSameValues, ChangesOnlyAt}
 
--- The scheme's list has room for one more number without allocating; without a scheme there is no condition.
+-- The scheme's list has room for one more number without allocating. Always holds if no scheme is given.
 abbrev pub HasRoomIn : Lists ℕ → Option ℕ → Type 0
 HasRoomIn concepts None = Unit {0}
 HasRoomIn concepts (Some scheme) = HasSpare concepts scheme

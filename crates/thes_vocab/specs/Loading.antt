@@ -98,8 +98,8 @@ abbrev pub LoadLabelResult : Vocabulary → Vocabulary → Label → Bool → Ty
 LoadLabelResult old new l true = MayLoadLabel old l × (new ≡ with_labels old (set.insert old.labels l))
 LoadLabelResult old new l false = (MayLoadLabel old l → ⊥) × (new ≡ old)
 
--- The label may be loaded, stated by look-ups of its owner and its text; equivalent to MayLoadLabel if the labels so
--- far are legal.
+-- The condition on which a label may be loaded, as look-ups of its owner and its text decide it. It is equivalent to
+-- MayLoadLabel if the labels so far are legal.
 pub record IsFreeLabel (resources : List Resource) (labels : Labels) (l : Label) : Type 0 where
   pub owner : CanOwn resources l.owner
   pub new : set.contains labels l ≡ false

@@ -27,7 +27,7 @@ pub record HasTwoPreferred (labels : Labels) (owner : ℕ) : Type 0 where
   pub apart : label owner Pref first_tag first_text ≢ label owner Pref second_tag second_text
 
 -- The text, as the owner's new preferred label in the language, would break SKOS S13: it is an alternative or hidden
--- label of the owner, or the same as the old preferred label, if `keep` is true.
+-- label of the owner, or, if `keep` is true, the same as the old preferred label.
 abbrev pub HasClash : Labels → ℕ → List ℕ → List ℕ → List ℕ → Bool → Type 0
 HasClash labels owner tag text old keep =
     HasLabel labels owner Alt tag text ⊎ HasLabel labels owner Hidden tag text ⊎ ((keep ≡ true) × (old ≡ text))

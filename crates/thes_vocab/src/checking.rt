@@ -64,8 +64,8 @@ impl Vocab {
         None
     }
 
-    /// Checks whether an outside concept may be registered: whether its IRI is new, and doesn't
-    /// begin with the base.
+    /// Checks whether an outside concept may be added: whether its IRI is new, and doesn't begin
+    /// with the base.
     pub fn check_outside(&self, iri: &Iri) -> Option<Refusal>
         ensures { unless_new_foreign_iri self.now.base self.now.iris iri.now accepted result }
     {

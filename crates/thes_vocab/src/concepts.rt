@@ -36,7 +36,7 @@ pub(crate) fn insert(concepts: &mut Lists<ResNo>, resource: &Resource, n: ResNo)
     }
 }
 
-// Removes a concept's number from the list of its scheme; changes nothing without a scheme.
+// Removes a concept's number from the list of its scheme; does nothing if no scheme is given.
 pub(crate) fn remove(concepts: &mut Lists<ResNo>, scheme: Option<ResNo>, n: ResNo)
     requires { AreAllRising nat_cmp concepts.old }
     ensures { ConceptListsAfterRemove concepts.old concepts.new scheme n }

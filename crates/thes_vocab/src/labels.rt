@@ -115,8 +115,8 @@ impl LabelTable {
     }
 
     // Checks whether the text, as the owner's new preferred label, would break S13: whether it is
-    // an alternative or hidden label of the owner, or the same as the old preferred label, if
-    // `keep` is true.
+    // an alternative or hidden label of the owner, or, if `keep` is true, the same as the old
+    // preferred label.
     pub(crate) fn has_clash(
         &self,
         owner: ResNo,
@@ -212,8 +212,8 @@ impl LabelTable {
         self.insert(owner, Label { tag, value })
     }
 
-    // Copies to the target the lexical labels of the source that it lacks, `gained` in number,
-    // preferred ones as alternative ones.
+    // Copies the lexical labels of the source that the target lacks to the target, preferred ones
+    // as alternative ones. `gained` is their number.
     pub(crate) fn take_names(
         &mut self,
         source: ResNo,
@@ -273,7 +273,7 @@ fn take(
     }
 }
 
-// Returns a copy of the target's row, with the lexical labels of the source that it lacks,
+// Returns a copy of the target's row, with the lexical labels of the source that the target lacks,
 // preferred ones as alternative ones.
 fn merged_row(
     rows: &BTreeMap<ResNo, OwnerRow>,

@@ -1,4 +1,5 @@
-//! Loads a vocabulary row by row, with the checks that a vocabulary's invariant needs.
+//! Loads a vocabulary row by row, and checks that the rows together satisfy the invariant of a
+//! vocabulary.
 ghost use Rattle.std.specs.Prelude.{◌≡◌, ◌<◌, ◌^◌, ◌↔◌, ℕ, List, [], IsTrue, IfOk, OnOk, true, MatchOption, length};
 ghost use Rattle.std.specs.Ordering.{nat_cmp};
 ghost use Rattle.thes_base.specs.declared.data.LabelKind.TheVariants.{Pref};
@@ -23,8 +24,8 @@ use thes_base::number::ResNo;
 use thes_base::text::{Base, Iri, Tag, Text};
 use thes_lists::Lists;
 
-/// A vocabulary that is being loaded: it has all resources from the start, and takes IRIs and
-/// labels one by one.
+/// A vocabulary that is being loaded: all its resources are given at the start, and IRIs and labels
+/// are added one by one.
 #[derive(Drop)]
 pub struct VocabLoad {
     alloc: Global,
@@ -59,7 +60,7 @@ impl Model for VocabLoad {
 }
 
 impl VocabLoad {
-    /// Creates a load with all resources, without IRIs and labels.
+    /// Creates a vocabulary to load, with all its resources, and without IRIs and labels.
     pub fn new(alloc: Global, base: Base, resources: Vec<Resource>) -> Result<VocabLoad, AllocError>
         requires { AreSound resources.items }
         ensures { IfOk result (λ load. load ≡ bare_vocabulary base resources.items) }

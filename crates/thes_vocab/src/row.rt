@@ -99,7 +99,7 @@ impl OwnerRow {
         Ok(OwnerRow { labels })
     }
 
-    // Inserts a label in its place, and returns whether it is new.
+    // Inserts a label at its place, unless it is there, and returns whether it is new.
     pub(crate) fn insert(&mut self, label: Label) -> Result<bool, AllocError>
         ensures added { IfOk result (λ added. added ≡ not (has_own self.old label)) }
         ensures ok { OnOk result ((l : LabelData) →
@@ -131,7 +131,8 @@ impl OwnerRow {
         }
     }
 
-    // Checks whether the row has two different preferred labels.
+    // Checks whether the row has two different preferred labels. They come first in the row, so the
+    // second label decides.
     pub(crate) fn has_two_preferred(&self) -> bool
         ensures { IsTrue result ↔ HasTwoOwnPreferred self.now }
     {
@@ -142,7 +143,7 @@ impl OwnerRow {
     }
 }
 
-// Returns a copy of the target's row, with the lexical labels of the source that it lacks,
+// Returns a copy of the target's row, with the lexical labels of the source that the target lacks,
 // preferred ones as alternative ones.
 pub(crate) fn merge_rows(
     alloc: Global,

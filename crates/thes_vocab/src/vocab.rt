@@ -21,8 +21,8 @@ use thes_lists::Lists;
 
 /// The resources of a thesaurus, with the IRIs of outside concepts and the labels of all others.
 ///
-/// Its labels meet SKOS S13 and S14, no two live concepts of a scheme have the same preferred label
-/// in a language, and each scheme, concept and collection has a preferred label.
+/// Its labels meet SKOS S13 and S14. No two live concepts of a scheme have the same preferred label
+/// in a language. Each scheme, concept and collection has a preferred label.
 #[derive(Drop)]
 pub struct Vocab {
     pub(crate) alloc: Global,

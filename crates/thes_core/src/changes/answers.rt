@@ -1,4 +1,4 @@
-//! The answers to accepted requests, and the verdicts that have them.
+//! The answers to accepted requests, and the verdicts on these requests.
 ghost use Rattle.std.specs.Prelude.{◌≡◌, IfOk, List, false};
 ghost use Rattle.thes_base.specs.declared.data.History.{History};
 ghost use Rattle.thes_base.specs.Machine.{answer_of};

@@ -52,7 +52,7 @@ fn push_insertions(delta: &mut Delta, links: &[Link]) -> Result<(), AllocError>
     Ok(())
 }
 
-// Appends a link to the list and adds it to `seen`, unless it is among those seen before.
+// Appends a link to the list and adds it to `seen`, unless it is in `seen` already.
 fn push_unseen(
     seen: &mut BTreeSet<Link>,
     links: &mut Vec<Link>,

@@ -135,8 +135,8 @@ impl Thesaurus {
         Ok(delta)
     }
 
-    // Returns the changes of a split: the new concept with its label, and the moves of the listed
-    // postings.
+    // Returns the changes of a split: the new concept with its label, and the new places and the
+    // moves of the listed postings.
     pub(super) fn changes_of_split(
         &self,
         source: ResNo,

@@ -1,4 +1,4 @@
-//! Checks of Split, Post and Withdraw requests.
+//! Checks of Split and Post requests.
 ghost use Rattle.std.specs.Prelude.{◌≡◌, Some, IfOk, IfNone, List, ℕ, [], map};
 ghost use Rattle.thes_base.specs.declared.data.History.{History};
 ghost use Rattle.thes_base.specs.declared.request.Command.TheVariants as request;

@@ -8,7 +8,7 @@ use Rattle.std.proofs.lemmas.List.Elements.{filter_map-append}
 use Rattle.thes_display.proofs.gather.ranks_at.Goals as goal
 use Rattle.thes_display.proofs.gather.ranks_at.Goals.{in-Some+in_ok-push, in_default}
 
--- The ranks of some concepts and of one more are the ranks found with the rank of that one, if it has one.
+-- The ranks of a list with one more concept are those found before, followed by the rank of that concept if it has one.
 one_more : (f : ℕ → Option ℕ) (found new : List ℕ) (concepts more : List ℕ) (n : ℕ) (o : Option ℕ) → found
     ≡ filter_map f concepts → more ≡ concepts ++ n ∷ [] → f n ≡ o → new ≡ found ++ cons_option o [] → new
     ≡ filter_map f more

@@ -9,7 +9,7 @@ use Rattle.thes_graph.proofs.find_cycle.advance_path.Given.{Over}
 use Rattle.thes_graph.proofs.find_cycle.advance_path.Goals as goal
 use Rattle.thes_graph.proofs.find_cycle.advance_path.Goals.{After-pop}
 
--- The pop removes the last of the nodes to be searched from.
+-- The pop removes the last broader node from the list of those still to be searched from.
 popped : (g : Over) (c : After-pop g) → c.args.last.above.items ≡ c.pop.new.self.items ++ c.in-Some.high ∷ []
 popped g c =
     all_but_last c.args.last.above.items c.pop.new.self.items c.in-Some.high

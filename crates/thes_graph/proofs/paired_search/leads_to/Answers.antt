@@ -5,7 +5,7 @@ use Rattle.thes_graph.proofs.paired_search.leads_to.Given.{Over}
 use Rattle.thes_graph.proofs.paired_search.leads_to.Goals as goal
 use Rattle.thes_graph.proofs.paired_search.leads_to.Goals.{In_ok-found}
 
--- The two searches end with a goal found, or in their state.
+-- The two searches find a goal, or end in the state that ArePairedSearches describes.
 led : (g : Over) (c : In_ok-found g) → MatchBool c.in_ok-found.found
     (HasFoundGoal (g.L.Links.net c.args.links.now).links c.args.relation (c.args.from ∷ []) (c.args.to ∷ []) c.args.from
     c.args.to (g.L.Links.count c.args.links.now) (g.L.Links.count c.run_paired_search.new.links))

@@ -2,7 +2,7 @@ use Rattle.std.proofs.Common.{◌≡◌, ◌+◌, ◌-◌, ◌≤◌, false}
 use Rattle.thes_graph.specs.SideSearch.{LeadsWithin, IsSearchResult}
 use Rattle.thes_graph.proofs.side_search.follow_part.Given as goal
 
--- The nodes have grown by those to which the links read so far lead, in at most one visit each.
+-- The nodes have grown by those to which the links read so far lead; each link took at most one visit.
 abbrev pub invariant-loop-i : goal.invariant-loop-i
 invariant-loop-i g l = record {
   net : g.L.Links.net l.links ≡ g.L.Links.net l.fn.links;

@@ -14,7 +14,7 @@ use Rattle.thes_graph.proofs.upward_link.are_tied.Goals as goal
 use Rattle.thes_graph.proofs.upward_link.are_tied.Goals.{In_ok-follow_after_edit}
 use Rattle.thes_graph.proofs.SideSearchLemmas.{item_at}
 
--- The visits up to this node are bounded by the weight of the nodes read.
+-- The visits up to and including this node are at most the cost of reading the nodes so far.
 read_here : (g : Over) (c : In_ok-follow_after_edit g) (ns : List Link)
     → ((n : ℕ) → Contains c.args.xs.now n → CoversAt c.args.edit.now (g.L.Links.net c.args.links.now).links n ns)
     → g.L.Links.count c.follow_after_edit.new.links ≤ g.L.Links.count c.args.links.now + read_cost c.args.edit.now

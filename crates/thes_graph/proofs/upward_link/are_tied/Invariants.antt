@@ -7,7 +7,8 @@ use Rattle.thes_graph.specs.Steps.{Steps}
 use Rattle.thes_graph.specs.SideSearch.{read_cost}
 use Rattle.thes_graph.proofs.upward_link.are_tied.Given as goal
 
--- No node so far is tied, and the visits are bounded by the weight of these nodes.
+-- No related link joins one of the nodes read so far to `ys`, and the visits are at most the cost of reading these
+-- nodes.
 abbrev pub invariant-loop-x : goal.invariant-loop-x
 invariant-loop-x g l = record {
   net : g.L.Links.net l.links ≡ g.L.Links.net l.fn.links;

@@ -17,14 +17,14 @@ led : (g : Over) (c : Then-branch g) (start read : ℕ) → IsSideSearch c.args.
     (read + (g.L.Links.count c.finish.new.links - g.L.Links.count c.args.links.now))
 led g c = rw c.if-branch.true at c.in_ok-finish.ensures.advances
 
--- If the search found no goal, it is in its state.
+-- If the search found no goal, IsSideSearch describes its state.
 on : (g : Over) (c : Else-branch g) (start read : ℕ) → IsSideSearch c.args.edit.now
     (g.L.Links.net c.args.links.now).links c.args.relation c.args.goals.now start c.args.other.now read
     → IsSideSearch c.args.edit.now (g.L.Links.net c.args.links.now).links c.args.relation c.args.goals.now start
     c.finish.new.self (read + (g.L.Links.count c.finish.new.links - g.L.Links.count c.args.links.now))
 on g c = rw c.if-branch.false at c.in_ok-finish.ensures.advances
 
--- The search and the reading of related links take together a bounded number of visits.
+-- The search and the reading of related links together make a bounded number of visits.
 cost : (g : Over) (c : In_ok-are_tied g) (start read : ℕ) (ns : List Link) → IsSideSearch c.args.edit.now
     (g.L.Links.net c.args.links.now).links c.args.relation c.args.goals.now start c.args.other.now read
     → ((n : ℕ) → Reaches (Steps c.args.relation (HeldAfter c.args.edit.now (g.L.Links.net c.args.links.now).links))

@@ -21,7 +21,7 @@ met g c =
     (g.L.Links.count c.args.links.now)
     c.in_ok-up.ensures.nodes c.in_ok-up.ensures.unread c.in_ok-down.ensures.nodes c.in_ok-down.ensures.unread)
 
--- If neither search found a goal, both are in their state.
+-- If neither search found a goal, AreAlternating describes their state.
 in_turn : (g : Over) (c : Else-branch g) → AreAlternating c.args.edit.now (g.L.Links.net c.args.links.now).links
     (c.args.low ∷ []) (c.args.high ∷ []) c.args.low c.args.high c.search_in_turns.new.up c.search_in_turns.new.down
     (g.L.Links.count c.args.links.now) (g.L.Links.count c.search_in_turns.new.links)

@@ -1,7 +1,7 @@
 use Rattle.std.proofs.Common.{◌≡◌, ◌+◌, ◌≤◌, length, take}
 use Rattle.thes_graph.proofs.walk.fetch.Given as goal
 
--- The row has the links read so far, in at most one visit each.
+-- The row has the links read so far; each took at most one visit.
 abbrev pub invariant-loop-i : goal.invariant-loop-i
 invariant-loop-i g l = record {
   net : g.L.Links.net l.links ≡ g.L.Links.net l.fn.links;

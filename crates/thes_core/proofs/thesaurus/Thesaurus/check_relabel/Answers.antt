@@ -12,7 +12,7 @@ use Rattle.thes_core.proofs.thesaurus.Thesaurus.check_relabel.Goals as goal
 pub returns-in-Some-check_relabel : goal.returns-in-Some-check_relabel
 returns-in-Some-check_relabel c = λ hs kept. search rules depth 14
 
--- The number of a flag is the growth that keeping the old label causes: 1 or 0.
+-- The flag `keep` as a number, 1 or 0, is the number of labels that a relabelling adds.
 byte_is : (b : Bool) → bool_byte b ≡ keep_growth b
 byte_is true = refl
 byte_is false = refl

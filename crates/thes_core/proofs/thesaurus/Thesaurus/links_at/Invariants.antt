@@ -2,7 +2,7 @@ use Rattle.std.proofs.Common.{◌≡◌, ◌-◌, length, take, vec_len}
 use Rattle.thes_graph.specs.GraphView.{links_at}
 use Rattle.thes_core.proofs.thesaurus.Thesaurus.links_at.Given as goal
 
--- The list has the first links at the resource, and the graph's links don't change.
+-- The list has the links at the resource read so far, and the graph's links don't change.
 abbrev pub invariant-loop-link : goal.invariant-loop-link
 invariant-loop-link l = record {
   read : l.walk.net.links ≡ l.self.graph.links;

@@ -3,7 +3,7 @@ use Rattle.thes_tables.specs.declared.change.Change.TheVariants as change
 use Rattle.thes_core.specs.Deltas.{copied_label_rows}
 use Rattle.thes_core.proofs.thesaurus.Thesaurus.push_copied_labels.Given as goal
 
--- The changes so far, followed by those of the other labels, are all changes.
+-- The changes so far, followed by those of the remaining labels, are the whole list of changes.
 abbrev pub invariant-loop-label : goal.invariant-loop-label
 invariant-loop-label l =
     l.delta ++ map change.AddLabel

@@ -9,7 +9,7 @@ use Rattle.thes_graph.proofs.IndexLemmas.{IsIndexed-same, row_sorted, other_sort
 use Rattle.thes_graph.proofs.graph.Graph.add.Goals as goal
 use Rattle.thes_graph.proofs.graph.Graph.add.Goals.{In_ok-make_room-2}
 
--- The index stays right when room is reserved, since the rows keep their values.
+-- The index stays correct when room is reserved, since the rows keep their values.
 indexed : (c : In_ok-make_room-2) → IsIndexed c.self.inside.held.keys c.make_room-2.new.self c.self.inside.marked.keys
 indexed c =
     IsIndexed-same c.self.inside.held.keys c.self.inside.marked.keys c.self.inside.rows c.make_room-2.new.self

@@ -10,7 +10,7 @@ use Rattle.thes_vocab.proofs.LabelCheckLemmas.{relabelled_is}
 use Rattle.thes_vocab.proofs.ConsistencyLemmas.{IsSchemeOf, seen_name_noted, seen_renamed, relabel_to_same_text}
 use Rattle.thes_vocab.proofs.vocab.Vocab.relabel.Goals as goal
 
--- A text equal to that of the owner's preferred label is that of the label.
+-- A copy of the text of the owner's preferred label is the text of that label.
 held : (labels : Labels) (owner : ℕ) (tag known old : List ℕ) → HasLabel labels owner Pref tag known → old ≡ known
     → HasLabel labels owner Pref tag old
 held labels owner tag known old has same = subst (HasLabel labels owner Pref tag) (sym same) has
