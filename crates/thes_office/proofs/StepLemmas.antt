@@ -101,7 +101,7 @@ pub copies_over : (old new : Raw) (limits : Limits) (copy : CoreView) → new �
     → IsCopy new limits copy
 copies_over old new limits copy same is = subst (λ (r : Raw). IsCopy r limits copy) (sym same) is
 
--- A copy is one with the limits of its own setting.
+-- A copy of the rows is one with the limits in its own setting.
 pub copies_own : (raw : Raw) (limits : Limits) (copy : CoreView) → IsCopy raw limits copy
     → IsCopy raw copy.setting.limits copy
 copies_own raw limits copy is = record { limits_are = refl; state = is.state; holds = is.holds; shows = is.shows }

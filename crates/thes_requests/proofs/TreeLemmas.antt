@@ -1,5 +1,5 @@
--- Proves the data of a parsed value, level by level, and of its items and members while they are
--- parsed.
+-- Proves which data a parsed value represents, level by level, and those of its items and members
+-- while they are parsed.
 use Rattle.std.proofs.Common.{◌≡◌, ℕ, ◌+◌, ◌<◌, ◌≤◌, List, [], ◌∷◌, ◌++◌, Bool, length, map, take, drop}
 use Rattle.std.proofs.Common.{slice_index_or, Option, Some, None, option_map, is_none, Vec, Global, Bor, cond}
 use Rattle.std.proofs.Common.{bytes_eq, refl, sym, ap, ◌∙◌, subst, add-one, rules}
@@ -25,7 +25,7 @@ view-Array v = search (rules, the_lemmas)
 pub view-Object : (m : Vec Entry Global) → view (Object m) ≡ object (members_view m.items)
 view-Object m = search (rules, the_lemmas)
 
--- A parsed object lists its members in the order of the text.
+-- Members appended to an object are put in one by one, after those before them.
 
 pub members_view-append : (es fs : List Entry) → members_view (es ++ fs) ≡ put_all (members_view es)
     (map (λ m. (m.0, view m.1)) fs)

@@ -1,5 +1,5 @@
--- The meaning of the bytes of a request: a command, a query, or the first form fault. There are
--- three checks, in this order: the bytes are JSON; the object has exactly the members in its row of
+-- The meaning of the bytes of a request: a command, a query, or the first form fault. Three rules
+-- are checked, in this order: the bytes are JSON; the object has exactly the members in its row of
 -- the table, each of the right type; each member has its form, in the order of the row.
 use Rattle.std.specs.Prelude.{ℕ, Bool, List, All, codes, map, unwrap_or, option_and_then, Option, None, Some}
 use Rattle.std.specs.Prelude.{if◌then◌else◌}
@@ -62,7 +62,7 @@ record_form text = value_if (IsRecordName text) bad.BadRecord text
 abbrev pub label_text_form : LabelKind → List ℕ → RequestReading (List ℕ)
 label_text_form kind text = value_if (IsLabelText kind text) bad.BadText text
 
--- Each number is from 1 to 2³² - 1, as those of resources and postings.
+-- Each number is from 1 to 2³² - 1, like the numbers of resources and postings.
 pub record AreNumbers (ns : List ℕ) : Type 0 where
   pub each : All IsNumber ns
 
@@ -114,8 +114,8 @@ a_link_kind = record {
 abbrev pub some_postings : Member (List Num) (List ℕ)
 some_postings = record { found = numbers_in (codes "postings"); form = numbers_form }
 
--- Rows of the table. A row checks the number of members, `do` or `get` included; then it looks up
--- each member, and then it reads the form of each.
+-- The rows of the tables of commands and queries. A row checks the number of members, `do` or `get`
+-- included, then looks up each member, and then reads each in its form.
 
 -- A row with no member but `do` or `get`.
 unfoldable pub members0 : {C : Type 0} → C → Data → RequestReading C
