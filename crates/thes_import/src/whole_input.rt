@@ -45,7 +45,8 @@ fn read_more<R: Read>(
     Ok(count > 0)
 }
 
-/// Reads an input to its end. `TooLong` means that the input exceeds the limit, or that a read was denied.
+/// Reads an input to its end. `TooLong` means that the input exceeds the limit, or that a read was
+/// denied.
 pub(crate) fn read_whole<R: Read>(
     alloc: Global,
     reader: &mut Pipe<R>,
