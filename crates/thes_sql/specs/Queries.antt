@@ -46,8 +46,8 @@ IsWholeQuery sql = IsQuery sql × (is_whole_text (length sql) (first sql) ≡ tr
 abbrev pub compiles : Schema → List ℕ → Bool
 compiles schema sql = is_ok (understood schema sql)
 
--- What a query finds in a database: rows, or None if it doesn't compile or its values have no result, as an overflowing
--- sum in a view.
+-- What a query finds in a database: rows, or None if it doesn't compile or its values have no
+-- result, such as a sum in a view that overflows.
 abbrev pub Finds : List ℕ → Database → Option (List Row) → Type 0
 Finds sql db (Some rows) =
     (c : Compiled) × (understood db.schema sql ≡ Ok c) × (source : Database)
@@ -81,7 +81,8 @@ FindResult g sql old new r rows =
     HasCleanDisk (state g new) → IfOk r (λ out. Finds sql (state g old).now (Some (rows out)))
     × IfErr r (FailsToFind sql (state g old) (state g new))
 
--- The answer whether a query compiles, if preparing it returned this error.
+-- Whether a query compiles, given the error of preparing it: no if that error says so, and
+-- otherwise the error itself.
 abbrev pub answer_of_error : Error → Result Bool Error
 answer_of_error (SqlInputError fault) = Ok false
 answer_of_error e = Err e
@@ -92,7 +93,7 @@ CompileResult g sql old new r =
     HasCleanDisk (state g new) → IfOk r (λ there. there ≡ compiles (state g old).now.schema sql)
     × IfErr r (IsStoreFault (state g old) (state g new))
 
--- A successful call leaves the database unchanged, and what is committed.
+-- A successful call leaves the database and its committed state unchanged.
 abbrev pub KeepsDatabase : {S V E : Type 0} → Ghosts S → Held S → Held S → Result V E → Type 0
 KeepsDatabase g old new r =
     OnOk r (HasCleanDisk (state g new)

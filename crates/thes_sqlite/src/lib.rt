@@ -1,4 +1,4 @@
-//! Storage for the tables in a database.
+//! Storage that keeps the tables in a database, and the migration of its stores.
 #![tactic(auto)]
 
 pub mod faults;
