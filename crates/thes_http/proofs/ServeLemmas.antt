@@ -106,8 +106,8 @@ cut_body known mid left bytes rest w t a c = record {
   cut = inr (a.head, rest ++ c.more, w, has_more bytes a.head rest c.more a.has, a.wants, c.short);
 }
 
--- The response is also that of the buffers that the program reads: a prefix of the input, and the
--- body.
+-- A head and its complete body, as the program's buffers hold them, are answered by the effect of
+-- the endpoint.
 pub answer_all : {S : Type 0} (d : ServiceEffects S) (known mid left : Option (List ℕ)) (old new : S)
     (bytes front start body text : List ℕ) (len : ℕ) (w : HeadRequest) (r : Response)
     → Consumes known mid bytes → front ≡ take head_limit bytes → len ≤ length (take head_limit bytes)

@@ -64,7 +64,7 @@ cut_front front bytes bytes' e same l h =
           h;
     })
 
--- Bytes that end within a target pass the test for it.
+-- Bytes that end within a target pass the test `ends_in_target`.
 pub ends_in_target_holds : (bytes : List ℕ) → EndsInTarget bytes → ends_in_target bytes ≡ true
 ends_in_target_holds bytes (blank, method, target, token, uri, is) =
     let line : without_blank_lines bytes ≡ method ++ (32 ∷ target) =

@@ -50,7 +50,7 @@ abbrev pub endpoint_below : List ℕ → List ℕ → List ℕ → Option Endpoi
 endpoint_below a b c =
     if bytes_eq a (codes "concepts") && bytes_eq c (codes "postings") then numbered_endpoint Postings b else None
 
--- The endpoint for the parts of a path between slashes, of which the first is empty.
+-- The endpoint for the parts of a path between slashes; the first part is empty.
 abbrev pub endpoint_of_parts : List (List ℕ) → Option EndpointMatch
 endpoint_of_parts ([] ∷ a ∷ []) = endpoint_named a
 endpoint_of_parts ([] ∷ a ∷ b ∷ []) = endpoint_within a b

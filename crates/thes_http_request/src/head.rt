@@ -1,4 +1,4 @@
-//! Deciding whether bytes begin with the head of an HTTP request.
+//! Decides whether bytes begin with the head of an HTTP request.
 ghost use Rattle.std.specs.Prelude.{◌≡◌, ◌⊎◌, true, false, length, MatchOption};
 ghost use Rattle.std.specs.List.{list_any, list_all, before_first, after_first};
 ghost use Rattle.httparse.specs.Grammar.{is_uri_byte};
