@@ -12,7 +12,8 @@ use Rattle.thes_command_line.specs.Printing.{Prints, fault_line}
 use Rattle.thes_cli.specs.Ending.{last_fault, status_of}
 use Rattle.thes_cli.specs.Streams.{Streams}
 
--- The end of a script: its fault, if there was one, is printed, and the status is that of the end.
+-- The end of a script: its fault, if there was one, is printed, and the status is that of the
+-- script.
 abbrev pub ReportsScriptEnd : {E : Type 0} → (E → Option (List ℕ)) → Pipe E → Pipe E → Result ScriptEnd PipeFault → ℕ
     → Type 0
 ReportsScriptEnd contents old new result status =

@@ -75,8 +75,8 @@ fn report_import<E: Write>(
     }
 }
 
-/// Imports a posting file, writes the outcomes of its rows, prints their counts if `prints_it`, and returns the exit
-/// status.
+/// Imports a posting file, writes the outcomes of its rows, prints their counts if `prints_it`, and
+/// returns the exit status.
 pub fn import_file<K: Keeper, F: Read + Drop, W: Write, E: Write>(
     alloc: Global,
     file: F,

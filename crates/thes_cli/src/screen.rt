@@ -6,7 +6,7 @@ use crate::progress::Progress;
 use std::rt::Clock;
 use std::time::Instant;
 
-// The time between two lines, in seconds.
+// The least time between two lines, in seconds.
 const PAUSE: u64 = 1;
 
 // The number of rows between two readings of the clock.

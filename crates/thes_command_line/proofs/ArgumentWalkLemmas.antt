@@ -47,7 +47,8 @@ no_value least most one none =
     let bad : range_kinds 1 most 0 ≡ [] = subst (λ (n : ℕ). range_kinds n most 0 ≡ []) one none in
     cc
 
--- The property `Q` is one of an option's row: its identifier, the way it is read, and its first value.
+-- Assumes a property `Q` of the row of an option: of its identifier, the way it is read, and its
+-- first value.
 module _ (Q : Text → Reading → Text → Type 0) where
   abbrev Fits : Row → Type 0
   Fits r = (v : Text) × (rest : List Text) × (r.values ≡ v ∷ rest) × Q r.id r.reading v

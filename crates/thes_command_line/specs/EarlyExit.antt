@@ -19,12 +19,12 @@ exit_status NotText = 2
 exit_status (BadForm fault) = 2
 exit_status OutOfMemory = 3
 
--- The early exit for arguments that can't be read.
+-- The early exit for an error of reading the arguments.
 abbrev pub exit_of_error : ErrorKind → EarlyExit
 exit_of_error kinds.OutOfMemory = OutOfMemory
 exit_of_error _ = NotText
 
--- The early exit for an option whose value can't be read.
+-- The early exit for a value that couldn't be read: its form fault, or running out of memory.
 abbrev pub exit_of_stop : ReadStop → EarlyExit
 exit_of_stop (stops.Form fault) = BadForm fault
 exit_of_stop stops.OutOfMemory = OutOfMemory
