@@ -33,7 +33,8 @@ use Rattle.thes_service.specs.PostingLists.{ListsRow}
 use Rattle.thes_service.specs.Service.{HoldsOfState}
 use Rattle.thes_service.specs.declared.posting_lister.PostingLister.{PostingLister}
 
--- If each legal state that a copy holds has a property, the state that the rows encode has it, with its base.
+-- If each legal state that a copy holds has a property with the copy's base, the state that the
+-- rows encode has it with its base.
 held_based : (raw : Raw) (limits : Limits) (copy : core.CoreView) (P : List ℕ → State → Type 0)
     → IsCopy raw limits copy → ((s : State) → IsViewOf copy s → IsLegalState copy.setting.base s
     → P copy.setting.base s)
@@ -93,7 +94,7 @@ refusal_viewed raw concept old new told refusal some lists =
     so.1
 
 module _ {K : Type 0} (rows : K → Raw) (is_up : K → Type 0) (failed : K → ℕ) where
-  -- A call without a fault behaves alike for any value returned.
+  -- A call without a fault has the same effects, whatever value it returns.
   pub goes_on_to : {A B : Type 0} (old new : OfficeView K) (a : A) (b : B) → FaultBehaviour rows is_up failed old new
       (let x : Result A Fault = Ok a in x) → FaultBehaviour rows is_up failed old new (let x : Result B Fault =
       Ok b in x)
