@@ -122,7 +122,7 @@ legal_loaded base s raw sorted are in_order =
     held.0 in
     (r.2.0, subst (HasVerdict sorted) r.2.1 r.1, r.2.2 ∙ held.1, r.2.3 ∙ are.rows.base_is)
 
--- Rows that load once they are sorted encode a legal state.
+-- Rows that load after sorting encode a legal state.
 loaded_legal : (raw sorted : Raw) (t : Tables) → AreSorted raw sorted → HasVerdict sorted (Ok t)
     → AreRowsOfState t.base (state_of t) raw
 loaded_legal raw sorted t in_order loads =

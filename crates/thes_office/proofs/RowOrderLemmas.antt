@@ -278,7 +278,7 @@ tables_agree base rs outside labels marks K L xs ys ps ms p q r = record {
       histories = (state_of told).histories;
     }
 
--- The verdicts on two such stores agree.
+-- The verdicts on two stores whose tables satisfy `AreTables` agree.
 pub verdicts_agree : (here there : Raw) → AreTables here there → VerdictsAgree (HasVerdict here) (HasVerdict there)
 verdicts_agree here there same =
     let back = tables_back here there same in

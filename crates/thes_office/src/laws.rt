@@ -4,7 +4,7 @@ ghost use Rattle.thes_office.specs.RowOrder.{AnyOrder};
 ghost use Rattle.thes_office.specs.LoaderLaw.{LoaderReadsStore};
 
 /// No effect; states for the proof that a loader, once it has accepted all rows of a store, has
-/// received exactly these.
+/// received exactly these rows.
 pub fn loader_reads_store()
     ensures { LoaderReadsStore }
 {}

@@ -299,7 +299,7 @@ module _ {R W S : Type 0} (remaining : R → Option (List ℕ)) (contents : W �
       p.one,
     )
 
-    -- A next line above the limit on length exceeds the limits.
+    -- A next line longer than the limit exceeds the limits.
     pub exceeds_line_limit : ended_of reader ≡ false → IsLineTooLong (bytes_left remaining held reader)
         → ExceedsLimits s.bytes (bytes_left remaining held reader)
     exceeds_line_limit goes t =
@@ -318,7 +318,7 @@ module _ {R W S : Type 0} (remaining : R → Option (List ℕ)) (contents : W �
               let long = t.long in omega (arith, short, long);
         }
 
-    -- A next line above the limit on the number of lines exceeds the limits.
+    -- A next line after the greatest number of lines exceeds the limits.
     pub exceeds_lines_limit : (reader' : Pipe R) (held' : List ℕ) (raw : List ℕ) (e : Bool) → ended_of reader ≡ false
         → count ≡ lines_limit → ConsumesLine (bytes_left remaining held reader) (bytes_left remaining held' reader')
         raw e → ExceedsLimits s.bytes (bytes_left remaining held reader)

@@ -170,7 +170,7 @@ members4 makes m n o p d = do
   f ← p.form u
   reads (makes a b e f)
 
--- The row of a label and its owner, in which the kind of the label decides the form of its text.
+-- The row of a label and its owner, where the kind of the label decides the form of its text.
 unfoldable pub label_line : Data → RequestReading (ℕ × LabelData)
 label_line d = do
   _ ← present_or_bad_shape (counted_members 5 d)
