@@ -112,7 +112,7 @@ module _ {K : Type 0} (tables : K → Raw) (is_up : K → Type 0) where
       is_up office.keeper → (base : List ℕ) × (s : State) × TablesOfState (tables office.keeper) base s
       × IsConsistentState base s
 
-  -- Before the first row, no rows have been performed, with no outcomes.
+  -- Before the first row, the empty list of rows has been performed.
   pub performs_nothing : (office : OfficeView K) → ShowsState office → PerformsWith tables is_up office [] [] office
   performs_nothing office shows = record {
     each = tt;

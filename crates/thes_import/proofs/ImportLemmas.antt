@@ -147,7 +147,7 @@ module _ {K : Type 0} (tables : K → Raw) (is_up : K → Type 0) (failed : K �
       no_others [] n = refl
       no_others (x ∷ l) n = absurd (omega (arith, n, none))
 
-  -- The counts have room for the rows left.
+  -- The number of rows counted and the number of rows left fit into 64 bits together.
   pub counts_fit : (old now : OfficeView K) (file : List ℕ) (reader : RowReader) (counts : Counts)
       → ImportInvariant old now file reader counts → row_count counts + reader.unread < 2 ^ 64
   counts_fit old now file reader counts so_far =

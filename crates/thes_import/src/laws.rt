@@ -8,8 +8,8 @@ pub fn imports_again()
     ensures { ImportsAgain }
 {}
 
-/// No effect; states for the proof that an accepted posting that is sent again is answered with its
-/// number, whatever requests come between.
+/// No effect; states for the proof that an accepted posting sent again is answered with its number,
+/// whatever requests come between.
 pub fn answers_again()
     ensures { AnswersAgain }
 {}

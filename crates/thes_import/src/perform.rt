@@ -58,7 +58,7 @@ fn block_of(alloc: Global, rows: Vec<CsvRow>) -> Result<Block, AllocError>
     Ok(block)
 }
 
-// Performs rows and appends their outcomes to the report, and allocates the memory for their lines
+// Performs rows and appends their outcomes to the report, allocates the memory for their lines
 // first.
 fn perform_rows<K: Keeper>(
     alloc: Global,

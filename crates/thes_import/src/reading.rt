@@ -71,7 +71,7 @@ fn read_header(records: &mut Reader<&[u8]>, record: &mut ByteRecord) -> Result<b
     Ok(is_header(record))
 }
 
-// Reads a record as a row, to show the proof that the record is one, and drops the row.
+// Reads a record as a row, and drops the row; the call shows the proof that the record has a row.
 fn try_row(alloc: Global, entry: &ByteRecord) -> Result<(), AllocError>
     ensures { OnOk result ((row : CsvRow) × IsCsvRow (fields_of entry.now) row) }
 {

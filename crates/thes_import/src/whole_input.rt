@@ -1,4 +1,4 @@
-//! Reading an input to its end.
+//! Reads an input to its end, within a limit.
 ghost use Rattle.std.specs.Prelude.{◌≡◌, ◌≤◌, ◌<◌, length, true, false, IfOk, IfErr};
 ghost use Rattle.thes_base.specs.Pipe.{IsFresh, PaysCalls};
 ghost use Rattle.thes_base.specs.declared.pipe.Pipe.{Pipe};
