@@ -64,7 +64,7 @@ copy_query = record (ordered_query 6 broader_filters copy_project) {
       ∷ [];
 }
 
--- The selected rows are in the order of rowids, whether or not the query asks for it.
+-- An answer to the query that copies links is an answer to the same query without its collations.
 in_order_too : (db : Trees) (params : Row) (out : List Row) → IsAnswer copy_query db params out
     → IsAnswer (ordered_query 6 broader_filters copy_project) db params out
 in_order_too db params out a = search rules
@@ -102,7 +102,7 @@ holds_each_as version db t k table.Posting = k.hold.posting
 holds_each_as version db t k table.Move = k.hold.move
 
 module _ (version : ℕ) (old new : State) (t : Tables) (kept : KeepsAs version old.now t) where
-  -- Each table other than the rewritten one has its rows.
+  -- Each table other than the rewritten one still has its rows.
   other_table_kept : {tree : ℕ} {Held : List Row → Type 0} → Rewrites tree Held old new → (p : Name) → tree_of p ≢ tree
       → HoldsAs version p t (new.now.trees (tree_of p))
   other_table_kept {tree} w p apart =

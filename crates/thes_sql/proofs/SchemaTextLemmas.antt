@@ -255,7 +255,8 @@ module _ {S : Type 0} (g : Ghosts S) (new : Held S) {Goal : Type 0} where
       (subst (λ t. ExecutesIn true t [] (state g old) (state g ran.0) (Ok ran.1)) is ran.2.runs))
       (subst (λ t. RunInTurn g (Some 0) most t ran.0 new (Ok tt)) left ran.3)
 
--- Assumes a text that may fail to compile; of a CREATE INDEX, also that the indexed table exists.
+-- Assumes the error of a text that doesn't compile. A CREATE INDEX on an existing table never has
+-- this error.
 module _ (text : List ℕ) (old new : State) (fault : CompileError) where
   -- A text that doesn't compile changes nothing.
   pub refused_unchanged : Executes text [] old new (Err (SqlInputError fault)) → IsUnchanged old new

@@ -13,7 +13,7 @@ use Rattle.thes_sql.specs.StoredRows.{Keeps, keyed_row, values, HoldResources, H
 use Rattle.thes_sql.specs.StoredRows.{AreHidden, ArePostingsNumbered, AreSpelled, label_values, link_values}
 use Rattle.thes_sql.specs.StoredRows.{hier_values}
 
--- The schema of version 1: seven tables, without hier and without plain indexes.
+-- The schema of version 1: seven tables, without hier and without the two indexes.
 abbrev pub old_schema : Schema
 old_schema = schema_7
 

@@ -68,7 +68,8 @@ finds_nothing (SqliteFailure TypeMismatch) = true
 finds_nothing (SqliteFailure IntegerOverflow) = true
 finds_nothing _ = false
 
--- A query has failed: it finds no rows, or the store has failed, or the query took more steps than its limit.
+-- A query has failed: it finds nothing, or the store has failed, or the query took more steps than
+-- its limit.
 abbrev pub FailsToFind : List ℕ → State → State → Error → Type 0
 FailsToFind sql old new e =
     ((finds_nothing e ≡ true) × Finds sql old.now None)
@@ -81,8 +82,8 @@ FindResult g sql old new r rows =
     HasCleanDisk (state g new) → IfOk r (λ out. Finds sql (state g old).now (Some (rows out)))
     × IfErr r (FailsToFind sql (state g old) (state g new))
 
--- Whether a query compiles, given the error of preparing it: no if that error says so, and
--- otherwise the error itself.
+-- The answer to whether a query compiles, from the error of preparing it: false if the query
+-- doesn't compile, else the error itself.
 abbrev pub answer_of_error : Error → Result Bool Error
 answer_of_error (SqlInputError fault) = Ok false
 answer_of_error e = Err e

@@ -217,7 +217,7 @@ fn add_move<S: Alter>(tx: &mut Transaction<'_, S>, row: &MoveRow) -> Result<usiz
     )
 }
 
-/// Performs one change by one statement, inside the transaction, and returns the number of rows
+/// Performs one change with one statement, inside the transaction, and returns the number of rows
 /// changed.
 pub(crate) fn apply<S: Alter>(tx: &mut Transaction<'_, S>, change: &Change) -> Result<usize, Error>
     ensures same_reference { tx.new.conn.ghost_name ≡ tx.old.conn.ghost_name }

@@ -1,4 +1,4 @@
--- Proves the verdict of a migration on a database, and the state that it leaves.
+-- Proves the verdict of a migration on a database, and the state that the migration leaves.
 use Rattle.std.proofs.Common.{◌<◌, IsTrue, arith, inl, inr, ◌≡◌, ◌⊎◌, ◌≤◌, ℕ, List, [], ◌∷◌, map, refl, sym, ap, subst}
 use Rattle.std.proofs.Common.{◌∙◌}
 use Rattle.std.proofs.Common.{Result, Ok, Err, OnOk, IfOk, IfErr, IsErrAnd, Bool, true, false, Some, None, Option}

@@ -1,4 +1,4 @@
--- Which databases are migrated, and what a migration makes of them.
+-- Defines which databases are migrated, and the effect of a migration on them.
 use Rattle.std.specs.Prelude.{◌≡◌, ◌⊎◌, ◌≤◌, ◌<◌, ℕ, List, [], ◌∷◌, map, true, false, Bool, Option, Some, None, Result}
 use Rattle.std.specs.Prelude.{Ok, Err, OnOk, OnErr, IfOk, IfErr, IsErrAnd, IsTrue, if◌then◌else◌}
 use Rattle.sqlite.specs.Order.{Row}
@@ -139,7 +139,7 @@ pub record Migrates {S : Type 0} (g : Ghosts S) (old new : Held S) (r : Result �
   pub follows : HasCleanDisk (state g new) → IsErrAnd r (HasFailed (state g old) (state g new))
       ⊎ ((verdict : Result Bool Fault) × IsMigrationVerdict (state g old).now verdict
       × Follows verdict (state g old) (state g new) r)
-  -- The migration of a store of version 1 or 2 fails only by running out of memory, or by a fault of the store.
+  -- The migration of a store of version 1 or 2 fails only if memory runs out or the store fails.
   pub whole : IfErr r (λ fault. HasCleanDisk (state g new) → (t : Tables) → IsKnownStore (state g old).now t
       → IsKeeperFault fault)
   pub was : IsUp (state g new) → IsTrue (state g old).is_open
@@ -150,7 +150,7 @@ pub record Migrates {S : Type 0} (g : Ghosts S) (old new : Held S) (r : Result �
   pub settled : IsUp (state g new) → (state g new).now ≡ (state g new).committed
   -- After any fault nothing is changed.
   pub none : OnErr r (IsUp (state g new) → IsUnwritten (state g old) (state g new))
-  -- Whatever the result, a crash then leaves what it could have left before the call or, if the database was to be
-  -- migrated, the migrated tables.
+  -- Whatever the result, a crash leaves what it could have left before the call or, if the database
+  -- was to be migrated, the migrated tables.
   pub crash : Survives (state g old) (state g new) (λ trees. IsMigrationVerdict (state g old).now (Ok true)
       × ((t : Tables) → KeepsOld (state g old).now t → Hold trees (tables_after_migration t)))

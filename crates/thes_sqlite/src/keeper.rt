@@ -83,7 +83,7 @@ impl<S: Alter> SqlKeeper<S> {
         }
     }
 
-    /// Takes over a database without reading it. If the database isn't a store's, a load passes on
+    /// Takes over a database without reading it. If the database isn't a store, a load passes on
     /// whatever rows it has.
     pub fn adopt(alloc: Global, conn: Connection<S>) -> SqlKeeper<S>
         requires { conn.in_transaction ≡ false }

@@ -1,4 +1,4 @@
-//! Storage that keeps the tables in a database, and the migration of its stores.
+//! Keeps the tables of a store in a database, and migrates stores to the current version.
 #![tactic(auto)]
 
 pub mod faults;

@@ -163,7 +163,7 @@ fn telling_change(changes: &[Change]) -> Option<&Change> {
     }
 }
 
-// Checks whether changes whose commit failed were made; None if this can't be read.
+// Checks whether changes whose commit failed were made; None if the database can't be queried.
 fn has_changes<S: Alter>(conn: &mut Connection<S>, changes: &[Change]) -> Option<bool> {
     match telling_change(changes) {
         None => Some(false),
