@@ -1,4 +1,4 @@
--- Proves the response to a connection from the head and the body that it read.
+-- Proves which response a connection gets, from the head and the body that were read.
 use Rattle.std.proofs.Common.{◌≡◌, ◌∙◌, sym, ap, subst, refl, inl, inr, ℕ, ◌≤◌, List, ◌++◌, length, take, drop}
 use Rattle.std.proofs.Common.{append_assoc, Option, Result, Ok, Err, arith}
 use Rattle.std.proofs.lemmas.List.{length-take, take-append-drop, drop-append-le}

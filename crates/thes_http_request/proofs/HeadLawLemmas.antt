@@ -1,4 +1,5 @@
--- Proves that a head within the limits is neither incomplete nor bad, and that there is at most one.
+-- Proves that a head within the limits is neither incomplete nor bad, and that bytes begin with at
+-- most one head.
 use Rattle.std.proofs.Common.{refl, ◌⊎◌, drop, take_at, take-append-drop, ◌≡◌, ◌∙◌, sym, ap, subst, inl, inr, ℕ, ◌+◌}
 use Rattle.std.proofs.Common.{◌-◌, ◌≤◌, ◌<◌, List, [], ◌∷◌, ◌++◌, length, take}
 use Rattle.std.proofs.Common.{append_assoc, append-nil, arith, length-append}

@@ -1,4 +1,4 @@
--- Proves when bytes are a bad head, and that none are both incomplete and bad.
+-- Proves when bytes are a bad head, and that no bytes are both an incomplete and a bad head.
 use Rattle.std.proofs.Common.{◌≡◌, ◌⊎◌, ◌∙◌, sym, ap, subst, ℕ, ◌+◌, ◌≤◌, ◌<◌, true, List, [], ◌∷◌, ◌++◌, length}
 use Rattle.std.proofs.Common.{take, drop, inl, inr, append-nil, append_assoc, take_all, arith, rules}
 use Rattle.std.proofs.lemmas.List.{take-append-drop}

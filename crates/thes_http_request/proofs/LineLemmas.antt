@@ -1,4 +1,4 @@
--- Proves that a head has at least one complete line for each field and one for the request line.
+-- Proves bounds on the number of complete lines of a head, from the number of its fields.
 use Rattle.std.proofs.Common.{◌≡◌, ◌∙◌, sym, ap, subst, refl, ℕ, zero, suc, ◌+◌, ◌≤◌, ◌==◌, ◌&&◌, Bool, true, false}
 use Rattle.std.proofs.Common.{cond, List, [], ◌∷◌, ◌++◌, length, append-nil, All}
 use Rattle.std.proofs.Common.{append_assoc, arith}

@@ -52,7 +52,8 @@ matches_byte b t path m = by (b == param_token) refl (b == catch_all_token)
 abbrev pub is_byte : ℕ → Bool
 is_byte x = ltb x param_token
 
--- A pattern that begins with bytes matches a path that begins with them.
+-- A path that matches a pattern which begins with bytes begins with the same bytes, and the rests
+-- match.
 pub matches_word : (w t path : List ℕ) → list_all is_byte w ≡ true → Matches (w ++ t) path
     → (rest : List ℕ) × (path ≡ w ++ rest) × Matches t rest
 matches_word [] t path h m = (path, refl, m)

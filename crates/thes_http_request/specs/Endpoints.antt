@@ -7,7 +7,7 @@ use Rattle.thes_http_request.specs.declared.endpoint.Endpoint.{Endpoint}
 use Rattle.thes_http_request.specs.declared.endpoint.Endpoint.TheVariants.{Requests, Import, Totals, Concept, Postings}
 use Rattle.thes_http_request.specs.declared.endpoint.Endpoint.TheVariants.{Posting, Export, Alphabetical, Hierarchical}
 
--- An endpoint, and the text in its path where a number is expected; empty if none is.
+-- An endpoint, and the text in its path where a number is expected, or an empty text.
 pub record EndpointMatch : Type 0 where
   pub endpoint : Endpoint
   pub number : List ℕ

@@ -86,7 +86,7 @@ HasTooManyLines bytes =
     RequestExceeds fields_limit bytes
     ⊎ (HasNoRequest bytes × (fields_limit + 1 < whole_lines bytes))
 
--- The bytes are more than a head may have, and no head ends within the limit.
+-- The bytes exceed the greatest length of a head, and no head ends within it.
 pub record IsTooLong (bytes : List ℕ) : Type 0 where
   pub long : head_limit < length bytes
   pub none : HasNoRequest (take head_limit bytes)

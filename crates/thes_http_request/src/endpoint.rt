@@ -75,7 +75,7 @@ impl Endpoint {
     }
 }
 
-/// An endpoint, and the text in its path where a number is expected; empty if none is.
+/// An endpoint, and the text in its path where a number is expected, or an empty text.
 #[derive(Clone, Copy, Drop)]
 pub struct EndpointMatch<'a> {
     pub endpoint: Endpoint,

@@ -1,7 +1,7 @@
 //! Problems with an HTTP request, before its body is read as a request.
 use crate::endpoint::Endpoint;
 
-/// The reason why a request is rejected from its head or target.
+/// The reason why a request is rejected, found in its head or target.
 #[derive(Clone, Copy, Debug, PartialEq, Eq)]
 pub enum Problem {
     /// The head is malformed or exceeds the limits, or it states several lengths of the body, or
@@ -9,7 +9,7 @@ pub enum Problem {
     BadHead,
     /// The head has a transfer coding; none is supported.
     TransferCoding,
-    /// The path isn't that of any endpoint.
+    /// The path names no endpoint.
     NoSuchPath,
     /// The path names this endpoint, which doesn't allow the method of the request.
     BadMethod(Endpoint),
