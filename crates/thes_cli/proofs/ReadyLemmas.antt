@@ -50,7 +50,7 @@ held_in_store raw limits copy P is so base s x =
     subst (P base) one.1 (subst (λ (b : List ℕ). P b is.state) one.0 (so is.state is.holds))
 
 module _ {K : Type 0} (rows : K → Raw) (is_up : K → Type 0) (failed : K → ℕ) where
-  -- The result of an office that is ready is this core.
+  -- What holds for the result of `ready` holds for the core that it returned.
   handed : (old new : OfficeView K) (result : Result (Bor core.CoreView) Fault) (copy : Bor core.CoreView)
       → ReadyResult rows is_up failed old result new → result ≡ Ok copy → ReadyResult rows is_up failed old (Ok copy)
       new

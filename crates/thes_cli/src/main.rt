@@ -180,7 +180,7 @@ fn open_work(
     }
 }
 
-// Closes the connection, if there is one, and prints a line if a request that was answered by a
+// Closes the connection, if there is one, and prints a line if a request that was answered with a
 // fault may have been performed.
 fn close(rt: &HostRuntime, leaving: Leaving<FileStore<sqlite::File>>) {
     let Leaving { conn, is_in_doubt } = leaving;
@@ -197,8 +197,8 @@ fn close(rt: &HostRuntime, leaving: Leaving<FileStore<sqlite::File>>) {
     }
 }
 
-// Performs a task over the store in an open database, or over a new one that it makes in it, and
-// returns the exit status. A task of None is a migration.
+// Performs a task over the store in an open database, or over a new store that it makes in the
+// database, and returns the exit status. A task of None is a migration.
 fn work_in_open_database<R: Read, W: Write, E: Write>(
     rt: &HostRuntime,
     task: Option<Work<File, TcpListener>>,

@@ -15,8 +15,8 @@ pub struct MakingMark<'r> {
 }
 
 impl<'r> MakingMark<'r> {
-    /// Returns the mark of the store in a file, without making it; the name of the mark is that of
-    /// the file to which links lead, and `-making`.
+    /// Returns the mark of the store in a file, without making it. The name of the mark is that of
+    /// the file, with links followed, and `-making`.
     pub fn new(rt: &'r HostRuntime, file: &str) -> Result<MakingMark<'r>, Fault> {
         let path = match fs::canonicalize(rt, file) {
             Ok(path) => format!(in rt.alloc(); "{}-making", path.as_str())?,

@@ -1,4 +1,4 @@
-//! A writer that escapes the control characters of texts for a terminal.
+//! A writer that escapes the characters of texts that a terminal may obey.
 ghost use Rattle.std.specs.Prelude.{◌≡◌, ◌≤◌, length, IfSome, None, if◌then◌else◌};
 
 use arrayvec::ArrayString;

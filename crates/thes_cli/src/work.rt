@@ -32,7 +32,7 @@ use thes_store::mem::MemKeeper;
 pub enum Work<F, L> {
     /// Answers the script on standard input.
     Script,
-    /// Checks the store, and prints the sizes of its tables.
+    /// Checks the store, and prints its sizes.
     Check,
     /// Writes the triples of the store as N-Triples.
     Export,

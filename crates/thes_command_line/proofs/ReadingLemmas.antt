@@ -1,4 +1,4 @@
--- Proves the values that the getters of `clap` return, from the rows of its matches.
+-- Proves which values the getters of `clap` return, from the rows of its matches.
 use Rattle.std.proofs.Common.{◌≡◌, ◌∙◌, ◌<◌, ◌≤◌, ◌^◌, ap, sym, refl, subst, ℕ, List, Option, None, Some, Result, Ok}
 use Rattle.std.proofs.Common.{Err, arith, true, true≢false, codes}
 use Rattle.std.specs.Prelude.{Box, IsSome, IsSomeAnd, IfSome, is_some, option_map, unwrap_or}

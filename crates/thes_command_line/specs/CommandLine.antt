@@ -121,7 +121,8 @@ PlansTask name arguments (Err (Help text)) = ⊥
 PlansTask name arguments (Err (Usage text)) = ⊥
 PlansTask name arguments (Err NotText) = ⊥
 
--- The command and its arguments determine the task, and the options before it the store: its file, base and limits.
+-- The command and its arguments determine the task, and the options before the command determine
+-- the store: its file, base and limits.
 pub record IsJob (options : List Row) (command : Option (Text × List Row)) (job : Job) : Type 0 where
   pub arguments : List Row
   pub command_is : command ≡ Some (command_of job.task, arguments)

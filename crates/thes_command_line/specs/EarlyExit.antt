@@ -11,7 +11,8 @@ use Rattle.thes_command_line.specs.Printing.{PrintsError, PrintsText, fault_line
 use Rattle.thes_command_line.specs.declared.arguments.EarlyExit.{EarlyExit}
 use Rattle.thes_command_line.specs.declared.arguments.EarlyExit.TheVariants.{Help, Usage, NotText, BadForm, OutOfMemory}
 
--- The exit status: 0 for help and version, 3 out of memory, and 2 for a fault of the command line.
+-- The exit status: 0 for help and version, 2 for a fault of the command line, and 3 for running out
+-- of memory.
 abbrev pub exit_status : EarlyExit → ℕ
 exit_status (Help text) = 0
 exit_status (Usage text) = 2

@@ -52,7 +52,7 @@ pub enum Task {
     Hierarchical(DisplayOptions),
     /// Serves HTTP connections on the loopback address.
     Serve(ServeOptions),
-    /// Checks the store, and prints the sizes of its tables.
+    /// Checks the store, and prints its sizes.
     Check,
     /// Migrates a store of version 1 to version 2.
     Migrate,
@@ -70,7 +70,7 @@ pub fn is_display(task: &Task) -> bool
 pub struct StoreSetting {
     /// The base of the IRIs of a new store.
     pub base: Base,
-    /// The limits by which requests are refused.
+    /// The limits above which requests are refused.
     pub limits: Limits,
 }
 
@@ -138,8 +138,8 @@ impl From<IoError> for EarlyExit {
 }
 
 impl EarlyExit {
-    /// Returns the exit status: 0 for help and version, 3 out of memory, and 2 for a fault of the
-    /// command line.
+    /// Returns the exit status: 0 for help and version, 2 for a fault of the command line, and 3
+    /// for running out of memory.
     pub fn status(&self) -> u8
         ensures { result ≡ exit_status self.now }
     {
