@@ -18,7 +18,8 @@ use thes_base::number::{PostNo, ResNo};
 use thes_base::text::{Key, RecordName};
 use thes_requests::answer::refusal_line;
 
-/// The view of a concept: its labels, its links, and the number of postings assigned to it.
+/// The view of a concept: its labels, links and other facts, and the number of postings assigned to
+/// it.
 #[derive(Drop)]
 pub struct ConceptView<'a> {
     pub alt: Vec<&'a Label>,

@@ -62,7 +62,7 @@ rows_listed old new (row ∷ rows) took =
     rows_listed took.0 new rows took.2 ∙ ap (λ (es : List Data). es ++ map entry_of rows) took.1
     ∙ append_assoc (entries old.listing) (entry_of row ∷ []) (map entry_of rows)
 
--- A list that was empty has the postings assigned to the concept.
+-- An empty list that receives the postings assigned to the concept has exactly these.
 pub listed_at : (s : State) (concept : ℕ) (old new : PostingLister) → entries old.listing ≡ []
     → SinkAcceptsAll ListsRow old (rows_assigned_to s concept) new
     → listing_data (entries new.listing) ≡ postings_data (assigned_histories concept s.histories)
