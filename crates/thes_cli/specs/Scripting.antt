@@ -22,8 +22,8 @@ ReportsScriptEnd contents old new result status =
 
 module _ {K R W E : Type 0} (rows : K → Raw) (is_up : K → Type 0) (failed : K → ℕ)
     (remaining : R → Option (List ℕ)) (out : W → Option (List ℕ)) (err : E → Option (List ℕ)) where
-  -- The command `script`: the office answered the lines of the input until its end or a fault, the
-  -- requests in them are a run of the machine, and the end of the script determines the status.
+  -- The command `script`: the office answered the lines up to the end of the input or a fault, by a
+  -- run of the machine, and the end of the script determines the status.
   pub record AnswersScript (old_office : OfficeView K) (old : Streams R W E) (status : ℕ) (new_office : OfficeView K)
       (new : Streams R W E) : Type 0 where
     pub result : Result ScriptEnd PipeFault

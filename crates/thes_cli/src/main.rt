@@ -66,8 +66,8 @@ fn access_error(rt: &HostRuntime, opening: Opening, file: &str) -> Option<ErrorK
     }
 }
 
-// Returns the reason why the database in a file couldn't be opened: the one that the error names,
-// or else a second name of the file, or else the one that access to the file shows.
+// Returns the reason why the database in a file couldn't be opened. If the error names no reason,
+// it is a second name of the file, or else what access to the file shows.
 fn open_trouble(
     rt: &HostRuntime,
     opening: Opening,
@@ -141,8 +141,8 @@ fn screen_of<'a>(rt: &'a HostRuntime, task: &Task) -> Option<Screen<'a, HostRunt
     }
 }
 
-// Opens a socket on this machine's loopback address, if the system also lets the program open the
-// files that a connection needs: its stream and a copy of it, and one more while the store is
+// Opens a socket on this machine's loopback address, if the system also lets the program open three
+// more files. A connection needs its stream and a copy of it, and one more file while the store is
 // opened again.
 fn open_socket(rt: &HostRuntime, port: u16) -> Result<TcpListener, OpenFailure> {
     let Ok(listener) = TcpListener::bind(rt, (Ipv4Addr::LOCALHOST, port)) else {

@@ -65,8 +65,8 @@ fn new_store(task: &Task, trouble: StoreTrouble) -> Result<Opening, StoreTrouble
     }
 }
 
-// Returns whether making the store in a file was cut short: the file is marked as that of a store
-// that is being made, and is no larger than a database without tables.
+// Returns whether making the store in a file was cut short: the file is marked as that of an
+// unfinished store, and is no larger than a database without tables.
 fn is_unfinished(size: u64, is_marked: bool) -> bool
     ensures { result ≡ opening.is_unfinished size is_marked }
 {
@@ -75,7 +75,7 @@ fn is_unfinished(size: u64, is_marked: bool) -> bool
 
 /// Chooses how a store is opened for a task. A check makes no store. Other tasks make none in a
 /// file of one byte, which SQLite takes for an empty database, unless the file is marked as that of
-/// a store that is being made.
+/// an unfinished store.
 pub fn opening_of(task: &Task, found: FileState, is_marked: bool) -> Result<Opening, StoreTrouble>
     ensures { result ≡ opening.opening_of task.now found is_marked }
 {

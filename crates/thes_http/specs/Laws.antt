@@ -57,8 +57,8 @@ abbrev pub IsFaultResponse : Response → Type 0
 IsFaultResponse response = (fault : Fault) × (response ≡ fault_response fault)
 
 module _ {S : Type 0} (d : ServiceEffects S) where
-  -- Two answers to the same bytes in the same state answer one call of the service, even if more
-  -- bytes were read for one of them, unless memory ran out before the call.
+  -- Two answers to the same bytes in the same state answer one call of the service, unless memory
+  -- ran out before the call. More bytes may have been read for one answer than for the other.
   abbrev pub HasOneCall : Type 0
   HasOneCall =
       (old x y : S) (r q : Response) (bytes more : List ℕ)

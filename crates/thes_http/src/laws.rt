@@ -4,8 +4,9 @@ ghost use Rattle.thes_http.specs.Serving.{effects};
 
 use crate::service::Service;
 
-/// No effect; states for the proof that the same bytes, however they are cut into reads, make the
-/// same call of a service, or no call and have the same response, unless memory runs out.
+/// No effect; states for the proof that the same bytes make the same call of a service, or no call
+/// and have the same response, unless memory runs out. It doesn't matter how the bytes are cut into
+/// reads.
 pub fn one_call<S: Service>()
     ensures { HasOneCall (effects S.performs S.shows S.imports S.exports S.displays) }
 {}

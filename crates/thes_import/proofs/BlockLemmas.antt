@@ -198,7 +198,7 @@ module _ {K : Type 0} (tables : K → Raw) (is_up : K → Type 0) where
     adds_none report report' text counts,
   )
 
-  -- If all rows of a block were performed, the block is reported.
+  -- If the rows of a block were read, performed and reported, so was the block.
   pub block_reported : (old new : OfficeView K) (reader reader' : RowReader) (report report' : Report)
       (rows : List CsvRow) → ((bytes : List ℕ) (all first : List CsvRow) → HasReadRows bytes all first reader
       → HasReadRows bytes all (first ++ rows) reader') → reader'.unread + length rows ≡ reader.unread → 0 < length rows

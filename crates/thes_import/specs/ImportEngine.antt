@@ -85,8 +85,8 @@ module _ {W K : Type 0} (contents : W → Option (List ℕ)) (tables : K → Raw
     pub first : PerformsFirst file outcomes others (Err fault)
     pub writes : WritesWhole contents old new (outcomes_text outcomes)
 
-  -- The writer failed or was denied a write within the outcomes of a block, which ended the import.
-  -- If a fault of the office ended that block, some row was left.
+  -- The writer failed or was denied a write within the heading or the outcomes of a block, which
+  -- ended the import. If a fault of the office ended that block, some row was left.
   pub record StopsAtWrite (file : List ℕ) (outcomes : List Outcome) (fault : PipeFault) : Type 0 where
     pub others : List CsvRow
     pub result : Result (Unit {0}) OfficeFault

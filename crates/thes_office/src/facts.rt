@@ -13,8 +13,8 @@ use thes_store::keeper::{Keeper, Posting};
 use thes_tables::rows::PostingRow;
 
 /// Queries the storage for the facts about postings that the check of the request needs. A post
-/// needs the posting with its key; a withdrawal or a split, the postings that it names; a merge,
-/// the numbers of the postings that it moves; any other request, none.
+/// needs the posting with its key. A withdrawal or a split needs the postings that it names, and a
+/// merge the numbers of the postings that it moves. Any other request needs none.
 pub fn facts_of<K: Keeper>(alloc: Global, keeper: &mut K, command: &Command) -> Result<Facts, Fault>
     ensures in_tables { IfOk result (λ facts. K.is_up keeper.new
         → FactsInTables (K.rows keeper.old) command.now facts) }

@@ -1,4 +1,4 @@
-//! Laws of loading: which rows a loader has received, and that their order within a table doesn't
+//! Laws of loading: which rows a loader has received, and when their order within a table doesn't
 //! matter.
 ghost use Rattle.thes_office.specs.RowOrder.{AnyOrder};
 ghost use Rattle.thes_office.specs.LoaderLaw.{LoaderReadsStore};

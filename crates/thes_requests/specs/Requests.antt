@@ -1,6 +1,6 @@
 -- The meaning of the bytes of a request: a command, a query, or the first form fault. Three rules
--- are checked, in this order: the bytes are JSON; the object has exactly the members in its row of
--- the table, each of the right type; each member has its form, in the order of the row.
+-- are checked in order. The bytes are JSON. The object has exactly the members in its row of the
+-- table, each of the right type. Each member has its form, in the order of the row.
 use Rattle.std.specs.Prelude.{ℕ, Bool, List, All, codes, map, unwrap_or, option_and_then, Option, None, Some}
 use Rattle.std.specs.Prelude.{if◌then◌else◌}
 use Rattle.std.specs.Str.{is_utf8}

@@ -85,7 +85,7 @@ listing_viewed raw concept old new told text none lists empty is base s x =
           ∙ ap line_text (listed_at s concept old new empty so.1),
     )
 
--- The refusal of the listing is the refusal of the view.
+-- If the number isn't a concept's, the refusal of its list of postings is the refusal of the view.
 pub refusal_viewed : (raw : Raw) (concept : ℕ) (old new : PostingLister) (told : Option Refusal) (refusal : Refusal)
     → told ≡ Some refusal → AssignedPostingsResult ListsRow raw concept old (Ok told) new
     → InStateOfTables raw (λ s. IsQueryAnswer s (asked.Postings concept) (Ok (viewed.No refusal)))

@@ -37,9 +37,9 @@ module _ {K : Type 0} (rows : K → Raw) (is_up : K → Type 0) (failed : K → 
   abbrev pub OfficeServes : LineBehaviour (OfficeView K)
   OfficeServes = Serves OfficePerforms OfficeShows
 
-  -- A run of the machine leads from the old tables to the new ones. In the state that the new
-  -- tables encode, each posting that isn't withdrawn is assigned to exactly one live concept, the
-  -- counts add up, and the triples meet the conditions of SKOS.
+  -- A run of the machine leads from the old tables to the new ones. The new tables encode a
+  -- consistent state: each posting that isn't withdrawn is assigned to exactly one live concept,
+  -- the counts add up, and the triples meet the conditions of SKOS.
   pub record IsReachedByRun (old new : OfficeView K) : Type 0 where
     pub limits : new.limits ≡ old.limits
     pub was : is_up new.keeper → is_up old.keeper

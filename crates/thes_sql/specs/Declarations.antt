@@ -190,9 +190,9 @@ is_automatic _ = false
 abbrev pub adds_key : ℕ → Index → Bool
 adds_key tree index = index.table == tree && (index.is_unique && not (is_automatic index.name))
 
--- The table is declared as a store's table of this name: it has the columns and keys of that table,
--- perhaps further columns that may be NULL, and neither foreign keys, AUTOINCREMENT nor unique
--- indexes.
+-- The table is declared as a store's table of this name. It has the columns and keys of that table,
+-- and perhaps further columns that may be NULL. It has no foreign keys, no AUTOINCREMENT and no
+-- unique indexes.
 abbrev pub is_as_created : Table → List Index → FoundTable → Bool
 is_as_created name indexes t =
     has_columns name t.columns && (has_keys name t && (is_plain t && not (list_any (adds_key t.tree) indexes)))

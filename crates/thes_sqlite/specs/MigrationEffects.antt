@@ -49,8 +49,8 @@ IsMetaVerdict found (Err NewerStore) = HasMetaVersion (λ version. 2 < version) 
 IsMetaVerdict found (Err (BadStore table.Meta)) = HasMetaVersion (λ version. 1 ≤ version) found → ⊥
 IsMetaVerdict found (Err _) = ⊥
 
--- The verdict on the tables of links: Ok if they are as in version 1, so that table link can be queried and there is no
--- table hier; otherwise the fault names the first that differs.
+-- The verdict on the tables of links: Ok if they are as in version 1, that is, table link can be
+-- queried and there is no table hier. Otherwise the fault names the first table that differs.
 abbrev pub IsLinkVerdict : Schema → Result (Unit {0}) Fault → Type 0
 IsLinkVerdict schema (Ok done) = (compiles schema links_text ≡ true) × (compiles schema hier_text ≡ false)
 IsLinkVerdict schema (Err (BadStore table.Link)) = compiles schema links_text ≡ false

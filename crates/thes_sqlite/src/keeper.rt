@@ -120,7 +120,7 @@ impl<S: Alter> SqlKeeper<S> {
         }
     }
 
-    /// Returns the connection.
+    /// Returns the connection, and drops the rest.
     pub fn into_connection(self) -> Connection<S>
         ensures { result ≡ self.conn }
     {
