@@ -63,7 +63,8 @@ empty_sizes i = record {
   moves = 0;
 }
 
--- The opening of a new store in memory fails only if memory runs out: the storage can't fail, and the rows load.
+-- Opening a new store in memory fails only if memory runs out: the storage can't fail, and the rows
+-- load.
 no_failure : (0 < 0) ⊎ (0 ≡ max_failures) → ⊥
 no_failure (inl less) = omega (arith, less)
 no_failure (inr full) = omega (arith, full)

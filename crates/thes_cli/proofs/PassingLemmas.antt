@@ -40,7 +40,7 @@ module _ {S P : Type 0} (gives : S → Table × Option (List Cell) → Result (U
   hands_behind old xs (Ok done) new h = takes_behind old xs new h
   hands_behind old xs (Err fault) new h = takes_some_behind fault old xs new h
 
-  -- The inner sink receives all rows also if `x` is the final value of its borrow.
+  -- The inner sink, whose borrow ends with the value `x`, receives all rows.
   pub hands_lent : (old : CountingSink S P) (xs ys : List (Table × Option (List Cell)))
       (result : Result (Unit {0}) Fault) (new : CountingSink S P) (x : S)
       → xs ≡ ys → SinkOutcome (Passes gives) old xs result new → (old.sink.ghost_name ≡ new.sink.ghost_name → x

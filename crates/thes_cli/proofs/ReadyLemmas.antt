@@ -41,7 +41,8 @@ sizes_are z copy s holds r l k a w m i = record {
   moves = (m ∙ holds.posting_counts.moves) i;
 }
 
--- If each state that a copy holds has a property, with the copy's base, the state that the rows encode has it.
+-- If each state that a copy holds has a property with the copy's base, so does the state that the
+-- rows encode.
 pub held_in_store : (raw : Raw) (limits : Limits) (copy : core.CoreView) (P : List ℕ → State → Type 0)
     → IsCopy raw limits copy → ((s : State) → IsViewOf copy s → P copy.setting.base s) → InStore raw P
 held_in_store raw limits copy P is so base s x =
@@ -49,7 +50,7 @@ held_in_store raw limits copy P is so base s x =
     subst (P base) one.1 (subst (λ (b : List ℕ). P b is.state) one.0 (so is.state is.holds))
 
 module _ {K : Type 0} (rows : K → Raw) (is_up : K → Type 0) (failed : K → ℕ) where
-  -- The result of an office that is ready is this core.
+  -- What holds for the result of `ready` holds for the core that it returned.
   handed : (old new : OfficeView K) (result : Result (Bor core.CoreView) Fault) (copy : Bor core.CoreView)
       → ReadyResult rows is_up failed old result new → result ≡ Ok copy → ReadyResult rows is_up failed old (Ok copy)
       new
@@ -67,7 +68,7 @@ module _ {K : Type 0} (rows : K → Raw) (is_up : K → Type 0) (failed : K → 
             (here.shown.copies up) so;
       }
 
-  -- A call that failed behaves alike whatever it would have returned.
+  -- A call that failed has the same effects, whatever it would have returned.
   unready : {A B : Type 0} (old new : OfficeView K) (fault : Fault) → FaultBehaviour rows is_up failed old new
       (let x : Result A Fault = Err fault in x) → FaultBehaviour rows is_up failed old new (let x : Result B Fault =
       Err fault in x)

@@ -1,4 +1,4 @@
--- Proves the end of a script over an office.
+-- Proves the effects and the exit status of a script over an office.
 use Rattle.std.proofs.Common.{ℕ, List, Option, Result, Ok, Err}
 use Rattle.std.specs.Prelude.{IfOk, IfErr}
 use Rattle.thes_base.specs.Pipe.{KeepsSharedCallLimit}

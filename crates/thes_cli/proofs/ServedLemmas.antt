@@ -1,4 +1,4 @@
--- Proves that serving ends well or with the fault of a connection.
+-- Proves that serving either succeeds or ends with the fault of a connection.
 use Rattle.std.proofs.Common.{◌⊎◌, inl, inr, Result, Ok, Err}
 use Rattle.std.specs.Prelude.{OnOk, OnErr}
 

@@ -31,7 +31,7 @@ no_sizes = record { resources = 0; labels = 0; links = 0; accepted = 0; withdraw
 
 module _ {W E : Type 0} (out : W → Option (List ℕ)) (err : E → Option (List ℕ))
     (output output' : Pipe W) (errors errors' : Pipe E) where
-  -- The sizes are printed, or the fault that prevented it.
+  -- The line of the sizes is printed, or that of a fault.
   abbrev pub ReportsSizes : Result Sizes Fault → ℕ → Type 0
   ReportsSizes (Ok sizes) status =
       PrintsText out err output output' errors errors' (sizes_line sizes) status
@@ -47,7 +47,7 @@ module _ {K : Type 0} (rows : K → Raw) (is_up : K → Type 0) (failed : K → 
     pub sizes : IfOk result (λ z. is_up new_office.keeper → InStateOfTables (rows new_office.keeper)
         (λ s. z ≡ sizes_of s))
 
-  -- The command `check`: the sizes of the store are printed, or the fault that prevented it.
+  -- The command `check`: the sizes of the store are printed, or a fault.
   pub record ChecksStore {W E : Type 0} (out : W → Option (List ℕ)) (err : E → Option (List ℕ))
       (old_office : OfficeView K) (output output' : Pipe W) (errors errors' : Pipe E) (status : ℕ)
       (new_office : OfficeView K) : Type 0 where

@@ -10,7 +10,7 @@ use Rattle.thes_load_rules.specs.Verdicts.{HasVerdict}
 use Rattle.thes_office.specs.Office.{OfficeView}
 use Rattle.thes_office.specs.TablesOfState.{TablesOfState}
 
--- The property `P` holds of each base and state that the rows encode.
+-- The property `P` holds for each base and state that the rows encode.
 abbrev pub InStore : Raw → (List ℕ → State → Type 0) → Type 0
 InStore raw P = (base : List ℕ) (s : State) → TablesOfState raw base s → P base s
 

@@ -12,7 +12,8 @@ use Rattle.thes_command_line.specs.Printing.{Prints, fault_line}
 use Rattle.thes_cli.specs.Ending.{last_fault, status_of}
 use Rattle.thes_cli.specs.Streams.{Streams}
 
--- The end of a script: its fault, if there was one, is printed, and the status is that of the end.
+-- The end of a script: its fault, if there was one, is printed, and the status is that of the
+-- script.
 abbrev pub ReportsScriptEnd : {E : Type 0} → (E → Option (List ℕ)) → Pipe E → Pipe E → Result ScriptEnd PipeFault → ℕ
     → Type 0
 ReportsScriptEnd contents old new result status =
@@ -21,8 +22,8 @@ ReportsScriptEnd contents old new result status =
 
 module _ {K R W E : Type 0} (rows : K → Raw) (is_up : K → Type 0) (failed : K → ℕ)
     (remaining : R → Option (List ℕ)) (out : W → Option (List ℕ)) (err : E → Option (List ℕ)) where
-  -- The command `script`: the office answered the lines of the input until its end or a fault, the
-  -- requests in them are a run of the machine, and the end of the script determines the status.
+  -- The command `script`: the office answered the lines up to the end of the input or a fault, by a
+  -- run of the machine, and the end of the script determines the status.
   pub record AnswersScript (old_office : OfficeView K) (old : Streams R W E) (status : ℕ) (new_office : OfficeView K)
       (new : Streams R W E) : Type 0 where
     pub result : Result ScriptEnd PipeFault

@@ -23,7 +23,7 @@ storage_of_connection conn = record { first = Some (keeper_of_connection conn); 
 
 module _ {S F R W E : Type 0} (store : Ghosts S) (given : F → Option (List ℕ)) (remaining : R → Option (List ℕ))
     (out : W → Option (List ℕ)) (err : E → Option (List ℕ)) where
-  -- The work was done through the storage over this connection, on the tables of the database.
+  -- The work was done on the tables of the database, through the storage over this connection.
   pub record WorksInDatabase {L : Type 0} (task : Work F L) (limits : Limits) (file : List ℕ) (conn : Held S)
       (old : Streams R W E) (status : ℕ) (back : Option (Held S)) (new : Streams R W E) : Type 0 where
     pub keeper : ReopeningView S

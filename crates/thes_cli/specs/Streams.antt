@@ -7,6 +7,6 @@ pub record Streams (R W E : Type 0) : Type 0 where
   pub output : Pipe W
   pub errors : Pipe E
 
--- The standard streams, from their parts.
+-- The standard streams as one record.
 abbrev pub streams : {R W E : Type 0} → Pipe R → Pipe W → Pipe E → Streams R W E
 streams input output errors = record { input = input; output = output; errors = errors }

@@ -17,7 +17,8 @@ use thes_core::reading::Sizes;
 use thes_office::Office;
 use thes_store::keeper::Keeper;
 
-// Returns the numbers of resources, labels, links, postings and moves of the state that the core holds.
+// Returns the numbers of resources, labels, links, postings and moves of the state that the core
+// holds.
 fn core_sizes(core: &Core) -> Sizes
     requires { core.now.spent ≡ false }
     ensures { (s : State) → IsViewOf core.now s → result ≡ sizes_of s }
@@ -33,7 +34,7 @@ fn office_sizes<K: Keeper>(office: &mut Office<K>) -> Result<Sizes, Fault>
     Ok(core_sizes(core))
 }
 
-// Prints the line of sizes, or of the fault, and returns the exit status.
+// Prints the line of the sizes or that of the fault, and returns the exit status.
 fn report_sizes<W: Write, E: Write>(
     alloc: Global,
     sizes: Result<Sizes, Fault>,
@@ -56,7 +57,7 @@ fn report_sizes<W: Write, E: Write>(
 }
 
 /// Prints the numbers of resources, labels, links, postings and moves in the store, and returns the
-/// exit status 0; after a fault, prints that and returns 3.
+/// exit status 0; after a fault, prints the fault and returns 3.
 pub fn check_store<K: Keeper, W: Write, E: Write>(
     alloc: Global,
     office: &mut Office<K>,

@@ -45,7 +45,8 @@ fn write_core_display<W: Write>(
     }
 }
 
-// Writes a display of the state that the office's tables encode, or returns the refusal of the scheme's number.
+// Writes a display of the state that the office's tables encode, or returns the refusal of the
+// scheme's number.
 fn write_display<K: Keeper, W: Write>(
     alloc: Global,
     office: &mut Office<K>,
@@ -87,8 +88,8 @@ fn report_display<E: Write>(errors: &mut Pipe<E>, shown: Result<DisplayOutcome, 
     }
 }
 
-/// Writes a display of a scheme in the language of the tag, and returns the exit status: 0, 1 after
-/// a refusal, or 3 after a fault; these are printed.
+/// Writes a display of a scheme in the language of the tag, and returns the exit status 0. After a
+/// refusal or a fault, prints it and returns 1 or 3.
 pub fn display_store<K: Keeper, W: Write, E: Write>(
     alloc: Global,
     office: &mut Office<K>,

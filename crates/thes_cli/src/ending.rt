@@ -25,7 +25,8 @@ fn last_fault(ended: &Result<ScriptEnd, PipeFault>) -> Option<PipeFault>
     }
 }
 
-// Returns the exit status of a script: 3 after a fault, 1 after a refusal or a form fault, and else 0.
+// Returns the exit status of a script: 3 after a fault, 1 after a refusal or a form fault, and else
+// 0.
 fn status_of(ended: &Result<ScriptEnd, PipeFault>) -> u8
     ensures { result ≡ ends.status_of ended.now }
 {
@@ -35,7 +36,8 @@ fn status_of(ended: &Result<ScriptEnd, PipeFault>) -> u8
     }
 }
 
-/// Returns the line of an import's counts, with its line feed: rows new, repeated and refused.
+/// Returns the line of an import's counts, with its line feed: the numbers of new, repeated and
+/// refused rows.
 pub fn counts_line(counts: Counts) -> ArrayString<96>
     ensures { result.bytes ≡ ends.counts_line counts }
 {

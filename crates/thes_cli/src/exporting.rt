@@ -25,8 +25,8 @@ fn write_export<K: Keeper, W: Write>(
     export(alloc, core, output)
 }
 
-/// Writes the triples of the store as N-Triples, and returns the exit status: 0, or 3 after a
-/// fault, which is printed.
+/// Writes the triples of the store as N-Triples, and returns the exit status 0; after a fault,
+/// prints the fault and returns 3.
 pub fn export_store<K: Keeper, W: Write, E: Write>(
     alloc: Global,
     office: &mut Office<K>,

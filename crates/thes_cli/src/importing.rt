@@ -41,7 +41,7 @@ fn print_counts<E: Write>(errors: &mut Pipe<E>, prints_it: bool, counts: Counts)
     }
 }
 
-// Prints the counts, if `prints_it`, or the form fault of a malformed file, and returns the exit
+// Prints the counts, if `prints_it`, or the form fault of a malformed file. Returns the exit
 // status: 1 if a row was refused or the file is malformed, and else 0.
 fn report_end<E: Write>(errors: &mut Pipe<E>, prints_it: bool, ended: ImportEnd) -> u8
     requires { IsFresh errors.old }
@@ -75,8 +75,8 @@ fn report_import<E: Write>(
     }
 }
 
-/// Imports a posting file, writes the outcomes of its rows, prints their counts if `prints_it`, and returns the exit
-/// status.
+/// Imports a posting file, writes the outcomes of its rows, prints their counts if `prints_it`, and
+/// returns the exit status.
 pub fn import_file<K: Keeper, F: Read + Drop, W: Write, E: Write>(
     alloc: Global,
     file: F,

@@ -1,5 +1,5 @@
-//! The program `thesaurus`: opens the files and streams that its arguments name, performs their task, and exits with
-//! its status.
+//! The program `thesaurus`: opens the store and the file or socket that its arguments name,
+//! performs their task, and exits with its status.
 #![tactic(auto)]
 
 mod checking;
@@ -66,8 +66,8 @@ fn access_error(rt: &HostRuntime, opening: Opening, file: &str) -> Option<ErrorK
     }
 }
 
-// Returns the reason why the database in a file couldn't be opened: the one that the error names,
-// or else the one that access to the file shows.
+// Returns the reason why the database in a file couldn't be opened. If the error names no reason,
+// it is a second name of the file, or else what access to the file shows.
 fn open_trouble(
     rt: &HostRuntime,
     opening: Opening,
@@ -83,8 +83,8 @@ fn open_trouble(
     trouble_of(error, other)
 }
 
-// Opens the database in a file, which is marked first if a store is to be made in it. An error is the fault with its
-// reason.
+// Opens the database in a file, which it marks first if a store is to be made in it. An error is
+// the fault with its reason.
 fn open_database(
     rt: &HostRuntime,
     opening: Opening,
@@ -141,8 +141,9 @@ fn screen_of<'a>(rt: &'a HostRuntime, task: &Task) -> Option<Screen<'a, HostRunt
     }
 }
 
-// Opens a socket on this machine's loopback address, if the system also lets the program open the files that a
-// connection needs: its stream and a copy of it, and one more while the store is opened again.
+// Opens a socket on this machine's loopback address, if the system also lets the program open three
+// more files. A connection needs its stream and a copy of it, and one more file while the store is
+// opened again.
 fn open_socket(rt: &HostRuntime, port: u16) -> Result<TcpListener, OpenFailure> {
     let Ok(listener) = TcpListener::bind(rt, (Ipv4Addr::LOCALHOST, port)) else {
         return Err(OpenFailure::Socket);
@@ -158,8 +159,8 @@ fn open_socket(rt: &HostRuntime, port: u16) -> Result<TcpListener, OpenFailure> 
     }
 }
 
-// Opens the posting file of an import, or a socket on the loopback address for a server. Returns `None` for a
-// migration, which loads no store.
+// Opens the posting file of an import, or a socket on the loopback address for a server. Returns
+// `None` for a migration, which loads no store.
 fn open_work(
     rt: &HostRuntime,
     task: Task,
@@ -179,13 +180,13 @@ fn open_work(
     }
 }
 
-// Closes the connection, if there is one, and prints a line if a request that was answered by a
+// Closes the connection, if there is one, and prints a line if a request that was answered with a
 // fault may have been performed.
 fn close(rt: &HostRuntime, leaving: Leaving<FileStore<sqlite::File>>) {
     let Leaving { conn, is_in_doubt } = leaving;
     if let Some(conn) = conn {
-        // The log holds every change that was answered; if it can't be copied into the file now, the next run copies
-        // it.
+        // The log holds every change that was answered; if it can't be copied into the file now,
+        // the next run copies it.
         let _ = conn.close();
     }
     if is_in_doubt {
@@ -196,7 +197,8 @@ fn close(rt: &HostRuntime, leaving: Leaving<FileStore<sqlite::File>>) {
     }
 }
 
-// Works over the store in a database that is open, or over a new one in it, and returns the exit status.
+// Performs a task over the store in an open database, or over a new store that it makes in the
+// database, and returns the exit status. A task of None is a migration.
 fn work_in_open_database<R: Read, W: Write, E: Write>(
     rt: &HostRuntime,
     task: Option<Work<File, TcpListener>>,

@@ -1,5 +1,5 @@
-//! The mark of a store that is being made: an empty file with a name of its own, which is there before the database and
-//! is removed once that has its tables. By it a later run knows a database whose making was cut short.
+//! The mark of a store that is being made: an empty file, made before the database and removed once
+//! the database has its tables. It shows a later run that making the store was cut short.
 use crate::progress::Progress;
 use crate::screen::Screen;
 use std::fs;
@@ -15,7 +15,8 @@ pub struct MakingMark<'r> {
 }
 
 impl<'r> MakingMark<'r> {
-    /// Names the mark of the store in a file, where a link leads.
+    /// Returns the mark of the store in a file, without making it. The name of the mark is that of
+    /// the file, with links followed, and `-making`.
     pub fn new(rt: &'r HostRuntime, file: &str) -> Result<MakingMark<'r>, Fault> {
         let path = match fs::canonicalize(rt, file) {
             Ok(path) => format!(in rt.alloc(); "{}-making", path.as_str())?,
@@ -43,7 +44,8 @@ impl<'r> MakingMark<'r> {
     }
 }
 
-/// A listener that removes the mark of a store once the store is made, and passes each report on to a screen.
+/// A listener that removes the mark of a store once the store is made, and passes each report on to
+/// a screen.
 #[derive(Clone, Copy)]
 pub struct MarkRemover<'m, 'r> {
     pub mark: &'m MakingMark<'r>,

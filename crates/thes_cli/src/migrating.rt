@@ -26,8 +26,8 @@ pub fn print_version<W: Write, E: Write>(output: &mut Pipe<W>, errors: &mut Pipe
     print_out(output, errors, "version 2\n".as_bytes())
 }
 
-/// Migrates the store in a database to version 2, prints the version or the fault, and returns the exit status with the
-/// connection.
+/// Migrates the store in a database to version 2, prints the version or the fault, and returns the
+/// exit status with the connection.
 pub fn migrate_in_database<S: Alter, W: Write, E: Write>(
     alloc: Global,
     file: &str,
@@ -53,8 +53,8 @@ pub fn migrate_in_database<S: Alter, W: Write, E: Write>(
     }
 }
 
-/// Makes a new store in a database without tables, prints the version or the fault, and returns the exit status with
-/// the connection.
+/// Makes a new store in a database without tables, prints the version or the fault, and returns the
+/// exit status with the connection.
 pub fn make_in_new_database<S: Alter, P: Progress + Copy, W: Write, E: Write>(
     mut progress: P,
     file: &str,

@@ -6,10 +6,10 @@ use crate::progress::Progress;
 use std::rt::Clock;
 use std::time::Instant;
 
-// The time between two lines, in seconds.
+// The least time between two lines, in seconds.
 const PAUSE: u64 = 1;
 
-// The number of rows between two readings of the clock.
+// The number of rows loaded between two readings of the clock.
 const STRIDE: u64 = 1_024;
 
 /// A listener that prints new stores to standard error, and at most once a second the number of

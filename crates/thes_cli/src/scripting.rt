@@ -11,7 +11,8 @@ use thes_office::Office;
 use thes_service::{OfficeHandler, office_script};
 use thes_store::keeper::Keeper;
 
-/// Answers a script over an office, prints its fault if there was one, and returns the exit status with the office.
+/// Answers a script over an office, prints its fault if there was one, and returns the exit status
+/// with the office.
 pub fn answer_script<K: Keeper, R: Read, W: Write, E: Write>(
     alloc: Global,
     office: Office<K>,

@@ -66,8 +66,8 @@ fn serve_all<N: Net + Clock, K: Keeper, E: Write>(
     (report_served(errors, &ended), handler.into_office())
 }
 
-/// Prints the address, serves the connections, and returns the exit status with the office. If the address can't be
-/// printed, it serves none.
+/// Prints the address, serves the connections, and returns the exit status with the office. If the
+/// address can't be printed, it serves none.
 pub fn serve_store<N: Net + Clock, K: Keeper, W: Write, E: Write>(
     alloc: Global,
     clock: &N,

@@ -23,8 +23,8 @@ pub fn is_linked(rt: &HostRuntime, file: &str) -> bool {
     }
 }
 
-/// Returns whether the system refuses the names of the files beside a store, since they are too long. Of these names
-/// that of SQLite's journal is the longest.
+/// Returns whether the names of the files next to a store's file are too long for the system. The
+/// longest of these names, that of SQLite's journal, decides.
 pub fn has_long_name(rt: &HostRuntime, file: &str) -> Result<bool, Fault> {
     let journal = format!(in rt.alloc(); "{file}-journal")?;
     match fs::symlink_metadata(rt, journal.as_str()) {
@@ -33,7 +33,8 @@ pub fn has_long_name(rt: &HostRuntime, file: &str) -> Result<bool, Fault> {
     }
 }
 
-/// The names of a store's two files, the database and its log, with the identities of those that are open.
+/// The names of a store's two files, the database and its log, with the identities of the files
+/// that are open.
 #[derive(Drop)]
 pub struct StoreFiles<'r, 'f> {
     rt: &'r HostRuntime,

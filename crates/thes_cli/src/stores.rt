@@ -1,4 +1,4 @@
-//! Works over a store in a database: a new one, or one that exists.
+//! Performs tasks over a store in a database, new or existing.
 ghost use Rattle.std.specs.Prelude.{◌≡◌, ◌↔◌, false, IsTrue};
 ghost use Rattle.sqlite.specs.Held.{state};
 ghost use Rattle.thes_base.specs.Pipe.{IsFresh};
@@ -28,9 +28,9 @@ pub fn is_blank<S: Alter>(conn: &Connection<S>) -> bool
     schema.tables.is_empty() && schema.indexes.is_empty() && schema.views.is_empty()
 }
 
-/// Works over the store in a database, whose connection `opener` opens again after a failure. Returns the exit status
-/// with what the storage leaves: the last connection, and whether a request is in doubt. The fault of a store that
-/// can't be opened is printed after the name of its file.
+/// Performs a task over the store in a database, which `opener` opens again after a failure.
+/// Returns the exit status with what the storage leaves: the last connection, and whether a request
+/// is in doubt. The fault of a store that can't be opened is printed after the name of its file.
 pub fn work_in_database<
     N: Net + Clock,
     S: Alter + Drop,
@@ -76,9 +76,9 @@ pub fn work_in_database<
     (status, keeper.into_keeper().leave())
 }
 
-/// Makes a new store with this base in a database without tables, and works over it; prints the
-/// fault if it can't be made. Returns the exit status with what the storage leaves: the last
-/// connection, and whether a request is in doubt.
+/// Makes a new store with this base in a database without tables, and performs a task over it;
+/// prints the fault if the store can't be made. Returns the exit status with what the storage
+/// leaves: the last connection, and whether a request is in doubt.
 pub fn work_in_new_database<
     N: Net + Clock,
     S: Alter + Drop,

@@ -1,4 +1,4 @@
-//! A writer that escapes the control characters of texts for a terminal.
+//! A writer that escapes the characters of texts that a terminal may obey.
 ghost use Rattle.std.specs.Prelude.{◌≡◌, ◌≤◌, length, IfSome, None, if◌then◌else◌};
 
 use arrayvec::ArrayString;
@@ -45,8 +45,8 @@ fn hex_digit(number: u8) -> &'static str
     }
 }
 
-// Returns the escape of the first character of a text, and the length of that character in bytes, if a terminal may
-// obey it.
+// Returns the escape of the first character of a text, and the length of that character in bytes,
+// if a terminal may obey it.
 fn escape_of(text: &[u8]) -> Option<(ArrayString<8>, usize)>
     ensures { IfSome result (λ x. x.1 ≤ length text.now) }
 {
@@ -71,8 +71,8 @@ fn escape_of(text: &[u8]) -> Option<(ArrayString<8>, usize)>
     }
 }
 
-// Returns the number of bytes before the next character, after the first byte, that a terminal may
-// obey, or of all bytes if there is none.
+// Returns the number of bytes to write unescaped: the first byte, and all bytes after it before the
+// next character that a terminal may obey.
 fn plain_length(text: &[u8]) -> usize
     ensures { result ≤ length text.now }
 {

@@ -24,7 +24,8 @@ pub fn trouble_of(error: &Error, other: StoreTrouble) -> StoreTrouble
     }
 }
 
-/// Prints the fault and the reason why no store could be made in a file, and returns the exit status 3.
+/// Prints the fault and the reason why no store could be made in a file, and returns the exit
+/// status 3.
 pub fn report_unmade<E: Write>(errors: &mut Pipe<E>, file: &str, error: Error) -> u8
     requires { IsFresh errors.old }
     ensures { ReportsUnmade E.contents file.now error errors.old errors.new result }

@@ -32,7 +32,7 @@ use thes_store::mem::MemKeeper;
 pub enum Work<F, L> {
     /// Answers the script on standard input.
     Script,
-    /// Checks the store, and prints the sizes of its tables.
+    /// Checks the store, and prints its sizes.
     Check,
     /// Writes the triples of the store as N-Triples.
     Export,
@@ -77,8 +77,8 @@ pub fn planned_work<F, L>(task: Task) -> PlannedWork<F, L>
     }
 }
 
-/// Returns the work of importing a posting file. The counts of its rows are printed if there is a listener for
-/// progress.
+/// Returns the work of importing a posting file. The counts of its rows are printed if there is a
+/// listener for progress.
 pub fn import_work<F, L, P>(file: F, progress: &Option<P>) -> Work<F, L>
     ensures { result ≡ Work.Import file (is_some progress.now) }
 {
@@ -96,7 +96,7 @@ pub fn serve_work<F, L>(listener: L, options: ServeOptions) -> Work<F, L>
     })
 }
 
-// Performs work over an office, and returns the exit status of its command, and the office.
+// Performs work over an office, and returns the exit status with the office.
 fn do_work<N: Net + Clock, K: Keeper, F: Read + Drop, R: Read, W: Write, E: Write>(
     alloc: Global,
     clock: &N,
@@ -136,8 +136,9 @@ fn do_work<N: Net + Clock, K: Keeper, F: Read + Drop, R: Read, W: Write, E: Writ
     (status, office)
 }
 
-/// Opens an office over the storage with these limits, works over it, and returns the exit status with the storage. The
-/// fault of a store that can't be opened is printed, after the name of its file if it has one.
+/// Opens an office over the storage with these limits, works over it, and returns the exit status
+/// with the storage. The fault of a store that can't be opened is printed, after the name of its
+/// file if it has one.
 pub fn work_over<N: Net + Clock, K: Keeper, F: Read + Drop, R: Read, W: Write, E: Write>(
     alloc: Global,
     clock: &N,

@@ -47,7 +47,8 @@ no_value least most one none =
     let bad : range_kinds 1 most 0 ≡ [] = subst (λ (n : ℕ). range_kinds n most 0 ≡ []) one none in
     cc
 
--- The property `Q` is one of an option's row: its identifier, the way it is read, and its first value.
+-- Assumes a property `Q` of the row of an option: of its identifier, the way it is read, and its
+-- first value.
 module _ (Q : Text → Reading → Text → Type 0) where
   abbrev Fits : Row → Type 0
   Fits r = (v : Text) × (rest : List Text) × (r.values ≡ v ∷ rest) × Q r.id r.reading v
@@ -352,7 +353,7 @@ module _ (Q : Text → Reading → Text → Type 0) where
       let ends = both_none (defaults_fault (settled s.rules end).rows s.rules) _ settles.1 in
       (finished_fit s [] arguments all walks.0 settles.0, ends.1)
 
-  -- The rows have one with this identifier, whose value has the property.
+  -- Some row has this identifier, and its value has the property.
   abbrev pub HasRowWith : Text → List Row → Type 0
   HasRowWith id rows = (v : Text) × (how : Reading) × (first_of id rows ≡ Some v)
       × (one_of id rows ≡ Some (read_as how v)) × Q id how v
@@ -370,7 +371,7 @@ module _ (Q : Text → Reading → Text → Type 0) where
             same fit.3,
       )
 
-  -- The rows have one with this identifier that fits, or none.
+  -- Either no row has this identifier, or the first row that has it fits.
   pub found_or_none : (id : Text) (rows : List Row) → AllFit rows
       → ((find (λ r. bytes_eq r.id id) rows ≡ None) ⊎ HasRowWith id rows)
   found_or_none id [] fit = inl refl

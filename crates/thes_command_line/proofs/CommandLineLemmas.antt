@@ -43,7 +43,7 @@ plan_found arguments m result found none by =
           found.1 by),
     )
 
--- A base that lacks its form has the early exit of its form fault.
+-- A base that lacks its form leads to the early exit for its form fault.
 pub exit_of_unread : (options : List Row) (command : Option (Text × List Row)) (stop : ReadStop)
     → IsReadResult {T = List ℕ} (IsBase (base_in options)) BadIri (λ t. Unit {0}) (Err stop)
     → MatchedPlanResult options command (Err (exit_of_stop stop))

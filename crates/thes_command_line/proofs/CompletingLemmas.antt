@@ -82,7 +82,7 @@ display_completes name is arguments none =
           fit.0 (not-false _ lang.0),
     )
 
--- The text read as a number is the one that was written.
+-- If a value is read as it was written, the text that is read as a number is the value.
 pub as_written : (id : Text) (rows : List Row) (v : Text) (how : Reading) → first_of id rows ≡ Some v → one_of id rows
     ≡ Some (read_as how v) → how ≡ AsWritten
     → one_of id rows ≡ first_of id rows

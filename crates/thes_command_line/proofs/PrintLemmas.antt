@@ -15,7 +15,7 @@ prefix_of_first a b xs ys f = record {
 }
 
 module _ {W : Type 0} (contents : W → Option (List ℕ)) where
-  -- A text whose printing succeeded or failed was printed, or a prefix of it.
+  -- Whether or not printing a text succeeded, the text or a prefix of it was printed.
   pub either : (old new : Pipe W) (text : List ℕ) (done : Bool) → HasPrinted contents old new text done
       → Prints contents old new text
   either old new text true h = inl h.0

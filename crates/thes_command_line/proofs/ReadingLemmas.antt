@@ -1,4 +1,4 @@
--- Proves the values that the getters of `clap` return, from the rows of its matches.
+-- Proves which values the getters of `clap` return, from the rows of its matches.
 use Rattle.std.proofs.Common.{◌≡◌, ◌∙◌, ◌<◌, ◌≤◌, ◌^◌, ap, sym, refl, subst, ℕ, List, Option, None, Some, Result, Ok}
 use Rattle.std.proofs.Common.{Err, arith, true, true≢false, codes}
 use Rattle.std.specs.Prelude.{Box, IsSome, IsSomeAnd, IfSome, is_some, option_map, unwrap_or}
@@ -23,12 +23,12 @@ use Rattle.thes_base.specs.declared.fault.ReadStop.TheVariants as stops
 use Rattle.thes_command_line.specs.CommandLine.{LacksForm, ReadsDisplayOptions, SpellsNumber, number_of, default_count}
 use Rattle.thes_command_line.specs.EarlyExit.{exit_of_stop}
 
--- An option with a value is returned as a text.
+-- If an option has a value, its getter returns a text.
 pub gives : (got : Option (Bor Text)) (o : Option Text) → option_map (λ s. s.now) got ≡ o → IsSome o → IsSome got
 gives None o e some = absurd (true≢false (sym (ap (λ (x : Option Text). is_some x) e ∙ some)))
 gives (Some t) o e some = refl
 
--- The text returned is the option's value.
+-- The text that the getter returns is the option's value.
 pub gives_text : (got : Option (Bor Text)) (o : Option Text) (t : Bor Text) → option_map (λ s. s.now) got ≡ o → got
     ≡ Some t → o ≡ Some t.now
 gives_text got o t e is = sym e ∙ ap (option_map (λ (s : Bor Text). s.now)) is

@@ -22,7 +22,7 @@ use Rattle.thes_command_line.specs.declared.arguments.Task.TheVariants.{Script, 
 use Rattle.thes_command_line.specs.declared.arguments.Task.TheVariants.{Hierarchical}
 use Rattle.thes_command_line.specs.declared.arguments.Task.TheVariants.{Serve, Check, Migrate}
 
--- The base of a new store without `--base`.
+-- The base of a new store if `--base` isn't given.
 abbrev pub default_base : Text
 default_base = codes "https://thesaurus.example/id/"
 
@@ -63,7 +63,7 @@ command_of Migrate = codes "migrate"
 abbrev pub SpellsNumber : Text → ℕ → Type 0
 SpellsNumber text n = IsNumber n × IsNumeral text n
 
--- The number of connections to serve without `--count`.
+-- The number of connections to serve if `--count` isn't given.
 abbrev pub default_count : ℕ
 default_count = 4294967295
 
@@ -121,7 +121,8 @@ PlansTask name arguments (Err (Help text)) = ⊥
 PlansTask name arguments (Err (Usage text)) = ⊥
 PlansTask name arguments (Err NotText) = ⊥
 
--- The command and its arguments determine the task, and the options before it the store: its file, base and limits.
+-- The command and its arguments determine the task, and the options before the command determine
+-- the store: its file, base and limits.
 pub record IsJob (options : List Row) (command : Option (Text × List Row)) (job : Job) : Type 0 where
   pub arguments : List Row
   pub command_is : command ≡ Some (command_of job.task, arguments)
@@ -136,7 +137,7 @@ HasFault options command fault =
     ((fault ≡ BadIri) × ¬ IsBase (base_in options))
     ⊎ (IsBase (base_in options) × IsSomeAnd command (λ c. NamesDisplay c.0 × LacksForm c.1 fault))
 
--- The job; or the first form fault; or running out of memory.
+-- The job, the first form fault, or running out of memory.
 abbrev pub MatchedPlanResult : List Row → Option (Text × List Row) → Result Job EarlyExit → Type 0
 MatchedPlanResult options command (Ok job) = IsJob options command job
 MatchedPlanResult options command (Err (BadForm fault)) = HasFault options command fault

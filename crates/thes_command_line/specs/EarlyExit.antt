@@ -11,7 +11,8 @@ use Rattle.thes_command_line.specs.Printing.{PrintsError, PrintsText, fault_line
 use Rattle.thes_command_line.specs.declared.arguments.EarlyExit.{EarlyExit}
 use Rattle.thes_command_line.specs.declared.arguments.EarlyExit.TheVariants.{Help, Usage, NotText, BadForm, OutOfMemory}
 
--- The exit status: 0 for help and version, 3 out of memory, and 2 for a fault of the command line.
+-- The exit status: 0 for help and version, 2 for a fault of the command line, and 3 for running out
+-- of memory.
 abbrev pub exit_status : EarlyExit → ℕ
 exit_status (Help text) = 0
 exit_status (Usage text) = 2
@@ -19,12 +20,12 @@ exit_status NotText = 2
 exit_status (BadForm fault) = 2
 exit_status OutOfMemory = 3
 
--- The early exit for arguments that can't be read.
+-- The early exit for an error of reading the arguments.
 abbrev pub exit_of_error : ErrorKind → EarlyExit
 exit_of_error kinds.OutOfMemory = OutOfMemory
 exit_of_error _ = NotText
 
--- The early exit for an option whose value can't be read.
+-- The early exit for a value that couldn't be read: its form fault, or running out of memory.
 abbrev pub exit_of_stop : ReadStop → EarlyExit
 exit_of_stop (stops.Form fault) = BadForm fault
 exit_of_stop stops.OutOfMemory = OutOfMemory

@@ -1,5 +1,5 @@
--- The decision whether a task makes a store or uses the one in its file, and the reasons why a
--- store can't be used.
+-- Defines whether a task makes a store or uses the one in its file, and the reasons why a store
+-- can't be used.
 use Rattle.std.specs.Prelude.{◌≡◌, ◌≢◌, ◌==◌, ◌&&◌, nat_le, ℕ, Bool, if◌then◌else◌, Option, Some, None, Result, Ok, Err}
 use Rattle.std.specs.Prelude.{codes}
 use Rattle.std.specs.Fs.{IsFile, file_type, metadata_len}
@@ -34,8 +34,8 @@ abbrev pub new_store : Task → StoreTrouble → Result Opening StoreTrouble
 new_store tasks.Check trouble = Err trouble
 new_store _ trouble = Ok New
 
--- The test of whether making the store in a file was cut short: a mark says so, and the file has the size of a database
--- without tables, or less.
+-- Whether making the store in a file was cut short: a mark says so, and the file is no larger than
+-- a database without tables.
 abbrev pub is_unfinished : ℕ → Bool → Bool
 is_unfinished size is_marked = is_marked && nat_le size 4096
 
@@ -43,7 +43,8 @@ is_unfinished size is_marked = is_marked && nat_le size 4096
 abbrev pub opening_of_bytes : ℕ → Result Opening StoreTrouble
 opening_of_bytes n = if n == 1 then Err troubles.NotDatabase else Ok Existing
 
--- The way to open a file that isn't empty, for a task: an unfinished store is made, but not by a check.
+-- The way to open a file that isn't empty, for a task: every task but a check makes an unfinished
+-- store.
 abbrev pub opening_of_file : Task → ℕ → Bool → Result Opening StoreTrouble
 opening_of_file tasks.Check n is_marked = opening_of_bytes n
 opening_of_file _ n is_marked = if is_unfinished n is_marked then Ok New else opening_of_bytes n

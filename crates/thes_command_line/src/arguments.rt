@@ -17,10 +17,10 @@ use thes_base::fault::{FormFault, ReadStop};
 use thes_base::number::ResNo;
 use thes_base::text::{Base, Tag};
 
-// The base of a new store without `--base`.
+// The base of a new store if `--base` isn't given.
 const BASE: &str = "https://thesaurus.example/id/";
 
-// The number of connections to serve without `--count`.
+// The number of connections to serve if `--count` isn't given.
 const COUNT: u32 = 4_294_967_295;
 
 /// The options of a display: the number of a scheme, and a language tag.
@@ -52,7 +52,7 @@ pub enum Task {
     Hierarchical(DisplayOptions),
     /// Serves HTTP connections on the loopback address.
     Serve(ServeOptions),
-    /// Checks the store, and prints the sizes of its tables.
+    /// Checks the store, and prints its sizes.
     Check,
     /// Migrates a store of version 1 to version 2.
     Migrate,
@@ -70,7 +70,7 @@ pub fn is_display(task: &Task) -> bool
 pub struct StoreSetting {
     /// The base of the IRIs of a new store.
     pub base: Base,
-    /// The limits by which requests are refused.
+    /// The limits above which requests are refused.
     pub limits: Limits,
 }
 
@@ -83,7 +83,7 @@ pub struct Job {
     pub setting: StoreSetting,
 }
 
-/// The reason for an early exit: help, the version, a fault of the command line, or a lack of
+/// The reason for an early exit: help, the version, a fault of the command line, or running out of
 /// memory.
 #[derive(Debug, Drop)]
 pub enum EarlyExit {
@@ -91,9 +91,9 @@ pub enum EarlyExit {
     Help(String),
     /// The text of a usage error.
     Usage(String),
-    /// An argument isn't UTF-8.
+    /// An argument that isn't UTF-8.
     NotText,
-    /// The value of an option lacks its form, such as that of an IRI.
+    /// The form fault of an option's value, such as a base that isn't an IRI.
     BadForm(FormFault),
     OutOfMemory,
 }
@@ -109,7 +109,7 @@ impl From<AllocError> for EarlyExit {
     }
 }
 
-/// A form fault becomes `BadForm` with that fault.
+/// A form fault becomes `BadForm` with that fault, and running out of memory `OutOfMemory`.
 impl From<ReadStop> for EarlyExit {
     ghost use Rattle.thes_command_line.specs.EarlyExit.{exit_of_stop};
 
@@ -138,8 +138,8 @@ impl From<IoError> for EarlyExit {
 }
 
 impl EarlyExit {
-    /// Returns the exit status: 0 for help and version, 3 out of memory, and 2 for a fault of the
-    /// command line.
+    /// Returns the exit status: 0 for help and version, 2 for a fault of the command line, and 3
+    /// for running out of memory.
     pub fn status(&self) -> u8
         ensures { result ≡ exit_status self.now }
     {
@@ -177,7 +177,7 @@ fn base_argument<'a>(options: &ArgMatches<'a>) -> &'a str
     }
 }
 
-// Returns the number of a limit's option, or the default.
+// Returns the value of the option for a limit, or the default.
 fn limit(options: &ArgMatches<'_>, name: &str, default: u32) -> u32
     requires { HasLimit name.now (rows_of (found_of options.now)) }
     ensures { result ≡ number_of_option name.now default (rows_of (found_of options.now)) }
@@ -221,7 +221,8 @@ fn import_task(alloc: Global, arguments: &ArgMatches<'_>) -> Result<Task, EarlyE
     Ok(Task::Import(String::from_str(alloc, file)?))
 }
 
-// Returns the scheme and the language of a display, or the form fault of the first that lacks its form.
+// Returns the scheme and the language of a display, or the form fault of the first value that lacks
+// its form.
 fn display_options(alloc: Global, arguments: &ArgMatches<'_>) -> Result<DisplayOptions, EarlyExit>
     requires { HasOptions (rows_of (found_of arguments.now)) }
     ensures { ReadsDisplayOptions (rows_of (found_of arguments.now)) result }
@@ -296,12 +297,12 @@ fn job_of(alloc: Global, options: &ArgMatches<'_>) -> Result<Job, EarlyExit>
     }
 }
 
-/// Parses the arguments, of which the first is the program's name.
+/// Parses the arguments; the first is the program's name.
 pub fn plan(alloc: Global, arguments: &[String]) -> Result<Job, EarlyExit>
     ensures { PlanResult (map string_bytes arguments.now) result }
 {
     match program(alloc)?.try_get_matches_from(arguments) {
-        // All required commands and arguments are given, since `clap` checks that.
+        // `clap` has checked that all required commands and arguments are given.
         Ok(options) => job_of(alloc, &options),
         Err(error) => Err(early_exit_of(alloc, &error)),
     }

@@ -249,7 +249,8 @@ fn serve<'a>(alloc: Global) -> Result<Command<'a>, AllocError>
         .arg(number_option(alloc, "count", 4_294_967_295, COUNT))
 }
 
-// Returns the program with the options `--db` and `--base`, before any other option or command is added.
+// Returns the program with the options `--db` and `--base`, before any other option or command is
+// added.
 fn file_options<'a>(alloc: Global) -> Result<Command<'a>, AllocError>
     ensures { IfOk result (λ c. app_of c ≡ line.file_options) }
 {

@@ -10,7 +10,8 @@ use thes_base::pipe::Pipe;
 
 const NOT_TEXT: &str = "thesaurus: a word of the command line is not UTF-8\n";
 
-/// Prints the help or version to standard output, or the fault to standard error, and returns the exit status.
+/// Prints the help or version to standard output, or the fault to standard error, and returns the
+/// exit status.
 pub fn exit_early<W: Write, E: Write>(
     output: &mut Pipe<W>,
     errors: &mut Pipe<E>,

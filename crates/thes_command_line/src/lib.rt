@@ -1,5 +1,5 @@
-//! The program's command line: parsing its arguments into a job, early exits, the lines of faults
-//! and refusals, and exit statuses.
+//! Parses the command line of the program into a job, prints faults and refusals, and determines
+//! exit statuses.
 #![tactic(auto)]
 
 pub mod arguments;

@@ -1,4 +1,4 @@
-//! The decision whether a task makes a store or uses the one in its file.
+//! Decides whether a task makes a store or uses the one in its file.
 ghost use Rattle.std.specs.Prelude.{◌≡◌};
 ghost use Rattle.thes_command_line.specs.Opening as opening;
 ghost use Rattle.thes_command_line.specs.Opening.{IsFileState};
@@ -15,7 +15,7 @@ const BLANK_SIZE: u64 = 4_096;
 /// The state of a store's file, from its metadata.
 #[derive(Clone, Copy, Debug, PartialEq, Eq)]
 pub enum FileState {
-    /// There is no such file.
+    /// No file has the name.
     Absent,
     /// A regular file with this number of bytes.
     Bytes(u64),
@@ -26,13 +26,14 @@ pub enum FileState {
 /// The way to open the store in a file.
 #[derive(Clone, Copy, Debug, PartialEq, Eq)]
 pub enum Opening {
-    /// Makes the store, since the file is absent or empty.
+    /// Makes the store: the file is absent or empty, or the store in it is unfinished.
     New,
     /// Uses the store in the file.
     Existing,
 }
 
-/// Returns the state of a file from its metadata. Only the error NotFound means that there is no file.
+/// Returns the state of a file from its metadata. Only the error NotFound means that there is no
+/// file.
 pub fn file_state(found: &io::Result<Metadata>) -> FileState
     ensures { IsFileState found.now result }
 {
@@ -54,7 +55,7 @@ pub fn folder_of(file: &str) -> &str {
     }
 }
 
-// Chooses to make a store, except for a check, which makes none and fails with this trouble.
+// Returns `New`, except for a check, which makes no store and fails with this trouble.
 fn new_store(task: &Task, trouble: StoreTrouble) -> Result<Opening, StoreTrouble>
     ensures { result ≡ opening.new_store task.now trouble }
 {
@@ -64,16 +65,17 @@ fn new_store(task: &Task, trouble: StoreTrouble) -> Result<Opening, StoreTrouble
     }
 }
 
-// Returns whether a file of this size is no larger than a database without tables, in which an earlier run was to make a
-// store, as the mark of such a store says.
+// Returns whether making the store in a file was cut short: the file is marked as that of an
+// unfinished store, and is no larger than a database without tables.
 fn is_unfinished(size: u64, is_marked: bool) -> bool
     ensures { result ≡ opening.is_unfinished size is_marked }
 {
     is_marked && size <= BLANK_SIZE
 }
 
-/// Chooses how a store is opened for a task. No store is made to be checked, nor in a file of one byte, which SQLite
-/// takes for an empty database, unless the file is marked as that of a store that is being made.
+/// Chooses how a store is opened for a task. A check makes no store. Other tasks make none in a
+/// file of one byte, which SQLite takes for an empty database, unless the file is marked as that of
+/// an unfinished store.
 pub fn opening_of(task: &Task, found: FileState, is_marked: bool) -> Result<Opening, StoreTrouble>
     ensures { result ≡ opening.opening_of task.now found is_marked }
 {

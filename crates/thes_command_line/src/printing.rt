@@ -1,4 +1,4 @@
-//! Printing of texts, and of the lines of faults and refusals, with the exit statuses that follow.
+//! Prints texts and the lines of faults and refusals, and returns the exit statuses that follow.
 ghost use Rattle.std.specs.Prelude.{◌≡◌, ◌++◌, option_copied};
 ghost use Rattle.thes_base.specs.Pipe.{IsFresh};
 ghost use Rattle.thes_command_line.specs.Opening as opening;
@@ -64,8 +64,8 @@ fn print_both<W: Write>(writer: &mut Pipe<W>, first: &[u8], second: &[u8]) -> bo
     print(writer, first) && print(writer, second)
 }
 
-/// Prints a text to standard output, and returns the exit status 0; if that fails, prints the fault to standard error
-/// and returns 3.
+/// Prints a text to standard output, and returns the exit status 0; if that fails, prints the fault
+/// to standard error and returns 3.
 pub fn print_out<W: Write, E: Write>(output: &mut Pipe<W>, errors: &mut Pipe<E>, text: &[u8]) -> u8
     requires output { IsFresh output.old }
     requires errors { IsFresh errors.old }
@@ -113,7 +113,8 @@ pub fn report_fault<E: Write>(errors: &mut Pipe<E>, fault: PipeFault) -> u8
     3
 }
 
-/// Prints that a socket can't be opened or a connection can't be accepted, and returns the exit status 3.
+/// Prints that a socket can't be opened or a connection can't be accepted, and returns the exit
+/// status 3.
 pub fn report_net_fault<E: Write>(errors: &mut Pipe<E>) -> u8
     requires { IsFresh errors.old }
     ensures line { Prints E.contents errors.old errors.new lines.net_line }
@@ -134,7 +135,8 @@ pub enum OpenFailure {
     Connection,
 }
 
-// Prints that the system lets the program open too few files to serve connections, and returns the exit status 3.
+// Prints that the system lets the program open too few files to serve connections, and returns the
+// exit status 3.
 fn report_few_files<E: Write>(errors: &mut Pipe<E>) -> u8
     requires { IsFresh errors.old }
     ensures line { Prints E.contents errors.old errors.new lines.few_files_lines }
@@ -160,8 +162,8 @@ pub fn report_open_failure<E: Write>(errors: &mut Pipe<E>, unopened: OpenFailure
     }
 }
 
-// Returns the end of the line that names the file of a store: the reason for its fault, if there is one, and a line
-// feed.
+// Returns the end of the line that names the file of a store: the reason for its fault, if there is
+// one, and a line feed.
 fn file_end(trouble: Option<StoreTrouble>) -> ArrayString<64>
     ensures { result.bytes ≡ lines.file_end trouble }
 {
@@ -195,8 +197,8 @@ fn trouble_of_fault(fault: Fault, trouble: StoreTrouble) -> Option<StoreTrouble>
     }
 }
 
-/// Prints the fault of the store in a file, after a line with the file's name and, for Store, the reason; returns the
-/// exit status 3.
+/// Prints the fault of the store in a file, after a line with the file's name and, for Store, the
+/// reason; returns the exit status 3.
 pub fn report_in_file<E: Write>(
     errors: &mut Pipe<E>,
     file: &str,
@@ -214,7 +216,8 @@ pub fn report_in_file<E: Write>(
     3
 }
 
-/// Prints the fault of a store, after the line of its file if it is in one, and returns the exit status 3.
+/// Prints the fault of a store, after the line of its file if it is in one, and returns the exit
+/// status 3.
 pub fn report_fault_at<E: Write>(
     errors: &mut Pipe<E>,
     file: Option<&str>,

@@ -16,7 +16,7 @@ pub enum StoreTrouble {
     NotDatabase,
     /// The file has another name, a hard link.
     Linked,
-    /// The names of the files beside it would be too long for the system.
+    /// The names of the files next to the store's file would be too long for the system.
     LongName,
     /// The file can't be read.
     Unreadable,
@@ -47,8 +47,8 @@ impl StoreTrouble {
     }
 }
 
-/// Returns the reason why a file couldn't be opened as a store. `error` is that of opening the file for reading or, if
-/// the store is to be made, of reading its folder.
+/// Returns the reason why a file couldn't be opened as a store. `error` is that of opening the file
+/// for reading or, if the store is to be made, of reading its folder.
 pub fn refused_access(opening: Opening, found: FileState, error: Option<ErrorKind>) -> StoreTrouble
     ensures { result ≡ trouble_of_access opening found error }
 {

@@ -29,8 +29,8 @@ impl PostingList {
         }
     }
 
-    /// Appends a posting as an array of its number, key and record name; out of memory, the list is
-    /// unchanged.
+    /// Appends a posting as an array of its number, key and record name; if memory runs out, the
+    /// list is unchanged.
     pub fn push(
         &mut self,
         alloc: Global,

@@ -18,7 +18,8 @@ use thes_base::number::{PostNo, ResNo};
 use thes_base::text::{Key, RecordName};
 use thes_requests::answer::refusal_line;
 
-/// The view of a concept: its labels, its links, and the number of postings assigned to it.
+/// The view of a concept: its labels, links and other facts, and the number of postings assigned to
+/// it.
 #[derive(Drop)]
 pub struct ConceptView<'a> {
     pub alt: Vec<&'a Label>,
@@ -149,7 +150,8 @@ fn keyword_value(alloc: Global, name: &str, number: ResNo) -> Result<Value, Allo
     json!(in alloc; [name, number.get()])
 }
 
-// Returns the mappings as a JSON array, in which each is the keyword of its kind and its other end.
+// Returns the mappings as a JSON array of pairs: the keyword of a mapping's kind, and its other
+// end.
 fn mappings_value(alloc: Global, mappings: &[(LinkKind, ResNo)]) -> Result<Value, AllocError>
     ensures { IfOk result (λ v. view v ≡ array_data mapping_data mappings.now) }
 {
@@ -161,7 +163,7 @@ fn mappings_value(alloc: Global, mappings: &[(LinkKind, ResNo)]) -> Result<Value
     Ok(Value::Array(list))
 }
 
-// Returns the typed links as a JSON array, in which each is the keyword of its kind and its other
+// Returns the typed links as a JSON array of pairs: the keyword of a link's kind, and its other
 // end.
 fn typed_value(alloc: Global, typed: &[(TypedKind, ResNo)]) -> Result<Value, AllocError>
     ensures { IfOk result (λ v. view v ≡ array_data typed_data typed.now) }
@@ -174,7 +176,7 @@ fn typed_value(alloc: Global, typed: &[(TypedKind, ResNo)]) -> Result<Value, All
     Ok(Value::Array(list))
 }
 
-// Puts a member into an object; fails if memory runs out, or has run out for its value.
+// Puts a member into an object; fails if memory runs out, or if it had run out for the value.
 fn put_value(
     members: &mut Map<String, Value>,
     alloc: Global,
@@ -187,7 +189,7 @@ fn put_value(
     put(members, alloc, name, value?)
 }
 
-// Appends a value to an array; fails if memory runs out, or has run out for the value.
+// Appends a value to an array; fails if memory runs out, or if it had run out for the value.
 fn push_value(list: &mut Vec<Value>, value: Result<Value, AllocError>) -> Result<(), AllocError>
     ensures { (d : Data) → IfOk value (λ v. view v ≡ d) → OnOk result
         (map view list.new.items ≡ map view list.old.items ++ d ∷ []) }
@@ -364,7 +366,7 @@ fn text_value(alloc: Global, text: &str) -> Result<Value, AllocError>
     json!(in alloc; text)
 }
 
-// Puts the key, the moves and the other facts about a posting into the members of its view.
+// Puts the facts about a posting, with its key and its moves, into the members of its view.
 #[tactic(auto, unfolding(crate::specs::PostingMembers::members_with_posting))]
 fn put_posting(
     members: &mut Map<String, Value>,

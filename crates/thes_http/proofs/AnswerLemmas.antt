@@ -148,7 +148,7 @@ module _ {S : Type 0} (d : ServiceEffects S) where
   Determined : S → Response → S → Response → Type 0
   Determined x r y q = ((r ≡ q) × (x ≡ y)) ⊎ (IsFaultResponse r ⊎ IsFaultResponse q)
 
-  -- Of two results of one call, each is a fault or they are the same.
+  -- Two results of one call are the same, unless one of them is a fault.
   same_results : {A : Type 0} (response : Result A Fault → Response) (P : Result A Fault → S → Type 0) (x y : S)
       (r q : Response) → ((f : Fault) → response (Err f) ≡ fault_response f)
       → ((a b : A) → P (Ok a) x → P (Ok b) y → (a ≡ b) × (x ≡ y)) → (a b : Result A Fault) → P a x → P b y

@@ -1,4 +1,4 @@
--- Proves the response to a connection from the head and the body that it read.
+-- Proves which response a connection gets, from the head and the body that were read.
 use Rattle.std.proofs.Common.{◌≡◌, ◌∙◌, sym, ap, subst, refl, inl, inr, ℕ, ◌≤◌, List, ◌++◌, length, take, drop}
 use Rattle.std.proofs.Common.{append_assoc, Option, Result, Ok, Err, arith}
 use Rattle.std.proofs.lemmas.List.{length-take, take-append-drop, drop-append-le}
@@ -106,8 +106,8 @@ cut_body known mid left bytes rest w t a c = record {
   cut = inr (a.head, rest ++ c.more, w, has_more bytes a.head rest c.more a.has, a.wants, c.short);
 }
 
--- The response is also that of the buffers that the program reads: a prefix of the input, and the
--- body.
+-- A head and its complete body, as the program's buffers hold them, are answered by the effect of
+-- the endpoint.
 pub answer_all : {S : Type 0} (d : ServiceEffects S) (known mid left : Option (List ℕ)) (old new : S)
     (bytes front start body text : List ℕ) (len : ℕ) (w : HeadRequest) (r : Response)
     → Consumes known mid bytes → front ≡ take head_limit bytes → len ≤ length (take head_limit bytes)

@@ -9,7 +9,7 @@ module _ {S : Type 0} (d : ServiceEffects S) where
   pub leads_nowhere : (most : ℕ) (old new : S) → new ≡ old → LeadsBy d most old new
   leads_nowhere most old new same = record { exchanges = []; few = omega arith; answered = same }
 
-  -- One exchange is one connection.
+  -- An answered exchange leads to the next state by one connection.
   pub leads_once : (old new : S) (bytes : List ℕ) (response : Response) → Answers d old response new bytes
       → LeadsBy d 1 old new
   leads_once old new bytes response answers = record {
@@ -24,7 +24,7 @@ module _ {S : Type 0} (d : ServiceEffects S) where
   both_answered old mid new (e ∷ later) sooner first then =
       (then.0, both_answered old mid then.0 later sooner first then.1, then.2)
 
-  -- Connections that follow others add their number.
+  -- Connections that follow other connections add to their number.
   pub leads_on : (m n : ℕ) {old mid new : S} → LeadsBy d m old mid → LeadsBy d n mid new → LeadsBy d (m + n) old new
   leads_on m n {old} {mid} {new} a b = record {
     exchanges = b.exchanges ++ a.exchanges;

@@ -1,8 +1,9 @@
--- Waits for clients.
+-- The errors of waits for a client.
 use Rattle.std.specs.declared.io.ErrorKind.{ErrorKind}
 use Rattle.std.specs.declared.io.ErrorKind.TheVariants.{Interrupted, TimedOut, WouldBlock}
 
--- The error of a wait, given that of its stream: the end of a wait is a reason to try again.
+-- The error of a wait, given that of its stream: a wait that ended becomes `Interrupted`, so that
+-- the caller tries again.
 abbrev pub error_after_wait : ErrorKind → ErrorKind
 error_after_wait WouldBlock = Interrupted
 error_after_wait TimedOut = Interrupted

@@ -15,8 +15,8 @@ use Rattle.thes_http.specs.Responses.{export_response, display_response}
 use Rattle.thes_http.specs.Serving.{ServiceEffects, Answers, IsCutRequest}
 
 module _ {S : Type 0} (d : ServiceEffects S) (old : S) where
-  -- Two responses, each with the state after it, answer one call of the service; or they are one response that leaves
-  -- the state as it was.
+  -- Two responses, each with the state after it, answer one call of the service, or are the same
+  -- response and leave the state unchanged.
   pub data AnswerOneCall (r : Response) (x : S) (q : Response) (y : S) : Type 0 where
     command_answers : (command : Command) (a b : Result Answer Fault)
         → d.performs old command a x → d.performs old command b y
@@ -34,7 +34,7 @@ module _ {S : Type 0} (d : ServiceEffects S) (old : S) where
         → r ≡ display_response a → q ≡ display_response b → AnswerOneCall r x q y
     no_call : r ≡ q → x ≡ old → y ≡ old → AnswerOneCall r x q y
 
-  -- The response says that memory ran out, and the state is as it was.
+  -- The response reports that memory ran out, and the state is unchanged.
   abbrev pub RunsOut : Response → S → Type 0
   RunsOut response new = (response ≡ fault_response OutOfMemory) × (new ≡ old)
 
@@ -57,8 +57,8 @@ abbrev pub IsFaultResponse : Response → Type 0
 IsFaultResponse response = (fault : Fault) × (response ≡ fault_response fault)
 
 module _ {S : Type 0} (d : ServiceEffects S) where
-  -- Two answers to the same bytes in the same state answer one call of the service, also where more bytes were read for
-  -- the one than for the other, unless memory ran out before it.
+  -- Two answers to the same bytes in the same state answer one call of the service, unless memory
+  -- ran out before the call. More bytes may have been read for one answer than for the other.
   abbrev pub HasOneCall : Type 0
   HasOneCall =
       (old x y : S) (r q : Response) (bytes more : List ℕ)

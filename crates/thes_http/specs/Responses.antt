@@ -1,4 +1,4 @@
--- Responses: a status, a media type and a body; and their bytes.
+-- Responses, each with a status, a media type and a body, and their bytes.
 use Rattle.std.specs.Prelude.{ℕ, ◌++◌, [], List, Option, unwrap_or, length, codes, decimal, Result, Ok, Err}
 use Rattle.std.specs.Io.KnownBytes.{Appends}
 use Rattle.thes_base.specs.declared.fault.Fault.{Fault}
@@ -88,7 +88,7 @@ problem_status BadQuery = status.BadRequest
 abbrev pub allow_line : Endpoint → List ℕ
 allow_line endpoint = head_line (codes "Allow: " ++ method_of endpoint)
 
--- The `Allow` line for a method that the path doesn't have, else nothing.
+-- The `Allow` line for `BadMethod`, else an empty text.
 abbrev pub allow_text : Body → List ℕ
 allow_text (body.Problem (BadMethod endpoint)) = allow_line endpoint
 allow_text b = []
@@ -107,7 +107,7 @@ body_lines media count =
     ++ head_line (codes "Content-Length: " ++ decimal count)
     ++ head_line (codes "Connection: close")
 
--- The head of a response: its lines, and an empty one at the end.
+-- The head of a response: its lines, and an empty line at the end.
 unfoldable pub head_text : Response → List ℕ
 head_text r =
     status_line r.status ++ body_lines r.media (length (body_text r.body))

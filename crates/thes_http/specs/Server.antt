@@ -8,14 +8,14 @@ pub record Exchange : Type 0 where
   pub bytes : List ℕ
   pub response : Response
 
--- The exchanges, the latest first, take the service from the one state to the other, and nothing
--- else changes it.
+-- The exchanges, the latest first, take the service from the state `old` to the state `new`, and
+-- nothing else changes it.
 abbrev pub AreAnswered : {S : Type 0} → ServiceEffects S → S → List Exchange → S → Type 0
 AreAnswered d old [] new = new ≡ old
 AreAnswered {S} d old (e ∷ before) new =
     (mid : S) × AreAnswered d old before mid × Answers d mid e.response new e.bytes
 
--- At most `most` exchanges take the service from the one state to the other.
+-- At most `most` exchanges take the service from the state `old` to `new`.
 pub record LeadsBy {S : Type 0} (d : ServiceEffects S) (most : ℕ) (old new : S) : Type 0 where
   pub exchanges : List Exchange
   pub few : length exchanges ≤ most

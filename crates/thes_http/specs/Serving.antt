@@ -94,8 +94,8 @@ module _ {S : Type 0} (d : ServiceEffects S) (old : S) (r : Response) (new : S) 
   QueryEffect query =
       (answer : Result QueryAnswer Fault) × d.shows old query answer new × (r ≡ query_response answer)
 
-  -- The effect for the number that the text is the numeral of; `BadNumber`, and no effect, if there
-  -- is none.
+  -- The effect for the number whose numeral is the text; if the text is no numeral of a number,
+  -- `BadNumber` and no effect.
   abbrev pub WithNumber : List ℕ → (ℕ → Type 0) → Type 0
   WithNumber text Next =
       (IsNoNumeral text × RespondsUnchanged (form_response BadNumber))
@@ -144,7 +144,7 @@ module _ {S : Type 0} (d : ServiceEffects S) (old : S) (r : Response) (new : S) 
   AnswersHead (Ok w) rest = (w.body ≤ length rest) × EndpointEffect w.endpoint w.number w.query (take w.body rest)
 
   -- The effect of bytes, and the response to them: that of a bad head, of a head with its body, or
-  -- of running out of memory, which may replace any other.
+  -- of running out of memory. The last may replace any other.
   abbrev pub Answers : List ℕ → Type 0
   Answers bytes =
       (IsBadHead bytes × RespondsUnchanged (problem_response BadHead))

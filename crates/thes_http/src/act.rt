@@ -1,4 +1,4 @@
-//! Performing the request of a head, with its body.
+//! Performs the request of a head, with its body.
 ghost use Rattle.std.specs.Prelude.{◌≡◌, if◌then◌else◌, true};
 ghost use Rattle.thes_http.specs.Serving.{effects, CommandEffect, QueryEffect, NumberQueryEffect, DisplayEffect, DisplayQueryEffect, OrOutOfMemory, EndpointEffectOrFailure};
 ghost use Rattle.thes_http_request.specs.Queries.{display_query_of};
@@ -56,7 +56,7 @@ fn perform<S: Service>(alloc: Global, service: &mut S, body: &[u8]) -> Response
     }
 }
 
-// Answers a query by the service, and returns the response.
+// Passes a query to the service, and returns the response.
 fn show<S: Service>(alloc: Global, service: &mut S, query: Query) -> Response
     requires { S.is_open service.old ≡ true }
     ensures { QueryEffect (effects S.performs S.shows S.imports S.exports S.displays)

@@ -1,4 +1,4 @@
-//! Streams whose client must keep to a time.
+//! Streams that fail once their client has taken too long.
 ghost use Rattle.std.specs.Prelude.{◌≡◌, ◌↔◌, ◌<◌, ◌+◌, ◌*◌, ◌/◌, min, IsSome, IfSome};
 ghost use Rattle.std.specs.Duration.{as_nanos};
 ghost use Rattle.std.specs.IoError.{error_kind};
@@ -16,8 +16,8 @@ const SECONDS: u64 = 30;
 // The number of bytes for which the client gets one more second.
 const BYTES_A_SECOND: u64 = 100_000;
 
-// Returns the time in which a client has to have sent or read more than this number of bytes: 30 seconds, and one more
-// for each 100,000 bytes.
+// Returns the time in which a client has to have sent or read more than this number of bytes: 30
+// seconds, and one more for each 100,000 bytes.
 fn time_allowed(bytes: u64) -> Duration
     ensures { as_nanos result ≡ (30 + bytes / 100_000) * 1_000_000_000 }
 {
@@ -35,14 +35,16 @@ fn time_left(allowed: Duration, passed: Duration) -> Option<Duration>
     }
 }
 
-// Returns the time for one wait, at most a second: the system may end a wait an eighth of its length late.
+// Returns the time for one wait. It is at most a second, since the system may end a wait late, by
+// an eighth of its length.
 fn wait_within(left: Duration) -> Duration
     ensures { as_nanos result ≡ min (as_nanos left) 1_000_000_000 }
 {
     left.min(Duration::from_secs(1))
 }
 
-// Makes the end of a wait a reason to try again: the clock decides whether the time is over.
+// Turns the error of a wait that ended into `Interrupted`, so that the caller tries again; the
+// clock decides whether the time is over.
 fn after_wait(error: io::Error) -> io::Error
     ensures { error_kind result ≡ error_after_wait (error_kind error) }
 {
@@ -52,7 +54,8 @@ fn after_wait(error: io::Error) -> io::Error
     }
 }
 
-/// A stream that fails once its client has taken too long, by the clock. A contract sees its bytes.
+/// A stream that fails once its client has taken too long, by the clock. Contracts state only its
+/// bytes.
 #[derive(Drop)]
 pub(crate) struct TimedStream<'a, C, T> {
     stream: T,
@@ -80,7 +83,7 @@ impl<'a, C: Clock, T> TimedStream<'a, C, T> {
         stream
     }
 
-    // Returns the time to wait for the next read or write.
+    // Returns the time to wait for the next read or write; `TimedOut` if the client's time is over.
     fn next_wait(&mut self) -> io::Result<Duration>
         ensures { self.new.stream ≡ self.old.stream }
     {

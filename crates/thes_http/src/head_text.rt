@@ -5,7 +5,8 @@ use arrayvec::ArrayString;
 use itoa::Buffer;
 use std::marker::Model;
 
-/// The head of a response, of at most 256 bytes on the stack, so that a response can be written without allocation.
+/// The head of a response, of at most 256 bytes on the stack, so that a response can be written
+/// without allocation.
 #[derive(Drop)]
 pub struct HeadText {
     text: ArrayString<256>,
@@ -29,7 +30,7 @@ impl HeadText {
         }
     }
 
-    /// Appends a text, after which the head must have at most 256 bytes.
+    /// Appends a text; the head must not exceed 256 bytes after it.
     pub fn push(&mut self, text: &str)
         requires { length self.old + length text.now ≤ 256 }
         ensures text { self.new ≡ self.old ++ text.now }

@@ -4,19 +4,21 @@ ghost use Rattle.thes_http.specs.Serving.{effects};
 
 use crate::service::Service;
 
-/// Proves that the same bytes make the same call of a service, or none and have the same response, however they are cut
-/// into reads, unless memory runs out.
+/// No effect; states for the proof that the same bytes make the same call of a service, or no call
+/// and have the same response, unless memory runs out. It doesn't matter how the bytes are cut into
+/// reads.
 pub fn one_call<S: Service>()
     ensures { HasOneCall (effects S.performs S.shows S.imports S.exports S.displays) }
 {}
 
-/// Proves that the bytes and the state before determine the response and the state after it, faults aside, if they do
-/// so for each call of the service.
+/// No effect; states for the proof that the bytes and the state before determine the response and
+/// the state after it, faults aside, if they do so for each call of the service.
 pub fn one_answer<S: Service>()
     ensures { HasOneAnswer (effects S.performs S.shows S.imports S.exports S.displays) }
 {}
 
-/// Proves that a request which was cut off has no answer, unless memory ran out.
+/// No effect; states for the proof that a request which was cut off has no answer, unless memory
+/// ran out.
 pub fn no_answer_to_a_cut<S: Service>()
     ensures { CutHasNoAnswer (effects S.performs S.shows S.imports S.exports S.displays) }
 {}

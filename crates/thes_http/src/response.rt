@@ -1,4 +1,4 @@
-//! Responses: a status, a media type and a body; and their bytes.
+//! Responses, each with a status, a media type and a body, and their bytes.
 ghost use Rattle.std.specs.Prelude.{◌≡◌, ◌≤◌, ◌↔◌, true, false, length, OnOk, OnErr, IsErrOf};
 ghost use Rattle.thes_base.specs.Pipe.{failed_of, denied_of, PaysCalls};
 ghost use Rattle.thes_http.specs.Responses.{status_code, status_line, media_type, problem_text, problem_status, allow_line, allow_text, body_text, head_text, WritesPrefix, WritesResponse, reply_response, page_response, problem_response, form_response, fault_response, command_response, query_response, import_response, export_response, display_response};
@@ -131,7 +131,7 @@ fn allow_line(endpoint: Endpoint) -> &'static str
     }
 }
 
-/// The body of a response.
+/// The content of a response: a problem, a reply, the line of a view, or a page.
 #[derive(Drop)]
 pub enum Body {
     Problem(Problem),
@@ -297,7 +297,7 @@ impl Response {
         head
     }
 
-    // Writes the head and the body, by one call of the writer if both fit into 512 bytes.
+    // Writes the head and the body, with one call to the writer if both fit into 512 bytes.
     fn write_with<W: Write>(
         &self,
         writer: &mut Pipe<W>,

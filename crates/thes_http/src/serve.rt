@@ -1,4 +1,4 @@
-//! Serving one connection.
+//! Serves one connection.
 ghost use Rattle.std.specs.Prelude.{◌≡◌, ◌≤◌, ◌⊎◌, true, ℕ, List, length, drop, Ok, Err, IfOk, IfErr, OnOk, OnErr, IsErrOf};
 ghost use Rattle.std.specs.Io.KnownBytes.{Consumes, IsAtEnd};
 ghost use Rattle.thes_base.specs.Pipe.{failed_of, ended_of, denied_of, IsFresh, PaysCalls, KeepsSharedCallLimit, unread_bytes, written_bytes};
@@ -34,7 +34,8 @@ pub enum ConnectionEnd {
     WriteFault,
 }
 
-// Reads the request, performs it, and returns the response; problems, form faults and faults are responses as well.
+// Reads the request, performs it, and returns the response; problems, form faults and faults are
+// responses as well.
 fn answer<R: Read, S: Service>(
     alloc: Global,
     routes: Option<&Routes>,
@@ -77,7 +78,8 @@ fn answer<R: Read, S: Service>(
     }
 }
 
-// Reads one request by these routes, carries it out, and writes the response. Without routes memory has run out.
+// Reads one request by these routes, performs it, and writes the response. `None` in place of the
+// routes means that memory for them ran out.
 pub(crate) fn serve_routed<R: Read, W: Write, S: Service>(
     alloc: Global,
     routes: Option<&Routes>,
@@ -119,9 +121,10 @@ pub(crate) fn serve_routed<R: Read, W: Write, S: Service>(
     }
 }
 
-/// Reads one request, carries it out, and writes the response.
+/// Reads one request, performs it, and writes the response.
 ///
-/// `ReadFault` and `WriteFault` are returned only if the device failed, or was denied a read or a write.
+/// `ReadFault` and `WriteFault` are returned only if the device failed, or was denied a read or a
+/// write.
 pub fn serve_one<R: Read, W: Write, S: Service>(
     alloc: Global,
     reader: &mut Pipe<R>,

@@ -1,4 +1,4 @@
-//! A server of connections, one after another.
+//! Serves connections, one after another.
 ghost use Rattle.std.specs.Prelude.{◌≡◌, true, OnOk};
 ghost use Rattle.thes_http.specs.Server.{LeadsBy};
 ghost use Rattle.thes_http.specs.Serving.{effects};
@@ -15,10 +15,10 @@ use std::time::{Duration, Instant};
 use thes_base::pipe::Pipe;
 use thes_http_request::endpoint::Routes;
 
-// The greatest number of reads of 16 KiB each, by which input after the response is discarded.
+// The greatest number of reads, of 16 KiB each, that discard input after the response.
 const READS: u32 = 32_768;
 
-// The greatest number of these reads that time out, after 4 ms each.
+// The greatest number of these reads that may time out, after 4 ms each.
 const WAITS: u32 = 256;
 
 // The greatest time for all of these reads, in seconds.
@@ -32,8 +32,8 @@ fn is_over<C: Clock>(clock: &C, start: Instant) -> bool {
     }
 }
 
-// Shuts down the sending side, and discards what the client still sends, for two seconds at most, so that it gets the
-// response before the connection closes.
+// Shuts down the sending side, and discards what the client still sends, for two seconds at most,
+// so that the client gets the response before the connection closes.
 fn drain_input<C: Clock, T: Read + OpenStream + Drop>(clock: &C, mut stream: T) {
     let wait = Some(Duration::from_millis(4));
     if stream.shutdown(Shutdown::Write).is_err() || stream.set_read_timeout(wait).is_err() {
@@ -104,9 +104,10 @@ fn next_stream<N: Net>(
 /// counts as well. A client has 30 seconds to send its request and 30 to read the response, by the
 /// clock, and one more second for each 100,000 bytes.
 ///
-/// A client that closes its connection early loses only its own response. An error is that of accepting a connection,
-/// or `OutOfMemory` if memory for the routes ran out before the first connection, or if running out of memory has closed
-/// the service: `Ok` means that the service is open.
+/// A client that closes its connection early loses only its own response. An error is that of
+/// accepting a connection, or `OutOfMemory`: memory for the routes ran out before the first
+/// connection, or running out of memory has closed the service. `Ok` means that the service is
+/// open.
 pub fn serve<N: Net + Clock, S: Service>(
     alloc: Global,
     clock: &N,

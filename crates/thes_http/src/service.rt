@@ -12,7 +12,7 @@ use thes_base::number::ResNo;
 use thes_base::text::Tag;
 use thes_requests::handler::RequestHandler;
 
-/// The text of a response with many lines.
+/// The text of a response of many lines, such as an export.
 #[derive(Drop)]
 pub struct Page {
     bytes: Vec<u8>,

@@ -6,7 +6,7 @@ use Rattle.std.specs.Io.KnownBytes.{Consumes}
 use Rattle.std.proofs.KnownBytes.{Consumes-trans}
 use Rattle.thes_http_request.specs.Inbox.{BufferGrowth, ConsumesSome, HasBoundedCapacity}
 
--- The bytes consumed so far, of which the body is a prefix.
+-- The bytes consumed so far; the body is a prefix of `start` followed by them.
 pub record BodySoFar (old new : Option (List ℕ)) (start : List ℕ) (count : ℕ) (body : List ℕ) : Type 0 where
   pub more : List ℕ
   pub taken : Consumes old new more
@@ -39,7 +39,7 @@ pub consumes_some_then : (old mid new : Option (List ℕ)) (start : List ℕ) (c
 consumes_some_then old mid new start count body s t =
     record { more = s.more ++ t.more; taken = Consumes-trans old mid new s.more t.more s.taken t.taken }
 
--- A buffer with the same bytes, in any capacity, is the same body.
+-- A buffer with the same bytes, whatever its capacity, holds the same body.
 pub body_so_far_same : (old new : Option (List ℕ)) (start : List ℕ) (count : ℕ) (body body' : List ℕ)
     → BodySoFar old new start count body → body' ≡ body → BodySoFar old new start count body'
 body_so_far_same old new start count body body' s e = record { more = s.more; taken = s.taken; body_is = e ∙ s.body_is }

@@ -1,4 +1,4 @@
--- Proves the look-up of header fields by the first one with a name, and the parsing of a length.
+-- Proves how header fields are looked up by name, and how a length is parsed.
 use Rattle.std.proofs.Common.{◌≡◌, ◌∙◌, sym, ap, subst, refl, ℕ, suc, ◌+◌, ◌≤◌, ◌<◌, ◌^◌, ◌||◌, ◌&&◌, Bool, true}
 use Rattle.std.proofs.Common.{false, not, cond, List, [], ◌∷◌, length, drop, map, Ok, Err, arith, rules, get_or}
 use Rattle.std.specs.Prelude.{filter, nat_lt, is_some, MatchOption, Option, Some, None}
@@ -47,7 +47,7 @@ module _ {Y : Type 0} (p : Y → Bool) where
   filter_none [] h = refl
   filter_none (y ∷ ys) h = skip_step (p y) y (list_any p ys) (filter p ys) h (filter_none ys)
 
--- The spans read beyond the last field.
+-- The empty spans that a look-up beyond the last field returns.
 abbrev pub no_spans : HeaderSpan
 no_spans = record { name = record { start = 0; end = 0 }; value = record { start = 0; end = 0 } }
 
@@ -57,7 +57,7 @@ after_one n = omega arith
 one_more : (n : ℕ) → suc n ≡ 1 + n
 one_more n = omega arith
 
--- The values of the fields with a name are counted from the first such field.
+-- The values of the fields with a name are found from the first such field on.
 module _ {X Y : Type 0} (p : Y → Bool) (f : X → Y) (g : Y → List ℕ) where
   pub no_value : (xs : List X) → position_or_len (λ x. p (f x)) xs ≡ length xs → map g (filter p (map f xs)) ≡ []
   no_value xs h = ap (map g) (filter_none p (map f xs) (any_none p f xs h))
@@ -87,7 +87,7 @@ module _ {X Y : Type 0} (p : Y → Bool) (f : X → Y) (g : Y → List ℕ) wher
   one_value (x ∷ xs) d l h = value_step (p (f x)) x xs (position_or_len (λ x. p (f x)) xs) d (one_value xs d)
       (omega (arith, l)) h
 
-  -- Two fields with a name are a problem.
+  -- Two fields with the name give `BadHead`.
   second_step : (b t : Bool) (y : Y) (ys : List Y) (a : List ℕ) (limit : ℕ)
       → (t ≡ true → length_in limit (a ∷ map g ys) ≡ Err BadHead) → (b || t) ≡ true
       → length_in limit (a ∷ map g (cond b (y ∷ ys) ys)) ≡ Err BadHead

@@ -1,4 +1,5 @@
--- Proves that a head within the limits is neither incomplete nor bad, and that there is at most one.
+-- Proves that a head within the limits is neither incomplete nor bad, and that bytes begin with at
+-- most one head.
 use Rattle.std.proofs.Common.{refl, ◌⊎◌, drop, take_at, take-append-drop, ◌≡◌, ◌∙◌, sym, ap, subst, inl, inr, ℕ, ◌+◌}
 use Rattle.std.proofs.Common.{◌-◌, ◌≤◌, ◌<◌, List, [], ◌∷◌, ◌++◌, length, take}
 use Rattle.std.proofs.Common.{append_assoc, append-nil, arith, length-append}
@@ -17,7 +18,7 @@ use Rattle.thes_http_request.proofs.HeadLemmas.{exceeds_in}
 use Rattle.thes_http_request.specs.Heads.{head_limit, fields_limit, whole_lines, HasHead, IsCutHead, IsBadHead}
 use Rattle.thes_http_request.specs.Laws.{HeadIsWhole, OneHead}
 
--- The request line of a head, and what follows it.
+-- The bytes of a head start a request: a request line, and what follows it.
 start_of : (bytes follows : List ℕ) (h : RequestHead) → IsRequestHead h
     → bytes ≡ print_blank h.blank ++ (h.method ++ 32 ∷ (h.target ++ 32 ∷ (print_version h.minor
     ++ (print_end h.line_end ++ follows)))) → RequestStart (request_tree h).0 bytes follows
@@ -31,7 +32,7 @@ start_of bytes follows h is e = (
   ),
 )
 
--- A head of which all but the last line feed is there.
+-- A head without its last line feed starts a request, whatever bytes follow.
 start_within : (front rest : List ℕ) (h : RequestHead) → ReadsRequest (front ++ 10 ∷ []) h []
     → RequestStart (request_tree h).0 (front ++ rest) (flat_map print_field h.fields ++ (before_feed h.last ++ rest))
 unfolding after_method
@@ -63,7 +64,8 @@ within_limit bytes rest h has none =
     (take-append-add (print_request h) rest (head_limit - n)) in
     none h (take (head_limit - n) rest) (has.reads.0, front)
 
--- Bytes without a head that a head begins with end before its last line feed.
+-- If bytes are the beginning of a head but have no complete head, they have at most one complete
+-- line more than the head has fields.
 within_head : (bytes more rest : List ℕ) (h : RequestHead) → HasHead (bytes ++ more) h rest → HasNoRequest bytes
     → whole_lines bytes ≤ length h.fields + 1
 within_head bytes more rest h has none = by (cases_lt (length bytes) (length (print_request h)))

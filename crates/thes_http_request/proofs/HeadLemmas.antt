@@ -1,4 +1,4 @@
--- Proves when bytes are a bad head, and that none are both incomplete and bad.
+-- Proves when bytes are a bad head, and that no bytes are both an incomplete and a bad head.
 use Rattle.std.proofs.Common.{◌≡◌, ◌⊎◌, ◌∙◌, sym, ap, subst, ℕ, ◌+◌, ◌≤◌, ◌<◌, true, List, [], ◌∷◌, ◌++◌, length}
 use Rattle.std.proofs.Common.{take, drop, inl, inr, append-nil, append_assoc, take_all, arith, rules}
 use Rattle.std.proofs.lemmas.List.{take-append-drop}
@@ -64,7 +64,7 @@ cut_front front bytes bytes' e same l h =
           h;
     })
 
--- Bytes that end within a target pass the test for it.
+-- Bytes that end within a target pass the test `ends_in_target`.
 pub ends_in_target_holds : (bytes : List ℕ) → EndsInTarget bytes → ends_in_target bytes ≡ true
 ends_in_target_holds bytes (blank, method, target, token, uri, is) =
     let line : without_blank_lines bytes ≡ method ++ (32 ∷ target) =

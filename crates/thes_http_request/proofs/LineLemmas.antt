@@ -1,4 +1,4 @@
--- Proves that a head has at least one complete line for each field and one for the request line.
+-- Proves bounds on the number of complete lines of a head, from the number of its fields.
 use Rattle.std.proofs.Common.{◌≡◌, ◌∙◌, sym, ap, subst, refl, ℕ, zero, suc, ◌+◌, ◌≤◌, ◌==◌, ◌&&◌, Bool, true, false}
 use Rattle.std.proofs.Common.{cond, List, [], ◌∷◌, ◌++◌, length, append-nil, All}
 use Rattle.std.proofs.Common.{append_assoc, arith}
@@ -40,7 +40,7 @@ each_field (f ∷ fs) =
     let c = each_field fs in
     omega (arith, a, b, c)
 
--- The end of the last line without its line feed.
+-- The end of a line, without its line feed.
 unfoldable pub before_feed : LineEnd → List ℕ
 before_feed crlf = 13 ∷ []
 before_feed lf = []
@@ -50,7 +50,7 @@ unfolding before_feed
 last_feed crlf = refl
 last_feed lf = refl
 
--- A head from its target on, without its last line feed.
+-- The part of a head after its method, without the last line feed.
 unfoldable pub after_method : RequestHead → List ℕ
 after_method h =
     32 ∷ (h.target ++ 32
@@ -107,7 +107,7 @@ fields_lines front rest h r =
     let c = many_lines h in
     omega (arith, same, a, b, c)
 
--- Upper bounds.
+-- Bytes whose kind excludes line feeds have no complete line.
 
 no_feeds : (test : ℕ → Bool) → test 10 ≡ false → (bytes : List ℕ) → AllPass test bytes → lines_in bytes ≡ 0
 no_feeds test none [] all = refl
@@ -159,7 +159,7 @@ version_feeds zero l = refl
 version_feeds (suc zero) l = refl
 version_feeds (suc (suc minor)) l = absurd (omega (arith, l))
 
--- The number of lines after the method, without the last line feed, is the number of fields and one.
+-- After its method, and without its last line feed, a head has one complete line more than fields.
 few_lines : (h : RequestHead) → IsRequestHead h → lines_in (after_method h) ≡ length h.fields + 1
 unfolding after_method
 few_lines h is =
@@ -179,7 +179,7 @@ few_lines h is =
     let l = no_feeds is_uri_byte refl h.target is.target.1 in
     omega (arith, a, b, c, d, e, f, g, i, j, k, l)
 
--- A prefix has no more complete lines.
+-- A prefix of bytes has no more complete lines than the bytes.
 lines_of_prefix : (xs ys : List ℕ) → whole_lines xs ≤ whole_lines (xs ++ ys)
 unfolding without_blank_lines
 lines_of_prefix [] ys = omega arith
@@ -202,7 +202,8 @@ lines_of_prefix (a ∷ b ∷ bytes) ys =
     by false true i j = j
     by false false i j = let c = lines_both (a ∷ b ∷ bytes) ys in omega (arith, c)
 
--- Bytes that end before a head's last line feed have at most as many complete lines as it has fields, and one.
+-- Bytes that end before the last line feed of a head have at most one complete line more than the
+-- head has fields.
 pub lines_before_end : (front : List ℕ) (rest : List ℕ) (h : RequestHead) → ReadsRequest (front ++ 10 ∷ []) h []
     → (bytes more : List ℕ) → front ≡ bytes ++ more → whole_lines bytes ≤ length h.fields + 1
 lines_before_end front rest h r bytes more e =

@@ -27,7 +27,8 @@ pub record TakesByte (x : ℕ) (Rest : List ℕ → Type 0) (path : List ℕ) : 
   pub is : path ≡ x ∷ rest
   pub matches : Rest rest
 
--- What a token takes of a path, given whether it is a parameter or a catch-all.
+-- How a path matches a token and the rest of a pattern, given whether the token is a parameter or a
+-- catch-all.
 abbrev pub TakesToken : Bool → Bool → ℕ → (List ℕ → Type 0) → List ℕ → Type 0
 TakesToken true all x Rest path = TakesParam Rest path
 TakesToken false true x Rest path = ⊤
@@ -51,7 +52,8 @@ matches_byte b t path m = by (b == param_token) refl (b == catch_all_token)
 abbrev pub is_byte : ℕ → Bool
 is_byte x = ltb x param_token
 
--- A pattern that begins with bytes matches a path that begins with them.
+-- A path that matches a pattern which begins with bytes begins with the same bytes, and the rests
+-- match.
 pub matches_word : (w t path : List ℕ) → list_all is_byte w ≡ true → Matches (w ++ t) path
     → (rest : List ℕ) × (path ≡ w ++ rest) × Matches t rest
 matches_word [] t path h m = (path, refl, m)
@@ -144,15 +146,15 @@ module _ {K : Type 0} where
       by true false e = p
       by false c e = p
 
-  -- A parameter takes some bytes of the path without a slash, and rows remain; or none does.
+  -- A parameter takes the first `n` bytes of the path, which have no slash, and leaves these rows.
   record IsParamStep (P : List ℕ → K → Type 0) (rs : RowsOf K) (path : List ℕ) (n : ℕ) (left : RowsOf K) : Type 0 where
     some : 0 < n
     within_path : n ≤ length path
     no_slash : has_slash (take n path) ≡ false
     rows : AnyRow P left → AnyRow P rs
 
-  -- The bytes that a parameter takes and the rows that remain, given the suffix, whether it is there, and whether the
-  -- path has a slash.
+  -- The number of bytes that a parameter takes and the rows that remain, given the suffix, whether
+  -- the suffix is there, and whether the path has a slash.
   abbrev taken_by : RowsOf K → List ℕ → List ℕ → Bool → Bool → ℕ × RowsOf K
   taken_by rs path s u v =
       cond {A = ℕ × RowsOf K} u (length (segment path) - length s, with_suffix s rs)
@@ -228,7 +230,7 @@ module _ {K : Type 0} where
       (or_cases _ _ key y))
       (or_cases _ _ key e)
 
-  -- A route that is found matches what follows the bytes skipped.
+  -- A route that is found matches the path after the bytes skipped.
   pub found_matches : (n : ℕ) (rs : RowsOf K) (path : List ℕ) (key : K) → seek n rs path ≡ Some key
       → AnyRow (IsMatch key (drop n path)) rs
   unfolding seek
@@ -237,13 +239,13 @@ module _ {K : Type 0} where
   found_matches (suc n) rs (b ∷ path) key e = found_matches n rs path key e
   found_matches zero rs (b ∷ path) key e = match_here rs key b path (λ m qs x. found_matches m qs path key x) e
 
-  -- Paths without a route.
+  -- If a search with an alternative finds nothing, neither of the two finds anything.
 
   none_of : (x y : Option K) → or_else x y ≡ None → (x ≡ None) × (y ≡ None)
   none_of None y e = (refl, e)
   none_of (Some k) y e = absurd (cc)
 
-  -- The rows after these bytes.
+  -- The rows that remain after these bytes of a path.
   abbrev pub steps : List ℕ → RowsOf K → RowsOf K
   steps [] rs = rs
   steps (b ∷ w) rs = steps w (step b rs)
@@ -287,7 +289,7 @@ module _ {K : Type 0} where
       let count : length v + 2 - 1 - 1 ≡ length v = omega arith in
       sym (seek_skip v (with_suffix (slash ∷ []) left) (slash ∷ rest)) ∙ rw count at after
 
--- Segments.
+-- A segment of a path ends with its first slash, or with the path.
 
 pub slash_within : (a c : List ℕ) → has_slash (a ++ slash ∷ c) ≡ true
 slash_within [] c = refl

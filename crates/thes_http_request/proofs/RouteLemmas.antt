@@ -29,7 +29,6 @@ use Rattle.thes_http_request.proofs.MatchLemmas.{TakesParam, Matches, is_byte, m
 use Rattle.thes_http_request.proofs.MatchLemmas.{any_elim, found_matches, steps, none_after, none_end, none_suffix}
 use Rattle.thes_http_request.proofs.MatchLemmas.{segment_all, segment_to_slash, no_cut, cuts_at_slash}
 
--- The rows, in their order.
 
 -- A route without a number.
 abbrev plain_route : List ℕ → Endpoint → RouteOf Endpoint
@@ -64,7 +63,8 @@ nine_rows_are : route_rows ≡ nine_rows
 unfolding route_rows with_route matchit_on_literals
 nine_rows_are = refl
 
--- The parts of paths.
+-- A text without a slash is one part of a path, and a slash separates it from the parts that
+-- follow.
 
 no_slash_at : (b : ℕ) (v : List ℕ) → has_slash (b ∷ v) ≡ false → (is_slash b ≡ false) × (has_slash v ≡ false)
 no_slash_at b v h = by (is_slash b) refl h
@@ -100,7 +100,8 @@ no_slash_parts (b ∷ path) = by (is_slash b) refl (no_slash_parts path)
     by true e h = (refl, h)
     by false e h = no_slash_onto b (slice_split is_slash path) e h
 
--- What a parameter took.
+-- The walk of a pattern arrives at its parameter after the bytes before it, and the parameter takes
+-- the bytes up to its end.
 
 param_after : (w t : List ℕ) (len token at : ℕ) → list_all is_byte w ≡ true → at + length w ≤ len
     → wild_from (w ++ param_token ∷ t) len token at ≡ (token + length w, at + length w)
@@ -134,7 +135,7 @@ part_between w v rest stop e =
     let count : length w + length v - length w ≡ length v = omega arith in
     rw (e, one, two, count, drop_at w (v ++ rest) (length w) refl) (take_at v rest (length v) refl)
 
--- A route with one parameter gives one pair: its name, and what it took.
+-- A route with one parameter gives one pair: the parameter's name, and the text that it took.
 walk_one : (w t text path : List ℕ) (name : ℕ × ℕ) (v rest : List ℕ) → list_all is_byte w ≡ true
     → path ≡ w ++ (v ++ rest) → wild_stop (w ++ param_token ∷ t) (length w) path (length w) ≡ length w + length v
     → walk (w ++ param_token ∷ t) text path (name ∷ []) 0 0 ≡ (part_of text name.0 name.1, v) ∷ []
@@ -147,9 +148,8 @@ walk_one w t text path name v rest h e stop =
     (part_between w v rest (length w + length v) refl) in
     rw (found, stop, part) refl
 
--- What a router finds for a path.
 
--- The text that the parameter of a route took, or nothing.
+-- The text that the parameter of a route took, or an empty text.
 abbrev pub number_in : RouteOf Endpoint → List ℕ → List ℕ
 number_in r path = unwrap_or (named (codes "n") (walk r.pattern r.text path r.names 0 0)) []
 
@@ -182,7 +182,7 @@ utf8_before v rest u =
 abbrev place_with : Endpoint → List (List ℕ × List ℕ) → Option EndpointMatch
 place_with endpoint pairs = Some (record { endpoint = endpoint; number = unwrap_or (named (codes "n") pairs) [] })
 
--- A path that matches a route with a number.
+-- A path that matches a route with a number names the endpoint of the route.
 numbered_is : (w t : List ℕ) (endpoint : Endpoint) (path v rest : List ℕ) (r : RouteOf Endpoint)
     → list_all is_byte w ≡ true → path ≡ w ++ (v ++ rest) → numbered_route w t endpoint ≡ r
     → wild_stop (w ++ param_token ∷ t) (length w) path (length w) ≡ length w + length v
@@ -298,9 +298,8 @@ pub route_found : (rows : RouteRows) (path : List ℕ) (r : RouteOf Endpoint) �
 route_found rows path r e f =
     place_found_in path r (found_matches 0 nine_rows path r (rw (e ∙ nine_rows_are) at f))
 
--- Paths without a route name no endpoint.
 
--- Nothing is chosen by a name, if a text of this name is impossible and nothing is chosen otherwise.
+-- A choice by a name is None if its second branch is, and its first whenever the name is chosen.
 unless_named : (a w : List ℕ) (x y : Option EndpointMatch) → (a ≡ w → x ≡ None) → y ≡ None
     → cond (bytes_eq a w) x y ≡ None
 unless_named a w x y f e = by (bytes_eq a w) refl
@@ -309,7 +308,7 @@ unless_named a w x y f e = by (bytes_eq a w) refl
     by true h = f ((bytes_eq-Decides a w).0 h)
     by false h = e
 
--- The router finds a route for this path.
+-- A path that leads to a row of its own has a route.
 misses : {Q : Type 0} (w : List ℕ) (r : RouteOf Endpoint) → first nine_rows w ≡ None → own (steps w nine_rows) ≡ Some r
     → Q
 unfolding matchit_on_literals
@@ -397,7 +396,7 @@ no_route_found rows path e f =
     parts_none (slice_split is_slash path) (no_slash_parts path)
     (ap (first nine_rows) (join_with_byte-slice_split slash path) ∙ rw (e ∙ nine_rows_are) at f)
 
--- A route that was added, in the terms of the program's contracts.
+-- Inserting a route into the router adds the route to its rows.
 pub rows_with_new_route : (text : List ℕ) (endpoint : Endpoint) (old new : RouteRows)
     (r : Result (Unit {0}) InsertError)
     → InsertsRead (parse_route text) endpoint old new r → OnOk r (new ≡ with_route text endpoint old)
@@ -411,7 +410,7 @@ rows_with_new_route text endpoint old new r i = by (parse_route text) r i
     by (Ok s) (Err e) i = tt
     by (Err p) (Err e) i = tt
 
--- Bytes that lack a property of a name are another one.
+-- Bytes that lack a property of a name differ from the name.
 pub other_name : (P : List ℕ → Type 0) (name allowed : List ℕ) → P allowed → (P name → ⊥)
     → false ≡ bytes_eq name allowed
 other_name P name allowed p n = by (bytes_eq name allowed) refl
@@ -426,7 +425,8 @@ taken_text : (pairs : List (List ℕ × List ℕ)) (taken : Option (Bor (List �
 taken_text pairs None none e m = rw m e
 taken_text pairs (Some v) none e m = rw m refl
 
--- The same, for the text that the parameter took.
+-- A route that the router finds is that of the endpoint which the path names, with the text that
+-- the parameter took.
 pub route_with_text : (rows : RouteRows) (path shown : List ℕ) (r : RouteOf Endpoint) (taken : Option (Bor (List ℕ)))
     (none : Bor (List ℕ)) → rows ≡ route_rows → first rows path ≡ Some r → shown ≡ path → IsUtf8 path
     → none.now ≡ [] → (AllText (walk r.pattern r.text shown r.names 0 0)

@@ -7,7 +7,7 @@ use Rattle.thes_http_request.specs.declared.endpoint.Endpoint.{Endpoint}
 use Rattle.thes_http_request.specs.declared.endpoint.Endpoint.TheVariants.{Requests, Import, Totals, Concept, Postings}
 use Rattle.thes_http_request.specs.declared.endpoint.Endpoint.TheVariants.{Posting, Export, Alphabetical, Hierarchical}
 
--- An endpoint, and the text in its path where a number is expected; empty if none is.
+-- An endpoint, and the text in its path where a number is expected, or an empty text.
 pub record EndpointMatch : Type 0 where
   pub endpoint : Endpoint
   pub number : List ℕ
@@ -50,7 +50,7 @@ abbrev pub endpoint_below : List ℕ → List ℕ → List ℕ → Option Endpoi
 endpoint_below a b c =
     if bytes_eq a (codes "concepts") && bytes_eq c (codes "postings") then numbered_endpoint Postings b else None
 
--- The endpoint for the parts of a path between slashes, of which the first is empty.
+-- The endpoint for the parts of a path between slashes; the first part is empty.
 abbrev pub endpoint_of_parts : List (List ℕ) → Option EndpointMatch
 endpoint_of_parts ([] ∷ a ∷ []) = endpoint_named a
 endpoint_of_parts ([] ∷ a ∷ b ∷ []) = endpoint_within a b

@@ -1,4 +1,4 @@
--- The request in a head: checks in order, each with its problem.
+-- Defines the request in a head, or the first problem that the checks of the head find.
 use Rattle.std.specs.Prelude.{ℕ, if◌then◌else◌, List, codes, Option, Some, None, Result, Ok, Err}
 use Rattle.std.specs.Str.{bytes_eq}
 use Rattle.thes_http_request.specs.declared.endpoint.Endpoint.{Endpoint}

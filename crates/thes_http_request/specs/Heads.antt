@@ -63,7 +63,7 @@ is_open_target line =
 abbrev pub ends_in_target : List ℕ → Bool
 ends_in_target bytes = is_open_target (without_blank_lines bytes)
 
--- The bytes have no complete head and no more than 65 complete lines; more bytes may complete a
+-- The bytes have no complete head and no more than 65 complete lines. More bytes may complete a
 -- head, or the bytes end within a target, which any bytes may follow.
 pub record IsUnfinished (bytes : List ℕ) : Type 0 where
   pub none : HasNoRequest bytes
@@ -86,7 +86,7 @@ HasTooManyLines bytes =
     RequestExceeds fields_limit bytes
     ⊎ (HasNoRequest bytes × (fields_limit + 1 < whole_lines bytes))
 
--- The bytes are more than a head may have, and no head ends within the limit.
+-- The bytes exceed the greatest length of a head, and no head ends within it.
 pub record IsTooLong (bytes : List ℕ) : Type 0 where
   pub long : head_limit < length bytes
   pub none : HasNoRequest (take head_limit bytes)

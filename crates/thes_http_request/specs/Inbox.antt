@@ -55,7 +55,7 @@ pub record BufferGrowth (old new : Option (List ℕ)) (before after : List ℕ) 
   pub taken : Consumes old new more
   pub all : after ≡ before ++ more
 
--- The whole body arrived: it is the first `count` bytes of `start` and the bytes consumed.
+-- The whole body arrived: it is the first `count` bytes of `start` followed by the bytes consumed.
 pub record ReadsBody (old new : Option (List ℕ))
     (start : List ℕ) (count : ℕ) (body : List ℕ) : Type 0 where
   pub more : List ℕ
@@ -70,7 +70,7 @@ pub record CutsBody (old new : Option (List ℕ)) (start : List ℕ) (count : �
   pub short : length (start ++ more) < count
   pub at_end : IsAtEnd new
 
--- The capacity of the body's buffer is at most the length announced, and at most twice the bytes
--- that arrived plus 4,096.
+-- The capacity of the body's buffer is at most the length announced, and at most 4,096 more than
+-- twice the number of bytes that arrived.
 abbrev pub HasBoundedCapacity : ℕ → ℕ → ℕ → Type 0
 HasBoundedCapacity count came room = (room ≤ count) × (room ≤ 2 * came + 4096)

@@ -12,7 +12,7 @@ pub record HeadIsWhole : Type 0 where
   pub not_cut : (bytes rest : List ℕ) (h : RequestHead) → HasHead bytes h rest → IsCutHead bytes → ⊥
   pub not_bad : (bytes more rest : List ℕ) (h : RequestHead) → HasHead (bytes ++ more) h rest → IsBadHead bytes → ⊥
 
--- Bytes begin with at most one head, after which one rest follows.
+-- Bytes begin with at most one head, and only one rest follows it.
 abbrev pub OneHead : Type 0
 OneHead =
     (bytes r q : List ℕ) (h k : RequestHead) → HasHead bytes h r → HasHead bytes k q → (h ≡ k) × (r ≡ q)

@@ -9,11 +9,11 @@ use Rattle.thes_http_request.specs.declared.endpoint.Endpoint.{Endpoint}
 use Rattle.thes_http_request.specs.declared.endpoint.Endpoint.TheVariants.{Requests, Import, Totals, Concept, Postings}
 use Rattle.thes_http_request.specs.declared.endpoint.Endpoint.TheVariants.{Posting, Export, Alphabetical, Hierarchical}
 
--- The rows of a router of endpoints.
+-- The rows of a router: patterns, each with its route to an endpoint.
 abbrev pub RouteRows : Type 0
 RouteRows = RowsOf (RouteOf Endpoint)
 
--- The rows with a route whose text was read, or as they were.
+-- The rows with one more route if its text could be parsed, else the rows unchanged.
 abbrev pub with_scan : Result Scan InsertError → Endpoint → RouteRows → RouteRows
 with_scan (Ok s) endpoint rows = placed (s.pattern, route_from s endpoint) rows
 with_scan (Err e) endpoint rows = rows

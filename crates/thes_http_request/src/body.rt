@@ -1,4 +1,4 @@
-//! Reading the body of an HTTP request.
+//! Reads the body of an HTTP request.
 ghost use Rattle.std.specs.Prelude.{◌≡◌, ◌≤◌, ◌<◌, ◌+◌, ◌++◌, [], length, true, false, vec_len, vec_capacity, IfOk, OnOk, IsErrOf};
 ghost use Rattle.thes_base.specs.Pipe.{ended_of, IsFresh, PaysCalls, unread_bytes};
 ghost use Rattle.thes_http_request.specs.Inbox.{ReadsBody, CutsBody, ConsumesSome, BufferGrowth, HasBoundedCapacity, HasStopped, HasEnded};
@@ -39,8 +39,8 @@ impl From<InputFault> for BodyStop {
     }
 }
 
-// Reserves capacity for at least one more byte, if there is none: for as many more as the body has,
-// plus 4,096, but at most `count` in all.
+// Reserves capacity if none is left: for as many more bytes as the body has, plus 4,096, but at
+// most for `count` bytes in all.
 fn make_room(body: &mut Vec<u8>, count: usize) -> Result<(), AllocError>
     requires short { vec_len body.old < count }
     requires room { HasBoundedCapacity count (vec_len body.old) (vec_capacity body.old) }
@@ -56,7 +56,7 @@ fn make_room(body: &mut Vec<u8>, count: usize) -> Result<(), AllocError>
     body.reserve_exact(len.saturating_add(4096).min(count - len))
 }
 
-// Appends bytes within the capacity.
+// Appends bytes, for which the capacity suffices.
 fn add(body: &mut Vec<u8>, bytes: &[u8])
     requires { vec_len body.old + length bytes.now ≤ vec_capacity body.old }
     ensures items { body.new.items ≡ body.old.items ++ bytes.now }

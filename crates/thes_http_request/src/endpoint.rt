@@ -1,4 +1,4 @@
-//! The resources that a path can name, and the routes to them.
+//! The endpoints that a path can name, and the routes to them.
 ghost use Rattle.std.specs.Prelude.{◌≡◌, ◌<◌, ◌^◌, ℕ, Some, None, IfSome, IfOk, OnOk, MatchOption};
 ghost use Rattle.std.specs.Str.{bytes_eq};
 ghost use Rattle.thes_http_request.specs.Endpoints.{method_of, body_limit, endpoint_of_path};
@@ -9,7 +9,7 @@ use matchit::Router;
 use std::alloc::{AllocError, Global};
 use std::marker::Model;
 
-// The longest name of a method that `http` keeps in place.
+// The greatest length of a method's name that the crate `http` parses without allocation.
 const METHOD_LIMIT: usize = 15;
 
 /// An endpoint of the service, which a path names.
@@ -46,7 +46,8 @@ impl Endpoint {
         }
     }
 
-    /// Returns whether this is the name of the endpoint's method; allocates nothing, since longer names aren't parsed.
+    /// Returns whether this is the name of the endpoint's method; allocates nothing, since names
+    /// above the limit aren't parsed.
     pub fn has_method(self, alloc: Global, name: &[u8]) -> bool
         ensures { result ≡ bytes_eq name.now (method_of self) }
     {
@@ -74,7 +75,7 @@ impl Endpoint {
     }
 }
 
-/// An endpoint, and the text in its path where a number is expected; empty if none is.
+/// An endpoint, and the text in its path where a number is expected, or an empty text.
 #[derive(Clone, Copy, Drop)]
 pub struct EndpointMatch<'a> {
     pub endpoint: Endpoint,
@@ -113,7 +114,7 @@ fn add_route(
 }
 
 impl Routes {
-    /// Makes the routes.
+    /// Allocates the routes to all nine endpoints.
     pub fn new(alloc: Global) -> Result<Routes, AllocError> {
         let mut router = Router::new(alloc);
         add_route(&mut router, "/requests", Endpoint::Requests)?;

@@ -1,4 +1,4 @@
-//! Deciding whether bytes begin with the head of an HTTP request.
+//! Decides whether bytes begin with the head of an HTTP request.
 ghost use Rattle.std.specs.Prelude.{◌≡◌, ◌⊎◌, true, false, length, MatchOption};
 ghost use Rattle.std.specs.List.{list_any, list_all, before_first, after_first};
 ghost use Rattle.httparse.specs.Grammar.{is_uri_byte};
@@ -22,8 +22,8 @@ pub enum Head {
     Bad,
 }
 
-/// Decides whether bytes begin with a head, may become one, or can't; if they do, `headers` has the
-/// spans of its fields.
+/// Decides whether bytes begin with a head, may with more bytes, or can't; if they do, `headers`
+/// has the spans of its fields.
 pub fn head_of(bytes: &[u8], headers: &mut [HeaderSpan]) -> Head
     requires { length headers.old ≡ 64 }
     ensures whole { (spans : _) → result ≡ Head.Whole spans → IsHeadAt bytes.now headers.new spans }

@@ -1,4 +1,4 @@
-//! Reading the head of an HTTP request.
+//! Reads the head of an HTTP request.
 ghost use Rattle.std.specs.Prelude.{◌≡◌, ◌≤◌, ◌<◌, [], length, take, drop, true, false, IfOk, OnErr, IsErrOf};
 ghost use Rattle.std.specs.Io.KnownBytes.{Consumes};
 ghost use Rattle.thes_base.specs.Pipe.{IsFresh, PaysCalls, unread_bytes};
@@ -29,7 +29,7 @@ impl Model for Inbox {
     ghost invariant = { λ f. (f.filled ≤ 8193) × (vec_len f.buffer ≡ 8193) };
 }
 
-/// The reason why the input gave no whole request.
+/// The reason why the input has no complete request.
 #[derive(Clone, Copy, Debug, PartialEq, Eq)]
 pub enum InputFault {
     /// The input ended inside the request.

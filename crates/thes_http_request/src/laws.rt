@@ -6,13 +6,13 @@ pub fn cut_is_not_bad()
     ensures { CutIsNotBad }
 {}
 
-/// Proves that bytes which begin with a head within the limits aren't incomplete, and that no prefix of them is a bad
-/// head.
+/// No effect; states for the proof that bytes which begin with a head within the limits aren't
+/// incomplete, and that no prefix of them is a bad head.
 pub fn head_is_whole()
     ensures { HeadIsWhole }
 {}
 
-/// Proves that bytes begin with at most one head.
+/// No effect; states for the proof that bytes begin with at most one head.
 pub fn one_head()
     ensures { OneHead }
 {}

@@ -1,17 +1,17 @@
 //! Problems with an HTTP request, before its body is read as a request.
 use crate::endpoint::Endpoint;
 
-/// The reason why a request is rejected from its head or target.
+/// The reason why a request is rejected, found in its head or target.
 #[derive(Clone, Copy, Debug, PartialEq, Eq)]
 pub enum Problem {
-    /// The head is malformed or exceeds the limits, or has several lengths of the body, or one that
-    /// isn't a number.
+    /// The head is malformed or exceeds the limits, or it states several lengths of the body, or
+    /// one that isn't a number.
     BadHead,
     /// The head has a transfer coding; none is supported.
     TransferCoding,
-    /// The path isn't that of any endpoint.
+    /// The path names no endpoint.
     NoSuchPath,
-    /// The path names this endpoint, which has another method than the request.
+    /// The path names this endpoint, which doesn't allow the method of the request.
     BadMethod(Endpoint),
     /// The length of the body is missing.
     NoLength,

@@ -29,7 +29,7 @@ use Rattle.thes_import.specs.declared.report.Report.{Report}
 use Rattle.thes_import.proofs.ReportLemmas.{adds_none}
 use Rattle.thes_import.proofs.RowReadingLemmas.{others_left}
 
--- The rows up to the first posting without an answer.
+-- The rows of a block, split before the first posting without an answer.
 record RowsAnswered (rows : List CsvRow) (done unread : List Command) (answers : List Answer) : Type 0 where
   first : List CsvRow
   others : List CsvRow
@@ -106,13 +106,13 @@ performs_none limits raw base s shows in_order = record {
 }
 
 module _ {K : Type 0} (tables : K → Raw) (is_up : K → Type 0) where
-  -- The tables show a state.
+  -- If the storage is up, its tables encode a consistent state.
   abbrev pub ShowsState : OfficeView K → Type 0
   ShowsState office =
       is_up office.keeper → (base : List ℕ) × (s : State) × TablesOfState (tables office.keeper) base s
       × IsConsistentState base s
 
-  -- Before the first row.
+  -- Before the first row, the empty list of rows has been performed.
   pub performs_nothing : (office : OfficeView K) → ShowsState office → PerformsWith tables is_up office [] [] office
   performs_nothing office shows = record {
     each = tt;
@@ -157,7 +157,8 @@ module _ {K : Type 0} (tables : K → Raw) (is_up : K → Type 0) where
         };
       }
 
-  -- The rows of a block, by the result of the run of their requests.
+  -- The result of the run of a block's requests determines which of its rows were performed and
+  -- reported.
   pub rows_reported : (old new : OfficeView K) (rows : List CsvRow) (posts : List Command)
       (faults : List (Option FormFault)) (answers : List Answer) (result : Result (Unit {0}) Fault)
       (report report' : Report) → posts ≡ posts_of rows → faults ≡ map fault_of_row rows
@@ -181,7 +182,7 @@ module _ {K : Type 0} (tables : K → Raw) (is_up : K → Type 0) where
         subst (λ (l : List Outcome). AddsOutcomes l report report') same adds,
       )
 
-  -- A fault before the first row of a block.
+  -- A fault before the first row of a block leaves no row performed or reported.
   pub rows_unread : (office : OfficeView K) (rows : List CsvRow) (report report' : Report) (fault : Fault)
       → ShowsState office → 0 < length rows → report'.text.items ≡ report.text.items → report'.counts ≡ report.counts
       → ReportsRows tables is_up office rows report (Err fault) report' office
@@ -197,7 +198,7 @@ module _ {K : Type 0} (tables : K → Raw) (is_up : K → Type 0) where
     adds_none report report' text counts,
   )
 
-  -- A whole block.
+  -- If the rows of a block were read, performed and reported, so was the block.
   pub block_reported : (old new : OfficeView K) (reader reader' : RowReader) (report report' : Report)
       (rows : List CsvRow) → ((bytes : List ℕ) (all first : List CsvRow) → HasReadRows bytes all first reader
       → HasReadRows bytes all (first ++ rows) reader') → reader'.unread + length rows ≡ reader.unread → 0 < length rows
@@ -213,7 +214,7 @@ module _ {K : Type 0} (tables : K → Raw) (is_up : K → Type 0) where
     reports = reports.2;
   }
 
-  -- A part of a block, before a fault.
+  -- A fault within a block ends the import before some row of the file.
   pub block_stopped : (old new : OfficeView K) (reader reader' : RowReader) (report report' : Report)
       (rows : List CsvRow) (fault : Fault) → ((bytes : List ℕ) (all first : List CsvRow)
       → HasReadRows bytes all first reader → HasReadRows bytes all (first ++ rows) reader') → length rows ≤ 1000
@@ -241,7 +242,7 @@ module _ {K : Type 0} (tables : K → Raw) (is_up : K → Type 0) where
         reports = reports.2;
       }
 
-  -- A block that couldn't be read.
+  -- If a block can't be read, the import ends before the first row of the block.
   pub block_unread : (office : OfficeView K) (reader : RowReader) (report : Report) → ShowsState office
       → 0 < reader.unread → StopsInBlock tables is_up office reader report report office
   block_unread office reader report shows some = record {
@@ -258,7 +259,7 @@ module _ {K : Type 0} (tables : K → Raw) (is_up : K → Type 0) where
     reports = adds_none report report refl refl;
   }
 
-  -- A block, by the result of its rows.
+  -- The result of the rows of a block determines the result of the block.
   pub block_result : (old new : OfficeView K) (reader reader' : RowReader) (report report' : Report)
       (rows : List CsvRow) (result : Result (Unit {0}) Fault) → ((bytes : List ℕ) (all first : List CsvRow)
       → HasReadRows bytes all first reader → HasReadRows bytes all (first ++ rows) reader')

@@ -33,7 +33,7 @@ zip_joined [] more (o ∷ os) qs x y = absurd x
 zip_joined (r ∷ rows) more [] qs x y = absurd x
 zip_joined (r ∷ rows) more (o ∷ os) qs x y = (x.0, zip_joined rows more os qs x.1 y)
 
--- Two lists of rows, performed one after another.
+-- Two lists of rows performed one after another are performed as one list.
 performs_both : (limits : Limits) (first mid last : Raw) (rows more : List CsvRow) (os qs : List Outcome)
     → PerformsRows limits first rows os mid → PerformsRows limits mid more qs last
     → PerformsRows limits first (rows ++ more) (os ++ qs) last
@@ -112,7 +112,7 @@ module _ {K : Type 0} (tables : K → Raw) (is_up : K → Type 0) (failed : K �
     counts = let both = block.reports so_far.outcomes so_far.counts in both.0;
   }
 
-  -- The rows performed before a fault within a block.
+  -- A fault halted the import: some first rows of the file were performed, and some row is left.
   pub record HaltedImport (old new : OfficeView K) (file : List ℕ) (outcomes : List Outcome) : Type 0 where
     pub first : List CsvRow
     pub others : List CsvRow
@@ -135,7 +135,7 @@ module _ {K : Type 0} (tables : K → Raw) (is_up : K → Type 0) (failed : K �
             fault_behaviour.was so_far.performs stop.performs;
       }
 
-  -- All rows were read.
+  -- If no row is left, the rows performed are all rows of the file.
   pub all_read : (old now : OfficeView K) (file : List ℕ) (reader : RowReader) (counts : Counts)
       (so_far : ImportInvariant old now file reader counts) → reader.unread ≤ 0 → IsPostingFile file so_far.first
   all_read old now file reader counts so_far none =
@@ -147,7 +147,7 @@ module _ {K : Type 0} (tables : K → Raw) (is_up : K → Type 0) (failed : K �
       no_others [] n = refl
       no_others (x ∷ l) n = absurd (omega (arith, n, none))
 
-  -- The counts have room for the rows left.
+  -- The number of rows counted and the number of rows left fit into 64 bits together.
   pub counts_fit : (old now : OfficeView K) (file : List ℕ) (reader : RowReader) (counts : Counts)
       → ImportInvariant old now file reader counts → row_count counts + reader.unread < 2 ^ 64
   counts_fit old now file reader counts so_far =
@@ -156,7 +156,7 @@ module _ {K : Type 0} (tables : K → Raw) (is_up : K → Type 0) (failed : K �
       let c = AllZip-long IsOutcome so_far.first so_far.outcomes so_far.performs.each in
       omega (arith, a, b, c, so_far.reads.unread, so_far.reads.fits)
 
-  -- The text of the report after one more block.
+  -- After one more block, the report has the text of all outcomes so far.
   pub text_after : (old mid : OfficeView K) (file : List ℕ) (reader : RowReader) (report report' : Report)
       (outcomes : List Outcome) (so_far : ImportInvariant old mid file reader report.counts)
       → AddsOutcomes outcomes report report'

@@ -39,7 +39,7 @@ same_then f g h a b = record {
       b.first ∙ a.first;
 }
 
--- The list has, at this number, the same posting.
+-- At this number, the list has a history of the same posting as `g`.
 abbrev pub Stays : ℕ → History → List History → Type 0
 Stays n g hs = (h : History) × (entry_at hs n ≡ Some h) × IsSame g h
 

@@ -17,7 +17,7 @@ use Rattle.csv.proofs.ReadFacts.{rows-end, rows-more}
 use Rattle.thes_import.specs.PostingFile.{HasNoHeader, HasRecords, header}
 use Rattle.thes_import.specs.RecordReading.{HasReadTo, TakesRecord, most_left, most_records}
 
--- The bound of the number of records left.
+-- The part of the bound on the records left that counts the end of the text.
 
 abbrev flag : Bool → ℕ
 flag b = if b then 1 else 0
@@ -83,7 +83,6 @@ fewer_after cfg a b text fields (Some unread) r = go (next_record cfg a [] [] te
         let fewer = fewer_records cfg a [] [] text p e in
         omega (arith, same, fewer)
 
--- The records of a text.
 
 -- Each text has a list of records.
 pub records_exist : (cfg : Config) (n : ℕ) (s : State) (text : List ℕ) → most_records s (Some text) < n
@@ -103,7 +102,7 @@ records_exist cfg (suc n) s text below =
         let rest = later p e in
         (p.0 ∷ rest.0, (rest.1.0, rest.1.1, (p, e, refl, rest.1.2), rest.1.3))
 
--- Those that were read are its first ones.
+-- The records read are the first records of the text.
 pub records_after : (cfg : Config) (s s' : State) (text unread : List ℕ) (first all : List (List (List ℕ)))
     → Reached cfg s text first s' unread → AreRecords cfg s text all
     → (rest : List (List (List ℕ))) × (all ≡ first ++ rest) × AreRecords cfg s' unread rest
@@ -121,7 +120,7 @@ records_after cfg s s' text unread (r ∷ rs) (q ∷ qs) h are =
     let head : q ≡ r = are.2.2 ∙ ap (λ (p : Read). p.0) same ∙ sym h.2 in
     (rest.0, (λ i. head i ∷ rest.1 i), rest.2)
 
--- A file whose first record isn't the header.
+-- A file has no header if the first record read isn't the header.
 pub first_is_other : (bytes : List ℕ) (fields : List (List ℕ)) (reader : Reader (Bor (List ℕ)))
     → HasReadTo bytes (fields ∷ []) reader → ¬ (fields ≡ header) → HasNoHeader bytes
 first_is_other bytes fields reader h other =
@@ -136,7 +135,7 @@ first_is_other bytes fields reader h other =
       headless = λ w. other (let both : fields ∷ rest.0 ≡ header ∷ w.0 = sym rest.1 ∙ w.1 in cc);
     }
 
--- A file without records.
+-- A file without records has no header.
 pub none_is_other : (bytes : List ℕ) → HasRecords bytes [] → HasNoHeader bytes
 none_is_other bytes read = record {
   records = [];
@@ -144,7 +143,7 @@ none_is_other bytes read = record {
   headless = λ w. let bad : [] ≡ header ∷ w.0 = w.1 in cc;
 }
 
--- Before the first record.
+-- Before the first record, the bound on the records left is at most twice the length of the text.
 
 strip_shorter : (text : List ℕ) → length (strip_bom text) ≤ length text
 unfolding strip_bom
@@ -167,7 +166,7 @@ most_at_start bytes reader h =
     let short = strip_shorter bytes in
     omega (arith, same, short)
 
--- Reading a record.
+-- A call of the CSV reader reads one more record, or finds none left.
 
 source_after : (new : Reader (Bor (List ℕ))) → new.bom_checked ≡ true
     → source_of (λ s. Some s.now) new ≡ pending_of (Some new.rdr.now) new

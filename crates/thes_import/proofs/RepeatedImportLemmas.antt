@@ -106,7 +106,8 @@ step_later setting key rec concept s t a (inl known) = later_same s t known.1
 step_later setting key rec concept s t a (inr (new, inl refused)) = later_same s t refused.3
 step_later setting key rec concept s t a (inr (new, inr consumes)) = posted_later key rec concept s t consumes.2
 
--- After a post was accepted, the state has a posting with its key, number, record and first concept.
+-- After a post was accepted, the state has a posting with its key, record and concept, under the
+-- number in the answer.
 accepted_has : (setting : Setting) (key rec : List ℕ) (concept n : ℕ) (s mid : State) (a : Answer)
     → (a ≡ reply.Number n) ⊎ (a ≡ reply.Again n) → Step setting s (request.Post key rec concept) a mid
     → HasPosting key rec concept n mid
@@ -310,7 +311,7 @@ rows_later setting s t (row.Post key rec concept ∷ rows) (outcome.Bad f ∷ os
 rows_later setting s t (row.Bad f ∷ rows) (outcome.Reply a ∷ os) each run = absurd each.0
 rows_later setting s t (row.Bad f ∷ rows) (outcome.Bad g ∷ os) each run = rows_later setting s t rows os each.1 run
 
--- A second run over the same rows changes nothing and repeats the answers, row by row.
+-- A second run over the same rows changes nothing, and answers each row again.
 rows_again : (setting : Setting) (s t u : State) (rows : List CsvRow) (os qs : List Outcome)
     → AreLegalPostings t.resources t.histories → AllZip IsOutcome rows os → AllZip IsOutcome rows qs
     → Run setting s (posts_of rows) (answers_of os) t → Run setting t (posts_of rows) (answers_of qs) u

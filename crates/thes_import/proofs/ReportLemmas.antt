@@ -1,4 +1,4 @@
--- Proves what a report has after one more row.
+-- Proves which text and counts a report has after one more row.
 use Rattle.std.proofs.Common.{◌≡◌, ◌∙◌, ◌+◌, ◌++◌, ◌∷◌, [], ℕ, List, refl, sym, ap, subst, cond, length, append_assoc}
 use Rattle.std.proofs.Common.{length-append}
 use Rattle.std.proofs.Common.{append-nil, arith}
@@ -28,7 +28,8 @@ lines_joined : (n : ℕ) (os qs : List Outcome) → outcome_lines n (os ++ qs) �
     ++ outcome_lines (n + length os) qs
 lines_joined = joined outcome_line outcome_lines (λ n. refl) (λ n x xs. refl)
 
--- The text of more outcomes.
+-- The text of two joined lists of outcomes is that of the first list, and then the lines of the
+-- second.
 pub text_of_more : (os qs : List Outcome) → outcomes_text (os ++ qs) ≡ outcomes_text os
     ++ outcome_lines (1 + length os) qs
 text_of_more os qs =
@@ -58,7 +59,7 @@ row_count_all (o ∷ os) =
     let rest = row_count_all os in
     omega (arith, a, b, d, one, rest)
 
--- One line is added.
+-- A report to which one line is appended, and which counts its row, has that outcome added.
 pub adds_one : (o : Outcome) (old new : Report) (n : ℕ) → n ≡ row_count old.counts + 1 → new.text.items
     ≡ old.text.items ++ outcome_line n o
     → ((os : List Outcome) → old.counts ≡ counts_of os → new.counts ≡ counts_of (os ++ o ∷ []))
@@ -71,7 +72,7 @@ adds_one o old new n e text counts earlier is =
           (ap (λ (m : ℕ). outcome_line m o) k ∙ sym (append-nil (outcome_line (1 + length earlier) o))),
     )
 
--- Lines are added, and then more.
+-- Adding some outcomes and then others adds all of them in order.
 pub adds_both : (os qs : List Outcome) (old mid new : Report) → AddsOutcomes os old mid → AddsOutcomes qs mid new
     → AddsOutcomes (os ++ qs) old new
 adds_both os qs old mid new x y earlier is =
@@ -87,12 +88,12 @@ adds_both os qs old mid new x y earlier is =
           (ap (λ (k : ℕ). outcome_lines start os ++ outcome_lines k qs) n ∙ sym (lines_joined start os qs)),
     )
 
--- Nothing is added.
+-- A report with the same text and counts has no outcomes added.
 pub adds_none : (old new : Report) → new.text.items ≡ old.text.items → new.counts ≡ old.counts → AddsOutcomes [] old new
 adds_none old new text counts earlier is =
     (counts ∙ is ∙ ap counts_of (sym (append-nil earlier)), text ∙ sym (append-nil old.text.items))
 
--- Lines are added to a report with the same text and counts.
+-- Adding outcomes to a report with the same text and counts is adding them to the report itself.
 pub adds_same : (os : List Outcome) (old mid new : Report) → mid.text.items ≡ old.text.items
     → mid.counts ≡ old.counts → AddsOutcomes os mid new → AddsOutcomes os old new
 adds_same os old mid new text counts adds earlier is =

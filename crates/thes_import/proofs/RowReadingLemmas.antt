@@ -24,7 +24,7 @@ zip_replaced (x ∷ done) unread (y ∷ first) (z ∷ rows) all each = (
       each.1,
 )
 
--- The rows read are the first ones of the file, which has as many others as are left.
+-- The rows read are the first rows of the file, and the reader has the number of the others.
 pub others_left : (bytes : List ℕ) (rows first : List CsvRow) (reader : RowReader) → HasReadRows bytes rows first reader
     → (others : List CsvRow) × IsPostingFile bytes (first ++ others) × (length others ≡ reader.unread)
 others_left bytes rows first reader h =
@@ -44,7 +44,7 @@ others_left bytes rows first reader h =
       (let n = length-drop (length first) rows in omega (arith, n, h.unread)),
     )
 
--- One more row.
+-- Reading one more row adds it to the rows read.
 pub one_more_row : (bytes : List ℕ) (rows first : List CsvRow) (old new : RowReader) (fields : List (List ℕ))
     (row : CsvRow) → HasReadRows bytes rows first old
     → ((records : List (List (List ℕ))) → HasReadTo bytes records old.records

@@ -1,4 +1,4 @@
--- Proves what was written of an import's outcomes when it ends.
+-- Proves which part of the outcomes of an import is written when the import ends.
 use Rattle.std.proofs.Common.{◌≡◌, ◌⊎◌, ◌∙◌, ◌+◌, ◌<◌, ◌≤◌, ◌++◌, [], ℕ, List, refl, sym, ap, subst, inl, inr, length}
 use Rattle.std.proofs.Common.{take, arith}
 use Rattle.std.proofs.Common.{length-append}
@@ -29,7 +29,7 @@ use Rattle.thes_import.proofs.ReportLemmas.{text_of_more}
 use Rattle.thes_import.proofs.RowReadingLemmas.{others_left}
 
 module _ {W : Type 0} (contents : W → Option (List ℕ)) where
-  -- A prefix of the heading.
+  -- A prefix of the heading is part of the text of no outcomes.
   pub heading_cut : (old new : Pipe W)
       → AppendsPrefix (written_bytes contents old) (written_bytes contents new) (outcomes_text [])
       → WritesPartOf contents old new []
@@ -44,7 +44,7 @@ module _ {W : Type 0} (contents : W → Option (List ℕ)) where
     prefix = cut.front;
   }
 
-  -- A prefix of the lines of a block, after all lines before.
+  -- After all earlier lines, a prefix of the lines of a block is part of the text of all outcomes.
   pub block_cut : (old mid new : Pipe W) (outcomes_written outcomes_lost : List Outcome) (lines : List ℕ)
       → Appends (written_bytes contents old) (written_bytes contents mid) (outcomes_text outcomes_written)
       → AppendsPrefix (written_bytes contents mid) (written_bytes contents new) lines
@@ -70,7 +70,7 @@ module _ {W : Type 0} (contents : W → Option (List ℕ)) where
             (outcomes_text outcomes_written) (take cut.count lines) appends_text cut.front);
       }
 
-  -- All lines of a block, after all lines before.
+  -- After all earlier lines, the lines of a block complete the text of all outcomes.
   pub block_whole : (old mid new : Pipe W) (outcomes_written more : List Outcome) (lines : List ℕ)
       → Appends (written_bytes contents old) (written_bytes contents mid) (outcomes_text outcomes_written)
       → WritesWhole contents mid new lines → lines ≡ outcome_lines (1 + length outcomes_written) more
@@ -82,7 +82,7 @@ module _ {W : Type 0} (contents : W → Option (List ℕ)) where
       (outcomes_text outcomes_written) lines appends_text whole.appends_text)
 
   module _ {K : Type 0} (tables : K → Raw) (is_up : K → Type 0) (failed : K → ℕ) where
-    -- The writer ended the import.
+    -- A fault of the writer ends the import.
     pub stopped_by_writer : (old new : Pipe W) (before after : OfficeView K) (file : List ℕ) (outcomes : List Outcome)
         (others : List CsvRow) (result : Result (Unit {0}) OfficeFault) (fault : PipeFault)
         → IfErr result (λ f. 1 ≤ length others)
@@ -124,7 +124,7 @@ module _ {W : Type 0} (contents : W → Option (List ℕ)) where
         go (inl more) = inl (omega (arith, more, count))
         go (inr most) = inr (sym count ∙ most)
 
-    -- An office before its first row.
+    -- An office that hasn't performed any row has had no fault.
     pub no_faults : (office : OfficeView K) → FaultBehaviour tables is_up failed office office
         (let x : Result (Unit {0}) OfficeFault = Ok tt in x)
     no_faults office = record {
@@ -142,7 +142,7 @@ module _ {W : Type 0} (contents : W → Option (List ℕ)) where
     few_outcomes old new rows outcomes performs few =
         let n = AllZip-long IsOutcome rows outcomes performs.each in omega (arith, n, few)
 
-    -- The writer ended the import within the outcomes of a block.
+    -- A fault of the writer within the outcomes of a block ends the import.
     pub stopped_in_block : (w0 w1 w2 : Pipe W) (old mid new : OfficeView K) (file : List ℕ) (reader reader' : RowReader)
         (report report' : Report) (result : Result (Unit {0}) OfficeFault) (stopped : ImportStop)
         (so_far : ImportInvariant tables is_up failed old mid file reader report.counts) → report.text.items ≡ []

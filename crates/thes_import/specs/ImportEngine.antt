@@ -25,7 +25,7 @@ use Rattle.thes_import.specs.declared.report.Counts.{Counts}
 abbrev pub file_limit : ℕ
 file_limit = 16777216
 
--- The most rows of a block.
+-- The greatest number of rows in a block.
 abbrev pub block_limit : ℕ
 block_limit = 1000
 
@@ -35,7 +35,7 @@ module _ {W : Type 0} (contents : W → Option (List ℕ)) (old new : Pipe W) wh
     pub appends_text : Appends (written_bytes contents old) (written_bytes contents new) text
     pub not_failed : failed_of new ≡ false
 
-  -- The device failed, or a write was denied.
+  -- The fault of a writer: `Write` if its device failed, `TooLong` if a write was denied.
   abbrev pub IsWriterFault : PipeFault → Type 0
   IsWriterFault Write = failed_of new ≡ true
   IsWriterFault TooLong = (failed_of new ≡ false) × (denied_of new ≡ true)
@@ -46,8 +46,8 @@ module _ {W : Type 0} (contents : W → Option (List ℕ)) (old new : Pipe W) wh
   IsReportCut text fault =
       AppendsPrefix (written_bytes contents old) (written_bytes contents new) text × IsWriterFault fault
 
-  -- A prefix of the text of these outcomes was written. Only outcomes of the last block may be missing, unless none was
-  -- to be written yet.
+  -- A prefix of the text of these outcomes was written. At most the outcomes of the last block are
+  -- missing or cut short, or part of the heading if there are no outcomes.
   pub record WritesPartOf (outcomes : List Outcome) : Type 0 where
     pub outcomes_written : List Outcome
     pub outcomes_lost : List Outcome
@@ -64,13 +64,13 @@ pub record ImportStreams (R W K : Type 0) : Type 0 where
   pub writer : Pipe W
   pub office : OfficeView K
 
--- The streams and the office of an import, from its parts.
+-- The reader, the writer and the office of an import as one record.
 abbrev pub import_streams : {R W K : Type 0} → Pipe R → Pipe W → OfficeView K → ImportStreams R W K
 import_streams reader writer office = record { reader = reader; writer = writer; office = office }
 
 module _ {W K : Type 0} (contents : W → Option (List ℕ)) (tables : K → Raw) (is_up : K → Type 0) (failed : K → ℕ)
     (old new : Pipe W) (before after : OfficeView K) where
-  -- These first rows of the file were performed, with these outcomes.
+  -- The rows of the file before `others` were performed, with these outcomes.
   pub record PerformsFirst (file : List ℕ) (outcomes : List Outcome) (others : List CsvRow)
       (result : Result (Unit {0}) OfficeFault) : Type 0 where
     pub rows : List CsvRow
@@ -85,8 +85,8 @@ module _ {W K : Type 0} (contents : W → Option (List ℕ)) (tables : K → Raw
     pub first : PerformsFirst file outcomes others (Err fault)
     pub writes : WritesWhole contents old new (outcomes_text outcomes)
 
-  -- The writer ended the import after some block, whose outcomes weren't written whole; if a fault of the office ended
-  -- that block, a row was left.
+  -- The writer failed or was denied a write within the heading or the outcomes of a block, which
+  -- ended the import. If a fault of the office ended that block, some row was left.
   pub record StopsAtWrite (file : List ℕ) (outcomes : List Outcome) (fault : PipeFault) : Type 0 where
     pub others : List CsvRow
     pub result : Result (Unit {0}) OfficeFault
@@ -124,8 +124,9 @@ module _ {W K : Type 0} (contents : W → Option (List ℕ)) (tables : K → Raw
 
 module _ {R W K : Type 0} (remaining : R → Option (List ℕ)) (contents : W → Option (List ℕ))
     (tables : K → Raw) (is_up : K → Type 0) (failed : K → ℕ) (old new : ImportStreams R W K) where
-  -- The whole file was read, and its import ended or a fault halted it; the outcomes were written, a prefix if the
-  -- writer failed, or nothing if there is no header or memory ran out before the first row.
+  -- The whole file was read, its import ended or a fault halted it, and the outcomes, or a prefix
+  -- of them if the writer failed, were written. Nothing was written if the file has no header, or
+  -- if memory ran out before the heading.
   pub record ImportsFile (result : Result ImportEnd ImportStop) : Type 0 where
     pub file : List ℕ
     pub whole : IsWhole remaining file_limit old.reader new.reader file

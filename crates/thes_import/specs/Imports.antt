@@ -17,8 +17,8 @@ use Rattle.thes_import.specs.RowReading.{HasReadRows}
 use Rattle.thes_import.specs.declared.reading.RowReader.{RowReader}
 use Rattle.thes_import.specs.declared.report.Report.{Report}
 
--- A run of the machine over the requests of the rows gives these answers and leads to the new tables, which are the old
--- ones if no answer changes anything.
+-- A run of the machine over the requests of the rows has the answers in these outcomes, and leads
+-- to the new tables. The tables are unchanged if no answer changes anything.
 pub record PerformsRows (limits : Limits) (old : Raw) (rows : List CsvRow) (outcomes : List Outcome)
     (new : Raw) : Type 0 where
   pub goes_on : TablesAfterRun limits old (posts_of rows) (answers_of outcomes) new
@@ -40,7 +40,8 @@ module _ {K : Type 0} (tables : K → Raw) (is_up : K → Type 0) where
     pub some : 0 < length other_rows
     pub performs : PerformsWith old first_rows outcomes new
 
-  -- The rows were performed and reported; or a fault ended the run before some row, and those before it were.
+  -- All rows were performed and reported; or a fault ended the run before some row, and only the
+  -- rows before it were performed and reported.
   abbrev pub ReportsRows : OfficeView K → List CsvRow → Report → Result (Unit {0}) Fault → Report → OfficeView K
       → Type 0
   ReportsRows old rows report (Ok done) report' new =
@@ -60,7 +61,8 @@ module _ {K : Type 0} (tables : K → Raw) (is_up : K → Type 0) where
     pub performs : PerformsWith old rows outcomes new
     pub reports : AddsOutcomes outcomes report report'
 
-  -- A fault ended the import before some row of the file, and those of the block before it were performed and reported.
+  -- A fault ended the import before some row of the file; the rows of the block before that row
+  -- were performed and reported.
   pub record StopsInBlock (old : OfficeView K) (reader : RowReader) (report report' : Report)
       (new : OfficeView K) : Type 0 where
     pub rows : List CsvRow
@@ -92,7 +94,8 @@ module _ {K : Type 0} (tables : K → Raw) (is_up : K → Type 0) where
     pub some : 0 < length other_rows
     pub imports : ImportsRows old first_rows report new
 
-  -- All rows of the file were performed, or some of them before a fault, or none where the file has no header.
+  -- All rows of the file were performed, or some of them before a fault, or none if the file has no
+  -- header.
   abbrev pub Imports : OfficeView K → List ℕ → Result FileImport ImportHalt → OfficeView K → Type 0
   Imports old file (Ok (Rows report)) new =
       (rows : List CsvRow) × IsPostingFile file rows × ImportsRows old rows report new

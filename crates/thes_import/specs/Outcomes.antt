@@ -28,15 +28,15 @@ abbrev pub fault_of_row : CsvRow → Option FormFault
 fault_of_row (row.Post key rec concept) = None
 fault_of_row (row.Bad fault) = Some fault
 
--- The outcomes of rows with these faults, of which the postings have these answers; they end before the first posting
--- without an answer.
+-- The outcomes of rows with these faults, where the postings, which have no fault, have these
+-- answers. They end before the first posting without an answer.
 abbrev pub outcomes_of : List (Option FormFault) → List Answer → List Outcome
 outcomes_of [] answers = []
 outcomes_of (Some fault ∷ faults) answers = outcome.Bad fault ∷ outcomes_of faults answers
 outcomes_of (None ∷ faults) [] = []
 outcomes_of (None ∷ faults) (answer ∷ answers) = outcome.Reply answer ∷ outcomes_of faults answers
 
--- The answer in an outcome.
+-- The answer in an outcome, if the row is a posting.
 abbrev pub answer_in : Outcome → Option Answer
 answer_in (outcome.Reply answer) = Some answer
 answer_in (outcome.Bad fault) = None
@@ -53,7 +53,7 @@ IsOutcome (row.Bad fault) (outcome.Reply answer) = ⊥
 IsOutcome (row.Bad fault) (outcome.Bad f) = f ≡ fault
 
 -- The keyword of an outcome: `new`, `again`, or the name of a refusal or of a form fault; empty for
--- the answers that no posting has.
+-- an answer that a post never has.
 abbrev pub outcome_word : Outcome → List ℕ
 outcome_word (outcome.Reply (reply.Number n)) = codes "new"
 outcome_word (outcome.Reply (reply.Again n)) = codes "again"
@@ -72,11 +72,12 @@ abbrev pub number_text : Option ℕ → List ℕ
 number_text None = []
 number_text (Some n) = decimal n
 
--- The line of an outcome: the row's number, the keyword, and the posting's number or nothing, with commas between.
+-- The line of an outcome: the row's number, the keyword, and the posting's number or nothing,
+-- separated by commas.
 abbrev pub outcome_line : ℕ → Outcome → List ℕ
 outcome_line n o = decimal n ++ codes "," ++ outcome_word o ++ codes "," ++ number_text (outcome_number o) ++ codes "\n"
 
--- The lines of the outcomes of consecutive rows, of which the first is row `n`.
+-- The lines of the outcomes of consecutive rows, from row `n` on.
 abbrev pub outcome_lines : ℕ → List Outcome → List ℕ
 outcome_lines n [] = []
 outcome_lines n (o ∷ outcomes) = outcome_line n o ++ outcome_lines (n + 1) outcomes
@@ -89,17 +90,17 @@ outcomes_text outcomes = codes "row,outcome,number\n" ++ outcome_lines 1 outcome
 abbrev pub no_counts : Counts
 no_counts = record { posted = 0; again = 0; refused = 0 }
 
--- The row added a posting.
+-- Whether the row added a posting.
 abbrev pub is_new : Outcome → Bool
 is_new (outcome.Reply (reply.Number n)) = true
 is_new _ = false
 
--- The row repeats a posting.
+-- Whether the row repeats a posting.
 abbrev pub is_again : Outcome → Bool
 is_again (outcome.Reply (reply.Again n)) = true
 is_again _ = false
 
--- The row neither added nor repeats a posting.
+-- Whether the row neither added nor repeats a posting.
 abbrev pub is_refused : Outcome → Bool
 is_refused (outcome.Reply (reply.Number n)) = false
 is_refused (outcome.Reply (reply.Again n)) = false
@@ -123,7 +124,7 @@ pub record ReportsOutcomes (outcomes : List Outcome) (report : Report) : Type 0 
   pub text : report.text.items ≡ outcomes_text outcomes
   pub counts : report.counts ≡ counts_of outcomes
 
--- The lines and counts of these outcomes are added to the report; the text before may be any.
+-- The lines and counts of these outcomes are added to the report, whatever text it has before.
 abbrev pub AddsOutcomes : List Outcome → Report → Report → Type 0
 AddsOutcomes outcomes old new =
     (earlier : List Outcome) → old.counts ≡ counts_of earlier → (new.counts ≡ counts_of (earlier ++ outcomes))

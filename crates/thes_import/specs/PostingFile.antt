@@ -40,12 +40,12 @@ IsPostingRow key rec concept (Bad bad.BadRecord) = IsField IsKey key × ¬ IsFie
 IsPostingRow key rec concept (Bad bad.BadNumber) = IsField IsKey key × IsField IsRecordName rec × ¬ HasNumber concept
 IsPostingRow key rec concept (Bad _) = ⊥
 
--- The row of a record; a record with another number of fields than three is `BadShape`.
+-- The row of a record; a record without exactly three fields is `BadShape`.
 abbrev pub IsCsvRow : List (List ℕ) → CsvRow → Type 0
 IsCsvRow (key ∷ rec ∷ concept ∷ []) row = IsPostingRow key rec concept row
 IsCsvRow _ row = row ≡ Bad bad.BadShape
 
--- The records of a file by RFC 4180; empty lines and a byte order mark at the start are skipped.
+-- The records of a file by RFC 4180; a byte order mark at the start, and empty lines, are skipped.
 abbrev pub HasRecords : List ℕ → List (List (List ℕ)) → Type 0
 HasRecords bytes records = AreRecords default_config state.StartRecord (strip_bom bytes) records
 

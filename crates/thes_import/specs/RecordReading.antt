@@ -10,7 +10,7 @@ use Rattle.csv.specs.declared.reader.Reader.{Reader}
 use Rattle.csv.specs.declared.reader.Trim.TheVariants as trim
 use Rattle.thes_import.specs.PostingFile.{HasNoHeader, HasRecords, header}
 
--- The reader has read these records of the text, and these bytes are left.
+-- The reader has read these records of the text, and the bytes `unread` are left.
 pub record HasReadTo (bytes : List ℕ) (records : List (List (List ℕ))) (reader : Reader (Bor (List ℕ))) : Type 0 where
   pub plain : reader.trim ≡ trim.None
   pub ready : Ready reader
@@ -19,16 +19,16 @@ pub record HasReadTo (bytes : List ℕ) (records : List (List (List ℕ))) (read
   pub source : source_of (λ s. Some s.now) reader ≡ Some unread
   pub reaches : Reached default_config state.StartRecord (strip_bom bytes) records reader.state unread
 
--- A bound of the number of records in the bytes left, which falls with each record.
+-- An upper bound on the number of records in the bytes left, which falls with each record.
 abbrev pub most_records : State → Option (List ℕ) → ℕ
 most_records s None = 0
 most_records s (Some text) = length text + length text + (if ends_at_end s then 1 else 0)
 
--- A bound of the number of records left to the reader.
+-- An upper bound on the number of records left to the reader.
 abbrev pub most_left : Reader (Bor (List ℕ)) → ℕ
 most_left reader = most_records reader.state (source_of (λ s. Some s.now) reader)
 
--- One more record was read, or there is none.
+-- One more record was read, or none is left.
 pub record TakesRecord (old new : Reader (Bor (List ℕ))) (fields : List (List ℕ)) (found : Bool) : Type 0 where
   pub more : found ≡ true → (bytes : List ℕ) (records : List (List (List ℕ))) → HasReadTo bytes records old
       → HasReadTo bytes (records ++ fields ∷ []) new × (most_left new < most_left old)

@@ -18,8 +18,8 @@ use Rattle.thes_import.specs.Outcomes.{IsOutcome}
 use Rattle.thes_import.specs.declared.outcome.Outcome.{Outcome}
 use Rattle.thes_import.specs.declared.outcome.Outcome.TheVariants as outcome
 
--- The second answer to a posting: if the first has a posting's number, this number as a repetition, and else an answer
--- that changes nothing.
+-- The second answer to a post: `Again` with the posting's number if the first answer has one, and
+-- else an answer that changes nothing.
 abbrev pub IsAnswerAgain : Answer → Answer → Type 0
 IsAnswerAgain (reply.Number n) b = b ≡ reply.Again n
 IsAnswerAgain (reply.Again n) b = b ≡ reply.Again n

@@ -6,7 +6,7 @@ use Rattle.thes_import.specs.RecordReading.{HasReadTo}
 use Rattle.thes_import.specs.declared.csv_row.CsvRow.{CsvRow}
 use Rattle.thes_import.specs.declared.reading.RowReader.{RowReader}
 
--- These first rows of a posting file were read, and the reader has counted the others.
+-- These first rows of a posting file were read, and the reader has the number of the others.
 pub record HasReadRows (bytes : List ℕ) (rows first : List CsvRow) (reader : RowReader) : Type 0 where
   pub file : IsPostingFile bytes rows
   pub fits : length rows < 2 ^ 64

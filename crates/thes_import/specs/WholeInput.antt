@@ -1,4 +1,4 @@
--- Reading an input to its end, within a limit.
+-- The bytes of an input that is read to its end, within a limit, and the faults that prevent this.
 use Rattle.std.specs.Prelude.{◌≡◌, ◌⊎◌, ◌≤◌, ◌<◌, ℕ, true, false, List, length, Option}
 use Rattle.std.specs.Io.KnownBytes.{Consumes, IsAtEnd}
 use Rattle.thes_base.specs.Pipe.{denied_of, ended_of, failed_of, unread_bytes}

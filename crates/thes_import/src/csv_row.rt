@@ -67,7 +67,8 @@ pub(crate) fn field(entry: &ByteRecord, i: usize) -> &[u8]
     entry.get(i).unwrap()
 }
 
-// Reads three fields as a posting; the fault of a row is that of its first malformed field.
+// Reads three fields as a posting; if a field is malformed, the row is the fault of the first such
+// field.
 fn read_fields(alloc: Global, key: &[u8], name: &[u8], concept: &[u8]) -> Result<CsvRow, AllocError>
     ensures { IfOk result (IsPostingRow key.now name.now concept.now) }
 {

@@ -32,7 +32,7 @@ pub struct ImportStop {
 }
 
 impl ImportStop {
-    // Makes the stop before the first row.
+    // Returns the stop for a fault before the first row, with all counts 0.
     fn at_start(fault: PipeFault) -> ImportStop
         ensures fault { result.fault ≡ fault }
         ensures counts { result.counts ≡ no_counts }
@@ -44,10 +44,10 @@ impl ImportStop {
     }
 }
 
-// The most bytes of a file.
+// The greatest size of a file, in bytes: 16 MiB.
 const FILE_LIMIT: usize = 16_777_216;
 
-// Writes the text of a report and removes it.
+// Writes the text of a report, and clears the text once it is written.
 fn write_report<W: Write>(
     writer: &mut Pipe<W>,
     budget: &mut Budget,
@@ -76,7 +76,7 @@ fn write_report<W: Write>(
     }
 }
 
-// Performs the rows of a file, and writes the outcomes of each block before the next is read.
+// Performs the rows of a file, and writes the outcomes of each block before it reads the next.
 fn import_bytes<W: Write, K: Keeper>(
     alloc: Global,
     file: &[u8],
@@ -89,7 +89,7 @@ fn import_bytes<W: Write, K: Keeper>(
         office.old office.new file.now result }
     ensures paid { PaysCalls writer.old writer.new budget.old budget.new }
 {
-    // No effect; states that the tables show a state for the proof.
+    // No effect; states for the proof that the tables encode a state.
     let _ = office.is_stale();
     let mut reader = match open_rows(alloc, file) {
         Ok(reader) => reader,
@@ -115,13 +115,14 @@ fn import_bytes<W: Write, K: Keeper>(
     Ok(ImportEnd::Rows(report.counts))
 }
 
-/// Reads a posting file to its end, performs its postings in order, and writes the outcome of each row. The outcomes of
-/// a block of 1,000 rows are written before the next block is performed.
+/// Reads a posting file to its end, performs its postings in order, and writes the outcome of each
+/// row. Writes the outcomes of each block of 1,000 rows before it performs the next block.
 ///
 /// A file has at most 16,777,216 bytes. If it is longer, can't be read, or has no header, or if
 /// memory to read it runs out, nothing is performed or written. If a fault of the office halts the
-/// import, the outcomes of the rows performed are written. If the writer fails, a prefix of the
-/// outcomes may have been written. All reads and writes together are at most 100,000,000.
+/// import, the outcomes of the rows performed are written. If the writer fails or is denied a
+/// write, a prefix of the outcomes may have been written. Reads and writes together number at most
+/// 100,000,000.
 pub fn import<R: Read, W: Write, K: Keeper>(
     alloc: Global,
     reader: &mut Pipe<R>,

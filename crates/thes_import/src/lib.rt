@@ -1,4 +1,4 @@
-//! Posting files: reading their rows, and importing them into an office.
+//! Reads the rows of posting files, and imports them into an office.
 #![tactic(auto)]
 
 pub mod csv_row;

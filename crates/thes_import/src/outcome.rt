@@ -1,4 +1,4 @@
-//! The outcome of a row, as a line.
+//! The outcome of a row, and its line in a report.
 ghost use Rattle.std.specs.Prelude.{◌≡◌, ◌≤◌, ◌+◌, ◌++◌, [], ◌∷◌, List, Option, IfNone, IfSome, length};
 ghost use Rattle.std.specs.Prelude.{vec_capacity, vec_len};
 ghost use Rattle.thes_base.specs.declared.fault.FormFault.{FormFault};
@@ -18,8 +18,8 @@ pub enum Outcome {
 }
 
 impl Outcome {
-    // Returns the keyword of the outcome: `new`, `again`, or the name of the refusal or of the form fault; it is empty
-    // for the answers that no posting has.
+    // Returns the keyword of the outcome: `new`, `again`, or the name of the refusal or of the form
+    // fault; empty for an answer that a post never has.
     fn word(self) -> &'static str
         ensures word { result.now ≡ outcome_word self }
         ensures short { length result.now ≤ 16 }
@@ -43,7 +43,8 @@ impl Outcome {
         }
     }
 
-    /// Appends the line of the outcome: row number, keyword and posting's number; allocates nothing.
+    /// Appends the line of the outcome: row number, keyword and posting's number; allocates
+    /// nothing.
     pub(crate) fn push_line(self, row: usize, text: &mut Vec<u8>)
         requires { vec_len text.old + LINE_LIMIT ≤ vec_capacity text.old }
         ensures items { text.new.items ≡ text.old.items ++ outcome_line row self }
@@ -61,7 +62,8 @@ impl Outcome {
     }
 }
 
-// Returns the outcome of the next row and the answers left, unless the row is a posting without an answer.
+// Returns the outcome of the next row, whose fault is `fault`, and the answers left; None if the
+// row is a posting and no answer is left.
 pub(crate) fn next_outcome(
     fault: Option<FormFault>,
     answers: &[Answer],
@@ -82,10 +84,10 @@ pub(crate) fn next_outcome(
     }
 }
 
-/// The most bytes of a line.
+/// The greatest length of a line, in bytes.
 pub(crate) const LINE_LIMIT: usize = 64;
 
-// Appends a text for which there is capacity; allocates nothing.
+// Appends a text for which the capacity suffices; allocates nothing.
 fn push_text(text: &mut Vec<u8>, more: &str)
     requires { vec_len text.old + length more.now ≤ vec_capacity text.old }
     ensures items { text.new.items ≡ text.old.items ++ more.now }

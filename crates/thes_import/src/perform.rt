@@ -13,7 +13,8 @@ use thes_base::request::Command;
 use thes_office::Office;
 use thes_store::keeper::Keeper;
 
-/// The rows of a block: the requests of those that are postings, and of each row its fault, if it has one.
+/// A block of rows: the requests of the rows that are postings, and for each row its fault, or None
+/// if it is a posting.
 #[derive(Drop)]
 struct Block {
     posts: Vec<Command>,
@@ -21,7 +22,7 @@ struct Block {
 }
 
 impl Block {
-    // Appends a row.
+    // Appends a row: its request, or its fault.
     fn push(&mut self, row: CsvRow) -> Result<(), AllocError>
         ensures posts { OnOk result
             (self.new.posts.items ≡ self.old.posts.items ++ posts_of (row ∷ [])) }
@@ -42,7 +43,7 @@ impl Block {
     }
 }
 
-// Sorts rows into requests and faults.
+// Collects the requests and the faults of rows in a block.
 fn block_of(alloc: Global, rows: Vec<CsvRow>) -> Result<Block, AllocError>
     ensures posts { IfOk result (λ block. block.posts.items ≡ posts_of rows.items) }
     ensures faults { IfOk result (λ block. block.faults.items ≡ map fault_of_row rows.items) }
@@ -57,7 +58,8 @@ fn block_of(alloc: Global, rows: Vec<CsvRow>) -> Result<Block, AllocError>
     Ok(block)
 }
 
-// Performs rows and appends their outcomes to the report, with the memory for their lines allocated first.
+// Performs rows and appends their outcomes to the report, allocates the memory for their lines
+// first.
 fn perform_rows<K: Keeper>(
     alloc: Global,
     office: &mut Office<K>,
@@ -71,7 +73,7 @@ fn perform_rows<K: Keeper>(
     ensures reports { ReportsRows K.rows K.is_up office.old rows.items report.old result report.new
         office.new }
 {
-    // No effect; states that the tables show a state for the proof.
+    // No effect; states for the proof that the tables encode a state.
     let _ = office.is_stale();
     let Ok(block) = block_of(alloc, rows) else {
         return Err(Fault::OutOfMemory);
@@ -85,8 +87,8 @@ fn perform_rows<K: Keeper>(
     ran
 }
 
-/// Reads the next block of rows, performs them, and appends their outcomes to the report. A fault leaves the outcomes
-/// of the rows before it there.
+/// Reads the next block of rows, performs them, and appends their outcomes to the report. On a
+/// fault, the report has the outcomes of the rows performed before it.
 pub(crate) fn import_block<K: Keeper>(
     alloc: Global,
     office: &mut Office<K>,
@@ -99,7 +101,7 @@ pub(crate) fn import_block<K: Keeper>(
     ensures imports { ImportsBlock K.rows K.is_up office.old reader.old report.old result report.new
         reader.new office.new }
 {
-    // No effect; states that the tables show a state for the proof.
+    // No effect; states for the proof that the tables encode a state.
     let _ = office.is_stale();
     let Ok(rows) = read_block(alloc, reader) else {
         return Err(Fault::OutOfMemory);

@@ -41,9 +41,10 @@ impl ImportHalt {
     }
 }
 
-/// Performs the postings of a file in order, and returns a report of each row's outcome. The answers and the tables are
-/// those of the machine over the file's postings; a row that isn't a posting changes nothing. A fault ends the import
-/// before some row; exactly the rows in its report were performed.
+/// Performs the postings of a file in order, and returns a report of each row's outcome. The
+/// answers and the tables are those of the machine over the file's postings; a row that isn't a
+/// posting changes nothing. A fault ends the import before some row; exactly the rows in the report
+/// were performed.
 pub fn import_postings<K: Keeper>(
     alloc: Global,
     file: &[u8],
@@ -53,7 +54,7 @@ pub fn import_postings<K: Keeper>(
         (fault_in result) }
     ensures imports { Imports K.rows K.is_up office.old file.now result office.new }
 {
-    // No effect; states that the tables show a state for the proof.
+    // No effect; states for the proof that the tables encode a state.
     let _ = office.is_stale();
     let mut reader = match open_rows(alloc, file) {
         Ok(reader) => reader,

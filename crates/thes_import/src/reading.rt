@@ -12,16 +12,16 @@ use csv::{ByteRecord, Reader};
 use std::alloc::{AllocError, Global};
 use thes_base::fault::{FormFault, ReadStop};
 
-/// The most rows of a block.
+/// The greatest number of rows in a block.
 pub const BLOCK_ROWS: usize = 1_000;
 
 /// A reader of the rows of a posting file.
 #[derive(Drop)]
 pub struct RowReader<'a> {
     records: Reader<&'a [u8]>,
-    // The last record.
+    // The record read last.
     record: ByteRecord,
-    /// The number of rows that are left to read.
+    /// The number of rows left to read.
     pub unread: usize,
 }
 
@@ -71,7 +71,7 @@ fn read_header(records: &mut Reader<&[u8]>, record: &mut ByteRecord) -> Result<b
     Ok(is_header(record))
 }
 
-// Reads a record as a row and gives the row up.
+// Reads a record as a row, and drops the row; the call shows the proof that the record has a row.
 fn try_row(alloc: Global, entry: &ByteRecord) -> Result<(), AllocError>
     ensures { OnOk result ((row : CsvRow) × IsCsvRow (fields_of entry.now) row) }
 {
@@ -79,7 +79,8 @@ fn try_row(alloc: Global, entry: &ByteRecord) -> Result<(), AllocError>
     Ok(())
 }
 
-// Counts the rows of a posting file, and reads each of them once.
+// Reads each row of a posting file once, and returns their number; a file without a header is
+// `BadShape`.
 fn count_rows(alloc: Global, bytes: &[u8]) -> Result<usize, ReadStop>
     ensures count { IfOk result (λ count. (rows : List CsvRow) × IsPostingFile bytes.now rows
         × (length rows ≡ count)) }
@@ -98,8 +99,8 @@ fn count_rows(alloc: Global, bytes: &[u8]) -> Result<usize, ReadStop>
     Ok(count)
 }
 
-/// Opens a posting file for reading its rows, or returns the fault of one without a header. All rows are read once
-/// before, and counted.
+/// Opens a posting file for reading its rows, or returns the fault of one without a header. Reads
+/// the whole file once before, to count its rows.
 pub fn open_rows(alloc: Global, bytes: &[u8]) -> Result<RowReader<'_>, ReadStop>
     ensures rows { IfOk result (λ reader. (rows : List CsvRow)
         × HasReadRows bytes.now rows [] reader) }
@@ -118,7 +119,7 @@ pub fn open_rows(alloc: Global, bytes: &[u8]) -> Result<RowReader<'_>, ReadStop>
     })
 }
 
-// Reads the next row.
+// Reads the next row; fails only if memory runs out.
 fn next_row(alloc: Global, reader: &mut RowReader<'_>) -> Result<CsvRow, AllocError>
     requires { 0 < reader.old.unread }
     ensures reads { IfOk result (λ row. (bytes : List ℕ) (rows first : List CsvRow)

@@ -6,7 +6,7 @@ ghost use Rattle.thes_import.specs.RecordReading.{HasReadTo, TakesRecord};
 use csv::{ByteRecord, Reader, ReaderBuilder};
 use std::alloc::{AllocError, Global};
 
-/// Opens a text for reading its records, with any number of fields.
+/// Opens a text for reading its records, each of which may have any number of fields.
 pub(crate) fn open_records(alloc: Global, bytes: &[u8]) -> Reader<&[u8]>
     ensures { HasReadTo bytes.now [] result }
 {
@@ -16,7 +16,7 @@ pub(crate) fn open_records(alloc: Global, bytes: &[u8]) -> Reader<&[u8]>
         .from_reader(alloc, bytes)
 }
 
-/// Reads the next record. Returns false at the end of the text.
+/// Reads the next record into `entry`; returns false at the end of the text.
 pub(crate) fn next_record(
     records: &mut Reader<&[u8]>,
     entry: &mut ByteRecord,

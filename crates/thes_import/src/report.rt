@@ -59,8 +59,8 @@ impl Counts {
 /// The outcomes of rows as lines of text, and their counts.
 #[derive(Debug, Drop)]
 pub struct Report {
-    /// The lines of the rows since the last `clear`, after the heading if it hasn't been cleared; empty if memory to
-    /// read the rows, or for the heading, ran out.
+    /// The heading and the lines of the rows, or only the lines of the rows since the last `clear`.
+    /// The text is empty if memory ran out before the heading was made.
     pub text: Vec<u8>,
     pub counts: Counts,
 }
@@ -87,7 +87,7 @@ impl Report {
         })
     }
 
-    /// Reserves memory for some lines.
+    /// Reserves memory for this number of lines.
     pub(crate) fn make_room(&mut self, lines: usize) -> Result<(), AllocError>
         requires { lines ≤ 1000 }
         ensures text { self.new.text.items ≡ self.old.text.items }
@@ -98,7 +98,7 @@ impl Report {
         self.text.try_reserve(LINE_LIMIT * lines)
     }
 
-    // Appends the line of a row without allocating.
+    // Appends the line of a row and counts the row; allocates nothing.
     fn push(&mut self, outcome: Outcome)
         requires room { vec_len self.old.text + LINE_LIMIT ≤ vec_capacity self.old.text }
         requires fits { row_count self.old.counts + 1 < 2 ^ 64 }
@@ -111,7 +111,8 @@ impl Report {
         self.counts.add(outcome);
     }
 
-    /// Appends the lines of rows, up to the first posting without an answer, without allocating.
+    /// Appends the lines of rows up to the first posting without an answer, and counts these rows;
+    /// allocates nothing.
     pub(crate) fn push_outcomes(&mut self, faults: &[Option<FormFault>], answers: &[Answer])
         requires room { vec_len self.old.text + LINE_LIMIT * length faults.now ≤ vec_capacity
             self.old.text }

@@ -1,4 +1,4 @@
-//! Reading an input to its end.
+//! Reads an input to its end, within a limit.
 ghost use Rattle.std.specs.Prelude.{◌≡◌, ◌≤◌, ◌<◌, length, true, false, IfOk, IfErr};
 ghost use Rattle.thes_base.specs.Pipe.{IsFresh, PaysCalls};
 ghost use Rattle.thes_base.specs.declared.pipe.Pipe.{Pipe};
@@ -45,7 +45,8 @@ fn read_more<R: Read>(
     Ok(count > 0)
 }
 
-/// Reads an input to its end. `TooLong` means that the input exceeds the limit, or that a read was denied.
+/// Reads an input to its end. `TooLong` means that the input exceeds the limit, or that a read was
+/// denied.
 pub(crate) fn read_whole<R: Read>(
     alloc: Global,
     reader: &mut Pipe<R>,

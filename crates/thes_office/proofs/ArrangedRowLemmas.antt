@@ -21,7 +21,7 @@ use Rattle.thes_office.proofs.RisingNumberLemmas.{AreRising, up_of_sorted, up_of
 use Rattle.thes_office.proofs.RowOrderLemmas.{AreOrdered, AreTables, tables_back, verdicts_agree, resources_rise}
 use Rattle.thes_office.proofs.RowOrderLemmas.{outside_rise, postings_rise, moves_rise}
 
--- Tables sorted from two arrangements of the same rows have their rows in the same order.
+-- Sorting two arrangements of the same rows of a table gives the same rows, sorted by number.
 sorted_both : (raw other sorted again : RawTable) → IsArranged raw other → IsSortedCopy raw sorted
     → IsSortedCopy other again → AreOrdered sorted again
 sorted_both None None None None same s t = refl
@@ -63,7 +63,8 @@ both_plain : (raw other sorted again : RawTable) → IsArranged raw other → so
 both_plain raw other sorted again same s t = subst (λ x. IsArranged x again) (sym s)
     (subst (IsArranged raw) (sym t) same)
 
--- Sorting two arrangements of the rows of a store gives the same order in each numbered table.
+-- Sorting two arrangements of the rows of a store gives the same rows, with each numbered table
+-- sorted.
 tables_of_sorted : (raw other sorted again : Raw) → AreArranged raw other → AreSorted raw sorted
     → AreSorted other again → AreTables sorted again
 tables_of_sorted raw other sorted again same s t = record {
@@ -77,7 +78,8 @@ tables_of_sorted raw other sorted again same s t = record {
   move = sorted_both raw.move other.move sorted.move again.move same.move s.move t.move;
 }
 
--- Sorting an arrangement of rows that load restores their order in each numbered table.
+-- If the rows of tables load, sorting an arrangement of them gives the same rows, with each
+-- numbered table sorted.
 tables_of_listed : (t : Tables) (raw sorted : Raw) → IsOpen (cells_of_tables t) t → AreArranged (cells_of_tables t)
     raw → AreSorted raw sorted → AreTables (cells_of_tables t) sorted
 tables_of_listed t raw sorted all same s = record {
@@ -93,7 +95,7 @@ tables_of_listed t raw sorted all same s = record {
   move = sorted_cells _ raw.move sorted.move (moves_rise t.move all.move.1.numbers) same.move s.move;
 }
 
--- Sorting a table arranges its rows.
+-- Sorting only rearranges the rows of each table.
 arranged_of_sorted : (raw sorted : Raw) → AreSorted raw sorted → AreArranged sorted raw
 arranged_of_sorted raw sorted s = record {
   meta = plain raw.meta sorted.meta s.meta;
@@ -109,7 +111,7 @@ arranged_of_sorted raw sorted s = record {
     plain : (raw sorted : RawTable) → sorted ≡ raw → IsArranged sorted raw
     plain raw sorted is = subst (λ x. IsArranged x raw) (sym is) (arranged_itself raw)
 
--- The rows of a legal state load once they are sorted, and encode it.
+-- Once they are sorted, the rows of a legal state load, and encode that state.
 legal_loaded : (base : List ℕ) (s : State) (raw sorted : Raw) → AreRowsOfState base s raw → AreSorted raw sorted
     → (u : Tables) × HasVerdict sorted (Ok u) × (state_of u ≡ s) × (u.base ≡ base)
 legal_loaded base s raw sorted are in_order =
@@ -120,7 +122,7 @@ legal_loaded base s raw sorted are in_order =
     held.0 in
     (r.2.0, subst (HasVerdict sorted) r.2.1 r.1, r.2.2 ∙ held.1, r.2.3 ∙ are.rows.base_is)
 
--- Rows that load once they are sorted encode a legal state.
+-- Rows that load after sorting encode a legal state.
 loaded_legal : (raw sorted : Raw) (t : Tables) → AreSorted raw sorted → HasVerdict sorted (Ok t)
     → AreRowsOfState t.base (state_of t) raw
 loaded_legal raw sorted t in_order loads =

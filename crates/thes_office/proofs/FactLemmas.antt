@@ -124,7 +124,7 @@ rows_read_more rows is_up failed old mid new ns more told last n row t asks one 
       ∙ ap (map (posting_row_at s.histories)) (sym grown);
 }
 
--- The facts of each kind of request that needs some are those of the histories.
+-- For each kind of request that needs facts, the facts queried are those of the histories.
 module _ (hs : List History) (command : Command) where
   pub facts_of_post : (key rec : List ℕ) (concept : ℕ) (facts : Facts) → command ≡ request.Post key rec concept
       → IsRowOfKey key hs facts.known → facts.named_postings.items ≡ [] → facts.standing.items ≡ []

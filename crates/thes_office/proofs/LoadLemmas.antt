@@ -1,4 +1,5 @@
--- Proves that a core built of all rows of the storage is a copy of its tables, and that any fault is their verdict.
+-- Proves that a core built from all rows of the storage is a copy of its tables, and that a fault
+-- other than OutOfMemory and Store is their verdict.
 use Rattle.std.proofs.Common.{◌≡◌, ◌≢◌, ◌⊎◌, sym, subst, ◌∙◌, inl, inr}
 use Rattle.std.specs.Prelude.{Err}
 use Rattle.thes_base.specs.declared.data.Limits.{Limits}
@@ -62,7 +63,7 @@ never_store raw fault
     )) is =
     absurd (cc)
 
--- The fault returned for a verdict is that verdict.
+-- The fault that a load returns is OutOfMemory, Store or the verdict on the rows.
 pub verdict_of_fault : (raw : Raw) (fault told : Fault) → (fault ≢ faults.Store → told ≡ fault)
     → (fault ≡ faults.OutOfMemory) ⊎ HasVerdict raw (Err fault) → (told ≡ faults.OutOfMemory)
     ⊎ ((told ≡ faults.Store) ⊎ HasVerdict raw (Err told))

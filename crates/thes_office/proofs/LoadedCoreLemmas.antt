@@ -1,4 +1,4 @@
--- Proves that a core built of the parts of loaded rows holds the state that they encode.
+-- Proves that a core built from the parts of loaded rows holds the state that the rows encode.
 use Rattle.std.proofs.Common.{◌≡◌, ◌∙◌, sym, ap, subst, List, ℕ, false}
 use Rattle.std.specs.Prelude.{Ok}
 use Rattle.thes_base.specs.Legal.{IsLegalState}
@@ -38,7 +38,7 @@ parts_of_state raw parts t loads names links posting_counts = (
       (loaded_state_legal raw t loads).0,
 )
 
--- A stage that knows rows ends with the parts of a legal state.
+-- A stage that has read rows and ends without a fault has the parts of a legal state.
 pub parts_legal : (read : Stage) (parts : LoadedParts) → IsOfRows read → is_stopped read ≡ false
     → ((raw : Raw) → HasRead read raw → LoadResult raw (Ok parts))
     → (s : State) × ArePartsOf s parts.linked_vocab.vocab parts.linked_vocab.links.graph.links parts.book

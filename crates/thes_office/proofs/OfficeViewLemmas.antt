@@ -1,4 +1,5 @@
--- Proves that each call keeps the invariant of an office, and its effect on the tables.
+-- Proves the effect of each call of an office on the tables, and that the call keeps the invariant
+-- of the office.
 use Rattle.std.proofs.Common.{◌≡◌, ◌⊎◌, ◌++◌, ◌∷◌, [], ℕ, List, Bool, true, false, refl, sym, ap, subst, ◌∙◌, inl}
 use Rattle.std.proofs.Common.{inr, append_assoc, append-nil, take, drop, take-append-drop, length, length-drop, arith}
 use Rattle.std.proofs.Common.{◌<◌, ◌≤◌, length-append}
@@ -47,7 +48,7 @@ never_falls before now (Err fault) (inl (memory, same)) = omega (arith, same)
 never_falls before now (Err fault) (inr (store, inl more)) = omega (arith, more)
 never_falls before now (Err fault) (inr (store, inr (at_most, same))) = omega (arith, same)
 
--- A fault of the store is counted.
+-- After a Store fault, the count of failures isn't zero.
 pub has_failed : (before now : ℕ) (fault : Fault) → IsCounted before now fault → fault ≡ faults.Store → 0 < now
 has_failed before now fault (inl (memory, same)) is = absurd (cc)
 has_failed before now fault (inr (e, inl more)) is = omega (arith, more)
@@ -107,7 +108,8 @@ module _ {K : Type 0} (rows : K → Raw) (is_up : K → Type 0) (failed : K → 
     why = λ e. inl (sym is ∙ e);
   }
 
-  -- A load that fails is out of memory or reports a Store fault, since the tables encode a state.
+  -- A load that fails has run out of memory or reports a Store fault, since the tables encode a
+  -- state.
   pub behaviour_of_load_fault : (old new : K) (copy : core.CoreView) (limits : Limits) (stale : Bool) (fault : Fault)
       (office_view : OfficeView K) → LoadFrame rows is_up failed old new (let x : Result core.CoreView Fault =
       Err fault in x)
@@ -170,7 +172,7 @@ module _ {K : Type 0} (rows : K → Raw) (is_up : K → Type 0) (failed : K → 
       now : stale ≡ false
       now = ap (λ (d : OfficeView K). d.stale) is ∙ fresh
 
--- Runs.
+-- A property of all elements of two joined lists holds for all elements of each.
 
 pub all_parts : {X : Type 0} (P : X → Type 0) (xs ys : List X) → AllByRecursion P (xs ++ ys) → AllByRecursion P xs
     × AllByRecursion P ys

@@ -1,4 +1,5 @@
--- Proves that a permutation of a list has the same elements, the same set, and no duplicates if the list has none.
+-- Proves that a permutation of a list has the same elements, forms the same set, and has no
+-- duplicates if the list has none.
 use Rattle.std.proofs.Common.{◌≡◌, ◌≤◌, ℕ, zero, suc, length, List, [], ◌∷◌, map, refl, sym, ap, ◌∙◌, subst, arith}
 use Rattle.std.proofs.Common.{inl, inr, Bool, cond}
 use Rattle.std.proofs.lemmas.Bool.{cases_Bool}

@@ -1,4 +1,4 @@
--- Proves that queries of postings return what the histories of the state say.
+-- Proves that queries of postings return the histories, rows and totals of the state.
 use Rattle.std.proofs.Common.{◌≡◌, ◌-◌, ℕ, List, [], ◌∷◌, refl, sym, ap, subst, ◌∙◌, inl, map}
 use Rattle.std.specs.Prelude.{Option, None, Some, Result, option_map}
 use Rattle.thes_base.specs.declared.data.History.{History}
@@ -71,7 +71,7 @@ history_of_none raw base s x n is =
     ∙ sym (numbered_map (tables.history_of x.tables.move) x.tables.posting n)
     ∙ ap (λ (l : List History). entry_at l n) hs
 
--- The check of a concept by the copy is that of the state.
+-- The check of a concept gives the same answer in the copy as in the state.
 pub concept_check_of_copy : (raw : Raw) (limits : Limits) (copy : core.CoreView) → IsCopy raw limits copy
     → (concept : ℕ) (answer : Option Refusal) → unless_resource (IsConcept copy.resources) copy.resources concept
     accepted answer → InStateOfTables raw (λ s. unless_concept s concept answer)

@@ -52,7 +52,8 @@ module _ {A : Type 0} (n : A → ℕ) where
   low_bounds_member low (y ∷ xs) x up (inr h) = let r = low_bounds_member (n y) xs x up.1 h in let q = up.0 in
       omega (arith, r, q)
 
-  -- The count of one row in the rows with number `m`: 1 if it has this number, and 0 otherwise.
+  -- What one row adds to the count of rows with number `m`: 1 if it has this number, and 0
+  -- otherwise.
   abbrev hit : ℕ → A → ℕ
   hit m x = cond (eqb (n x) m) 1 0
 

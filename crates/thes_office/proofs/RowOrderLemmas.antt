@@ -104,7 +104,7 @@ numbered_over cells_of Rule rising (Some cells) (Some others) (p, up, there) row
   rule,
 )
 
--- A table without numbers has its typed rows in the order of its untyped ones.
+-- A rearranged table without numbers has its typed rows rearranged in the same way.
 rows_over : {A : Type 0} (cells_of : A → List Cell) (Rule Other : List A → Type 0)
     → ((xs ys : List A) → IsPermutation xs ys → Rule xs → Other ys)
     → (here there : RawTable) → IsArranged here there → (xs : List A) → IsTable (map cells_of) Rule here xs
@@ -182,7 +182,7 @@ hier_over rs K L p xs ys q rule = record {
   legal = subst (AreLegalLinks rs) (sym (links_same K L xs ys p q)) rule.legal;
 }
 
--- Each table has the same rows in both, and numbered tables are sorted in both.
+-- Each table has the same rows in both stores, and numbered tables are sorted in both.
 pub record AreTables (here there : Raw) : Type 0 where
   pub meta : IsArranged here.meta there.meta
   pub resource : AreOrdered here.resource there.resource
@@ -206,7 +206,7 @@ tables_back here there same = record {
   move = ordered_back here.move there.move same.move;
 }
 
--- Each rule of the verdict holds of both sets of tables or of neither.
+-- Each rule of the verdict holds for the tables of both stores, or for neither.
 module _ (here there : Raw) (same : AreTables here there) where
   newer : IsNewer here.meta → IsNewer there.meta
   newer = version_over (λ version. suc 2 ≤ version) here.meta there.meta same.meta
@@ -251,7 +251,7 @@ module _ (here there : Raw) (same : AreTables here there) where
   moves rs ps = numbered_over (map move_cells) (MoveRule rs ps) (λ rows rule. moves_rise rows rule.numbers) here.move
       there.move same.move
 
--- Tables that pass the last check in both orders encode the same state.
+-- Tables that differ only in the order of labels, links and rows of `hier` encode the same state.
 tables_agree : (base : List ℕ) (rs : List Resource) (outside : List (ℕ × List ℕ)) (labels marks : List Label)
     (K L : List Link) (xs ys : List HierRow) (ps : List PostingRow) (ms : List MoveRow)
     → IsPermutation labels marks → IsPermutation K L → IsPermutation xs ys
@@ -278,7 +278,7 @@ tables_agree base rs outside labels marks K L xs ys ps ms p q r = record {
       histories = (state_of told).histories;
     }
 
--- The verdicts on both agree.
+-- The verdicts on two stores whose tables satisfy `AreTables` agree.
 pub verdicts_agree : (here there : Raw) → AreTables here there → VerdictsAgree (HasVerdict here) (HasVerdict there)
 verdicts_agree here there same =
     let back = tables_back here there same in

@@ -1,4 +1,5 @@
--- Proves that rows that encode a legal state load, encode no other state, and encode the next one after its changes.
+-- Proves that the rows of a legal state load and encode no other state, and that the changes to a
+-- next state make them the rows of that state.
 use Rattle.std.proofs.Common.{◌≡◌, ℕ, List, sym, ap, subst, ◌∙◌}
 use Rattle.std.specs.Prelude.{Ok, Err}
 use Rattle.thes_base.specs.declared.fault.Fault.{Fault}
@@ -46,7 +47,7 @@ state_is_unique raw base other s t x y =
           ∙ (held_loads other t y.tables y.legal y.holds).1,
     )
 
--- Tables with these cells encode the state.
+-- If the rows encode a state and are the cells of some tables, these tables hold the state.
 pub listed_tables_hold_state : (raw : Raw) (base : List ℕ) (s : State) (t : Tables) → TablesOfState raw base s → raw
     ≡ cells_of_tables t → IsRowsOf base s t
 listed_tables_hold_state raw base s t x is = subst (IsRowsOf base s) (listed_one x.tables t (sym x.rows ∙ is)) x.holds

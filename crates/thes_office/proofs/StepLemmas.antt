@@ -1,4 +1,5 @@
--- Proves that a request takes the tables of a state, and a copy of them, to those of the machine's next state.
+-- Proves that a performed request leads from tables that encode a state, and a copy of them, to
+-- tables and a copy of the machine's next state.
 use Rattle.std.proofs.Common.{◌≡◌, List, false, refl, sym, ap, subst, ◌∙◌}
 use Rattle.std.specs.Prelude.{Result, Ok, Err}
 use Rattle.thes_base.specs.declared.data.Limits.{Limits}
@@ -101,7 +102,7 @@ pub copies_over : (old new : Raw) (limits : Limits) (copy : CoreView) → new �
     → IsCopy new limits copy
 copies_over old new limits copy same is = subst (λ (r : Raw). IsCopy r limits copy) (sym same) is
 
--- A copy is one with the limits of its own setting.
+-- A copy of the rows is also a copy with the limits of its own setting.
 pub copies_own : (raw : Raw) (limits : Limits) (copy : CoreView) → IsCopy raw limits copy
     → IsCopy raw copy.setting.limits copy
 copies_own raw limits copy is = record { limits_are = refl; state = is.state; holds = is.holds; shows = is.shows }

@@ -1,4 +1,5 @@
--- Proves that a loader that has received all rows of a store, table by table, knows them.
+-- Proves that a loader that has accepted all rows of a store, table by table, has received exactly
+-- these.
 use Rattle.std.proofs.Common.{◌≡◌, ◌≤◌, List, [], ◌∷◌, ◌++◌, refl, sym, ◌∙◌, subst, arith}
 use Rattle.std.specs.Prelude.{Result}
 use Rattle.thes_base.specs.declared.data.Limits.{Limits}
@@ -28,7 +29,7 @@ later_in_turn : (name next : Table) (l : Loader) → table_no name ≤ table_no 
     → IsInTurn next l.stage
 later_in_turn name next l order turn = omega (arith, order, turn)
 
--- A loader that has received all rows of a store knows them.
+-- A loader that has accepted all rows of a store has received exactly these.
 pub loader_reads_all : LoaderReadsStore
 loader_reads_all limits raw old new begun takes =
     let a = split_takes FeedResult (sink_rows_of_table table.Meta raw.meta ++ sink_rows_of_table table.Resource
@@ -78,7 +79,7 @@ loader_reads_all limits raw old new begun takes =
     h7.turn) h7.knows a.2 in
     (h8.knows, h8.same ∙ h7.same ∙ h6.same ∙ h5.same ∙ h4.same ∙ h3.same ∙ h2.same ∙ h1.same ∙ begun.limits_are)
 
--- A loader that receives each table in order knows the rows of all of them.
+-- A loader that has accepted the rows of each table in turn has received the rows of all tables.
 pub reads_each_table : (limits : Limits) (raw : Raw) (l0 l1 l2 l3 l4 l5 l6 l7 l8 : Loader) → IsBegun limits l0
     → yields.SinkAcceptsAll FeedResult l0 (sink_rows_of_table table.Meta raw.meta) l1
     → yields.SinkAcceptsAll FeedResult l1 (sink_rows_of_table table.Resource raw.resource) l2

@@ -1,4 +1,4 @@
--- Proves what a loader knows once it has received all rows of one table.
+-- Proves which rows a loader has received once it has accepted all rows of one table.
 use Rattle.std.proofs.Common.{◌≡◌, ◌≤◌, List, [], ◌∷◌, ◌++◌, map, refl, sym, ap, ◌∙◌, subst, arith, append_assoc}
 use Rattle.std.specs.Prelude.{None, Some}
 use Rattle.std.proofs.lemmas.List.{append-nil}
@@ -45,14 +45,14 @@ lost_rows table.Hier raw rows = refl
 lost_rows table.Posting raw rows = refl
 lost_rows table.Move raw rows = refl
 
--- The loader knows all rows of the table.
+-- The loader has received all rows of the table.
 pub record HasReadTable (name : Table) (raw : Raw) (old new : Loader) : Type 0 where
   pub turn : IsInTurn name new.stage
   pub knows : KnowsRows new raw
   pub same : new.limits ≡ old.limits
 
 module _ (name : Table) (raw : Raw) where
-  -- A loader that receives the rest of the rows of a table knows the table.
+  -- A loader that has accepted the rest of the rows of a table has received all rows of the table.
   rows_taken : (done rows : List (List Cell)) (old new : Loader) → IsInTurn name old.stage
       → KnowsRows old (with_rows name (Some done) raw)
       → yields.SinkAcceptsAll FeedResult old (map (λ row. (name, Some row)) rows) new

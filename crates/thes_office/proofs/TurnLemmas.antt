@@ -1,4 +1,4 @@
--- Proves the stage after a row or report of a table, in the table's turn or after it.
+-- Proves which stage follows a row or report of a table, in the table's turn or after it.
 use Rattle.std.proofs.Common.{◌≡◌, ◌↔◌, ◌<◌, ◌≤◌, ◌+◌, ◌-◌, ◌∙◌, ℕ, zero, suc, Bool, false, true≢false, List, refl}
 use Rattle.std.proofs.Common.{sym, subst, arith}
 use Rattle.std.specs.Prelude.{Option, None, Some, IsTrue}
@@ -55,6 +55,6 @@ not_stopped (stage.Hier linked_vocab) never = refl
 not_stopped (stage.Posting linked_vocab load) never = refl
 not_stopped (stage.Move linked_vocab placed load) never = refl
 
--- A stopped stage needn't know any rows.
+-- A stopped stage satisfies the invariant of stages, whatever rows were read.
 pub stopped_of_rows : (fault : Fault) (at : Table) → IsOfRows (stage.Stopped fault at)
 stopped_of_rows fault at = λ unset. absurd (true≢false unset)

@@ -31,8 +31,9 @@ with_news table (Some cells) raw = raw_with_row table cells raw
 abbrev pub IsInTurn : Table → Stage → Type 0
 IsInTurn table stage = table_no (stage_table stage) ≤ table_no table
 
--- The stage after a row or report of a table: the stage keeps it if the table is the current one or a later one, and
--- stops with the fault of that table if the table is past.
+-- The stage after a row or report of a table. If the table is the current one or a later one, the
+-- stage has read the row or report. If the table is past, the stage has stopped with `BadStore` of
+-- that table.
 pub record NextStage (name : Table) (news : Option (List Cell)) (old new : Stage) : Type 0 where
   pub table_is : IsInTurn name old → stage_table new ≡ name
   pub reads : IsInTurn name old → (raw : Raw) → HasRead old raw → HasRead new (with_news name news raw)

@@ -6,8 +6,8 @@ use Rattle.thes_store.specs.Sinks.{SinkAcceptsAll, sink_rows}
 use Rattle.thes_office.specs.declared.loader.Loader.{Loader}
 use Rattle.thes_office.specs.LoaderFeed.{IsBegun, KnowsRows, FeedResult}
 
--- A loader that begins without rows and accepts all rows of a store has received exactly these, and has the same
--- limits.
+-- A loader that begins without rows and accepts all rows of a store has received exactly these
+-- rows, and has its limits unchanged.
 abbrev pub LoaderReadsStore : Type 0
 LoaderReadsStore =
     (limits : Limits) (raw : Raw) (old new : Loader) → IsBegun limits old → SinkAcceptsAll FeedResult old

@@ -1,4 +1,4 @@
--- A loader as contracts see it.
+-- The view of a loader in contracts, and the invariant of its stage.
 use Rattle.std.specs.Prelude.{◌≡◌, false}
 use Rattle.thes_base.specs.declared.data.Limits.{Limits}
 use Rattle.thes_tables.specs.Cells.{Raw}
@@ -10,6 +10,6 @@ pub record LoaderView : Type 0 where
   pub stage : Stage
   pub limits : Limits
 
--- The stage is that after reading some rows, perhaps none, unless it has stopped with a fault.
+-- Unless the stage has stopped with a fault, it has read some rows, perhaps none.
 abbrev pub IsOfRows : Stage → Type 0
 IsOfRows stage = is_stopped stage ≡ false → (raw : Raw) × HasRead stage raw

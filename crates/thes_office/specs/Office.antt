@@ -37,8 +37,8 @@ pub record IsCopy (raw : Raw) (limits : Limits) (copy : core.CoreView) : Type 0 
   pub holds : IsViewOf copy state
   pub shows : TablesOfState raw copy.setting.base state
 
--- While the storage is up, its tables encode a state, which the copy holds unless it is stale; it is stale only after
--- running out of memory or a failure of the storage.
+-- While the storage is up, its tables encode a state, which the copy holds unless it is stale. The
+-- copy is stale only after running out of memory or a failure of the storage.
 pub record IsConsistent {K : Type 0} (rows : K → Raw) (is_up : K → Type 0) (failed : K → ℕ)
     (keeper : K) (copy : core.CoreView) (limits : Limits) (stale : Bool) : Type 0 where
   pub few : AreLimits limits
@@ -47,8 +47,9 @@ pub record IsConsistent {K : Type 0} (rows : K → Raw) (is_up : K → Type 0) (
   pub copies : stale ≡ false → is_up keeper → IsCopy (rows keeper) limits copy
   pub why : stale ≡ true → (copy.spent ≡ true) ⊎ (0 < failed keeper)
 
--- The faults of every call of an office, while the storage is up: OutOfMemory, or Store, which leaves the copy stale
--- and has been counted as a failure of the storage, unless the count is at its maximum.
+-- The faults of every call of an office. While the storage is up, a fault is OutOfMemory or Store.
+-- Store leaves the copy stale, and is counted as a failure of the storage unless the count is at
+-- its maximum.
 pub record FaultBehaviour {K T : Type 0} (rows : K → Raw) (is_up : K → Type 0) (failed : K → ℕ)
     (old new : OfficeView K) (result : Result T Fault) : Type 0 where
   pub limits : new.limits ≡ old.limits
@@ -70,7 +71,8 @@ ChangesNothing (reply.No refusal) = Unit {0}
 ChangesNothing (reply.Again n) = Unit {0}
 ChangesNothing _ = ⊥
 
--- The tables encode a state before the request, and after it the state after a step of the machine with this answer.
+-- The tables encode a state before the request; after it, they encode the state that a step of the
+-- machine with this answer leads to.
 pub record TablesAfterStep (limits : Limits) (old : Raw) (command : Command) (answer : Answer) (new : Raw) : Type
     0 where
   pub base : List ℕ
@@ -81,9 +83,10 @@ pub record TablesAfterStep (limits : Limits) (old : Raw) (command : Command) (an
   pub shows : TablesOfState new base state_after
   pub same : ChangesNothing answer → new ≡ old
 
--- The tables encode a state before the run, and after it the state after a run of the machine with these answers, which
--- is consistent: each posting that isn't withdrawn is assigned to exactly one live concept, the counts add up, and the
--- triples meet the conditions of SKOS.
+-- The tables encode a state before the run; after it, they encode the state that a run of the
+-- machine with these answers leads to. That state is consistent: each posting that isn't withdrawn
+-- is assigned to exactly one live concept, the counts add up, and the triples meet the conditions
+-- of SKOS.
 pub record TablesAfterRun (limits : Limits) (old : Raw) (commands : List Command) (answers : List Answer)
     (new : Raw) : Type 0 where
   pub base : List ℕ

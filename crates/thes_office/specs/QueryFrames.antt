@@ -1,4 +1,4 @@
--- The results of queries of the storage.
+-- The effects and results of queries of the storage.
 use Rattle.std.specs.Prelude.{◌≡◌, ◌⊎◌, ◌<◌, ◌≤◌, ◌++◌, ℕ, List, [], ◌∷◌, map, Option, Result, Ok, Err, OnOk, IfErr}
 use Rattle.thes_base.specs.declared.fault.Fault.{Fault}
 use Rattle.thes_base.specs.declared.fault.Fault.TheVariants as faults
@@ -13,15 +13,16 @@ use Rattle.thes_core.specs.declared.facts.Facts.{Facts}
 use Rattle.thes_store.specs.Causes.{HasCause, max_failures}
 use Rattle.thes_office.specs.TablesOfState.{TablesOfState}
 
--- The frame of every query: the tables are unchanged, and the count of failures agrees with the result.
+-- The effect of every query: the tables are unchanged, and the count of failures agrees with the
+-- result.
 pub record QueryFrame {K T : Type 0} (rows : K → Raw) (is_up : K → Type 0) (failed : K → ℕ) (old new : K)
     (result : Result T Fault) : Type 0 where
   pub same : is_up new → rows new ≡ rows old
   pub was : is_up new → is_up old
   pub cause : HasCause (failed old) (failed new) result
 
--- The frame of a load: the tables are unchanged, and a Store fault has been counted as a failure of the storage, unless
--- the count is at its maximum.
+-- The effect of a load: the tables are unchanged, and a Store fault is counted as a failure of the
+-- storage, unless the count is at its maximum.
 pub record LoadFrame {K T : Type 0} (rows : K → Raw) (is_up : K → Type 0) (failed : K → ℕ)
     (old new : K) (result : Result T Fault) : Type 0 where
   pub same : is_up new → rows new ≡ rows old

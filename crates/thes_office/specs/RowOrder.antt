@@ -17,7 +17,7 @@ IsArranged None other = other ≡ None
 IsArranged (Some rows) None = ⊥
 IsArranged (Some rows) (Some other) = IsPermutation rows other
 
--- Each table has the same rows in both, in any order.
+-- Each table has the same rows in both stores, in any order.
 pub record AreArranged (raw other : Raw) : Type 0 where
   pub meta : IsArranged raw.meta other.meta
   pub resource : IsArranged raw.resource other.resource

@@ -12,8 +12,9 @@ use thes_core::Facts;
 use thes_store::keeper::{Keeper, Posting};
 use thes_tables::rows::PostingRow;
 
-/// Queries the storage for the facts about postings that the check of the request needs: the posting with the key of a
-/// post, the postings that a withdrawal or a split names, or those that a merge moves; none for another request.
+/// Queries the storage for the facts about postings that the check of the request needs. A post
+/// needs the posting with its key. A withdrawal or a split needs the postings that it names, and a
+/// merge the numbers of the postings that it moves. Any other request needs none.
 pub fn facts_of<K: Keeper>(alloc: Global, keeper: &mut K, command: &Command) -> Result<Facts, Fault>
     ensures in_tables { IfOk result (λ facts. K.is_up keeper.new
         → FactsInTables (K.rows keeper.old) command.now facts) }
@@ -89,7 +90,8 @@ fn posting_of_number<K: Keeper>(
     }
 }
 
-// Looks up the rows of the postings with these numbers, in that order; None for a number without a posting.
+// Looks up the rows of the postings with these numbers, in that order; None for a number without a
+// posting.
 fn postings_of_numbers<K: Keeper>(
     alloc: Global,
     keeper: &mut K,

@@ -11,7 +11,8 @@ use thes_base::fault::{Fault, Table};
 use thes_core::Core;
 use thes_store::keeper::Keeper;
 
-/// Builds a core from the tables of the storage. Any fault but OutOfMemory and Store is the verdict on their rows.
+/// Builds a core from the tables of the storage. Any fault but OutOfMemory and Store is the verdict
+/// on the rows of the tables.
 pub fn load<K: Keeper>(alloc: Global, keeper: &mut K, limits: Limits) -> Result<Core, Fault>
     ensures unspent { IfOk result (λ core. core.spent ≡ false) }
     ensures copies { IfOk result (λ core. K.is_up keeper.new
@@ -34,7 +35,8 @@ pub fn load<K: Keeper>(alloc: Global, keeper: &mut K, limits: Limits) -> Result<
     }
 }
 
-// Returns the fault that is the verdict on rows. Store, which only the storage reports, becomes BadStore of meta.
+// Returns a loader's fault unchanged. It is never Store, which only the storage reports and which
+// would become BadStore of meta.
 fn verdict(fault: Fault) -> Fault
     ensures same { fault ≢ Fault.Store → result ≡ fault }
     ensures never { result ≢ Fault.Store }

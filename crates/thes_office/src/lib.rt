@@ -1,4 +1,5 @@
-//! Requests and queries over a store: its tables, and a copy in memory of all but the postings.
+//! Performs requests and answers queries over the tables of a store, with a copy in memory of all
+//! but the postings.
 #![tactic(auto)]
 
 mod facts;

@@ -18,8 +18,9 @@ use thes_load_rows::stage::Stage;
 use thes_store::sink::RowSink;
 use thes_tables::cells::Cell;
 
-/// A sink that receives the rows of a store one by one, and builds a core from them: vocabulary, links and counts, but
-/// neither postings nor moves. If memory runs out, the loader has stopped with that fault.
+/// A sink that receives the rows of a store one by one, and builds a core from them: vocabulary,
+/// links and counts, but neither postings nor moves. If memory runs out, the loader stops with that
+/// fault.
 #[derive(Drop)]
 pub struct Loader {
     alloc: Global,
@@ -54,7 +55,8 @@ impl Loader {
         }
     }
 
-    // Moves the stage out, and leaves a stage stopped by OutOfMemory, which stays if the next one can't be allocated.
+    // Moves the stage out, and leaves a stage stopped by OutOfMemory, which remains if the next
+    // stage can't be allocated.
     fn take_stage(&mut self) -> Stage
         ensures taken { result ≡ self.old.stage }
         ensures left { self.new
@@ -75,7 +77,7 @@ impl Loader {
         drop(mem::replace(&mut self.stage, stage));
     }
 
-    /// Builds a core from the rows received, or returns the fault that is the verdict on them.
+    /// Builds a core from the rows received; any fault but OutOfMemory is the verdict on them.
     pub fn finish(self) -> Result<Core, Fault>
         ensures ok { IfOk result (λ core. (raw : Raw) → KnowsRows self raw → IsLoaded raw core) }
         ensures limits { IfOk result (λ core. core.setting.limits ≡ self.limits) }
@@ -104,8 +106,8 @@ impl Loader {
     }
 }
 
-// Returns the stopped stage after a row of this table, if the table comes too late or a fault has already stopped the
-// load, or else None.
+// Returns the stopped stage after a row or report of this table, if the table is past or a fault
+// has already stopped the load; else None.
 fn stage_after_stop(stage: &Stage, table: Table) -> Option<Stage>
     ensures { MatchOption result
         (IsInTurn table stage.now × (is_stopped stage.now ≡ false))
@@ -134,7 +136,7 @@ fn stage_after_row(
 {
     match stage_after_stop(&stage, table) {
         Some(stage_after_stop) => {
-            // Dropped by a call, or the proof would have to drop each of its variants.
+            // The explicit drop spares the proof a case for each variant of the stage.
             drop(stage);
             Ok(stage_after_stop)
         }

@@ -1,4 +1,4 @@
-//! A sink for the queries of postings by concept.
+//! A sink for rows of postings, which collects their numbers.
 ghost use Rattle.std.specs.Prelude.{◌≡◌, []};
 
 use std::alloc::Global;

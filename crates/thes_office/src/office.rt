@@ -49,8 +49,8 @@ impl<K: Keeper> Office<K> {
     ghost use Rattle.std.specs.Borrow.{sem};
     ghost use Rattle.thes_office.specs.Office.{ReadyResult};
 
-    /// Opens an office over a storage whose tables encode a state. A fault comes with the storage; any but OutOfMemory
-    /// and Store is the verdict on the rows.
+    /// Opens an office over a storage whose tables encode a state. Returns a fault with the
+    /// storage; any but OutOfMemory and Store is the verdict on the rows.
     pub fn start(alloc: Global, mut keeper: K, limits: Limits) -> Result<Office<K>, (Fault, K)>
         ensures limits { IfOk result (λ o. o.limits ≡ limits) }
         ensures fresh { IfOk result (λ o. o.stale ≡ false) }
@@ -76,8 +76,8 @@ impl<K: Keeper> Office<K> {
         }
     }
 
-    /// Returns whether the copy may differ from the tables, so that the next call reloads it. The tables are consistent
-    /// either way.
+    /// Returns whether the copy may differ from the tables, so that the next call reloads it. The
+    /// tables are consistent either way.
     pub fn is_stale(&self) -> bool
         ensures value { result ≡ self.now.stale }
         ensures shows { K.is_up self.now.keeper
@@ -118,8 +118,8 @@ impl<K: Keeper> Office<K> {
         Ok(())
     }
 
-    // Performs a request with a copy that isn't stale. A `Store` fault makes the copy stale, and so does running out of
-    // memory after the commit.
+    // Performs a request with a copy that isn't stale. A `Store` fault makes the copy stale, and so
+    // does running out of memory after the commit.
     fn serve(&mut self, command: &Command) -> Result<Answer, Fault>
         requires { self.old.stale ≡ false }
         ensures fault_behaviour { FaultBehaviour K.rows K.is_up K.failed self.old self.new result }
@@ -144,9 +144,9 @@ impl<K: Keeper> Office<K> {
         }
     }
 
-    /// Performs a request and returns its answer: a refusal if the request breaks a rule. On a fault the tables are
-    /// unchanged. A committed request is always answered, even if memory for the copy runs out, which makes the copy
-    /// stale.
+    /// Performs a request and returns its answer: a refusal if the request breaks a rule. On a
+    /// fault the tables are unchanged. A committed request is always answered, even if memory for
+    /// the copy runs out, which makes the copy stale.
     pub fn perform(&mut self, command: &Command) -> Result<Answer, Fault>
         ensures fault_behaviour { FaultBehaviour K.rows K.is_up K.failed self.old self.new result }
         ensures performed { PerformResult K.rows K.is_up self.old command.now result self.new }
@@ -155,10 +155,11 @@ impl<K: Keeper> Office<K> {
         self.serve(command)
     }
 
-    /// Performs requests in order, and appends their answers. A fault stops the run; the requests answered before it
-    /// stay performed. The tables after the run are consistent: each posting accepted and not withdrawn is assigned to
-    /// exactly one live concept, to which its moves lead from its first concept; the counts of live concepts add up to
-    /// the number of postings accepted minus those withdrawn; and the triples meet the conditions of SKOS.
+    /// Performs requests in order, and appends their answers. A fault stops the run; the requests
+    /// answered before it stay performed. The tables after the run are consistent. Each posting
+    /// accepted and not withdrawn is assigned to exactly one live concept, to which its moves lead
+    /// from its first concept. The counts of live concepts add up to the number of such postings.
+    /// The triples meet the conditions of SKOS.
     pub fn run(&mut self, commands: &[Command], answers: &mut Vec<Answer>) -> Result<(), Fault>
         ensures fault_behaviour { FaultBehaviour K.rows K.is_up K.failed self.old self.new result }
         ensures ran { RunResult K.rows K.is_up self.old commands.now

@@ -16,8 +16,8 @@ use thes_core::Core;
 use thes_store::keeper::{Keeper, Posting};
 use thes_store::sink::PostingSink;
 
-// Returns the history of the posting with this number, from its row and its moves in the tables; None if no posting has
-// the number.
+// Returns the history of the posting with this number, from its row and its moves in the tables;
+// None if no posting has the number.
 fn history_at<K: Keeper>(keeper: &mut K, number: PostNo) -> Result<Option<History>, Fault>
     ensures in_tables { IfOk result (λ told. K.is_up keeper.new
         → HistoryInTables (K.rows keeper.old) number told) }
@@ -53,8 +53,8 @@ fn check_concept(core: &Core, concept: ResNo) -> Option<Refusal>
     }
 }
 
-// Yields the rows of the postings assigned to a concept to a sink, or returns the refusal of a number that isn't a
-// concept's.
+// Yields the rows of the postings assigned to a concept, in the order of their numbers, to a sink.
+// Returns the refusal of a number that isn't a concept's.
 fn list<K: Keeper, S: PostingSink>(
     keeper: &mut K,
     core: &Core,
@@ -78,8 +78,8 @@ fn list<K: Keeper, S: PostingSink>(
 }
 
 impl<K: Keeper> Office<K> {
-    /// Returns the numbers of postings accepted, withdrawn, and accepted but not withdrawn, from the counts of the
-    /// copy.
+    /// Returns the numbers of postings accepted, withdrawn, and accepted but not withdrawn, from
+    /// the counts of the copy.
     pub fn totals(&mut self) -> Result<Totals, Fault>
         ensures fault_behaviour { FaultBehaviour K.rows K.is_up K.failed self.old self.new result }
         ensures same { SameTables K.rows K.is_up self.old self.new }
@@ -92,8 +92,8 @@ impl<K: Keeper> Office<K> {
         Ok(self.core.totals())
     }
 
-    /// Looks up the history of a posting in the tables: first concept, moves and withdrawal; None if no posting has the
-    /// number.
+    /// Looks up the history of a posting in the tables: first concept, moves and withdrawal; None
+    /// if no posting has the number.
     pub fn posting(&mut self, number: PostNo) -> Result<Option<History>, Fault>
         ensures fault_behaviour { FaultBehaviour K.rows K.is_up K.failed self.old self.new result }
         ensures same { SameTables K.rows K.is_up self.old self.new }
@@ -110,8 +110,9 @@ impl<K: Keeper> Office<K> {
         }
     }
 
-    /// Yields the postings assigned to a concept to a sink, in the order of their numbers, or returns the refusal of a
-    /// number that isn't a concept's. On a fault the sink has received a prefix of them.
+    /// Yields to a sink the postings assigned to a concept, in the order of their numbers, or
+    /// returns the refusal of a number that isn't a concept's. On a fault the sink has received a
+    /// prefix of these postings.
     pub fn postings<S: PostingSink>(
         &mut self,
         concept: ResNo,

@@ -42,8 +42,8 @@ impl CellRow {
         CellRow { cells }
     }
 
-    // Returns the number in the first cell, by which numbered tables are sorted, or 0 if that cell isn't a natural
-    // number.
+    // Returns the number in the first cell, by which numbered tables are sorted, or 0 if that cell
+    // isn't a natural number.
     fn number(&self) -> u64
         ensures { result ≡ first_number self.now }
     {
@@ -65,7 +65,8 @@ impl AsCells for CellRow {
     }
 }
 
-/// The rows of the eight tables of a store, in any order within a table; None for a table that can't be queried.
+/// The rows of the eight tables of a store, in any order within a table; None for a table that
+/// can't be queried.
 #[derive(Debug, Drop)]
 pub struct CellRows {
     pub meta: Option<Vec<CellRow>>,
@@ -78,7 +79,8 @@ pub struct CellRows {
     pub steps: Option<Vec<CellRow>>,
 }
 
-// Sorts the rows of a table by their first cell; a table that can't be queried stays so.
+// Sorts the rows of a table by the number in their first cell; leaves a table that can't be queried
+// unchanged.
 fn sort_table(table: &mut Option<Vec<CellRow>>) -> Result<(), AllocError>
     ensures { OnOk result (IsSortedCopy (table_of table.old) (table_of table.new)) }
 {
@@ -111,7 +113,8 @@ fn feed_table(
 }
 
 impl CellRows {
-    // Sorts the rows of the tables numbered in their first column: resource, outside, posting and move.
+    // Sorts the rows of the tables numbered in their first column: resource, outside, posting and
+    // move.
     fn sort(&mut self) -> Result<(), AllocError>
         ensures { OnOk result (AreSorted (raw_of self.old) (raw_of self.new)) }
     {
@@ -140,8 +143,9 @@ fn read_rows(alloc: Global, rows: &CellRows, limits: Limits) -> Result<Loader, F
     Ok(loader)
 }
 
-/// Builds a core from lists of rows, or returns the fault that is the verdict on them. Sorts numbered tables first, so
-/// the result doesn't depend on the order of the lists. Only tests call it.
+/// Builds a core from lists of rows; any fault but OutOfMemory is the verdict on them. Sorts
+/// numbered tables first, so the result doesn't depend on the order of rows within a list. Only
+/// tests call it.
 pub fn from_rows(alloc: Global, rows: CellRows, limits: Limits) -> Result<Core, Fault>
     ensures ok { IfOk result (λ core. (sorted : Raw) × AreSorted (raw_of rows) sorted
         × IsLoaded sorted core) }

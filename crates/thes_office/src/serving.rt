@@ -10,9 +10,9 @@ use thes_base::request::{Answer, Command};
 use thes_core::{Core, Facts, Verdict};
 use thes_store::keeper::Keeper;
 
-/// Decides a request and, if it is accepted, commits its changes to the tables and applies it to the core, which holds
-/// their state. A committed request is always answered; if memory for the core runs out after the commit, the core is
-/// unusable until reloaded.
+/// Decides a request and, if it is accepted, commits its changes to the tables and applies it to
+/// the core, which holds the state of the tables. A committed request is always answered; if memory
+/// for the core runs out after the commit, the core is unusable until reloaded.
 pub fn perform_at<K: Keeper>(
     keeper: &mut K,
     core: &mut Core,

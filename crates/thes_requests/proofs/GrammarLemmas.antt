@@ -1,4 +1,5 @@
--- Proves one step of the JSON grammar's loops over items and members, with the conversion to data.
+-- Proves one step of the loops of the JSON grammar over items and over members, with the conversion
+-- to data.
 use Rattle.std.proofs.Common.{◌≡◌, ℕ, zero, suc, ◌-◌, ◌<◌, ◌≤◌, List, length, Option, Some, None, option_map}
 use Rattle.std.proofs.Common.{option_and_then, refl, ap, ◌∙◌}
 use Rattle.json.specs.Token.{Token}

@@ -18,7 +18,7 @@ has_newline-append (x ∷ raw) run h k = elim (x == 10) as (λ t. cond t true (h
     → cond t true (has_newline (raw ++ run)) ≡ false) [ true ↦ λ e. e | false ↦ λ e. has_newline-append raw run e k ]
     h
 
--- There is no line feed in a prefix if none of its bytes is one.
+-- A prefix has no line feed if none of its bytes is one.
 pub no_newline : (bytes : List ℕ) (count : ℕ) → count ≤ length bytes
     → ((k : ℕ) → k < count → (slice_index bytes k == 10) ≡ false) → has_newline (take count bytes) ≡ false
 no_newline bytes zero within each = refl
@@ -26,7 +26,8 @@ no_newline [] (suc count) within each = absurd (omega arith)
 no_newline (x ∷ bytes) (suc count) within each =
     rw (each 0 (omega arith)) (no_newline bytes count (omega arith) (λ k below. each (suc k) (omega arith)))
 
--- There is no line feed before the first one, and none at all if a search finds none.
+-- The bytes before the first line feed have none; if a search finds none, all bytes searched have
+-- none.
 pub first_line : (bytes : List ℕ) (most : ℕ) (place : Option ℕ) → most ≤ length bytes → IsFirstByte (is_byte 10)
     (take most bytes) place → has_newline (take (unwrap_or place most) bytes) ≡ false
 first_line bytes most place within first = go place first where
@@ -43,7 +44,7 @@ first_line bytes most place within first = go place first where
   go (Some k) found = no_newline bytes k (omega (arith, length_is, found.0.high))
       (λ j below. other j (omega (arith, length_is, found.0.high)) (found.0.before j (omega arith) below))
 
--- The buffer has the rest of its bytes after `count` of them are consumed.
+-- After `count` bytes are consumed, the buffer holds the bytes after them.
 pub buffer_after_consume : (at filled count : ℕ) (buffer : List ℕ) → count
     ≤ length (take (filled - at) (drop at buffer)) → take (filled - (at + count)) (drop (at + count) buffer)
     ≡ drop count (take (filled - at) (drop at buffer))

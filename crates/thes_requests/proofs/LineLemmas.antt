@@ -58,7 +58,7 @@ whole_last [] h n = absurd (n refl)
 whole_last (x ∷ raw) h n = let some : raw_lines_of ((x ∷ raw) ∷ []) ≡ (x ∷ raw) ∷ [] = search rules in
     rw (split_last (x ∷ raw) h) some
 
--- The bytes of one line are one line.
+-- The bytes of one line split into that line alone.
 line_lines : (raw : List ℕ) (ended : Bool) → has_newline raw ≡ false → (ended ≡ true → raw ≢ [])
     → lines (line_bytes raw ended) ≡ line_content raw ended ∷ []
 line_lines raw true h some = lines_last raw h (some refl)

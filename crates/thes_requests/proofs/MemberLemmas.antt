@@ -63,7 +63,7 @@ pub all_numbers-one : (ds : List Data) (d : Data) (ns : List Num) (n : Num) → 
     → as_number d ≡ Some n → all_numbers (items_of (ds ++ d ∷ [])) ≡ Some (ns ++ n ∷ [])
 all_numbers-one ds d ns n e f = rw (all_numbers-append ds (d ∷ []), e, f) refl
 
--- A value that isn't a number makes its array no array of numbers.
+-- An array with a value that isn't a number isn't read as an array of numbers.
 pub all_numbers-none : (ds : List Data) (d : Data) (es : List Data) (ns : List Num) → all_numbers (items_of ds)
     ≡ Some ns → as_number d ≡ None → all_numbers (items_of (ds ++ d ∷ es)) ≡ None
 all_numbers-none ds d es ns e f = rw (all_numbers-append ds (d ∷ es), e, f) refl
@@ -74,7 +74,7 @@ split_at_index : {A : Type 0} (xs : List A) (i : ℕ) (x : A) → i < length xs 
 split_at_index xs i x h e = sym (take-append-drop i xs) ∙ ap (λ r. take i xs ++ r)
     (drop-cons xs i x h ∙ ap (λ y. y ∷ drop (suc i) xs) (sym e))
 
--- A number read extends the list, if the value at the index is a number.
+-- If the value at the index is a number, it extends the list of numbers read before it.
 pub numbers-step : (values : List Value) (i : ℕ) (v : Value) (ns : List Num) (n : Num) → i < length values → v
     ≡ slice_index_or values i v
     → all_numbers (items_view (take i values)) ≡ Some ns → as_number (view v) ≡ Some n

@@ -1,4 +1,5 @@
--- Proves that reading members one by one, and joining them, is reading a row of the table.
+-- Proves that reading members one by one, and joining them, has the outcome of their row in the
+-- table of requests.
 use Rattle.std.proofs.Common.{◌≡◌, ◌≢◌, ◌∙◌, refl, sym, subst, ap, inl, inr, cond, ℕ, Bool, true, false, Option, None}
 use Rattle.std.proofs.Common.{Some}
 use Rattle.std.proofs.Common.{Result, Ok, Err, List, option_and_then}
@@ -221,12 +222,12 @@ bind_same (reads x) f g h = h x
 bind_same (fails e) f g h = refl
 bind_same (unless rule e rest) f g h = ap (unless rule e) (bind_same rest f g h)
 
--- Reading a pair and then the rest is reading the first, the second, and then the rest.
+-- Reading a pair is reading its first member, and then its second.
 pair_then : {A B C : Type 0} (ra : RequestReading A) (rb : RequestReading B) (g : A × B → RequestReading C)
     → pair_reading ra rb >>= g ≡ ra >>= (λ a. rb >>= (λ b. g (a, b)))
 pair_then ra rb g = bind_bind ra _ g ∙ bind_same ra _ _ (λ a. bind_bind rb _ g)
 
--- A row with one member is read by reading the member and counting.
+-- A row with one member is read by reading the member and counting the names of the object.
 
 module _ {X A C : Type 0} (makes : A → C) (m : Member X A) (d : Data) (r : Result A ReadStop)
     (h : ReadsMember m d r) where

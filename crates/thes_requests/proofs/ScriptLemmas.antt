@@ -27,7 +27,7 @@ use Rattle.thes_requests.specs.ScriptSteps.{LineServed, StopsAfter, StopsAtLine,
 use Rattle.thes_requests.specs.declared.script.ScriptEnd.{ScriptEnd}
 use Rattle.thes_requests.proofs.LineLemmas.{lines-more, raw_lines-more, line_whole, ends_line_after_line}
 
--- The outcomes, the effect and the output grow by those of one more line.
+-- One more line adds its outcome, its effect and its answer to those of the lines before.
 
 run_one_more : {S : Type 0} (serves : LineBehaviour S) (old : S) (done : List (List ℕ))
     (line_outcomes : List LineOutcome) (mid new : S) (line : List ℕ) (f : LineOutcome)
@@ -95,7 +95,8 @@ nothing_buffered : (known : Option (List ℕ)) → Consumes known (prepend_known
 nothing_buffered None = tt
 nothing_buffered (Some xs) = refl
 
--- At the end of the input, the lines served are all lines.
+-- At the end of the input no byte is left in the buffer, so the bytes consumed are all of the
+-- reader's.
 
 nil_right : (xs ys : List ℕ) → xs ++ ys ≡ [] → ys ≡ []
 nil_right [] ys h = h
@@ -193,7 +194,7 @@ module _ {R W S : Type 0} (remaining : R → Option (List ℕ)) (contents : W �
       e,
     ) r w o
 
-    -- A script can stop between two lines.
+    -- A script that has a cause to stop between two lines stops after the lines served so far.
     pub stops_between_lines : (reader' : Pipe R) (fault : PipeFault) → ended_of reader ≡ false
         → IsCause remaining contents serves is_open old (session reader' writer handler) fault s.bytes
         (bytes_left remaining held reader) s.line_outcomes
@@ -211,7 +212,7 @@ module _ {R W S : Type 0} (remaining : R → Option (List ℕ)) (contents : W �
       wrote = w;
     }
 
-    -- A script can stop at the answer to a line.
+    -- A script that stops at the answer to a line has served that line.
     pub stops_at_line : (reader' : Pipe R) (writer' : Pipe W) (desk' : S) (held' : List ℕ) (fault : PipeFault)
         (raw : List ℕ) → ended_of reader ≡ false → count < lines_limit
         → ConsumesLine (bytes_left remaining held reader) (bytes_left remaining held' reader') raw (ended_of reader')
@@ -298,7 +299,7 @@ module _ {R W S : Type 0} (remaining : R → Option (List ℕ)) (contents : W �
       p.one,
     )
 
-    -- A next line above the limit on length exceeds the limits.
+    -- A next line longer than the limit exceeds the limits.
     pub exceeds_line_limit : ended_of reader ≡ false → IsLineTooLong (bytes_left remaining held reader)
         → ExceedsLimits s.bytes (bytes_left remaining held reader)
     exceeds_line_limit goes t =
@@ -317,7 +318,7 @@ module _ {R W S : Type 0} (remaining : R → Option (List ℕ)) (contents : W �
               let long = t.long in omega (arith, short, long);
         }
 
-    -- A next line above the limit on the number of lines exceeds the limits.
+    -- A next line after the greatest number of lines exceeds the limits.
     pub exceeds_lines_limit : (reader' : Pipe R) (held' : List ℕ) (raw : List ℕ) (e : Bool) → ended_of reader ≡ false
         → count ≡ lines_limit → ConsumesLine (bytes_left remaining held reader) (bytes_left remaining held' reader')
         raw e → ExceedsLimits s.bytes (bytes_left remaining held reader)
@@ -332,7 +333,7 @@ module _ {R W S : Type 0} (remaining : R → Option (List ℕ)) (contents : W �
           let c = s.line_count in let few = a.few in omega (arith, few, all, more, c, full);
     }
 
-    -- A failed search for a line stops the script, by the reader or by the limits.
+    -- If the search for a line fails, the script stops, because of the reader or of a limit.
     pub stops_at_read : (reader' : Pipe R) (held' : List ℕ) {T : Type 0} (stop : Stop) → ended_of reader ≡ false
         → (let result : Result T Stop = Err stop in
         (result ≡ Err stops.Failed → ConsumesPartOfLine (bytes_left remaining held reader)

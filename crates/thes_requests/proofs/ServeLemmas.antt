@@ -36,7 +36,7 @@ module _ {S : Type 0} (serves : LineBehaviour S) (line text : List ℕ) (o : Lin
   line_outcome_for NoRoom same some held unheld = unheld_outcome (unheld (λ e. cc))
   line_outcome_for End same some held unheld = unheld_outcome (unheld (λ e. cc))
 
--- A failure of the writer within an answer stops the script.
+-- A writer that fails or is denied a write within an answer stops the script.
 pub stops_after : {W S : Type 0} (contents : W → Option (List ℕ)) (serves : LineBehaviour S) (is_open : S → Bool)
     (line : List ℕ) (old new : S) (writer writer' : Pipe W) (text : List ℕ) (stop : Stop) {T : Type 0}
     → AppendsPrefix (written_bytes contents writer) (written_bytes contents writer') text → IsFresh writer

@@ -1,5 +1,5 @@
--- Proves the data of a parsed value, level by level, and of its items and members while they are
--- parsed.
+-- Proves which data a parsed value represents, level by level, and which its items and members
+-- represent while they are parsed.
 use Rattle.std.proofs.Common.{◌≡◌, ℕ, ◌+◌, ◌<◌, ◌≤◌, List, [], ◌∷◌, ◌++◌, Bool, length, map, take, drop}
 use Rattle.std.proofs.Common.{slice_index_or, Option, Some, None, option_map, is_none, Vec, Global, Bor, cond}
 use Rattle.std.proofs.Common.{bytes_eq, refl, sym, ap, ◌∙◌, subst, add-one, rules}
@@ -25,7 +25,7 @@ view-Array v = search (rules, the_lemmas)
 pub view-Object : (m : Vec Entry Global) → view (Object m) ≡ object (members_view m.items)
 view-Object m = search (rules, the_lemmas)
 
--- A parsed object lists its members in the order of the text.
+-- Members appended to an object are put in one by one, after those before them.
 
 pub members_view-append : (es fs : List Entry) → members_view (es ++ fs) ≡ put_all (members_view es)
     (map (λ m. (m.0, view m.1)) fs)
@@ -63,7 +63,8 @@ count_after_look_up None n = sym (add-one n)
 count_after_look_up (Some v) n = refl
 
 module _ (xs : List Entry) (i : ℕ) where
-  -- The number of different names up to the next member, given a search among those before it.
+  -- The number of different names up to the next member, given a search for its name among the
+  -- members before it.
   pub names_next : (d : Entry) (r : Option (Bor Value)) → i < length xs → option_map (λ v. view v.now) r
       ≡ get_member (slice_index_or xs i d).0.now (members_view (take i xs))
       → members_len (members_view (take (i + 1) xs)) ≡ cond (is_none r) (members_len (members_view (take i xs)) + 1)

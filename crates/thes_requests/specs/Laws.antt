@@ -1,4 +1,4 @@
--- Laws of the reading of requests: every line has one meaning.
+-- Laws of requests: every line has one meaning.
 use Rattle.std.specs.Prelude.{◌≡◌, ℕ, List, Result}
 use Rattle.thes_base.specs.declared.fault.FormFault.{FormFault}
 use Rattle.thes_requests.specs.Readings.{ReadsAs}
@@ -11,7 +11,7 @@ OneReading =
     (bytes : List ℕ) (x y : Result Request FormFault)
     → ReadsAs (request_of bytes) x → ReadsAs (request_of bytes) y → x ≡ y
 
--- No bytes are without a meaning, stated as a double negation.
+-- All bytes have a meaning, stated as a double negation.
 abbrev pub SomeReading : Type 0
 SomeReading =
     (bytes : List ℕ) → ¬ ¬ ((x : Result Request FormFault) × ReadsAs (request_of bytes) x)

@@ -31,8 +31,8 @@ line_content raw ended = if ended then raw else strip_carriage_return raw
 abbrev pub line_limit : ℕ
 line_limit = 1048576
 
--- The first line of `old` was consumed; its bytes are `raw`, and then a line feed, unless `ended`:
--- then the input ends with it.
+-- The first line of `old` was consumed: the bytes `raw`, and then a line feed. If `ended`, the line
+-- is the last of the input, and no line feed follows it.
 pub record ConsumesLine (old new : Option (List ℕ)) (raw : List ℕ) (ended : Bool) : Type 0 where
   pub bytes : Consumes old new (line_bytes raw ended)
   pub one : has_newline raw ≡ false
@@ -58,15 +58,15 @@ abbrev pub ConsumesByte : Option ℕ → Option (List ℕ) → Option (List ℕ)
 ConsumesByte None old new ended = Keeps old new × IsAtEnd new × (ended ≡ true)
 ConsumesByte (Some b) old new ended = Consumes old new (b ∷ []) × (ended ≡ false)
 
--- A prefix of the buffer without a line feed was consumed; `run.kept` means that the line held all
--- bytes before it, and that it was appended.
+-- A prefix of the buffer without a line feed was consumed; `run.kept` means that `line` held all
+-- earlier bytes, and that the prefix was appended to it.
 pub record ConsumesRun (old new line line' : List ℕ) (kept : Bool) (run : LineRun) : Type 0 where
   pub within : run.count ≤ length old
   pub rest : new ≡ drop run.count old
   pub one : has_newline (take run.count old) ≡ false
   pub appends : run.kept ≡ true → (kept ≡ true) × (line' ≡ line ++ take run.count old)
 
--- The search found a line, and holds its content unless memory ran out.
+-- The search found a line; `held` is its content, unless memory ran out.
 abbrev pub IsLineFound : LineSearch → List ℕ → Option (List ℕ) → Option (List ℕ) → Bool → Type 0
 IsLineFound found held old new ended =
     (raw : List ℕ) × ConsumesLine old new raw ended × (found ≡ Line → line_content raw ended ≡ held)

@@ -1,5 +1,4 @@
--- The reading of members one by one, and of members joined to a row of a request, for private
--- contracts.
+-- Defines how the members of a request are read one by one and then joined, for private contracts.
 use Rattle.std.specs.Prelude.{◌≡◌, ◌≢◌, ℕ, Bool, true, false, if◌then◌else◌, List, Option, None, Some, Result, Ok, Err}
 use Rattle.std.specs.Prelude.{option_and_then, codes}
 use Rattle.serde_json.specs.Data.{Data}
@@ -28,7 +27,7 @@ is_form_stop (Form BadShape) = false
 is_form_stop (Form f) = true
 is_form_stop OutOfMemory = false
 
--- Both values, or the first stop; but if the second is `BadShape` or `OutOfMemory`, the second.
+-- Both values, or the first stop; if the second stop is `BadShape` or `OutOfMemory`, that one.
 abbrev pub both : {A B : Type 0} → Result A ReadStop → Result B ReadStop → Result (A × B) ReadStop
 both (Ok a) (Ok b) = Ok (a, b)
 both (Ok a) (Err f) = Err f
@@ -44,8 +43,8 @@ if_exact false r = Err (Form BadShape)
 abbrev pub IsStoppedEarly : {A : Type 0} → Result A ReadStop → Type 0
 IsStoppedEarly r = (e : ReadStop) × (r ≡ Err e) × (is_form_stop e ≡ false)
 
--- The result of reading a member: `BadShape` or `OutOfMemory` if it is absent, else that of its
--- form.
+-- The result of reading a member: `BadShape` or `OutOfMemory` if the member is absent, else the
+-- outcome of its form.
 pub record ReadsMember {X A : Type 0} (m : Member X A) (d : Data) (r : Result A ReadStop) : Type 0 where
   pub absent : m.found d ≡ None → IsStoppedEarly r
   pub present : (x : X) → m.found d ≡ Some x → Gives (m.form x) r × (r ≢ Err (Form BadShape))
@@ -63,7 +62,8 @@ pair_of m n = record {
   form = λ p. m.form p.0 >>= (λ a. n.form p.1 >>= (λ b. reads (a, b)));
 }
 
--- A row with one member after `do` or `get`, given the required number of names in the object.
+-- A row of the table of requests, with one member after `do` or `get`, for an object of `count`
+-- names.
 abbrev pub row : {X A C : Type 0} → ℕ → (A → C) → Member X A → Data → RequestReading C
 row count makes m d =
     present_or_bad_shape (counted_members count d) >>= (λ _. present_or_bad_shape (m.found d) >>= (λ x. m.form x
@@ -94,10 +94,10 @@ a_label_value = record {
   form = λ p. value_if (IsLabelText p.0 p.1) BadText (label_value_of p.0 p.1);
 }
 
--- A request whose `do` has this keyword; `BadShape` if there is none.
+-- A request whose `do` has this keyword; `BadShape` if `do` names no command.
 abbrev pub do_request : Option CommandKeyword → Data → RequestReading Request
 do_request verb d = present_or_bad_shape verb >>= (λ v. map_reading Do (command_in v d))
 
--- A request whose `get` has this keyword; `BadShape` if there is none.
+-- A request whose `get` has this keyword; `BadShape` if `get` names no query.
 abbrev pub get_request : Option QueryKeyword → Data → RequestReading Request
 get_request noun d = present_or_bad_shape noun >>= (λ n. map_reading Get (query_in n d))

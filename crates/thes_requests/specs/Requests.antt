@@ -1,6 +1,6 @@
--- The meaning of the bytes of a request: a command, a query, or the first form fault. There are
--- three checks, in this order: the bytes are JSON; the object has exactly the members in its row of
--- the table, each of the right type; each member has its form, in the order of the row.
+-- The meaning of the bytes of a request: a command, a query, or the first form fault. Three rules
+-- are checked in order. The bytes are JSON. The object has exactly the members in its row of the
+-- table, each of the right type. Each member has its form, in the order of the row.
 use Rattle.std.specs.Prelude.{ℕ, Bool, List, All, codes, map, unwrap_or, option_and_then, Option, None, Some}
 use Rattle.std.specs.Prelude.{if◌then◌else◌}
 use Rattle.std.specs.Str.{is_utf8}
@@ -62,7 +62,7 @@ record_form text = value_if (IsRecordName text) bad.BadRecord text
 abbrev pub label_text_form : LabelKind → List ℕ → RequestReading (List ℕ)
 label_text_form kind text = value_if (IsLabelText kind text) bad.BadText text
 
--- Each number is from 1 to 2³² - 1, as those of resources and postings.
+-- Each number is from 1 to 2³² - 1, like the numbers of resources and postings.
 pub record AreNumbers (ns : List ℕ) : Type 0 where
   pub each : All IsNumber ns
 
@@ -114,8 +114,8 @@ a_link_kind = record {
 abbrev pub some_postings : Member (List Num) (List ℕ)
 some_postings = record { found = numbers_in (codes "postings"); form = numbers_form }
 
--- Rows of the table. A row checks the number of members, `do` or `get` included; then it looks up
--- each member, and then it reads the form of each.
+-- The rows of the tables of commands and queries. A row checks the number of members, `do` or `get`
+-- included, then looks up each member, and then reads each in its form.
 
 -- A row with no member but `do` or `get`.
 unfoldable pub members0 : {C : Type 0} → C → Data → RequestReading C
@@ -170,7 +170,7 @@ members4 makes m n o p d = do
   f ← p.form u
   reads (makes a b e f)
 
--- The row of a label and its owner, in which the kind of the label decides the form of its text.
+-- The row of a label and its owner, where the kind of the label decides the form of its text.
 unfoldable pub label_line : Data → RequestReading (ℕ × LabelData)
 label_line d = do
   _ ← present_or_bad_shape (counted_members 5 d)

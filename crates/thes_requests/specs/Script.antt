@@ -1,4 +1,4 @@
--- Scripts: one request a line, each answered by a line before the next one is read.
+-- Scripts: one request a line, each answered with a line before the next one is performed.
 use Rattle.std.specs.Prelude.{◌≡◌, ◌⊎◌, ◌≤◌, ◌↔◌, ℕ, ◌==◌, ◌||◌, Bool, true, false, if◌then◌else◌, List, [], ◌∷◌}
 use Rattle.std.specs.Prelude.{◌++◌, length, take, flat_map, fold, Option, Some, None}
 use Rattle.std.specs.List.{list_all, slice_split, All}
@@ -109,9 +109,8 @@ end_without_lines = record { refused = false; fault = None }
 abbrev pub end_of_outcomes : List LineOutcome → ScriptEnd
 end_of_outcomes line_outcomes = fold (λ e f. noted_end e (answer_of_outcome f)) end_without_lines line_outcomes
 
--- Runs over a reader, a writer and a request handler. Statements about bytes concern those read and
--- written: for a device whose bytes are unknown, such as standard input, they state that such bytes
--- exist.
+-- A run of a script has a reader, a writer and a request handler. If a device, such as standard
+-- input, doesn't know its bytes, a statement about its bytes only says that some such bytes exist.
 
 -- The state of a run: its reader, its writer and its request handler.
 pub record Session (R W S : Type 0) : Type 0 where

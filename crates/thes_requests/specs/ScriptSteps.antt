@@ -24,8 +24,7 @@ module _ {W S : Type 0} (contents : W → Option (List ℕ)) (serves : LineBehav
   abbrev pub WritesLineOutputPrefix : List ℕ → Type 0
   WritesLineOutputPrefix text = AppendsPrefix (written_bytes contents writer) (written_bytes contents writer') text
 
-  -- One line was skipped; or it was answered, and the whole answer written. The handler is still
-  -- open.
+  -- One line was skipped, or was answered and its whole answer written; the handler is still open.
   pub record LineServed (ended ended' : ScriptEnd) : Type 0 where
     pub line_outcome : LineOutcome
     pub step : StepLine serves old line line_outcome new

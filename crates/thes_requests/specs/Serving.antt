@@ -42,8 +42,8 @@ IsCommandLine line command = ReadsAs (request_of line) (Ok (Do command))
 abbrev pub IsQueryLine : List ℕ → Query → Type 0
 IsQueryLine line query = ReadsAs (request_of line) (Ok (Get query))
 
--- The effect of a line on a handler, and its answer: of a command, of a query, of a form fault, or
--- of a fault.
+-- The effect of a line on a handler, by the kind of its answer: an answer or refusal, a form fault,
+-- a fault, or a view.
 abbrev pub Serves : {S : Type 0} → CommandBehaviour S → QueryBehaviour S → LineBehaviour S
 Serves performs shows old line (Reply (reply.Answer a)) new =
     ((command : Command) × IsCommandLine line command × performs old command (Ok a) new)

@@ -6,7 +6,7 @@ use Rattle.serde_json.specs.View.{number_view, items_of}
 use Rattle.thes_requests.specs.declared.tree.Value.{Value, fold-Value}
 use Rattle.thes_requests.specs.declared.tree.Value.TheOpen.{Value-F}
 
--- The members put in one by one, so that of equal names the last counts.
+-- The members, put in one by one; if a name repeats, its last value counts.
 abbrev pub members_of : List (Bor (List ℕ) × Data) → Members
 members_of = fold (λ found m. put m.0.now m.1 found) no_members
 
@@ -27,6 +27,6 @@ view = fold-Value Data view_step
 abbrev pub items_view : List Value → Items
 items_view vs = items_of (map view vs)
 
--- The data of the members of an object, in which of equal names the last counts.
+-- The data of the members of an object; if a name repeats, its last value counts.
 abbrev pub members_view : List (Bor (List ℕ) × Value) → Members
 members_view ms = members_of (map (λ m. (m.0, view m.1)) ms)

@@ -51,7 +51,7 @@ fn number_line(before: &str, number: u32) -> ShortLine
     line
 }
 
-// Returns the line for a split: the new concept's number, and the number of postings moved.
+// Returns the line for a split: the number of the new concept, and how many postings moved to it.
 fn split_answer_line(number: u32, count: u32) -> ShortLine
     ensures { result ≡ answer_text (Answer.Parted number count) }
 {
@@ -74,7 +74,8 @@ fn name_line(before: &str, name: &str) -> ShortLine
     line
 }
 
-/// Returns the line of JSON for a refusal, with the name of the broken rule.
+/// Returns the line of JSON for a refusal, with its name and, for `OutsideKnown`, the number of the
+/// known outside concept.
 pub fn refusal_line(refusal: Refusal) -> ShortLine
     ensures { result ≡ refusal_text refusal }
 {
@@ -91,8 +92,8 @@ fn form_fault_line(fault: FormFault) -> ShortLine
     name_line("{\"bad\":\"", fault.name())
 }
 
-// Returns the line of JSON for a fault, with its name and, for a malformed table, that of the
-// table.
+// Returns the line of JSON for a fault, with its name and, for `BadStore`, the name of the
+// malformed table.
 fn fault_line(fault: Fault) -> ShortLine
     ensures { result ≡ fault_reply_text fault }
 {

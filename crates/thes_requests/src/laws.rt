@@ -1,4 +1,4 @@
-//! Laws of the reading of requests: every line has one meaning.
+//! Laws of requests: every line has one meaning.
 ghost use Rattle.thes_requests.specs.Laws.{OneReading, SomeReading};
 
 /// No effect; states for the proof that bytes have at most one meaning: one request or one form
@@ -7,7 +7,7 @@ pub fn one_reading()
     ensures { OneReading }
 {}
 
-/// No effect; states for the proof that no bytes are without a meaning, as a double negation.
+/// No effect; states for the proof that all bytes have a meaning (stated as a double negation).
 pub fn some_reading()
     ensures { SomeReading }
 {}

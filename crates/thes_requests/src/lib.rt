@@ -1,4 +1,4 @@
-//! Requests: their JSON, their answers as lines of JSON, and scripts of requests over a request
+//! Requests in JSON, the lines of JSON that answer them, and scripts of requests over a request
 //! handler.
 #![tactic(auto)]
 

@@ -32,7 +32,7 @@ impl ShortLine {
         line
     }
 
-    /// Appends a text, after which the line must have at most 64 bytes.
+    /// Appends a text; the line must not exceed 64 bytes after it.
     pub fn push(&mut self, text: &str)
         requires { length self.old + length text.now ≤ 64 }
         ensures text { self.new ≡ self.old ++ text.now }

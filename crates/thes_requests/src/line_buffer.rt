@@ -11,7 +11,7 @@ use std::io::Read;
 use std::marker::Model;
 use thes_base::pipe::{Budget, Pipe, Stop};
 
-/// A buffer between a reader and its lines, of 64 KiB.
+/// The bytes read and not consumed yet, in a buffer of 64 KiB.
 #[derive(Drop)]
 pub struct LineBuffer {
     buffer: Vec<u8>,
@@ -89,9 +89,9 @@ impl LineBuffer {
         Ok(Some(self.take_byte()))
     }
 
-    /// Consumes the next line, and copies it to `line` without its line end; if memory for it runs
-    /// out, the line is consumed to its end all the same. `TooLong` means that the line exceeds 1
-    /// MiB, or that a read was denied.
+    /// Consumes the next line, and copies it to `line` without its line end. If memory for the copy
+    /// runs out, the rest of the line is still consumed, and the result is `NoRoom`. `TooLong`
+    /// means that the line exceeds 1 MiB, or that a read was denied.
     pub fn take_line<R: Read>(
         &mut self,
         reader: &mut Pipe<R>,
@@ -167,8 +167,8 @@ impl LineBuffer {
         Ok(count > 0)
     }
 
-    // Consumes the bytes in the buffer before the next line feed, at most `most`, and appends them
-    // to `line` if `kept`: if `line` holds all bytes before them.
+    // Consumes the buffered bytes before the next line feed, at most `most`. If `kept`, that is, if
+    // `line` holds all bytes before these, appends them to `line` as far as memory allows it.
     fn take_run(&mut self, line: &mut Vec<u8>, kept: bool, most: usize) -> LineRun
         ensures run { ConsumesRun self.old self.new line.old.items line.new.items kept result }
         ensures short { result.count ≤ most }

@@ -1,6 +1,6 @@
-//! The members of a request's JSON object: each is looked up and read by itself, and then they are
-//! joined. A missing member, or one of the wrong type, is `BadShape`, which precedes every other
-//! form fault.
+//! The members of a request's JSON object: each is read by itself, and then the results are joined.
+//! A missing member, or one of the wrong type, is `BadShape`, which precedes every other form
+//! fault.
 ghost use Rattle.std.specs.Prelude.{◌≡◌, ◌⊎◌, map, codes, true, Some, None, option_map, option_and_then, IfOk, IfErr};
 ghost use Rattle.serde_json.specs.View.{number_view};
 ghost use Rattle.serde_json.specs.Find.{as_object, as_str};
@@ -31,8 +31,8 @@ pub const BAD_SHAPE: ReadStop = ReadStop::Form(FormFault::BadShape);
 
 const BAD_NUMBER: ReadStop = ReadStop::Form(FormFault::BadNumber);
 
-// Returns whether the stop is a form fault other than `BadShape`, which yields to a `BadShape` of a
-// later member.
+// Returns whether the stop is a form fault other than `BadShape`. A `BadShape` of a later member
+// takes precedence over it.
 fn is_form_stop(stop: ReadStop) -> bool
     ensures { result ≡ is_form_stop stop }
 {
@@ -42,8 +42,8 @@ fn is_form_stop(stop: ReadStop) -> bool
     }
 }
 
-/// Returns both values, or the first stop; but if the second is `BadShape` or `OutOfMemory`, the
-/// second.
+/// Returns both values, or the first stop. If the second stop is `BadShape` or `OutOfMemory`,
+/// returns that one.
 pub fn both<A: Drop, B: Drop>(
     first: Result<A, ReadStop>,
     second: Result<B, ReadStop>,
@@ -219,14 +219,14 @@ fn all_numbers<'a>(
     Ok(numbers)
 }
 
-/// Returns the command whose keyword is this JSON value, if it is one.
+/// Returns the command whose keyword is this JSON value, if there is one.
 pub fn command_keyword_at(word: &Value<'_>) -> Option<CommandKeyword>
     ensures { result ≡ option_and_then verb_named (as_str (view word.now)) }
 {
     word.as_str().and_then(verb_named)
 }
 
-/// Returns the query whose keyword is this JSON value, if it is one.
+/// Returns the query whose keyword is this JSON value, if there is one.
 pub fn query_keyword_at(word: &Value<'_>) -> Option<QueryKeyword>
     ensures { result ≡ option_and_then noun_named (as_str (view word.now)) }
 {

@@ -50,7 +50,8 @@ fn negative(numeral: &Numeral<'_>) -> Option<Number>
     nearest(true, numeral)
 }
 
-// Returns the float nearest to the numeral, with a minus sign if `negative`; None if it is too large for a float.
+// Returns the float nearest to the numeral, with a minus sign if `negative`; `None` if the numeral
+// is too large for a float.
 fn nearest(negative: bool, numeral: &Numeral<'_>) -> Option<Number>
     ensures { option_map number_view result ≡ float_of negative numeral.now }
 {

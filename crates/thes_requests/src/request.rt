@@ -1,4 +1,4 @@
-//! Reading a command or a query from a line of JSON.
+//! Reads a command or a query from a line of JSON.
 ghost use Rattle.std.specs.Prelude.{◌≡◌, ◌⊎◌, Some, None, IfOk, IfErr};
 ghost use Rattle.thes_base.specs.declared.fault.FormFault.TheVariants.{NotJson};
 ghost use Rattle.thes_requests.specs.MemberReadings.{ReadsMember, pair_of, do_request, get_request};
@@ -20,7 +20,7 @@ use thes_base::number::{PostNo, ResNo};
 use thes_base::request::Command;
 use thes_base::text::{Tag, Text};
 
-/// A query, the request of a view: totals, a concept, the postings of a concept, or a posting.
+/// A query, which requests a view: the totals, a concept, the postings of a concept, or a posting.
 #[derive(Clone, Copy)]
 pub enum Query {
     Totals,
@@ -79,7 +79,7 @@ fn collection_in(alloc: Global, value: &Value<'_>) -> Result<Command, ReadStop>
     Ok(Command::Collection(scheme, tag, text))
 }
 
-// Reads the command to add an outside concept: its IRI, the target of mappings.
+// Reads the command to add an outside concept, the target of mappings: its IRI.
 fn outside_in(alloc: Global, value: &Value<'_>) -> Result<Command, ReadStop>
     ensures { Gives (command_in CommandKeyword.Outside (view value.now)) result }
 {
@@ -105,7 +105,7 @@ fn add_label_in(alloc: Global, value: &Value<'_>) -> Result<Command, ReadStop>
     Ok(Command::AddLabel(owner, label))
 }
 
-// Reads the command to remove a label: the same members as to add it.
+// Reads the command to remove a label, which has the same members as the one to add it.
 #[tactic(auto, using(crate::proofs::ReadingLemmas::gives_fault), unfolding(crate::specs::Requests::map_reading))]
 fn drop_label_in(alloc: Global, value: &Value<'_>) -> Result<Command, ReadStop>
     ensures { Gives (command_in CommandKeyword.DropLabel (view value.now)) result }
@@ -145,7 +145,7 @@ fn add_link_in(value: &Value<'_>) -> Result<Command, ReadStop>
     Ok(Command::Link(link.kind, link.a, link.b))
 }
 
-// Reads the command to remove a link: the same members as to add it.
+// Reads the command to remove a link, which has the same members as the one to add it.
 #[tactic(auto, using(crate::proofs::ReadingLemmas::gives_fault), unfolding(crate::specs::Requests::map_reading))]
 fn unlink_in(value: &Value<'_>) -> Result<Command, ReadStop>
     ensures { Gives (command_in CommandKeyword.Unlink (view value.now)) result }
@@ -271,8 +271,8 @@ fn query_in(noun: QueryKeyword, value: &Value<'_>) -> Result<Query, ReadStop>
     }
 }
 
-// Reads a request whose `do` has this keyword; `BadShape` if `verb` is None, since `do` names no
-// command.
+// Reads a request whose `do` has the keyword `verb`; `None` means that `do` names no command, and
+// gives `BadShape`.
 #[tactic(auto, using(crate::proofs::ReadingLemmas::gives_fault), unfolding(crate::specs::Requests::map_reading))]
 fn do_in(
     alloc: Global,
@@ -287,8 +287,8 @@ fn do_in(
     Ok(Request::Do(command_in(alloc, verb, value)?))
 }
 
-// Reads a request whose `get` has this keyword; `BadShape` if `noun` is None, since `get` names no
-// query.
+// Reads a request whose `get` has the keyword `noun`; `None` means that `get` names no query, and
+// gives `BadShape`.
 #[tactic(auto, using(crate::proofs::ReadingLemmas::gives_fault), unfolding(crate::specs::Requests::map_reading))]
 fn get_in(noun: Option<QueryKeyword>, value: &Value<'_>) -> Result<Request, ReadStop>
     ensures { Gives (get_request noun (view value.now)) result }
@@ -335,7 +335,7 @@ pub struct RequestScratch {
 }
 
 impl RequestScratch {
-    /// Returns a memory without content; allocates nothing.
+    /// Returns an empty scratch memory; allocates nothing.
     pub fn new(alloc: Global) -> RequestScratch
         ensures { result.alloc ≡ alloc }
     {
@@ -346,7 +346,7 @@ impl RequestScratch {
     }
 }
 
-/// Reads a request from the bytes of a line; the stop is the first form fault, or OutOfMemory.
+/// Reads a request from the bytes of a line, or returns the first form fault, or OutOfMemory.
 pub fn read_request(memory: &mut RequestScratch, bytes: &[u8]) -> Result<Request, ReadStop>
     ensures { Gives (request_of bytes.now) result }
 {

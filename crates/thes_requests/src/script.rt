@@ -37,7 +37,7 @@ impl ScriptEnd {
         }
     }
 
-    // Records a refusal, a form fault or a fault among the answers.
+    // Records an answer that is a refusal, a form fault or a fault.
     fn note(&mut self, outcome: &LineAnswer)
         ensures { self.new ≡ end_after_answer self.old outcome.now }
     {
@@ -67,7 +67,8 @@ fn is_skipped(line: &[u8], found: LineSearch) -> bool
     }
 }
 
-// Answers a line. A line that memory ran out for is answered with `OutOfMemory`, and has no effect.
+// Answers a line. A line that didn't fit into memory has no effect, and is answered with
+// `OutOfMemory`.
 fn answer_for_line<D: RequestHandler>(
     memory: &mut RequestScratch,
     handler: &mut D,
@@ -86,8 +87,8 @@ fn answer_for_line<D: RequestHandler>(
     }
 }
 
-// Skips a blank line; answers any other, records the answer in `ended`, and writes it. Fails with
-// `OutOfMemory` if the handler has closed.
+// Skips a blank line; answers any other, records the answer in `ended`, and writes it. Fails if the
+// writer fails or is denied a write, and with `OutOfMemory` if the handler has closed.
 fn serve_line<W: Write, D: RequestHandler>(
     memory: &mut RequestScratch,
     writer: &mut Pipe<W>,
@@ -125,9 +126,10 @@ fn serve_line<W: Write, D: RequestHandler>(
 /// Answers each line of the input before it serves the next.
 ///
 /// A line holds at most 1,048,576 bytes, and a script at most 1,000,000 lines, blank ones included.
-/// `TooLong` is returned only if the input exceeds that, after the lines before are answered, or if
-/// a pipe was denied a read or a write. `OutOfMemory` is returned only before the first line, or
-/// after the handler has closed. All reads and writes together are at most 100,000,000.
+/// `TooLong` is returned only if the input exceeds these limits, after all earlier lines are
+/// answered, or if a pipe was denied a read or a write. `OutOfMemory` is returned only before the
+/// first line, or after the handler has closed. Reads and writes together number at most
+/// 100,000,000.
 pub fn script<R: Read, W: Write, D: RequestHandler>(
     alloc: Global,
     reader: &mut Pipe<R>,

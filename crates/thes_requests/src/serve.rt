@@ -1,4 +1,4 @@
-//! Serving one line of a script: reading its request, and answering it.
+//! Serves one line of a script: reads its request, and answers it.
 ghost use Rattle.std.specs.Prelude.{◌≡◌, ◌⊎◌, ◌↔◌, ℕ, List, true, false, IsTrue, OnOk, OnErr, IsErrOf};
 ghost use Rattle.std.specs.Io.KnownBytes.{Appends};
 ghost use Rattle.thes_base.specs.Pipe.{failed_of, ended_of, denied_of, written_bytes, AppendsPrefix, PaysCalls};
@@ -86,7 +86,7 @@ fn answer_query<D: RequestHandler>(alloc: Global, handler: &mut D, query: &Query
 }
 
 impl LineAnswer {
-    /// Writes the answer by one call of the pipe; allocates nothing.
+    /// Writes the answer with one call to the pipe; allocates nothing.
     pub fn write<W: Write>(&self, writer: &mut Pipe<W>, budget: &mut Budget) -> Result<(), Stop>
         requires { failed_of writer.old ≡ false }
         ensures ok { OnOk result (Appends (written_bytes W.contents writer.old)

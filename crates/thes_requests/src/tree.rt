@@ -23,8 +23,8 @@ const MAX_DEPTH: usize = 127;
 // The capacity reserved for the members of an object: the greatest number that a request has.
 const USUAL_MEMBERS: usize = 5;
 
-/// A JSON value. An object lists its members in the order of the text; of equal names the last
-/// counts.
+/// A JSON value. An object lists its members in the order of the text; if a name repeats, its last
+/// member counts.
 #[derive(Drop)]
 pub enum Value<'a> {
     Null,
@@ -252,7 +252,8 @@ fn read_members<'a>(
     Ok(found)
 }
 
-// Returns the name of the next member after its colon, or `None` at the end of the object.
+// Consumes the name of the next member and its colon, and returns the name, or `None` at the end of
+// the object.
 fn next_name<'a>(reader: &mut Reader<'a>) -> Result<Option<&'a str>, ReadStop>
     ensures ok { IfOk result
         (λ name. read_key reader.old ≡ Some (option_map (λ s. s.now) name, reader.new)) }

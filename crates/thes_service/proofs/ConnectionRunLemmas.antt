@@ -175,7 +175,7 @@ module _ {K : Type 0} (rows : K → Raw) (is_up : K → Type 0) (failed : K → 
   all_answered old new (e ∷ before) x reached = exchange_reached old x.0 new e.response e.bytes x.2
       (all_answered old x.0 before x.1 reached)
 
-  -- A number of connections leads the office through a run of the machine.
+  -- Any number of connections leads the office through a run of the machine.
   pub connections_lead : (most : ℕ) (old new : OfficeView K) → (is_up old.keeper → (base : List ℕ) × (s : State)
       × TablesOfState (rows old.keeper) base s × IsConsistentState base s) → LeadsBy Office most old new
       → IsReached old new

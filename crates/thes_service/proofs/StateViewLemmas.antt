@@ -33,7 +33,8 @@ use Rattle.thes_service.specs.PostingLists.{ListsRow}
 use Rattle.thes_service.specs.Service.{HoldsOfState}
 use Rattle.thes_service.specs.declared.posting_lister.PostingLister.{PostingLister}
 
--- If each legal state that a copy holds has a property, the state that the rows encode has it, with its base.
+-- If each legal state that a copy holds has a property with the copy's base, the state that the
+-- rows encode has it with its base.
 held_based : (raw : Raw) (limits : Limits) (copy : core.CoreView) (P : List ℕ → State → Type 0)
     → IsCopy raw limits copy → ((s : State) → IsViewOf copy s → IsLegalState copy.setting.base s
     → P copy.setting.base s)
@@ -61,7 +62,7 @@ rows_listed old new (row ∷ rows) took =
     rows_listed took.0 new rows took.2 ∙ ap (λ (es : List Data). es ++ map entry_of rows) took.1
     ∙ append_assoc (entries old.listing) (entry_of row ∷ []) (map entry_of rows)
 
--- A list that was empty has the postings assigned to the concept.
+-- An empty list that receives the postings assigned to the concept has exactly these.
 pub listed_at : (s : State) (concept : ℕ) (old new : PostingLister) → entries old.listing ≡ []
     → SinkAcceptsAll ListsRow old (rows_assigned_to s concept) new
     → listing_data (entries new.listing) ≡ postings_data (assigned_histories concept s.histories)
@@ -84,7 +85,7 @@ listing_viewed raw concept old new told text none lists empty is base s x =
           ∙ ap line_text (listed_at s concept old new empty so.1),
     )
 
--- The refusal of the listing is the refusal of the view.
+-- If the number isn't a concept's, the refusal of its list of postings is the refusal of the view.
 pub refusal_viewed : (raw : Raw) (concept : ℕ) (old new : PostingLister) (told : Option Refusal) (refusal : Refusal)
     → told ≡ Some refusal → AssignedPostingsResult ListsRow raw concept old (Ok told) new
     → InStateOfTables raw (λ s. IsQueryAnswer s (asked.Postings concept) (Ok (viewed.No refusal)))
@@ -93,7 +94,7 @@ refusal_viewed raw concept old new told refusal some lists =
     so.1
 
 module _ {K : Type 0} (rows : K → Raw) (is_up : K → Type 0) (failed : K → ℕ) where
-  -- A call without a fault behaves alike for any value returned.
+  -- A call without a fault has the same effects, whatever value it returns.
   pub goes_on_to : {A B : Type 0} (old new : OfficeView K) (a : A) (b : B) → FaultBehaviour rows is_up failed old new
       (let x : Result A Fault = Ok a in x) → FaultBehaviour rows is_up failed old new (let x : Result B Fault =
       Ok b in x)

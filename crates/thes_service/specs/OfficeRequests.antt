@@ -23,8 +23,8 @@ module _ {K : Type 0} (rows : K → Raw) (is_up : K → Type 0) (failed : K → 
     pub fault_behaviour : FaultBehaviour rows is_up failed old new result
     pub performed : PerformResult rows is_up old command result new
 
-  -- A query is answered by the line of its view, or by the refusal of its number, in the state that the tables encode;
-  -- they are unchanged.
+  -- A query is answered with the line of its view, or with the refusal of its number, in the state
+  -- that the tables encode; the tables are unchanged.
   pub record OfficeShows (old : OfficeView K) (query : Query) (result : Result QueryAnswer Fault)
       (new : OfficeView K) : Type 0 where
     pub fault_behaviour : FaultBehaviour rows is_up failed old new result
@@ -32,14 +32,14 @@ module _ {K : Type 0} (rows : K → Raw) (is_up : K → Type 0) (failed : K → 
     pub viewed : IfOk result (λ v. is_up new.keeper →
         InStateOfTables (rows new.keeper) (λ s. IsQueryAnswer s query (Ok v)))
 
-  -- A line is answered by a step of the machine, by a view of the state, or by the form fault of input that isn't a
-  -- request.
+  -- A line is answered by a step of the machine, or by a view of the state; the answer may also be
+  -- a form fault or a fault.
   abbrev pub OfficeServes : LineBehaviour (OfficeView K)
   OfficeServes = Serves OfficePerforms OfficeShows
 
-  -- A run of the machine leads from the old tables to the new ones. In the state that the new ones encode, each posting
-  -- that isn't withdrawn is assigned to exactly one live concept, the counts add up, and the triples meet the
-  -- conditions of SKOS.
+  -- A run of the machine leads from the old tables to the new ones. The new tables encode a
+  -- consistent state: each posting that isn't withdrawn is assigned to exactly one live concept,
+  -- the counts add up, and the triples meet the conditions of SKOS.
   pub record IsReachedByRun (old new : OfficeView K) : Type 0 where
     pub limits : new.limits ≡ old.limits
     pub was : is_up new.keeper → is_up old.keeper

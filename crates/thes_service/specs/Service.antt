@@ -60,8 +60,8 @@ module _ {K : Type 0} (rows : K → Raw) (is_up : K → Type 0) (failed : K → 
   OfficeDisplays old display scheme tag result new =
       HoldsOfState (λ base. IsDisplayed display scheme tag) old result new
 
-  -- The postings of the file were performed in order, by a run of the machine, and the answer has their outcomes; or a
-  -- fault halted the run, and the answer is that fault alone.
+  -- The postings of the file were performed in order, by a run of the machine, and the answer has
+  -- their outcomes. If a fault halted the run, the answer is that fault alone.
   pub record OfficeImports (old : OfficeView K) (file : List ℕ) (result : Result ImportAnswer Fault)
       (new : OfficeView K) : Type 0 where
     pub fault_behaviour : FaultBehaviour rows is_up failed old new result

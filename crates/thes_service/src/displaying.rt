@@ -34,7 +34,8 @@ fn display_text(
     }
 }
 
-// Returns a display of a scheme in the state that the core holds, or the refusal of the scheme's number.
+// Returns a display of a scheme in the state that the core holds, or the refusal of the scheme's
+// number.
 fn display_core_scheme(
     core: &Core,
     alloc: Global,

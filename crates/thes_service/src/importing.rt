@@ -19,8 +19,8 @@ fn page_of(report: Report) -> Page
     Page::new(text)
 }
 
-/// Performs the postings of a file, and returns the lines of their outcomes. A fault replaces the answer; the rows
-/// before it stay performed.
+/// Performs the postings of a file, and returns the lines of the outcomes of its rows. A fault
+/// replaces the answer; the rows before the fault stay performed.
 pub(crate) fn import_into_office<K: Keeper>(
     office: &mut Office<K>,
     alloc: Global,

@@ -1,4 +1,4 @@
-//! Scripts and HTTP connections over an office.
+//! Runs scripts and serves HTTP connections over an office.
 #![tactic(auto)]
 
 mod displaying;

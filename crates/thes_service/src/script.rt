@@ -12,13 +12,15 @@ use thes_base::pipe::Pipe;
 use thes_requests::script::{ScriptEnd, script};
 use thes_store::keeper::Keeper;
 
-/// Answers each line of the input by a step of the machine, or by a view of the state that the tables encode.
+/// Answers each line of the input by a step of the machine, or by a view of the state that the
+/// tables encode.
 ///
-/// Whatever the lines are: if the storage is up at the end of the call, a run of the machine leads from the state that
-/// the tables encoded before the call to the one that they encode after it. That state is consistent: each posting that
-/// isn't withdrawn is assigned to exactly one live concept, the counts add up, and the triples meet the conditions of
-/// SKOS. If the storage fails or memory runs out, the line is answered by the fault, and the tables are unchanged. The
-/// limits on lines are those of `script`; `OutOfMemory` is returned only before the first line.
+/// If the storage is up at the end of the call, a run of the machine leads from the state that the
+/// tables encoded to their new one, whatever the lines are. The new state is consistent: each
+/// posting that isn't withdrawn is assigned to exactly one live concept, the counts add up, and the
+/// triples meet the conditions of SKOS. If the storage fails or memory runs out, the line is
+/// answered with the fault, and the tables are unchanged. The limits on lines are those of
+/// `script`; `OutOfMemory` is returned only before the first line.
 pub fn office_script<K: Keeper, R: Read, W: Write>(
     alloc: Global,
     reader: &mut Pipe<R>,

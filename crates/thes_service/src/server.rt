@@ -14,10 +14,11 @@ use thes_store::keeper::Keeper;
 
 /// Serves `count` connections of a listener, one after another.
 ///
-/// Whatever the clients send: if the storage is up at the end of the call, a run of the machine leads from the state
-/// that the tables encoded before the call to the one that they encode after it. That state is consistent: each posting
-/// that isn't withdrawn is assigned to exactly one live concept, the counts add up, and the triples meet the conditions
-/// of SKOS. An error is that of accepting a connection, or `OutOfMemory` if memory for the routes ran out.
+/// If the storage is up at the end of the call, a run of the machine leads from the state that the
+/// tables encoded to their new one, whatever the clients send. The new state is consistent: each
+/// posting that isn't withdrawn is assigned to exactly one live concept, the counts add up, and the
+/// triples meet the conditions of SKOS. An error is that of accepting a connection, or
+/// `OutOfMemory` if memory for the routes ran out.
 pub fn office_serve<N: Net + Clock, K: Keeper>(
     alloc: Global,
     clock: &N,

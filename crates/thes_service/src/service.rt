@@ -10,9 +10,9 @@ use thes_base::text::Tag;
 use thes_http::service::{Display, DisplayAnswer, ImportAnswer, Page, Service};
 use thes_store::keeper::Keeper;
 
-/// An import is a run of the machine over the tables of the storage; a fault ends it, and the rows before it stay
-/// performed. Exports and displays are of the state that the tables encode, and leave the tables unchanged. A stale
-/// copy is reloaded first.
+/// An import is a run of the machine over the tables of the storage; a fault ends it, and the rows
+/// before it stay performed. Exports and displays are of the state that the tables encode, and
+/// leave the tables unchanged. A stale copy is reloaded first.
 impl<K: Keeper> Service for OfficeHandler<K> {
     ghost use Rattle.thes_service.specs.Service.{OfficeDisplays, OfficeExports, OfficeImports};
 

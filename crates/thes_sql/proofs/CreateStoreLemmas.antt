@@ -1,4 +1,4 @@
--- The tables of a new store are empty but for one row of table meta.
+-- Proves that the tables of a new store are empty, except for the row of table meta.
 use Rattle.std.proofs.Common.{arith, ◌≡◌, ◌∙◌, ℕ, pos, List, [], Ok, Err, Result, OnOk, refl, ap}
 use Rattle.std.specs.Prelude.{IsUtf8}
 use Rattle.sqlite.specs.declared.types.Value.{Value}

@@ -1,4 +1,4 @@
--- The schema of a store declares each of its tables.
+-- Proves that the schema of a store declares each of its tables.
 use Rattle.std.proofs.Common.{◌≡◌, refl, true}
 use Rattle.sqlite_schema.specs.Names.{same_name}
 use Rattle.thes_base.specs.declared.fault.Table.{Table}

@@ -1,4 +1,4 @@
--- A database that is a store stays one when a statement rewrites one of its tables.
+-- Proves that a store remains one when a statement rewrites one of its tables.
 use Rattle.std.proofs.Common.{arith, ◌≡◌, ◌≢◌, ℕ, List, [], ◌∷◌, sym, subst, rules}
 use Rattle.std.specs.List.{AllByRecursion}
 use Rattle.sqlite.specs.Order.{Row}
@@ -22,7 +22,7 @@ use Rattle.thes_sql.specs.Reads.{tree_of}
 use Rattle.thes_sql.specs.Schema.{store_schema}
 use Rattle.thes_sql.proofs.StatementLemmas.{Rewrites, LeavesOtherTables}
 
--- The tree of one table has its rows, where table meta has this version.
+-- The tree has the rows of this table; the row of table meta has this version.
 abbrev pub HoldsAs : ℕ → Table → Tables → List Row → Type 0
 HoldsAs version table.Meta t tree = tree ≡ stored_version version t.base ∷ []
 HoldsAs version table.Resource t tree = HoldResources t.resource tree
@@ -83,7 +83,7 @@ untouched_tree tree old new same table.Move = same.1.1.1.1.1.1.0
 
 module _ (old new : State) (t : Tables) (kept : Keeps old.now t) where
   module _ {tree : ℕ} {Held : List Row → Type 0} (w : Rewrites tree Held old new) where
-    -- Each table other than the rewritten one has its rows.
+    -- Each table other than the rewritten one still has its rows.
     other_table_held : (p : Table) → tree_of p ≢ tree → HoldsTable p t (new.now.trees (tree_of p))
     other_table_held p apart =
         subst (HoldsTable p t) (sym (untouched_tree tree old.now.trees new.now.trees w.others p apart))

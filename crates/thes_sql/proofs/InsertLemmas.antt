@@ -1,4 +1,4 @@
--- An INSERT of one row appends the row to its table.
+-- Proves that each INSERT makes its change: it appends one row to its table.
 use Rattle.std.proofs.Common.{arith, ◌≡◌, inl, inr, ℕ, ℤ, ◌+ℤ◌, suc, pos, List, [], ◌∷◌, ◌++◌, ◌<◌, ◌+◌, ◌/◌, length}
 use Rattle.std.proofs.Common.{map, filter, fold, slice_get, Bool, cond, false, Option, None, Some, Ok, Err, Result}
 use Rattle.std.proofs.Common.{OnOk, refl, sym, ap, subst, ◌∙◌}
@@ -72,7 +72,7 @@ applies_change text params c makes old new (Ok count) h = record {
   is_open = h.1.is_open;
 }
 
--- The INSERT puts one row into the tree, under a new rowid if the row has none.
+-- An INSERT of one row puts the row into the tree, under a new rowid if it has none.
 pub inserts_row : (at : ℕ) (table : Table) (sql : List ℕ) (terms : List Term) (width : ℕ) (params source : Row)
     (new : List Row → Row)
     → slice_get store_schema.tables at ≡ Some table → table.is_counted ≡ false → IsQuietTable store_schema table
@@ -94,7 +94,7 @@ inserts_row at table sql terms width params source new is_at uncounted quiet is 
       others = it.3.tables;
     }
 
--- The INSERT appends a row with a greater number than all others.
+-- An INSERT of a row with a greater number than all others appends the row.
 pub adds_keyed : {X : Type 0} (num : X → ℕ) (stored : X → Row) → ((x : X) → rowid (stored x) ≡ Int (pos (num x)))
     → (at : ℕ) (table : Table) (sql : List ℕ) (terms : List Term) (width : ℕ) (params : Row) (x : X)
     → slice_get store_schema.tables at ≡ Some table → table.is_counted ≡ false → IsQuietTable store_schema table
@@ -159,7 +159,7 @@ module _ {A : Type 0} (of : A → List Value) where
             (put_row (Int z ∷ of x) tree)) (sym is) held;
       }
 
-  -- The INSERT appends a row under the next rowid.
+  -- An INSERT of a row without a number appends the row under the next rowid.
   pub adds_hidden : (at : ℕ) (table : Table) (sql : List ℕ) (terms : List Term) (width : ℕ) (x : A)
       → slice_get store_schema.tables at ≡ Some table → table.is_counted ≡ false → IsQuietTable store_schema table
       → IsCommandText sql (Insert at (Values terms width))

@@ -1,4 +1,4 @@
--- Edits by rowid of rows that are sorted by number.
+-- Proves the effects of edits by rowid on rows that are sorted by number.
 use Rattle.std.proofs.Common.{arith, ◌≡◌, inl, inr, ℕ, ℤ, pos, ◌<◌, ◌≤◌, ◌==◌, List, [], ◌∷◌, ◌++◌, map, filter, Bool}
 use Rattle.std.proofs.Common.{true, false, not, cond, if◌then◌else◌, refl, sym, ap, subst, ◌∙◌, Less}
 use Rattle.std.specs.List.{AllByRecursion}
@@ -161,7 +161,7 @@ module _ {X : Type 0} (num : X → ℕ) where
           (subst (Has ids) (shown_id x) (mapped_has (λ r. id_in (rowid r)) given (shown x) (of_given x h t))) in
           clash (has_rowid (pos (num x)) r) (ap (has_rowid (pos (num x))) e ∙ has_num (num x) x ∙ num_same (num x)) out
 
-      -- Without the selected rows, the rows that fail the test remain.
+      -- After the selected rows are removed, exactly the rows that fail the test remain.
       pub many_dropped : left ≡ map stored (filter (λ x. not (p x)) xs)
       many_dropped = same_rows _ _ (table_left ids (map stored xs) table)
           (is_table 0 (filter (λ x. not (p x)) xs) (rising_filter (λ x. not (p x)) 0 xs up)) there back
@@ -203,7 +203,8 @@ module _ {X : Type 0} (num : X → ℕ) where
         abbrev news : List Row
         news = numbered Given left (map cast given)
 
-        -- With new rows at the positions of the selected ones, the selected rows are changed.
+        -- After new rows replace the selected ones under the same rowids, exactly the selected rows
+        -- are changed.
         pub many_updated : are_fresh left news ≡ true → put_all left news ≡ map stored (map change xs)
         many_updated fresh = same_rows _ _ (table_put news left (table_left ids (map stored xs) table))
             (is_table 0 (map change xs) (rising_map change change_num 0 xs up)) there back

@@ -1,4 +1,4 @@
--- Each statement of a migration takes a store one step from version 1 to version 2.
+-- Proves that each statement of a migration takes a store one step from version 1 to version 2.
 use Rattle.std.proofs.Common.{arith, ◌≡◌, ◌≢◌, ℕ, pos, List, [], ◌∷◌, ◌++◌, map, filter, codes, true, not, Ok, Err}
 use Rattle.std.proofs.Common.{Result, OnOk, refl, sym, ap, subst, ◌∙◌, append-nil, append_assoc, lit<, rules}
 use Rattle.std.proofs.Math.Bool.{and-true}
@@ -64,7 +64,7 @@ copy_query = record (ordered_query 6 broader_filters copy_project) {
       ∷ [];
 }
 
--- The selected rows are in the order of rowids, whether or not the query asks for it.
+-- An answer to the query that copies links is an answer to the same query without its collations.
 in_order_too : (db : Trees) (params : Row) (out : List Row) → IsAnswer copy_query db params out
     → IsAnswer (ordered_query 6 broader_filters copy_project) db params out
 in_order_too db params out a = search rules
@@ -102,7 +102,7 @@ holds_each_as version db t k table.Posting = k.hold.posting
 holds_each_as version db t k table.Move = k.hold.move
 
 module _ (version : ℕ) (old new : State) (t : Tables) (kept : KeepsAs version old.now t) where
-  -- Each table other than the rewritten one has its rows.
+  -- Each table other than the rewritten one still has its rows.
   other_table_kept : {tree : ℕ} {Held : List Row → Type 0} → Rewrites tree Held old new → (p : Name) → tree_of p ≢ tree
       → HoldsAs version p t (new.now.trees (tree_of p))
   other_table_kept {tree} w p apart =
@@ -159,7 +159,7 @@ cast_hier y rows = rw (cast_null, cast_int (pos y.a), cast_int (pos y.b), cast_i
 is_kind : (row : ℕ × Link) → list_all (holds ([] ∷ hidden_row link_values row ∷ [])) broader_filters ≡ is_broader row.1
 is_kind row = and-true _ ∙ same_ints (link_kind_no row.1.kind) 1
 
--- The links of numbered rows are the links without their numbers.
+-- Selecting the broader links of numbered rows is selecting them from the list of the links.
 picked_links : (given : List (ℕ × Link)) (links : List Link) → map (λ (row : ℕ × Link). row.1) given ≡ links
     → map (λ (row : ℕ × Link). untyped_row row.1) (filter (λ (row : ℕ × Link). is_broader row.1) given)
     ≡ map untyped_row (filter is_broader links)

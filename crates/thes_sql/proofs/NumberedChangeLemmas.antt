@@ -1,4 +1,4 @@
--- Changing the element at a position changes exactly the element with its number.
+-- Proves that changing the element at a position changes exactly the element with its number.
 use Rattle.std.proofs.Common.{arith, ◌≡◌, ℕ, zero, suc, List, [], ◌∷◌, ◌<◌, ◌+◌, ◌-◌, ◌==◌, map, slice_get, slice_set}
 use Rattle.std.proofs.Common.{Option, Some, None, Bool, true, false, if◌then◌else◌, refl, sym, ap, ◌∙◌}
 use Rattle.std.proofs.lemmas.Bool.Decides.{nat_tests}
@@ -56,7 +56,7 @@ dead_is (suc n) by rs =
     ∙ ap (λ (k : ℕ). map (change_if_at_number (resource_after_death by) k) (numbered_from 1 rs))
     (let q : 1 + n ≡ suc n = omega arith in q)
 
--- The posting is changed if it has this number.
+-- The posting, changed if it has this number.
 module _ (f : PostingRow → PostingRow) where
   abbrev pub change_if_number : ℕ → PostingRow → PostingRow
   change_if_number n x = if x.number == n then f x else x

@@ -1,4 +1,4 @@
--- Proves what a query's text means in any schema: it reads, and changes nothing.
+-- Proves that the text of a query compiles to a query in any schema.
 use Rattle.std.proofs.Common.{◌≡◌, ◌≤◌, ◌==◌, ◌&&◌, ℕ, List, [], ◌∷◌, length, leb, Bool, true, false, is_ok, Result, Ok}
 use Rattle.std.proofs.Common.{Err}
 use Rattle.std.proofs.Common.{Option, None, inl, inr, refl, sym, ap, subst, ◌∙◌, ◌+◌, arith}
@@ -53,7 +53,7 @@ read_is_query schema s c h =
     let p = and_then_ok (program schema q.0.1 q.0.0.0) _ c q.2 in
     subst (λ k. is_query k ≡ true) (same_value (Select p.0 q.0.0.1) c p.2) refl
 
--- The compiled text is a query, with the text's parameters, and without a clock.
+-- The compiled text is a query with the parameters of the text, and doesn't read the time.
 record IsCompiledQuery (p : Parsed) (c : Compiled) : Type 0 where
   returning : c.returning ≡ None
   formats : c.formats ≡ []
@@ -118,7 +118,7 @@ if_select_ok (Ok d) c h = elim (cases_Bool (is_select d.command)) [
 ]
 if_select_ok (Err e) c h = absurd (cc)
 
--- In any schema, what a query's text compiles to is a query.
+-- In any schema, the text of a query compiles only to a query.
 understood_query : (sql : List ℕ) → IsQuery sql → (schema : Schema) (c : Compiled) → understood schema sql ≡ Ok c
     → (p : Parsed) × (first sql ≡ Ok p) × IsCompiledQuery p c
 unfolding understood
@@ -135,7 +135,8 @@ pub query_reads : (sql : List ℕ) → IsQuery sql → (schema : Schema) (c : Co
     → is_query c.command ≡ true
 query_reads sql is schema c h = (understood_query sql is schema c h).2.query
 
--- A single query without parameters is the whole text.
+-- If the text is a single query without parameters, its statement has no parameters and reaches the
+-- end of the text.
 pub query_is_whole : (sql : List ℕ) → IsWholeQuery sql → (schema : Schema) (c : Compiled)
     → understood schema sql ≡ Ok c → (c.names ≡ []) × (length sql ≤ c.tail)
 query_is_whole sql is schema c h =
@@ -143,7 +144,8 @@ query_is_whole sql is schema c h =
     let both = and_parts (length so.0.names == 0) _ (subst (λ r. is_whole_text (length sql) r ≡ true) so.1 is.1) in
     (so.2.names ∙ no_elements so.0.names both.0, subst (λ n. length sql ≤ n) (sym so.2.tail) (leb-true _ _ both.1))
 
--- The texts.
+-- Each query for the rows of a table, or for the version of a store, is a single query without
+-- parameters.
 
 pub table_is_query : (p : Table) → IsWholeQuery (read_text p)
 unfolding everything

@@ -1,4 +1,4 @@
--- Proves that a query leaves the database as it is.
+-- Proves that a query leaves the database unchanged, and which rows or faults it returns.
 use Rattle.std.proofs.Common.{◌≡◌, ◌⊎◌, inl, inr, ℕ, List, length, Ok, Err, Result, IfOk, IfErr, false, IsTrue, sym, ap}
 use Rattle.std.proofs.Common.{true, refl, OnOk, [], subst, ◌∙◌, append-nil, Option, None, Some, is_ok, ◌≢◌}
 use Rattle.sqlite.specs.Order.{Row}
@@ -50,7 +50,7 @@ was_open sql params old new items (Err e) ok (inl (inl refused)) now = refused.1
 was_open sql params old new items (Err e) ok (inl (inr fails)) now = fails.3.was_open now
 was_open sql params old new items (Err e) ok (inr h) now = runs_open old new sql h.0 _ e h.0.returning h.2 now
 
--- The database is as before, or as committed.
+-- After a query the database is unchanged, or rolled back to what was committed.
 module _ (sql : List ℕ) (params : Row) (old new : State) (is : IsQuery sql) where
   plain_here : (c : Compiled) → understood old.now.schema sql ≡ Ok c → IsPlain (Ok c)
   plain_here = query_is_plain sql is old.now.schema
@@ -87,7 +87,7 @@ left_as_committed : (old new : State) → IsTrue new.is_open → old.now ≡ old
 left_as_committed old new still_open settled (inl h) = (h.0.now_is, h.0.committed_is)
 left_as_committed old new still_open settled (inr h) = let back = h.undone still_open in (back.0 ∙ sym settled, back.1)
 
--- A query leaves a database as it is, and commits nothing.
+-- A query leaves a database unchanged, and commits nothing.
 module _ {S : Type 0} (g : Ghosts S) (sql : List ℕ) (params : Row) (old new : Held S) {V : Type 0}
     (r : Result V Error) (items : V → List Row) (is : IsQuery sql)
     (ok : HasCleanDisk (state g new) → IfOk r (λ v. Shown sql params (state g old) (state g new) (items v))) where
@@ -118,9 +118,8 @@ module _ {S : Type 0} (g : Ghosts S) (sql : List ℕ) (params : Row) (old new : 
   pub keeps_database : KeepsDatabase g old new r
   keeps_database = keeps_after r ok
 
--- What a query without parameters finds.
 
--- A fault of the store is none of a query.
+-- The error of a store that failed is never that of a query that finds nothing.
 pub cause_finds : (e : Error) (cause : StoreError) → e ≡ store_error cause → finds_nothing e ≡ false
 cause_finds e cause.OutOfMemory is = ap finds_nothing is
 cause_finds e cause.Io is = ap finds_nothing is
@@ -137,7 +136,7 @@ module _ (sql : List ℕ) (old new : State) (is : IsWholeQuery sql) where
       let it = rw (bare.0, bare.1) at h.2 in
       (h.0, h.1.is, it.0, it.1, it.2)
 
-  -- A closed text is refused only if it doesn't compile.
+  -- A single query without parameters is refused only if it doesn't compile.
   no_other : (e : Error) → IsNoStatement old sql [] e
       → (fault : CompileError) × (understood old.now.schema sql ≡ Err fault) × (e ≡ SqlInputError fault)
   no_other e (inl h) = h
@@ -155,7 +154,8 @@ module _ (sql : List ℕ) (old new : State) (is : IsWholeQuery sql) where
       → (finds_nothing e ≡ true) × (compiles old.now.schema sql ≡ false)
   not_compiled e h = let why = no_other e h in (ap finds_nothing why.2, ap is_ok why.1)
 
-  -- A query that compiles is refused for its values, or for its length.
+  -- A query that compiles is refused because its values have no result, or because it takes too
+  -- many steps.
   refused_for_rows : (c : Compiled) → understood old.now.schema sql ≡ Ok c → (source : Database)
       → IsSourceOf (reads_listing old.now.schema sql) old.now source → (e : Error) → (command : Command)
       → c.command ≡ command → is_query command ≡ true → RefusesToRead old.step_limit command source [] e
@@ -184,7 +184,7 @@ module _ (sql : List ℕ) (old new : State) (is : IsWholeQuery sql) where
   found_result items (Ok v) ok err = (finds_shown (items v) ok, tt)
   found_result items (Err e) ok err = (tt, fails_to_find e err)
 
--- Preparing a statement leaves the database as it is; a text that doesn't compile fails by no fault of the store.
+-- Preparing a statement leaves the database unchanged.
 module _ {S : Type 0} (g : Ghosts S) (sql : List ℕ) (old new : Held S) where
   -- A failure to prepare a statement leaves the database unchanged or as committed.
   prepared_so : (e : Error) → ((params : Row) → IsNotRun (state g old) (state g new) sql params e)
@@ -197,7 +197,7 @@ module _ {S : Type 0} (g : Ghosts S) (sql : List ℕ) (old new : Held S) where
   open_before (inl h) now = h.0.was_open
   open_before (inr h) now = h.was_open now
 
-  -- Preparing a statement leaves a database of either version unchanged.
+  -- Preparing a statement leaves the database unchanged, and a crash leaves nothing new.
   pub prepared_leaves : (old.in_transaction ≡ false → new.in_transaction ≡ false)
       → Survives (state g old) (state g new) (λ _. ⊥)
       → (HasCleanDisk (state g new) → IsUnchanged (state g old) (state g new) ⊎ IsRolledBack (state g old)
@@ -220,7 +220,7 @@ module _ {S : Type 0} (g : Ghosts S) (sql : List ℕ) (old new : Held S) where
   each_so P (Ok v) ok err = inl ok.1
   each_so P (Err e) ok err = prepared_so e err
 
--- Whether a text compiles.
+-- Preparing a single query shows whether it compiles, unless the store fails.
 module _ (sql : List ℕ) (old new : State) (is : IsWholeQuery sql) where
   outlined : (r : Result Compiled CompileError) (s : Outline) → Outlines r s → true ≡ is_ok r
   outlined (Ok c) s h = refl
@@ -245,7 +245,8 @@ module _ (sql : List ℕ) (old new : State) (is : IsWholeQuery sql) where
     | inr fails ↦ let e = cause_finds _ fails.0 fails.1 in absurd (cc)
   ]
 
-  -- A text that fails to be prepared, but not as one that doesn't compile, fails by the store.
+  -- If preparing a text fails with another error than that of a text that doesn't compile, the
+  -- store has failed.
   store_failed : (e : Error) → ((fault : CompileError) → e ≡ SqlInputError fault → ⊥)
       → ((params : Row) → IsNotRun old new sql params e) → IsStoreFault old new e
   unfolding IsNotRun
@@ -267,7 +268,8 @@ module _ (sql : List ℕ) (old new : State) (is : IsWholeQuery sql) where
       (same.0.now_is, same.0.committed_is)
   kept_answered e Clean h = tt
 
--- A query that compiles in the schema of a store doesn't fail as one that doesn't compile.
+-- A query that compiles in the schema of a store never returns the error of one that doesn't
+-- compile.
 
 pub no_cause : (fault : CompileError) (cause : StoreError) → SqlInputError fault ≢ store_error cause
 no_cause fault cause told = let e = ap finds_nothing told ∙ cause_finds _ cause refl in cc

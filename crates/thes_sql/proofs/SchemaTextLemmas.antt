@@ -1,4 +1,4 @@
--- The statements that create or migrate a store define its schema.
+-- Proves that the statements that create or migrate a store define its schema.
 use Rattle.std.proofs.Common.{arith, ◌≡◌, ◌≢◌, Option, ℕ, suc, zero, ◌<◌, List, [], ◌∷◌, codes, length, take, drop}
 use Rattle.std.proofs.Common.{slice_get, Some, None, Ok, Err, Result, OnOk, inl, inr, refl, sym, ap, subst, subst₂}
 use Rattle.std.proofs.Common.{◌∙◌, ◌||◌, ◌++◌, true, false, lit<, IsTrue}
@@ -255,7 +255,8 @@ module _ {S : Type 0} (g : Ghosts S) (new : Held S) {Goal : Type 0} where
       (subst (λ t. ExecutesIn true t [] (state g old) (state g ran.0) (Ok ran.1)) is ran.2.runs))
       (subst (λ t. RunInTurn g (Some 0) most t ran.0 new (Ok tt)) left ran.3)
 
--- Assumes that the indexed table exists, so that the text compiles.
+-- Assumes the error of a text that doesn't compile. A CREATE INDEX on an existing table never has
+-- this error.
 module _ (text : List ℕ) (old new : State) (fault : CompileError) where
   -- A text that doesn't compile changes nothing.
   pub refused_unchanged : Executes text [] old new (Err (SqlInputError fault)) → IsUnchanged old new
@@ -337,7 +338,7 @@ tries_refused text old new fault (inl h) inside = record {
 }
 tries_refused text old new fault (inr h) inside = absurd (let k = h.1 in cc)
 
--- A CREATE INDEX that compiles defines the index.
+-- Trying a CREATE INDEX on an existing table defines the index.
 index_after_try : (from : Schema) (text : List ℕ) (at : ℕ) (table : Table) (index : Index) → AddsIndex from text
     at table index
     → slice_get from.tables at ≡ Some table → (old new : State) → RunsOrFailsToCompile text old new → old.now.schema
@@ -370,7 +371,7 @@ both_indexes old mid new first second = record {
 -- Assumes that table hier and both indexes were created.
 module _ (old mid new : State) (first : ExtendsSchema old_schema schema_without_indexes (11 ∷ []) old mid)
     (second : ExtendsSchema schema_without_indexes store_schema [] mid new) where
-  -- Hier and the indexes turn an empty store of version 1 into one of version 2.
+  -- Table hier and the indexes turn an empty store of version 1 into one of version 2.
   pub newer_empty : Transforms (IsEmpty old_schema) (IsEmpty store_schema) old new
   newer_empty = record {
     made = λ empty.
@@ -385,7 +386,8 @@ module _ (old mid new : State) (first : ExtendsSchema old_schema schema_without_
     inside = second.inside;
   }
 
-  -- Table hier and the indexes leave the tables of version 1 unchanged, and table hier is empty.
+  -- Creating table hier and the indexes leaves the tables of version 1 unchanged, and table hier
+  -- empty.
   enlarged_rows : (t : Tables) → KeepsOld old.now t → KeepsAs 1 new.now (record t { hier = [] })
   enlarged_rows t was =
       let one = first.made was.schema in

@@ -1,4 +1,4 @@
--- The rows that a SELECT of one table returns.
+-- Proves which rows a SELECT from one table returns.
 use Rattle.std.proofs.Common.{arith, ◌≡◌, ℕ, pos, List, [], ◌∷◌, ◌<◌, ◌≤◌, ◌==◌, ◌&&◌, map, filter, inl, inr}
 use Rattle.std.proofs.Common.{flat_map, codes, Bool, true, false, not, cond, refl, sym, ap, ◌+◌, subst, ◌∙◌, Less}
 use Rattle.std.proofs.Common.{lit<, Option, Some, None, Ok, is_ok, subst₂}
@@ -291,7 +291,7 @@ pub moving_is_query : IsQuery moving_text
 unfolding everything
 moving_is_query = refl
 
--- The rows of posting that pass a test.
+-- A query of table posting with a filter returns the postings that pass the test.
 postings_shown : (text : List ℕ) (params : Row) (filters : List Term) (p : PostingRow → Bool)
     → ((x : PostingRow) → list_all (holds (params ∷ stored_posting x ∷ [])) filters ≡ p x)
     → IsQueryText text (ordered_query 8 filters posting_columns)
@@ -355,7 +355,7 @@ module _ (sql : List ℕ) (db : Database) (schema : Schema) (has : db.schema ≡
     source_found : source ≡ db
     source_found = subst (λ b. IsSourceOf b db source) (ap (λ s. reads_listing s sql) has ∙ unlisted) from
 
-  -- What a query finds answers it.
+  -- The rows that a query finds are an answer to it.
   found_answers : (rows : List Row) → Finds sql db (Some rows) → Reads (Select q names) db [] rows
   found_answers rows h = subst₂ (λ k d. Reads k d [] rows) (command_found h.0 h.1 h.2 h.3)
       (source_found h.0 h.1 h.2 h.3) h.4
@@ -368,7 +368,7 @@ module _ (sql : List ℕ) (db : Database) (schema : Schema) (has : db.schema ≡
   found_some well none (inr h) = none h.4 (subst₂ (λ k d. RefusesToRead None k d [] h.4)
       (command_found h.0 h.1 h.2 h.3) (source_found h.0 h.1 h.2 h.3) h.5)
 
--- The query for meta finds its row.
+-- The query for table meta finds its row, in the schema of either version.
 
 abbrev meta_query : Query
 meta_query = ordered_query 0 [] (columns_of table.Meta)

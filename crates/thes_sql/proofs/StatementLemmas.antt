@@ -1,4 +1,4 @@
--- The effects of a statement on the rows of one table, for any table.
+-- Proves the effects of a statement on the rows of one table, for any table.
 use Rattle.std.proofs.Common.{◌≡◌, ◌≢◌, ℕ, pos, List, [], ◌∷◌, ◌++◌, map, filter, flat_map, slice_get, drop, nat_le}
 use Rattle.std.proofs.Common.{unwrap_or, None, ◌^◌, ◌-◌, Bool, true, false, not, cond, if◌then◌else◌, Some, Ok, refl}
 use Rattle.std.proofs.Common.{sym, ap, subst, ◌∙◌}

@@ -1,4 +1,4 @@
--- Lists as sets, and trees whose rows are sorted by rowid.
+-- Lemmas on lists as sets, and on trees whose rows are sorted by rowid.
 use Rattle.std.proofs.Common.{arith, ◌≡◌, inl, inr, ℕ, ℤ, pos, ◌==◌, List, [], ◌∷◌, map, Bool, true, false, not}
 use Rattle.std.proofs.Common.{if◌then◌else◌, refl, sym, ap, subst, ◌∙◌, Less, is_eq}
 use Rattle.std.specs.List.{AllByRecursion}

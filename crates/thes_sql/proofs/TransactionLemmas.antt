@@ -1,4 +1,4 @@
--- A transaction applies its changes in order and atomically.
+-- Proves that a transaction applies its changes in order and atomically.
 use Rattle.std.proofs.Common.{arith, ◌≡◌, ℕ, ◌+◌, ◌<◌, get_or, true, List, ◌∷◌, length, drop, refl, sym, ap, subst}
 use Rattle.std.proofs.Common.{◌∙◌, IsTrue}
 use Rattle.std.proofs.lemmas.List.{drop_more}
@@ -71,7 +71,7 @@ all_or_old g start begun changes mid new is first did last =
     (λ clean. (subst (λ (h : Held _). IsTrue h.in_transaction → AppliesChanges changes (state g h) mid) is (did clean)
     refl).rows)
 
--- A migration: a crash leaves the old database, or the migrated tables.
+-- If a crash interrupts a migration, it leaves the old database or the migrated tables.
 pub migrated_or_old : {S : Type 0} (g : Ghosts S) (start begun : Held S) (mid new : State)
     → begun ≡ record start { in_transaction = true } → Survives (state g begun) mid (λ _. ⊥)
     → (HasCleanDisk mid → IsTrue begun.in_transaction

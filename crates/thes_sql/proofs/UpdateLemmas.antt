@@ -1,4 +1,4 @@
--- The effects of each UPDATE and DELETE on the tables.
+-- Proves that each UPDATE and each DELETE makes its change.
 use Rattle.std.proofs.Common.{◌≡◌, ℕ, pos, List, [], ◌∷◌, ◌==◌, map, filter, slice_get, Bool, not, ◌&&◌}
 use Rattle.std.proofs.Common.{if◌then◌else◌, Some, None, Option, Ok, refl, sym, subst}
 use Rattle.std.specs.List.{list_all}
@@ -38,7 +38,7 @@ use Rattle.thes_sql.proofs.TableRowLemmas.{all_turned}
 use Rattle.thes_sql.proofs.WhereLemmas.{by_resource, by_number, by_place, by_label, by_link, by_hier}
 use Rattle.thes_sql.proofs.NumberedChangeLemmas.{dead_is, posting_is, still_numbered}
 
--- The UPDATE that marks a resource as dead makes the change of its table.
+-- An UPDATE that marks a resource as dead changes exactly the row of that resource.
 marks_dead : (sql : List ℕ) (params : Row) (n : ℕ) (by : Option ℕ) (live replaced : Term)
     (is : IsCommandText sql (Update 1
     (whole_program (plain_query 1 text.retire_query.filter (text.resource_columns live replaced) []))))

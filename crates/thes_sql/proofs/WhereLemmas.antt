@@ -1,4 +1,4 @@
--- The rows that pass the WHERE clause of each statement.
+-- Proves which rows pass the WHERE clause of each statement.
 use Rattle.std.proofs.Common.{arith, ◌≡◌, ℕ, pos, List, [], ◌∷◌, ◌==◌, Bool, true, false, not, ◌&&◌, cond, Some, refl}
 use Rattle.std.proofs.Common.{sym, ap, ◌∙◌, is_eq, nat_cmp}
 use Rattle.std.proofs.Math.Bool.{and-true}

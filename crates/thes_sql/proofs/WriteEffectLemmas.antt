@@ -1,4 +1,5 @@
--- The effect of a write in a schema without foreign keys, AUTOINCREMENT and defaults that depend on the time.
+-- Proves the effect of a write in a schema without foreign keys, AUTOINCREMENT and defaults that
+-- depend on the time.
 use Rattle.std.proofs.Common.{◌≡◌, ◌⊎◌, inl, inr, ℕ, ℤ, List, [], slice_get, Bool, true, false, cond, Option, Some}
 use Rattle.std.proofs.Common.{None, Ok, Err, Result, refl, sym, ap, subst, ◌∙◌}
 use Rattle.sqlite.specs.declared.types.Value.{Value}
@@ -86,7 +87,7 @@ pub conclusion_state : (task : Task) (mode : Mode) (w : Written) (tally : Tally)
 conclusion_state task mode w tally next h =
     ap (λ (p : Tally × Database). p.1) (same_value (value_unstopped (value_unstopped h).2).2)
 
--- A statement runs in an equal schema as it does in its own.
+-- A statement has the same effect in an equal schema.
 in_schema : (schema : Schema) (command : Command) (params : Row) (text : List ℕ) (old new : State) (count : ℕ)
     → old.now.schema ≡ schema → (w : Writes old new None command text params count)
     → Does old.step_limit (mode_of old) params (record old.now { schema = schema }) text None command

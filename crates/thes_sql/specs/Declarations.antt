@@ -16,17 +16,17 @@ use Rattle.thes_base.specs.declared.fault.Table.{Table}
 use Rattle.thes_base.specs.declared.fault.Table.TheVariants as table
 use Rattle.thes_base.specs.FaultNames.{table_name}
 
--- The test of whether a column's type is that of integers.
+-- Whether the type of a column is that of integers.
 abbrev pub is_integer : Kind → Bool
 is_integer Integer = true
 is_integer _ = false
 
--- The test of whether a column's type is that of texts.
+-- Whether the type of a column is that of texts.
 abbrev pub is_text : Kind → Bool
 is_text Text = true
 is_text _ = false
 
--- The test of whether a collation compares texts by their bytes.
+-- Whether a collation compares texts by their bytes.
 abbrev pub is_binary : Collation → Bool
 is_binary Binary = true
 is_binary _ = false
@@ -55,39 +55,39 @@ needs_value c = c.not_null
 abbrev pub are_optional : List Column → Bool
 are_optional columns = not (list_any needs_value columns)
 
--- The columns are those of table meta, and further ones that may be NULL.
+-- The columns are those of table meta, perhaps followed by columns that may be NULL.
 abbrev pub has_meta_columns : List Column → Bool
 has_meta_columns (one ∷ version ∷ base ∷ more) =
     is_key (codes "one") one && (is_number (codes "version") version &&
     (is_words (codes "base") base && are_optional more))
 has_meta_columns _ = false
 
--- The columns are those of table resource, and further ones that may be NULL.
+-- The columns are those of table resource, perhaps followed by columns that may be NULL.
 abbrev pub has_resource_columns : List Column → Bool
 has_resource_columns (num ∷ kind ∷ scheme ∷ live ∷ replaced ∷ more) =
     is_key (codes "num") num && (is_number (codes "kind") kind && (is_key (codes "scheme") scheme
     && (is_number (codes "live") live && (is_key (codes "replaced") replaced && are_optional more))))
 has_resource_columns _ = false
 
--- The columns are those of table outside, and further ones that may be NULL.
+-- The columns are those of table outside, perhaps followed by columns that may be NULL.
 abbrev pub has_outside_columns : List Column → Bool
 has_outside_columns (num ∷ iri ∷ more) = is_key (codes "num") num && (is_words (codes "iri") iri && are_optional more)
 has_outside_columns _ = false
 
--- The columns are those of table label, and further ones that may be NULL.
+-- The columns are those of table label, perhaps followed by columns that may be NULL.
 abbrev pub has_label_columns : List Column → Bool
 has_label_columns (owner ∷ kind ∷ tag ∷ text ∷ more) =
     is_number (codes "owner") owner && (is_number (codes "kind") kind && (is_words (codes "tag") tag
     && (is_words (codes "text") text && are_optional more)))
 has_label_columns _ = false
 
--- The columns are three columns of integers with these names, and further ones that may be NULL.
+-- The columns are three columns of integers with these names, perhaps followed by columns that may be NULL.
 abbrev pub has_three_columns : List ℕ → List ℕ → List ℕ → List Column → Bool
 has_three_columns first second third (a ∷ b ∷ c ∷ more) =
     is_number first a && (is_number second b && (is_number third c && are_optional more))
 has_three_columns first second third _ = false
 
--- The columns are those of table posting, and further ones that may be NULL.
+-- The columns are those of table posting, perhaps followed by columns that may be NULL.
 abbrev pub has_posting_columns : List Column → Bool
 has_posting_columns (num ∷ pkey ∷ record_name ∷ first ∷ place ∷ withdrawn ∷ more) =
     is_key (codes "num") num && (is_words (codes "pkey") pkey && (is_words (codes "record") record_name
@@ -95,13 +95,13 @@ has_posting_columns (num ∷ pkey ∷ record_name ∷ first ∷ place ∷ withdr
     && (is_number (codes "withdrawn") withdrawn && are_optional more)))))
 has_posting_columns _ = false
 
--- The columns are those of table move, and further ones that may be NULL.
+-- The columns are those of table move, perhaps followed by columns that may be NULL.
 abbrev pub has_move_columns : List Column → Bool
 has_move_columns (num ∷ more) =
     is_key (codes "num") num && has_three_columns (codes "posting") (codes "source") (codes "target") more
 has_move_columns _ = false
 
--- The columns are those that a store's table of this name has, and further ones that may be NULL.
+-- The columns are those that a store's table of this name has, perhaps followed by columns that may be NULL.
 abbrev pub has_columns : Table → List Column → Bool
 has_columns table.Meta columns = has_meta_columns columns
 has_columns table.Resource columns = has_resource_columns columns
@@ -122,7 +122,7 @@ abbrev pub has_no_key : List (List ℕ) → Bool
 has_no_key [] = true
 has_no_key _ = false
 
--- The positions are that of the second column alone, counted from 1.
+-- The only position is that of the second column, counted from 1.
 abbrev pub is_second : List ℕ → Bool
 is_second (a ∷ []) = a == 2
 is_second _ = false
@@ -180,7 +180,7 @@ has_no_reference _ = false
 abbrev pub is_plain : FoundTable → Bool
 is_plain t = has_no_reference t.references && not t.is_counted
 
--- The name begins with `sqlite_`, as those do that SQLite gives to the index of a key.
+-- The name begins with `sqlite_`, like the names that SQLite gives to the indexes of keys.
 abbrev pub is_automatic : List ℕ → Bool
 is_automatic (a ∷ b ∷ c ∷ d ∷ e ∷ f ∷ g ∷ rest) =
     a == 115 && (b == 113 && (c == 108 && (d == 105 && (e == 116 && (f == 101 && g == 95)))))
@@ -190,8 +190,9 @@ is_automatic _ = false
 abbrev pub adds_key : ℕ → Index → Bool
 adds_key tree index = index.table == tree && (index.is_unique && not (is_automatic index.name))
 
--- The table is declared as a store's table of this name: it has its columns and keys, perhaps further columns that may
--- be NULL, and neither foreign keys, AUTOINCREMENT nor unique indexes.
+-- The table is declared as a store's table of this name. It has the columns and keys of that table,
+-- and perhaps further columns that may be NULL. It has no foreign keys, no AUTOINCREMENT and no
+-- unique indexes.
 abbrev pub is_as_created : Table → List Index → FoundTable → Bool
 is_as_created name indexes t =
     has_columns name t.columns && (has_keys name t && (is_plain t && not (list_any (adds_key t.tree) indexes)))

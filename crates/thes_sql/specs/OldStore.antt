@@ -13,7 +13,7 @@ use Rattle.thes_sql.specs.StoredRows.{Keeps, keyed_row, values, HoldResources, H
 use Rattle.thes_sql.specs.StoredRows.{AreHidden, ArePostingsNumbered, AreSpelled, label_values, link_values}
 use Rattle.thes_sql.specs.StoredRows.{hier_values}
 
--- The schema of version 1: seven tables, without hier and without plain indexes.
+-- The schema of version 1: seven tables, without hier and without the two indexes.
 abbrev pub old_schema : Schema
 old_schema = schema_7
 
@@ -33,7 +33,7 @@ pub record HoldAs (version : ℕ) (db : Trees) (t : Tables) : Type 0 where
   pub move : HoldMoves t.move (db 10)
   pub spelled : AreSpelled t
 
--- The database is a store of version 1 with these tables, of which table link has all links.
+-- The database is a store of version 1 with these tables, and its table link has all links.
 pub record KeepsOld (db : Database) (t : Tables) : Type 0 where
   pub schema : db.schema ≡ old_schema
   pub hold : HoldAs 1 db.trees t
@@ -49,7 +49,8 @@ pub record KeepsAs (version : ℕ) (db : Database) (t : Tables) : Type 0 where
 abbrev pub tables_with_empty_hier : Tables → Tables
 tables_with_empty_hier t = record t { hier = [] }
 
--- The tables after the links of kind broader were copied into table hier; table link has them still.
+-- The tables after the links of kind broader were copied into table hier; table link still has
+-- them.
 abbrev pub tables_with_copied_links : Tables → Tables
 tables_with_copied_links t = record t { hier = map untyped_row (filter is_broader t.link) }
 

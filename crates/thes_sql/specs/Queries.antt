@@ -46,8 +46,8 @@ IsWholeQuery sql = IsQuery sql × (is_whole_text (length sql) (first sql) ≡ tr
 abbrev pub compiles : Schema → List ℕ → Bool
 compiles schema sql = is_ok (understood schema sql)
 
--- What a query finds in a database: rows, or None if it doesn't compile or its values have no result, as an overflowing
--- sum in a view.
+-- What a query finds in a database: rows, or None if it doesn't compile or its values have no
+-- result, such as a sum in a view that overflows.
 abbrev pub Finds : List ℕ → Database → Option (List Row) → Type 0
 Finds sql db (Some rows) =
     (c : Compiled) × (understood db.schema sql ≡ Ok c) × (source : Database)
@@ -68,7 +68,8 @@ finds_nothing (SqliteFailure TypeMismatch) = true
 finds_nothing (SqliteFailure IntegerOverflow) = true
 finds_nothing _ = false
 
--- A query has failed: it finds no rows, or the store has failed, or the query took more steps than its limit.
+-- A query has failed: it finds nothing, or the store has failed, or the query took more steps than
+-- its limit.
 abbrev pub FailsToFind : List ℕ → State → State → Error → Type 0
 FailsToFind sql old new e =
     ((finds_nothing e ≡ true) × Finds sql old.now None)
@@ -81,7 +82,8 @@ FindResult g sql old new r rows =
     HasCleanDisk (state g new) → IfOk r (λ out. Finds sql (state g old).now (Some (rows out)))
     × IfErr r (FailsToFind sql (state g old) (state g new))
 
--- The answer whether a query compiles, if preparing it returned this error.
+-- The answer to whether a query compiles, from the error of preparing it: false if the query
+-- doesn't compile, else the error itself.
 abbrev pub answer_of_error : Error → Result Bool Error
 answer_of_error (SqlInputError fault) = Ok false
 answer_of_error e = Err e
@@ -92,7 +94,7 @@ CompileResult g sql old new r =
     HasCleanDisk (state g new) → IfOk r (λ there. there ≡ compiles (state g old).now.schema sql)
     × IfErr r (IsStoreFault (state g old) (state g new))
 
--- A successful call leaves the database unchanged, and what is committed.
+-- A successful call leaves the database and its committed state unchanged.
 abbrev pub KeepsDatabase : {S V E : Type 0} → Ghosts S → Held S → Held S → Result V E → Type 0
 KeepsDatabase g old new r =
     OnOk r (HasCleanDisk (state g new)

@@ -47,7 +47,7 @@ places_of table.Hier = 1 ∷ 2 ∷ 3 ∷ []
 places_of table.Posting = 0 ∷ 2 ∷ 3 ∷ 4 ∷ 5 ∷ 6 ∷ []
 places_of table.Move = 0 ∷ 2 ∷ 3 ∷ 4 ∷ []
 
--- The rows of a table in these trees, which may have any rows and values.
+-- The rows of a table in these trees, whatever rows and values the trees have.
 abbrev pub rows_in_trees : Table → Trees → List Row
 rows_in_trees p db = map (λ (row : Row). map (column row) (places_of p)) (db (tree_of p))
 
@@ -116,7 +116,7 @@ HasNoInputError g old new r =
     HasCleanDisk (state g new) → (state g old).now.schema ≡ store_schema
     → IfErr r (λ e. (fault : CompileError) → e ≢ SqlInputError fault)
 
--- A call leaves a database with the schema of a store unchanged if nothing in it was uncommitted.
+-- A call leaves the database unchanged if nothing in it was uncommitted.
 pub record LeavesTables {S : Type 0} (g : Ghosts S) (old new : Held S) : Type 0 where
   pub mode : old.in_transaction ≡ false → new.in_transaction ≡ false
   pub was : HasCleanDisk (state g new) → IsTrue (state g new).is_open → IsTrue (state g old).is_open
@@ -124,8 +124,8 @@ pub record LeavesTables {S : Type 0} (g : Ghosts S) (old new : Held S) : Type 0 
   pub same : HasCleanDisk (state g new) → IsTrue (state g new).is_open → (state g old).now ≡ (state g old).committed
       → ((state g new).now ≡ (state g old).now) × ((state g new).committed ≡ (state g old).committed)
 
--- A call leaves a store's database unchanged if nothing in it was uncommitted, and a crash leaves only what it could
--- leave before the call.
+-- A call leaves the database unchanged if nothing in it was uncommitted, and a crash leaves only
+-- what it could leave before the call.
 pub record LeavesAlone {S : Type 0} (g : Ghosts S) (old new : Held S) : Type 0 where
   pub tables : LeavesTables g old new
   pub crash : Survives (state g old) (state g new) (λ _. ⊥)

@@ -1,4 +1,4 @@
--- The schema of a store: eight tables and two plain indexes.
+-- The schema of a store: eight tables, and two indexes that aren't unique.
 use Rattle.sqlite.specs.Collation.TheVariants.{Binary}
 use Rattle.std.specs.Prelude.{ℕ, Bool, true, false, [], ◌∷◌, Some, None, Option, codes, List}
 use Rattle.sqlite.specs.declared.types.Value.TheVariants.{Null}
@@ -103,7 +103,7 @@ move_table = numbered_table (codes "move")
     (key_column (codes "num") ∷ number_column (codes "posting") ∷ number_column (codes "source") ∷ number_column
     (codes "target") ∷ []) [] []
 
--- A plain index of columns of the table in this tree.
+-- An index, not unique, of these columns of the table in this tree.
 abbrev pub index_of : List ℕ → ℕ → List ℕ → Index
 index_of name table columns =
     record { name = name; tree = 0; table = table; columns = columns; order = plain; is_unique = false }

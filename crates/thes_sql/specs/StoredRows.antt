@@ -30,7 +30,8 @@ value_of cells.Null = Null
 abbrev pub values : List Cell → List Value
 values row = map value_of row
 
--- The stored row for values of which the first is the rowid: the rowid, NULL for its own column, and the other values.
+-- The stored row for values whose first is the rowid: the rowid, NULL for its own column, and the
+-- other values.
 abbrev pub keyed_row : List Value → Row
 keyed_row [] = []
 keyed_row (id ∷ rest) = id ∷ Null ∷ rest

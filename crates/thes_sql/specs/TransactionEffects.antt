@@ -43,7 +43,8 @@ pub record Transforms (From To : Database → Type 0) (old new : State) : Type 0
   pub made : From old.now → To new.now
   pub inside : IsTrue new.in_transaction
 
--- The call leads from each database that satisfies `From` for some tables to one that satisfies `To` for them.
+-- The call leads from each database that satisfies `From` for some tables to one that satisfies
+-- `To` for the same tables.
 pub record TransformsTables (From To : Tables → Database → Type 0) (old new : State) : Type 0 where
   pub made : (t : Tables) → From t old.now → To t new.now
   pub inside : IsTrue new.in_transaction
@@ -61,8 +62,8 @@ pub record RunsOrFailsToCompile (text : List ℕ) (old new : State) : Type 0 whe
       ⊎ ((fault : CompileError) × Executes text [] old new (Err (SqlInputError fault)))
   pub inside : IsTrue new.in_transaction
 
--- Inside a transaction, and if the disk hasn't failed silently, a successful call leads from the old state to the new
--- one by `Leads`.
+-- Inside a transaction, and if the disk hasn't failed silently, the relation `Leads` holds between
+-- the states before and after a successful call.
 abbrev pub SucceedsInside : {S V E : Type 0} → Ghosts S → (State → State → Type 0) → MutBor (Held S) → MutBor (Held S)
     → Result V E → Type 0
 SucceedsInside g Leads old new r =

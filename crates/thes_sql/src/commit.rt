@@ -1,4 +1,4 @@
-//! Commits of changes to the tables of a database, each in a transaction of its own.
+//! Commits changes to the tables of a database, all in one transaction.
 ghost use Rattle.std.specs.Prelude.{◌≡◌, IfOk, IsTrue};
 ghost use Rattle.thes_tables.specs.Tables.{Tables};
 ghost use Rattle.thes_tables.specs.Rows.{tables_after_delta, DeltaFits};
@@ -24,8 +24,8 @@ fn apply_all<S: Alter>(tx: &mut Transaction<'_, S>, changes: &[Change]) -> Resul
     Ok(())
 }
 
-/// Applies the changes in one transaction, atomically even if a crash interrupts it. Returns false, and changes
-/// nothing, if the connection is in a transaction already.
+/// Applies the changes in one transaction, atomically even if a crash interrupts it. Returns false,
+/// and changes nothing, if the connection is in a transaction already.
 pub fn commit_all<S: Alter>(conn: &mut Connection<S>, changes: &[Change]) -> Result<bool, Error>
     ensures all { HasCleanDisk (state S.Store conn.new) → IfOk result (λ done. IsTrue done
         → (t : Tables) → Keeps (state S.Store conn.old).now t → DeltaFits changes.now t

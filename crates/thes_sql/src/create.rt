@@ -49,7 +49,7 @@ PRIMARY KEY (a, b, typ)) STRICT;",
     )
 }
 
-// Creates an index; a statement that doesn't compile is no error, and creates none.
+// Creates an index; ignores a statement that doesn't compile.
 fn try_index<S: Alter>(tx: &mut Transaction<'_, S>, sql: &str) -> Result<(), Error>
     ensures same_reference { tx.new.conn.ghost_name ≡ tx.old.conn.ghost_name }
     ensures does { SucceedsInside S.Store (RunsOrFailsToCompile sql.now)
@@ -63,8 +63,8 @@ fn try_index<S: Alter>(tx: &mut Transaction<'_, S>, sql: &str) -> Result<(), Err
     }
 }
 
-// Creates the indexes of postings by place and of moves by posting. Skips an index whose table is missing, as it may be
-// in a faulty store of version 1.
+// Creates the indexes of postings by place and of moves by posting. Skips an index whose table is
+// missing, as it may be in a faulty store of version 1.
 fn define_indexes<S: Alter>(tx: &mut Transaction<'_, S>) -> Result<(), Error>
     ensures same_reference { tx.new.conn.ghost_name ≡ tx.old.conn.ghost_name }
     ensures does { SucceedsInside S.Store (ExtendsSchema schema_without_indexes store_schema [])
@@ -121,8 +121,8 @@ fn create_all<S: Alter>(tx: &mut Transaction<'_, S>, base: &Base) -> Result<(), 
     Ok(())
 }
 
-/// Creates the tables of a new store in one transaction, atomically even if a crash interrupts it. Returns false, and
-/// changes nothing, if the connection is in a transaction already.
+/// Creates the tables of a new store in one transaction, atomically even if a crash interrupts it.
+/// Returns false, and changes nothing, if the connection is in a transaction already.
 pub fn create_tables<S: Alter>(conn: &mut Connection<S>, base: &Base) -> Result<bool, Error>
     ensures all { HasCleanDisk (state S.Store conn.new) → IfOk result (λ done. IsTrue done
         → IsEmpty empty_schema (state S.Store conn.old).now

@@ -31,7 +31,8 @@ fn is_binary(collation: Collation) -> bool
     matches!(collation, Collation::Binary)
 }
 
-// Checks whether a column has this name, takes only values of its type, and compares texts by their bytes.
+// Checks whether a column has this name, takes only values of its type, and compares texts by their
+// bytes.
 fn is_strict(column: &Column, name: &str) -> bool
     ensures { result ≡ wanted.is_strict name.now column.now }
 {
@@ -75,7 +76,7 @@ fn are_optional(columns: &[Column]) -> bool
     !need_values(columns)
 }
 
-// Checks whether the columns are those of table meta, and further ones that may be NULL.
+// Checks whether the columns are those of table meta, perhaps followed by columns that may be NULL.
 fn has_meta_columns(columns: &[Column]) -> bool
     ensures { result ≡ wanted.has_meta_columns columns.now }
 {
@@ -90,7 +91,8 @@ fn has_meta_columns(columns: &[Column]) -> bool
     }
 }
 
-// Checks whether the columns are those of table resource, and further ones that may be NULL.
+// Checks whether the columns are those of table resource, perhaps followed by columns that may be
+// NULL.
 fn has_resource_columns(columns: &[Column]) -> bool
     ensures { result ≡ wanted.has_resource_columns columns.now }
 {
@@ -107,7 +109,8 @@ fn has_resource_columns(columns: &[Column]) -> bool
     }
 }
 
-// Checks whether the columns are those of table outside, and further ones that may be NULL.
+// Checks whether the columns are those of table outside, perhaps followed by columns that may be
+// NULL.
 fn has_outside_columns(columns: &[Column]) -> bool
     ensures { result ≡ wanted.has_outside_columns columns.now }
 {
@@ -119,7 +122,8 @@ fn has_outside_columns(columns: &[Column]) -> bool
     }
 }
 
-// Checks whether the columns are those of table label, and further ones that may be NULL.
+// Checks whether the columns are those of table label, perhaps followed by columns that may be
+// NULL.
 fn has_label_columns(columns: &[Column]) -> bool
     ensures { result ≡ wanted.has_label_columns columns.now }
 {
@@ -135,7 +139,8 @@ fn has_label_columns(columns: &[Column]) -> bool
     }
 }
 
-// Checks whether the columns are three columns of integers with these names, and further ones that may be NULL.
+// Checks whether the columns are three columns of integers with these names, perhaps followed by
+// columns that may be NULL.
 fn has_three_columns(columns: &[Column], first: &str, second: &str, third: &str) -> bool
     ensures { result ≡ wanted.has_three_columns first.now second.now third.now columns.now }
 {
@@ -147,7 +152,8 @@ fn has_three_columns(columns: &[Column], first: &str, second: &str, third: &str)
     }
 }
 
-// Checks whether the columns are those of table posting, and further ones that may be NULL.
+// Checks whether the columns are those of table posting, perhaps followed by columns that may be
+// NULL.
 fn has_posting_columns(columns: &[Column]) -> bool
     ensures { result ≡ wanted.has_posting_columns columns.now }
 {
@@ -165,7 +171,7 @@ fn has_posting_columns(columns: &[Column]) -> bool
     }
 }
 
-// Checks whether the columns are those of table move, and further ones that may be NULL.
+// Checks whether the columns are those of table move, perhaps followed by columns that may be NULL.
 fn has_move_columns(columns: &[Column]) -> bool
     ensures { result ≡ wanted.has_move_columns columns.now }
 {
@@ -176,7 +182,8 @@ fn has_move_columns(columns: &[Column]) -> bool
     }
 }
 
-// Checks whether the columns are those that a store's table of this name has, and further ones that may be NULL.
+// Checks whether the columns are those that a store's table of this name has, perhaps followed by
+// columns that may be NULL.
 fn has_columns(name: Table, columns: &[Column]) -> bool
     ensures { result ≡ wanted.has_columns name columns.now }
 {
@@ -212,7 +219,7 @@ fn has_no_key(table: &FoundTable) -> bool
     }
 }
 
-// Checks whether the positions are that of the second column alone, counted from 1.
+// Checks whether the only position is that of the second column, counted from 1.
 fn is_second(places: &[usize]) -> bool
     ensures { result ≡ wanted.is_second places.now }
 {
@@ -294,7 +301,8 @@ fn is_plain(table: &FoundTable) -> bool
     }
 }
 
-// Checks whether a name begins with `sqlite_`, as those do that SQLite gives to the index of a key.
+// Checks whether a name begins with `sqlite_`, like the names that SQLite gives to the indexes of
+// keys.
 fn is_automatic(name: &[u8]) -> bool
     ensures { result ≡ wanted.is_automatic name.now }
 {
@@ -312,7 +320,8 @@ fn is_automatic(name: &[u8]) -> bool
     }
 }
 
-// Checks whether an index makes columns of the table in this tree a key, as CREATE UNIQUE INDEX does.
+// Checks whether an index makes columns of the table in this tree a key, as CREATE UNIQUE INDEX
+// does.
 fn adds_key(tree: u32, index: &Index) -> bool
     ensures { result ≡ wanted.adds_key tree index.now }
 {
@@ -350,8 +359,8 @@ fn is_in_schema(schema: &Schema, name: Table) -> bool
     }
 }
 
-/// Checks whether a database declares a table as `create_tables` does. It ignores further columns that may be NULL, and
-/// further tables, views and indexes that make no key.
+/// Checks whether a database declares a table as `create_tables` does. It ignores further columns
+/// that may be NULL, and further tables, views and indexes that make no key.
 pub fn declares<S: Alter>(conn: &Connection<S>, name: Table) -> bool
     ensures { result ≡ wanted.declares (state S.Store conn.now).now.schema name }
 {

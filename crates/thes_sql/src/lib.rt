@@ -1,4 +1,4 @@
-//! The tables of a store in a database.
+//! Creates, reads, changes and migrates the tables of a store in a database.
 #![tactic(auto)]
 
 pub mod commit;

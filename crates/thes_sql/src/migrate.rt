@@ -70,8 +70,9 @@ fn migrate_all<S: Alter>(tx: &mut Transaction<'_, S>) -> Result<(), Error>
     Ok(())
 }
 
-/// Migrates the tables of version 1 to version 2 in one transaction, atomically even if a crash interrupts it. Returns
-/// false, and changes nothing, if the connection is in a transaction already.
+/// Migrates the tables of version 1 to version 2 in one transaction, atomically even if a crash
+/// interrupts it. Returns false, and changes nothing, if the connection is in a transaction
+/// already.
 pub fn migrate_tables<S: Alter>(conn: &mut Connection<S>) -> Result<bool, Error>
     ensures all { HasCleanDisk (state S.Store conn.new) → IfOk result (λ done. IsTrue done
         → (t : Tables) → KeepsOld (state S.Store conn.old).now t

@@ -8,7 +8,8 @@ use sqlite::{Alter, Connection, Error, ErrorCode, params};
 use thes_base::fault::Table;
 use thes_tables::change::Change;
 
-/// Queries the database to check whether a failure has shut the connection; false after any other error.
+/// Queries the database to check whether a failure has shut the connection; false after any other
+/// error.
 pub fn is_shut<S: Alter>(conn: &mut Connection<S>) -> bool
     ensures { LeavesTables S.Store conn.old conn.new }
 {
@@ -27,8 +28,8 @@ fn has_row<S: Alter>(
     Ok(!conn.query_all(sql, params)?.is_empty())
 }
 
-// Checks whether the table label, link or hier has the row that a change inserts or deletes there; false for a change
-// of another table.
+// Checks whether the table label, link or hier has the row that a change inserts or deletes there;
+// false for a change of another table.
 fn has_listed<S: Alter>(conn: &mut Connection<S>, change: &Change) -> Result<bool, Error> {
     match change {
         Change::AddLabel(row) | Change::DropLabel(row) => has_row(
@@ -50,8 +51,8 @@ fn has_listed<S: Alter>(conn: &mut Connection<S>, change: &Change) -> Result<boo
     }
 }
 
-/// Checks whether a database shows a change of one row, given that it didn't before. Returns false for a change of
-/// places, `SetPlace` or `MoveAll`.
+/// Checks whether a database shows a change of one row, given that it didn't before. Returns false
+/// for a change of places, `SetPlace` or `MoveAll`.
 pub fn has_change<S: Alter>(conn: &mut Connection<S>, change: &Change) -> Result<bool, Error> {
     match change {
         Change::AddResource(n, _) => has_row(

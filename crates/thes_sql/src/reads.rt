@@ -82,7 +82,7 @@ pub fn posting_rows_at<S: Alter>(
     )
 }
 
-/// Reads the rows of the posting's moves, oldest first.
+/// Reads the rows of a posting's moves, oldest first.
 pub fn move_rows_of_posting<S: Alter>(
     conn: &mut Connection<S>,
     posting: PostNo,

@@ -1,4 +1,5 @@
-//! Queries on a database that may be a store of version 1, or hold anything.
+//! Queries on a database that may be a store of version 1, a store of version 2, or hold anything
+//! else.
 ghost use Rattle.std.specs.Prelude.{◌≡◌};
 ghost use Rattle.thes_base.specs.declared.fault.Table.TheVariants as table;
 ghost use Rattle.thes_sql.specs.OldStore.{links_text, hier_text};
@@ -7,7 +8,7 @@ ghost use Rattle.thes_sql.specs.Queries.{FindResult, CompileResult, KeepsDatabas
 
 use sqlite::{Alter, Connection, Error, Row};
 
-/// Reads the rows of table meta, of which a store of either version has one.
+/// Reads the rows of table meta; a store of either version has one.
 pub fn version_rows<S: Alter>(conn: &mut Connection<S>) -> Result<Vec<Row>, Error>
     ensures finds { FindResult S.Store (read_text table.Meta) conn.old conn.new result
         (λ rows. rows.items) }
@@ -17,8 +18,7 @@ pub fn version_rows<S: Alter>(conn: &mut Connection<S>) -> Result<Vec<Row>, Erro
     conn.query_all("SELECT one, version, base FROM meta ORDER BY one", &[])
 }
 
-// Maps the error of a preparation to the answer whether the query compiles: it doesn't, or the error says nothing of
-// it.
+// Returns false for the error of a query that doesn't compile; returns any other error unchanged.
 fn answer_of(error: Error) -> Result<bool, Error>
     ensures { result ≡ answer_of_error error }
 {

@@ -1,4 +1,4 @@
-//! The statement that performs each kind of change.
+//! Performs each kind of change with one statement.
 ghost use Rattle.std.specs.Prelude.{◌≡◌};
 ghost use Rattle.thes_tables.specs.declared.change.Change.TheVariants as change;
 ghost use Rattle.thes_sql.specs.TransactionEffects.{AppliesChange, SucceedsInside, StaysInside};
@@ -174,7 +174,7 @@ fn withdraw<S: Alter>(tx: &mut Transaction<'_, S>, n: PostNo) -> Result<usize, E
     )
 }
 
-// Sets the place of the posting with the number.
+// Sets the place of the posting with the number: the concept to which it is assigned.
 fn set_place<S: Alter>(tx: &mut Transaction<'_, S>, n: PostNo, place: ResNo) -> Result<usize, Error>
     ensures same_reference { tx.new.conn.ghost_name ≡ tx.old.conn.ghost_name }
     ensures does { SucceedsInside S.Store (AppliesChange (change.SetPlace n place))
@@ -217,7 +217,8 @@ fn add_move<S: Alter>(tx: &mut Transaction<'_, S>, row: &MoveRow) -> Result<usiz
     )
 }
 
-/// Performs one change by one statement, inside the transaction, and returns the number of rows changed.
+/// Performs one change with one statement, inside the transaction, and returns the number of rows
+/// changed.
 pub(crate) fn apply<S: Alter>(tx: &mut Transaction<'_, S>, change: &Change) -> Result<usize, Error>
     ensures same_reference { tx.new.conn.ghost_name ≡ tx.old.conn.ghost_name }
     ensures does { SucceedsInside S.Store (AppliesChange change.now)

@@ -1,4 +1,5 @@
--- Each call of the storage keeps its invariant, and a commit applies its changes to the rows.
+-- Proves that each call of the storage keeps its invariant, and that a commit applies its changes
+-- to the rows.
 use Rattle.std.proofs.Common.{arith, inl, inr, ◌≡◌, ℕ, ◌+◌, List, [], ◌∷◌, map, Bool, Option, None, Some, Result}
 use Rattle.std.proofs.Common.{refl, sym, ap, subst, ◌∙◌, IsTrue}
 use Rattle.std.specs.Prelude.{IsUtf8}
@@ -155,7 +156,7 @@ pub before_read : {S : Type 0} (g : Ghosts S) (old new : Held S) → LeavesTable
     → IsUp (state g old)
 before_read g old new leaves up = (omega (arith, leaves.clean, up.0), leaves.was up.0 up.1)
 
--- A property of the store's tables is one of the tables whose cells its rows are.
+-- A property of the tables of a store holds for the tables whose cells its rows are.
 pub holds_of_raw : {S : Type 0} (g : Ghosts S) (first : State) (start old new : Held S) → start ≡ old
     → IsKeeperState first (state g start) → LeavesTables g start new → {P : Tables → Type 0}
     → ((t : Tables) → Keeps (state g start).now t → (state g start).now ≡ (state g start).committed → P t)
@@ -176,7 +177,8 @@ abbrev pub FitsKeeper : State → List Change → State → Type 0
 FitsKeeper first changes old = IsStore first → IsUp old → (t : Tables) → raw_in old.now.trees ≡ cells_of_tables t
     → DeltaFits changes t
 
--- Rows encode at most one list of tables, so the new rows are those of the old tables after the changes.
+-- Rows are the cells of at most one set of tables, so the new rows are those of the old tables
+-- after the changes.
 raw_after_changes : (old : State) (t : Tables) (changes : List Change) (db : Trees) → Keeps old.now t
     → Hold db (tables_after_delta changes t) → RawAfterChanges changes (raw_in old.now.trees) (raw_in db)
 raw_after_changes old t changes db kept made u e = raw_of db (tables_after_delta changes t) made

@@ -1,4 +1,4 @@
--- A load passes the rows of all tables to the sink, table after table.
+-- Proves that a load passes the rows of all tables to the sink, table after table.
 use Rattle.std.proofs.Common.{◌≡◌, ◌<◌, ◌+◌, ℕ, List, [], ◌∷◌, length, take, get_or, append-nil, Option, Result, Ok}
 use Rattle.std.proofs.Common.{Err, refl, sym, ap, subst, ◌∙◌}
 use Rattle.sqlite.specs.Tree.{Trees}
@@ -28,7 +28,7 @@ raw_at table.Hier db = refl
 raw_at table.Posting db = refl
 raw_at table.Move db = refl
 
--- If the rows of a readable table are passed to the sink, so are the rows of the storage's table.
+-- A sink that receives the rows of a readable table receives the rows of that table of the storage.
 pub table_yielded : {S R : Type 0} (g : Ghosts S) (first : State) (start old new : Held S) → start ≡ old
     → IsKeeperState first (state g start) → LeavesTables g start new
     → (gives : R → Table × Option (List Cell) → Result (Unit {0}) Fault → R → Type 0) (p : Table)

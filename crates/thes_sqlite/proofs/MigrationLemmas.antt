@@ -1,4 +1,4 @@
--- Proves what a migration finds in a database, and the state that it leaves.
+-- Proves the verdict of a migration on a database, and the state that the migration leaves.
 use Rattle.std.proofs.Common.{◌<◌, IsTrue, arith, inl, inr, ◌≡◌, ◌⊎◌, ◌≤◌, ℕ, List, [], ◌∷◌, map, refl, sym, ap, subst}
 use Rattle.std.proofs.Common.{◌∙◌}
 use Rattle.std.proofs.Common.{Result, Ok, Err, OnOk, IfOk, IfErr, IsErrAnd, Bool, true, false, Some, None, Option}
@@ -51,7 +51,7 @@ use Rattle.thes_sqlite.proofs.KeeperLemmas.{raw_of}
 
 module _ (version : ℕ) (base : List ℕ) (found : Option (List Row))
     (is : found ≡ Some (version_row version base ∷ [])) where
-  -- A row of this version has no other one.
+  -- A row of table meta with this version states no other version.
   version_is : (Is : ℕ → Type 0) → HasMetaVersion Is found → Is version
   version_is Is had =
       let h = subst (HasMetaVersion Is) is had in
@@ -106,7 +106,7 @@ module _ (db : Database) (t : Tables) where
       go (Err (faults.BadStore table.Hier)) h = absurd (one h.0)
       go other h = absurd h
 
--- The version of a database.
+-- The error of a store that failed becomes a fault that says so.
 
 failed_so : (old new : State) (e : Error) → IsStoreFault old new e → HasFailed old new (error_fault e)
 failed_so old new e (cause.OutOfMemory, is, why) = inl (ap error_fault is)
@@ -117,7 +117,7 @@ failed_so old new e (cause.Broken, is, why) = inr (ap error_fault is, inr (inl w
 failed_so old new e (cause.Unstorable, is, why) = absurd why
 
 module _ {S : Type 0} (g : Ghosts S) (old new : Held S) where
-  -- The rows of meta decide.
+  -- The rows of table meta determine the verdict on the version.
   pub rows_judged : (rows : List Row) (r : Result Bool Fault)
       → (HasCleanDisk (state g new) → Finds (read_text table.Meta) (state g old).now (Some rows))
       → (r ≡ Err faults.OutOfMemory) ⊎ IsMetaVerdict (Some rows) r → Judges g IsVersionVerdict old new r
@@ -134,14 +134,14 @@ module _ {S : Type 0} (g : Ghosts S) (old new : Held S) where
     | inr limit ↦ inr (ap error_fault limit.0, inr (inr limit.1))
   ]))
 
-  -- Meta that can't be read is a fault, unless the store has failed.
+  -- If table meta can't be read, the verdict is a fault, unless the store has failed.
   pub meta_unread : (e : Error) (fault : Fault) → fault ≡ meta_fault_of e
       → (HasCleanDisk (state g new) → FailsToFind (read_text table.Meta) (state g old) (state g new) e)
       → Judges {V = Bool} g IsVersionVerdict old new (Err fault)
   meta_unread e fault is fails clean = subst (λ f. HasFailed (state g old) (state g new) f
       ⊎ IsVersionVerdict (state g old).now (Err f)) (sym is) (unread e (fails clean))
 
--- A failure of the second of two calls is one of both.
+-- A failure of the second of two calls is a failure of both together.
 module _ {S : Type 0} (g : Ghosts S) (old mid new : Held S) (first : LeavesAlone g old mid)
     (second : LeavesAlone g mid new) where
   pub clean_before : HasCleanDisk (state g new) → HasCleanDisk (state g mid)
@@ -186,18 +186,18 @@ module _ {S : Type 0} (g : Ghosts S) (old mid new : Held S) (first : LeavesAlone
         (λ _ db none. none) first.crash second.crash;
   }
 
--- The tables of links.
+-- The fault of a result, or another fault if the result is a value.
 
 abbrev fault_or : {V : Type 0} → Fault → Result V Fault → Fault
 fault_or other (Ok v) = other
 fault_or other (Err fault) = fault
 
--- The verdict on the answer whether the links can be queried.
+-- The answers of two queries determine the verdict on the tables of links.
 module _ (old new : State) (schema : Schema) where
   abbrev IsAnswer : List ℕ → Result Bool Error → Type 0
   IsAnswer text there = IfOk there (λ b. b ≡ compiles schema text) × IfErr there (IsStoreFault old new)
 
-  -- The links can't be queried, or the store has failed.
+  -- A fault means that table link can't be queried, or that the store has failed.
   pub links_stop : (there : Result Bool Error) → IsAnswer links_text there → (fault : Fault)
       → links_verdict_of there ≡ Err fault → HasFailed old new fault ⊎ IsLinkVerdict schema (Err fault)
   links_stop (Ok true) is fault e = absurd (cc)
@@ -212,14 +212,14 @@ module _ (old new : State) (schema : Schema) where
   links_there (Ok false) is done e = absurd (cc)
   links_there (Err error) is done e = absurd (cc)
 
-  -- There is a table hier or not, or the store has failed.
+  -- The answer on table hier gives the verdict on the tables of links, unless the store has failed.
   pub hier_judged : compiles schema links_text ≡ true → (there : Result Bool Error) → IsAnswer hier_text there
       → IsErrAnd (hier_verdict_of there) (HasFailed old new) ⊎ IsLinkVerdict schema (hier_verdict_of there)
   hier_judged links (Ok true) is = inr (links, sym is.0)
   hier_judged links (Ok false) is = inr (links, sym is.0)
   hier_judged links (Err error) is = inl (failed_so old new error is.1)
 
--- A whole database.
+-- The verdicts on the version and on the tables of links give the verdict on the database.
 
 module _ (db : Database) where
   pub newer_or_other : (fault : Fault) → IsVersionVerdict db (Err fault) → IsMigrationVerdict db (Err fault)
@@ -237,7 +237,7 @@ pub migrate_fault_of_keeper : (fault : Fault) → IsKeeperFault fault → IsMigr
 migrate_fault_of_keeper fault (inl spent) = inl spent
 migrate_fault_of_keeper fault (inr store) = inr (inl store)
 
--- A migration that is refused or has nothing to do.
+-- Assumes a migration that is refused, or that has nothing to do.
 
 module _ {S : Type 0} (g : Ghosts S) (old new : Held S) (idle : old.in_transaction ≡ false)
     (settled : IsTrue (state g old).is_open → (state g old).now ≡ (state g old).committed)
@@ -303,7 +303,7 @@ module _ {S : Type 0} (g : Ghosts S) (old new : Held S) (idle : old.in_transacti
     crash = no_crash;
   }
 
--- A migration that is made, or that fails at a statement.
+-- Assumes a migration that is to be made, and that succeeds or fails at a statement.
 
 module _ {S : Type 0} (g : Ghosts S) (old mid new : Held S) (idle : old.in_transaction ≡ false)
     (leaves : LeavesAlone g old mid)
@@ -370,7 +370,7 @@ module _ {S : Type 0} (g : Ghosts S) (old mid new : Held S) (idle : old.in_trans
       crash = whole_crash;
     }
 
--- A store of version 1 is served as one of version 2 from then on.
+-- After its migration, a store of version 1 is served as a store of version 2.
 pub serves_migrated : {S : Type 0} (g : Ghosts S) (old new first : Held S) → first ≡ new → (version : ℕ)
     → Migrates g old new (Ok version) → IsUp (state g new) → (t : Tables) → KeepsOld (state g old).now t
     → (IsStore (state g first) × IsUp (state g new))
@@ -386,7 +386,7 @@ serves_migrated g old new first is version m up t was = (
   raw_of (state g new).now.trees (tables_after_migration t) (m.made up.0 t was).1.hold,
 )
 
--- The state that a store holds.
+-- Assumes the migration of a store of version 1 whose tables encode a state.
 module _ {S : Type 0} (g : Ghosts S) (base : List ℕ) (s : Content) (old new : Held S)
     (clean : HasCleanDisk (state g new)) (was : HoldsOldState base s (state g old).now) where
   abbrev t : Tables

@@ -1,4 +1,4 @@
--- Look-ups in the database return the postings and moves that the tables have.
+-- Proves that look-ups in the database return the postings and moves of the tables.
 use Rattle.std.proofs.Common.{◌≡◌, inl, inr, ℕ, List, [], ◌∷◌, ◌++◌, ◌<◌, length, map, filter, take, suc, Bool, true}
 use Rattle.std.proofs.Common.{false, cond, None, Some, slice_get, get_or, refl, sym, ap, subst, ◌∙◌, arith, zero, ◌+◌}
 use Rattle.std.proofs.Common.{◌-◌, ◌≤◌, ◌==◌}
@@ -31,7 +31,8 @@ use Rattle.thes_sql.proofs.InsertLemmas.{in_has}
 use Rattle.thes_store.specs.Reading.{IsPostingOfKey, IsPostingOfNumber}
 use Rattle.thes_store.proofs.IndexPositionLemmas.{take_one}
 
--- The cells read so far and that of the next value are those of a longer prefix of the row.
+-- The cells read so far and the cell of the next value are the cells of a prefix longer by one
+-- value.
 pub one_more : (row : List Value) (n : ℕ) (cs : List Cell) (c : Cell) → values cs ≡ take n row → n < length row
     → value_of c ≡ column row n → values (cs ++ c ∷ []) ≡ take (suc n) row
 one_more row n cs c so_far low is = map-append value_of cs (c ∷ []) ∙ (λ i. so_far i ++ is i ∷ [])
@@ -197,7 +198,7 @@ row_at cells (x ∷ xs) rows (suc i) row is lt at =
     let l = h.1 in
     (h.0, omega (arith, l), h.2, h.3)
 
--- The moves read so far and the next one are those of a longer prefix of the rows.
+-- The moves read so far and the next one are the moves of a prefix longer by one row.
 pub one_step : (steps : List MoveRow) (rows : List Row) (i : ℕ) (row : Row) (x : MoveRow) (moves : List Move)
     → rows ≡ map values (map move_cells steps) → i < length rows → row ≡ get_or rows i row
     → row ≡ values (move_cells x) → moves ≡ map recorded_move (take i steps)

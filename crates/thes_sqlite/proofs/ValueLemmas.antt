@@ -1,4 +1,4 @@
--- A text's cell is the text if it is in UTF-8, or else the placeholder.
+-- Proves that the cell of a text is the text if it is UTF-8, and else the placeholder.
 use Rattle.std.proofs.Common.{◌≡◌, ℕ, List, Bool, true, false, if◌then◌else◌, refl, ap}
 use Rattle.std.specs.Str.{IsUtf8, is_utf8}
 use Rattle.std.proofs.lemmas.Str.{IsUtf8-from_is_utf8, is_utf8-from_IsUtf8}

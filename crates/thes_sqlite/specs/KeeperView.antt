@@ -36,27 +36,31 @@ raw_in db = record {
 abbrev pub IsUp : State → Type 0
 IsUp s = HasCleanDisk s × IsTrue s.is_open
 
--- The database serves a store: nothing is uncommitted, and it is a store with some tables.
+-- The database is a store with some tables, and nothing in it is uncommitted.
 pub record HasCommittedTables (s : State) : Type 0 where
   pub settled : s.now ≡ s.committed
   pub keeps : (t : Tables) × Keeps s.now t
 
--- The database is that of a store, if the disk hasn't failed silently and the database is open.
+-- If the disk hasn't failed silently and the database is open, the database is a store, and nothing
+-- in it is uncommitted.
 abbrev pub IsStore : State → Type 0
 IsStore s = IsUp s → HasCommittedTables s
 
--- The invariant between calls: no transaction is open, and a database that was a store's at the start is one now.
+-- The invariant between calls: no transaction is open, and a database that was a store in the state
+-- `first` is one now.
 pub record IsKeeperState (first now : State) : Type 0 where
   pub autocommit : now.in_transaction ≡ false
   pub served : IsStore first → IsStore now
 
--- Storage in a database as contracts see it: its connection, its count of failures, and its connection at the start.
+-- Storage in a database as contracts see it: its connection, its count of failures, and its
+-- connection at the start or after the last migration.
 pub record KeeperView (S : Type 0) : Type 0 where
   pub conn : Held S
   pub failures : ℕ
   pub first : Held S
 
--- The coding of a view as a triple, by which the prover finds a `KeeperView` determined by its parts.
+-- The coding of a view as a triple, which shows the prover that the parts of a `KeeperView`
+-- determine it.
 abbrev pub keeper_view_code : {S : Type 0} → Coded S → Coded (KeeperView S)
 keeper_view_code {S} store =
     code_by (Held S × (ℕ × Held S)) (coded× (held_code store) (coded× coded_ℕ (held_code store)))
@@ -66,8 +70,8 @@ keeper_view_code {S} store =
 abbrev pub raw_of_keeper : {S : Type 0} → Ghosts S → KeeperView S → Raw
 raw_of_keeper g k = raw_in (state g k.conn).now.trees
 
--- The storage serves its tables: its database was a store's at the start and is open, and the disk hasn't failed
--- silently.
+-- The storage serves its tables: its database was a store at the start or after the last migration,
+-- it is open, and the disk hasn't failed silently.
 abbrev pub IsKeeperUp : {S : Type 0} → Ghosts S → KeeperView S → Type 0
 IsKeeperUp g k = IsStore (state g k.first) × IsUp (state g k.conn)
 

@@ -1,4 +1,4 @@
--- Which databases are migrated, and what a migration makes of them.
+-- Defines which databases are migrated, and the effect of a migration on them.
 use Rattle.std.specs.Prelude.{◌≡◌, ◌⊎◌, ◌≤◌, ◌<◌, ℕ, List, [], ◌∷◌, map, true, false, Bool, Option, Some, None, Result}
 use Rattle.std.specs.Prelude.{Ok, Err, OnOk, OnErr, IfOk, IfErr, IsErrAnd, IsTrue, if◌then◌else◌}
 use Rattle.sqlite.specs.Order.{Row}
@@ -34,13 +34,14 @@ IsMigrateFault fault =
 abbrev pub IsVersionRow : ℕ → List Cell → Type 0
 IsVersionRow version cells = (base : Cell) × (cells ≡ number_cell 1 ∷ number_cell version ∷ base ∷ [])
 
--- Meta has a single row, whose version satisfies `Is`.
+-- Table meta has a single row, whose version satisfies `Is`.
 abbrev pub HasMetaVersion : (ℕ → Type 0) → Option (List Row) → Type 0
 HasMetaVersion Is None = ⊥
 HasMetaVersion Is (Some rows) = (row : Row) × (rows ≡ row ∷ []) × (version : ℕ) × Is version
     × IsVersionRow version (map cell_of row)
 
--- The verdict on what meta holds: version 1 (true) or version 2, a newer version, or no version.
+-- The verdict on the rows of table meta: version 1 (true) or version 2, a newer version, or no
+-- version.
 abbrev pub IsMetaVerdict : Option (List Row) → Result Bool Fault → Type 0
 IsMetaVerdict found (Ok true) = HasMetaVersion (λ version. version ≡ 1) found
 IsMetaVerdict found (Ok false) = HasMetaVersion (λ version. version ≡ 2) found
@@ -48,8 +49,8 @@ IsMetaVerdict found (Err NewerStore) = HasMetaVersion (λ version. 2 < version) 
 IsMetaVerdict found (Err (BadStore table.Meta)) = HasMetaVersion (λ version. 1 ≤ version) found → ⊥
 IsMetaVerdict found (Err _) = ⊥
 
--- The verdict on the tables of links: Ok if they are as in version 1, so that table link can be queried and there is no
--- table hier; otherwise the fault names the first that differs.
+-- The verdict on the tables of links: Ok if they are as in version 1, that is, table link can be
+-- queried and there is no table hier. Otherwise the fault names the first table that differs.
 abbrev pub IsLinkVerdict : Schema → Result (Unit {0}) Fault → Type 0
 IsLinkVerdict schema (Ok done) = (compiles schema links_text ≡ true) × (compiles schema hier_text ≡ false)
 IsLinkVerdict schema (Err (BadStore table.Link)) = compiles schema links_text ≡ false
@@ -57,8 +58,8 @@ IsLinkVerdict schema (Err (BadStore table.Hier)) =
     (compiles schema links_text ≡ true) × (compiles schema hier_text ≡ true)
 IsLinkVerdict schema (Err _) = ⊥
 
--- The verdict on a database by its meta and its schema: it is to be migrated (true), it has version 2, or the first of
--- its faults. The tables of links are judged in a database of version 1.
+-- The verdict on a database by its meta and its schema: it is to be migrated (true), it has version
+-- 2, or the first of its faults. The tables of links are checked only in a database of version 1.
 abbrev pub IsVerdictOn : Schema → Option (List Row) → Result Bool Fault → Type 0
 IsVerdictOn schema found (Ok true) = IsMetaVerdict found (Ok true) × IsLinkVerdict schema (Ok tt)
 IsVerdictOn schema found (Err (BadStore table.Link)) =
@@ -71,7 +72,7 @@ IsVerdictOn schema found other = IsMetaVerdict found other
 abbrev pub IsVersionVerdict : Database → Result Bool Fault → Type 0
 IsVersionVerdict db r = (found : Option (List Row)) × Finds (read_text table.Meta) db found × IsMetaVerdict found r
 
--- The verdict on a database.
+-- The verdict on a database, by the rows of table meta that a query finds, and by its schema.
 abbrev pub IsMigrationVerdict : Database → Result Bool Fault → Type 0
 IsMigrationVerdict db r = (found : Option (List Row)) × Finds (read_text table.Meta) db found
     × IsVerdictOn db.schema found r
@@ -82,17 +83,17 @@ abbrev pub Judges : {S V : Type 0} → Ghosts S → (Database → Result V Fault
 Judges g Is old new r =
     HasCleanDisk (state g new) → IsErrAnd r (HasFailed (state g old) (state g new)) ⊎ Is (state g old).now r
 
--- The fault of a query for meta that failed.
+-- The fault for an error of the query for table meta.
 abbrev pub meta_fault_of : Error → Fault
 meta_fault_of e = if finds_nothing e then BadStore table.Meta else error_fault e
 
--- The links must be there: the verdict on the answer whether they are.
+-- The verdict on the answer to whether table link can be queried: `BadStore` of link if it can't.
 abbrev pub links_verdict_of : Result Bool Error → Result (Unit {0}) Fault
 links_verdict_of (Ok true) = Ok tt
 links_verdict_of (Ok false) = Err (BadStore table.Link)
 links_verdict_of (Err e) = Err (error_fault e)
 
--- Table hier must not be there: the verdict on the answer whether it is.
+-- The verdict on the answer to whether there is a table hier: `BadStore` of hier if there is one.
 abbrev pub hier_verdict_of : Result Bool Error → Result (Unit {0}) Fault
 hier_verdict_of (Ok true) = Err (BadStore table.Hier)
 hier_verdict_of (Ok false) = Ok tt
@@ -116,13 +117,14 @@ abbrev pub HasCountedCause : ℕ → ℕ → Result ℕ Fault → Type 0
 HasCountedCause before now (Ok version) = now ≡ before
 HasCountedCause before now (Err fault) = IsStoreCounted before now fault
 
--- The database of version 1 is one of version 2 with the same state, which the storage serves.
+-- The database of version 1 has become one of version 2 with the migrated tables, which the storage
+-- serves.
 abbrev pub ServesMigrated : {S : Type 0} → Ghosts S → KeeperView S → KeeperView S → Type 0
 ServesMigrated g old new = IsUp (state g new.conn) → (t : Tables) → KeepsOld (state g old.conn).now t
     → IsKeeperUp g new × (raw_of_keeper g new ≡ cells_of_tables (tables_after_migration t))
 
--- What follows from a verdict: a database of version 1 is migrated, unless a statement fails; one of version 2 is
--- unchanged; any other is refused.
+-- The result that follows from a verdict: a database of version 1 is migrated, unless a statement
+-- fails; one of version 2 is unchanged; any other is refused.
 abbrev pub Follows : Result Bool Fault → State → State → Result ℕ Fault → Type 0
 Follows (Ok true) old new r = IfErr r IsKeeperFault
 Follows (Ok false) old new r = (r ≡ Ok 2) × IsUnwritten old new
@@ -137,7 +139,7 @@ pub record Migrates {S : Type 0} (g : Ghosts S) (old new : Held S) (r : Result �
   pub follows : HasCleanDisk (state g new) → IsErrAnd r (HasFailed (state g old) (state g new))
       ⊎ ((verdict : Result Bool Fault) × IsMigrationVerdict (state g old).now verdict
       × Follows verdict (state g old) (state g new) r)
-  -- The migration of a store of version 1 or 2 fails only by running out of memory, or by a fault of the store.
+  -- The migration of a store of version 1 or 2 fails only if memory runs out or the store fails.
   pub whole : IfErr r (λ fault. HasCleanDisk (state g new) → (t : Tables) → IsKnownStore (state g old).now t
       → IsKeeperFault fault)
   pub was : IsUp (state g new) → IsTrue (state g old).is_open
@@ -148,7 +150,7 @@ pub record Migrates {S : Type 0} (g : Ghosts S) (old new : Held S) (r : Result �
   pub settled : IsUp (state g new) → (state g new).now ≡ (state g new).committed
   -- After any fault nothing is changed.
   pub none : OnErr r (IsUp (state g new) → IsUnwritten (state g old) (state g new))
-  -- Whatever the result, a crash then leaves what it could have left before the call or, if the database was to be
-  -- migrated, the migrated tables.
+  -- Whatever the result, a crash leaves what it could have left before the call or, if the database
+  -- was to be migrated, the migrated tables.
   pub crash : Survives (state g old) (state g new) (λ trees. IsMigrationVerdict (state g old).now (Ok true)
       × ((t : Tables) → KeepsOld (state g old).now t → Hold trees (tables_after_migration t)))

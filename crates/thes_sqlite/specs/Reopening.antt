@@ -10,12 +10,14 @@ use Rattle.thes_sqlite.specs.KeeperView.{KeeperView, keeper_view_code, raw_of_ke
 abbrev pub keeper_of_connection : {S : Type 0} → Held S → KeeperView S
 keeper_of_connection conn = record { conn = conn; failures = 0; first = conn }
 
--- The storage as contracts see it: that over the first connection until a failure shuts it, and the number of failures.
+-- The storage as contracts see it: the storage over the first connection, until a failure shuts
+-- that, and the number of failures.
 pub record ReopeningView (S : Type 0) : Type 0 where
   pub first : Option (KeeperView S)
   pub failures : ℕ
 
--- The coding of a view as a pair, by which the prover finds a `ReopeningView` determined by its parts.
+-- The coding of a view as a pair, which shows the prover that the parts of a `ReopeningView`
+-- determine it.
 abbrev pub reopening_view_code : {S : Type 0} → Coded S → Coded (ReopeningView S)
 reopening_view_code {S} store =
     code_by (Option (KeeperView S) × ℕ) (coded× (coded_option (keeper_view_code store)) coded_ℕ)

@@ -37,11 +37,11 @@ use thes_tables::change::Change;
 use thes_tables::delta::Delta;
 use thes_tables::rows::PostingRow;
 
-/// Storage with its tables in a database, over one connection.
+/// Storage that keeps its tables in a database, over one connection.
 pub struct SqlKeeper<S: Alter> {
     conn: Connection<S>,
     failures: u64,
-    // The connection at the start, which only contracts use.
+    // The connection at the start, or after the last migration; only contracts use it.
     first: Snapshot<Connection<S>>,
     alloc: Global,
 }
@@ -60,8 +60,8 @@ impl<S: Alter> Model for SqlKeeper<S> {
 }
 
 impl<S: Alter> SqlKeeper<S> {
-    /// Creates the tables of a new store in a database without tables. A fault comes with the connection, and leaves
-    /// the database unchanged.
+    /// Creates the tables of a new store in a database without tables. A fault is returned with the
+    /// connection, and leaves the database unchanged.
     pub fn create(
         alloc: Global,
         mut conn: Connection<S>,
@@ -83,7 +83,8 @@ impl<S: Alter> SqlKeeper<S> {
         }
     }
 
-    /// Takes a database over without reading it. If it isn't that of a store, a load passes on whatever rows it has.
+    /// Takes over a database without reading it. If the database isn't a store, a load passes on
+    /// whatever rows it has.
     pub fn adopt(alloc: Global, conn: Connection<S>) -> SqlKeeper<S>
         requires { conn.in_transaction ≡ false }
         ensures is { result ≡ record { conn = conn; failures = 0; first = conn } }
@@ -99,8 +100,9 @@ impl<S: Alter> SqlKeeper<S> {
         }
     }
 
-    /// Migrates the database from version 1 of the tables to version 2, and returns its version, 2. A database of
-    /// version 2 is left unchanged, and so is one that can't be migrated. From then on a store of version 2 is served.
+    /// Migrates the database from version 1 of the tables to version 2, and returns its version, 2.
+    /// A database of version 2 is left unchanged, and so is one that can't be migrated. After
+    /// success the storage serves the store of version 2.
     pub fn migrate(&mut self) -> Result<u32, Fault>
         ensures migrates { Migrates S.Store self.old.conn self.new.conn result }
         ensures serves { IsKeeperUp S.Store self.old → IsUp (state S.Store self.new.conn)
@@ -118,7 +120,7 @@ impl<S: Alter> SqlKeeper<S> {
         }
     }
 
-    /// Returns the connection.
+    /// Returns the connection, and drops the rest.
     pub fn into_connection(self) -> Connection<S>
         ensures { result ≡ self.conn }
     {
@@ -142,7 +144,8 @@ impl<S: Alter> SqlKeeper<S> {
         is_shut(&mut self.conn)
     }
 
-    /// Applies all changes, or none of them and returns a fault, even if a crash interrupts the call.
+    /// Applies all changes, or none of them and returns a fault, even if a crash interrupts the
+    /// call.
     pub fn commit_changes(&mut self, changes: &[Change]) -> Result<(), Fault>
         requires { IsKeeperUp S.Store self.old
             → (t : Tables) → raw_of_keeper S.Store self.old ≡ cells_of_tables t
@@ -156,8 +159,8 @@ impl<S: Alter> SqlKeeper<S> {
         ensures cause { HasCause self.old.failures self.new.failures result }
         ensures first { self.new.first ≡ self.old.first }
 
-        // Whether the call succeeds or fails, a crash then leaves the tables without the changes or with all of them;
-        // if it succeeds, with all of them.
+        // Whatever the result, a crash leaves the tables without the changes or with all of them;
+        // after success, with all of them.
         ensures crash { IsStore (state S.Store self.old.first)
             → LeavesEither changes.now (state S.Store self.old.conn) (state S.Store self.new.conn) }
         ensures durable { OnOk result (IsStore (state S.Store self.old.first)
@@ -245,8 +248,8 @@ impl<S: Alter> Keeper for SqlKeeper<S> {
         ensures cause { HasCause self.old.failures self.new.failures result }
         ensures first { self.new.first ≡ self.old.first }
 
-        // Whether the call succeeds or fails, a crash then leaves the tables without the changes or with
-        // all of them; if it succeeds, with all of them.
+        // Whatever the result, a crash leaves the tables without the changes or with all of them;
+        // after success, with all of them.
         ensures crash { IsStore (state S.Store self.old.first)
             → LeavesEither delta (state S.Store self.old.conn) (state S.Store self.new.conn) }
         ensures durable { OnOk result (IsStore (state S.Store self.old.first)

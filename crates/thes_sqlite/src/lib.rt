@@ -1,4 +1,4 @@
-//! Storage for the tables in a database.
+//! Keeps the tables of a store in a database, and migrates stores to the current version.
 #![tactic(auto)]
 
 pub mod faults;

@@ -28,7 +28,8 @@ enum Version {
     Newer,
 }
 
-// Returns the version that a row of table meta states, whatever its base; None if it states no version of at least 1.
+// Returns the version that a row of table meta states, whatever its base; None if it states no
+// version of at least 1.
 fn version_in(cells: &[Cell]) -> Option<Version>
     ensures { SpellsVersion cells.now result }
 {
@@ -50,7 +51,8 @@ fn version_in(cells: &[Cell]) -> Option<Version>
     Some(Version::Current)
 }
 
-// Returns whether the rows of table meta state version 1, and not version 2; rows that state neither are a fault.
+// Returns whether the rows of table meta state version 1 rather than version 2; rows that state
+// neither are a fault.
 fn is_version_1(alloc: Global, rows: &[Row]) -> Result<bool, Fault>
     ensures judged { (result ≡ Err Fault.OutOfMemory) ⊎ IsMetaVerdict (Some rows.now) result }
     ensures faults { IfErr result IsMigrateFault }
@@ -81,7 +83,8 @@ fn meta_fault(error: Error) -> Fault
     }
 }
 
-// Returns whether a database has version 1 rather than version 2, by its table meta; anything else is a fault.
+// Returns whether a database has version 1 rather than version 2, by its table meta; anything else
+// is a fault.
 fn judge_version<S: Alter>(alloc: Global, conn: &mut Connection<S>) -> Result<bool, Fault>
     ensures judged { Judges S.Store IsVersionVerdict conn.old conn.new result }
     ensures kept { KeepsDatabase S.Store conn.old conn.new result }
@@ -94,7 +97,7 @@ fn judge_version<S: Alter>(alloc: Global, conn: &mut Connection<S>) -> Result<bo
     }
 }
 
-// Checks the answer whether the links can be queried, which they must.
+// Returns `BadStore` of link if the answer to whether table link can be queried is no.
 fn links_verdict(there: Result<bool, Error>) -> Result<(), Fault>
     ensures is { result ≡ links_verdict_of there }
     ensures faults { IfErr result IsMigrateFault }
@@ -106,7 +109,7 @@ fn links_verdict(there: Result<bool, Error>) -> Result<(), Fault>
     }
 }
 
-// Checks the answer whether there is a table hier, which there must not be.
+// Returns `BadStore` of hier if the answer to whether there is a table hier is yes.
 fn hier_verdict(there: Result<bool, Error>) -> Result<(), Fault>
     ensures is { result ≡ hier_verdict_of there }
     ensures faults { IfErr result IsMigrateFault }
@@ -118,7 +121,8 @@ fn hier_verdict(there: Result<bool, Error>) -> Result<(), Fault>
     }
 }
 
-// Checks that a database has the tables of links of version 1.
+// Checks that a database has the tables of links of version 1: link can be queried, and there is no
+// hier.
 fn judge_links<S: Alter>(conn: &mut Connection<S>) -> Result<(), Fault>
     ensures judged { Judges S.Store (λ (db : Database). IsLinkVerdict db.schema) conn.old conn.new
         result }
@@ -130,7 +134,8 @@ fn judge_links<S: Alter>(conn: &mut Connection<S>) -> Result<(), Fault>
     hier_verdict(has_hier(conn))
 }
 
-// Returns whether a database is to be migrated, rather than of version 2 already; anything else is a fault.
+// Returns true for a database of version 1 that can be migrated, and false for one of version 2;
+// any other database is a fault.
 fn judge<S: Alter>(alloc: Global, conn: &mut Connection<S>) -> Result<bool, Fault>
     ensures judged { Judges S.Store IsMigrationVerdict conn.old conn.new result }
     ensures kept { KeepsDatabase S.Store conn.old conn.new result }
@@ -144,8 +149,8 @@ fn judge<S: Alter>(alloc: Global, conn: &mut Connection<S>) -> Result<bool, Faul
     Ok(true)
 }
 
-/// Migrates a database from version 1 to version 2 in one transaction, and returns its version, 2. A database of
-/// version 2 is left unchanged, and so is one that can't be migrated.
+/// Migrates a database from version 1 to version 2 in one transaction, and returns its version, 2.
+/// A database of version 2 is left unchanged, and so is one that can't be migrated.
 pub(crate) fn migrate_database<S: Alter>(
     alloc: Global,
     conn: &mut Connection<S>,

@@ -35,13 +35,13 @@ pub trait Reopen<C> {
     /// Checks whether the name of the database still leads to the file that is open.
     fn is_in_place(&mut self) -> bool;
 
-    /// Closes a connection that a failure has shut, if there is one, and opens the database again. Its rows are then
-    /// what the disk has.
+    /// Closes a connection that a failure has shut, if there is one, and opens the database again.
+    /// The database then has the rows that are on the disk.
     fn reopen(&mut self, lost: Option<C>) -> Result<C, Error>;
 }
 
-/// Storage with its tables in a database, which it opens again once a failure has shut it. Contracts state its rows up
-/// to the first such failure, and from then on only its faults.
+/// Storage that keeps its tables in a database, and opens the database again after a failure has
+/// shut it. Contracts state its rows up to the first such failure, and after it only its faults.
 pub struct ReopeningKeeper<S: Alter, O: Reopen<Connection<S>>> {
     // The storage over the first connection, until a failure shuts it.
     first: Option<SqlKeeper<S>>,
@@ -154,8 +154,8 @@ fn standing_later<S: Alter, P: PostingSink>(
     }
 }
 
-// Returns a change that shows, once the database has it, that all changes were made: the last one or, if that may have
-// changed no row, the first one; None if there are no changes.
+// Returns the change whose presence in the database shows that all changes were made. That is the
+// last one or, if the last may have changed no row, the first one; None if there are no changes.
 fn telling_change(changes: &[Change]) -> Option<&Change> {
     match changes.last() {
         Some(Change::MoveAll(_, _) | Change::SetPlace(_, _)) => changes.first(),
@@ -163,7 +163,7 @@ fn telling_change(changes: &[Change]) -> Option<&Change> {
     }
 }
 
-// Checks whether changes whose commit failed were made; None if this can't be read.
+// Checks whether changes whose commit failed were made; None if the database can't be queried.
 fn has_changes<S: Alter>(conn: &mut Connection<S>, changes: &[Change]) -> Option<bool> {
     match telling_change(changes) {
         None => Some(false),
@@ -175,7 +175,7 @@ fn has_changes<S: Alter>(conn: &mut Connection<S>, changes: &[Change]) -> Option
 }
 
 impl<S: Alter + Drop, O: Reopen<Connection<S>>> ReopeningKeeper<S, O> {
-    /// Takes a connection over, without reading from it.
+    /// Takes over a connection without reading from it.
     pub fn new(alloc: Global, conn: Connection<S>, opener: O) -> ReopeningKeeper<S, O>
         requires { conn.in_transaction ≡ false }
         ensures { result ≡ record { first = Some (keeper_of_connection conn); failures = 0 } }
@@ -221,7 +221,8 @@ impl<S: Alter + Drop, O: Reopen<Connection<S>>> ReopeningKeeper<S, O> {
         count_fault(&mut self.failures, fault)
     }
 
-    // Removes the connection if a failure has shut it. Returns whether there is no connection now, and the one removed.
+    // Removes the connection if a failure has shut it. Returns whether there is no connection now,
+    // and the one removed.
     fn take_shut(&mut self) -> (bool, Option<Connection<S>>)
         ensures keeps { KeepsRows S.Store self.old self.new }
         ensures gone { IsTrue result.0 → self.new.first ≡ None }
@@ -243,8 +244,8 @@ impl<S: Alter + Drop, O: Reopen<Connection<S>>> ReopeningKeeper<S, O> {
         (true, self.later.take())
     }
 
-    // Opens the database again if a failure has shut it, and returns whether it was shut. If it can't be opened, there
-    // is no connection afterwards.
+    // Opens the database again if a failure has shut it, and returns whether it was shut. If it
+    // can't be opened, there is no connection afterwards.
     fn reopen_if_shut(&mut self) -> bool
         ensures keeps { KeepsRows S.Store self.old self.new }
         ensures gone { IsTrue result → self.new.first ≡ None }
@@ -260,8 +261,9 @@ impl<S: Alter + Drop, O: Reopen<Connection<S>>> ReopeningKeeper<S, O> {
         true
     }
 
-    // Checks whether changes were made although their commit failed and shut the database, which it opens again.
-    // Returns false if the database isn't shut; returns false and sets `is_in_doubt` if the changes can't be checked.
+    // Checks whether changes were made although their commit failed and shut the database, which it
+    // opens again. Returns false if the database isn't shut; returns false and sets `is_in_doubt`
+    // if the changes can't be checked.
     fn shows_changes(&mut self, changes: &[Change]) -> bool
         ensures keeps { KeepsRows S.Store self.old self.new }
         ensures gone { IsTrue result → self.new.first ≡ None }
@@ -301,8 +303,8 @@ impl<S: Alter + Drop, O: Reopen<Connection<S>>> ReopeningKeeper<S, O> {
         }
     }
 
-    // Applies changes atomically. The fault is `Store`, and nothing changes, if the file of the database was moved away
-    // or no database is open.
+    // Applies changes atomically. The fault is `Store`, and nothing changes, if the file of the
+    // database was moved away or no database is open.
     fn commit_now(&mut self, changes: &[Change]) -> Result<(), Fault>
         requires { IsKeeperStillUp S.Store self.old
             → (t : Tables) → rows_still S.Store self.old ≡ cells_of_tables t

@@ -52,8 +52,8 @@ fn yield_rows<R: RowSink>(
     Ok(())
 }
 
-/// Passes the rows of a table to a sink. If the table can't be queried, or isn't declared as in a store, reports that
-/// to the sink instead.
+/// Passes the rows of a table to a sink. If the table can't be queried, or isn't declared as in a
+/// store, reports that to the sink instead.
 pub(crate) fn yield_table_rows<S: Alter, R: RowSink>(
     alloc: Global,
     conn: &mut Connection<S>,

@@ -14,7 +14,8 @@ use thes_load_rows::rows::{move_in, posting_in};
 use thes_tables::cells::{Cell, CellText};
 use thes_tables::rows::{MoveRow, PostingRow};
 
-// Returns a value as a cell; None for a value that no table has (a real, a blob, or a text that isn't UTF-8).
+// Returns a value as a cell; None for a value that no table has (a real, a blob, or a text that
+// isn't UTF-8).
 fn cell_of(alloc: Global, value: ValueRef<'_>) -> Result<Option<Cell>, AllocError>
     ensures { IfOk result (λ cell. IfSome cell (λ c. value_of c ≡ owned value.entry)) }
 {
@@ -29,7 +30,8 @@ fn cell_of(alloc: Global, value: ValueRef<'_>) -> Result<Option<Cell>, AllocErro
     }
 }
 
-// Reads the cells of a row; None if one of its values is a real, a blob, or a text that isn't UTF-8.
+// Reads the cells of a row; None if one of its values is a real, a blob, or a text that isn't
+// UTF-8.
 fn cells_of(alloc: Global, row: &Row) -> Result<Option<Vec<Cell>>, AllocError>
     ensures { IfOk result (λ cells. IfSome cells (λ c. values c.items ≡ row.now)) }
 {
@@ -46,8 +48,8 @@ fn cells_of(alloc: Global, row: &Row) -> Result<Option<Vec<Cell>>, AllocError>
     Ok(Some(cells))
 }
 
-/// Parses a row of table posting. A row of another form, which another program may have written, is the error
-/// `DatabaseCorrupt`.
+/// Parses a row of table posting. A row of another form, which another program may have written, is
+/// the error `DatabaseCorrupt`.
 pub(crate) fn read_posting(alloc: Global, row: &Row) -> Result<PostingRow, Error>
     ensures { IfOk result (λ x. row.now ≡ values (posting_cells x)) }
 {
