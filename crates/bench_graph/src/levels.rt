@@ -72,8 +72,8 @@ fn is_refused(
     Ok(answer.is_some())
 }
 
-// Returns a related link between two random nodes of one level or, for a merge, from a random node
-// to the one below it.
+// Returns a related link between two random nodes of one level. For a merge, the second end is the
+// node at the first one's position in the next level.
 fn pair(numbers: &mut Numbers, width: u32, merges: bool) -> Link {
     let level = numbers.below(11);
     let a = level

@@ -14,7 +14,7 @@ pub enum Mode {
     Halting,
     /// As a script, with answers that no store gives.
     Fixed,
-    /// As requests that make a store, of which one text is written.
+    /// As requests that fill a new store, whose export or one display is then written.
     Text,
 }
 

@@ -37,6 +37,7 @@ impl RequestHandler for CountingService {
         }
     }
 
+    // Answers totals with a fixed line, and refuses every other query.
     fn show(&mut self, alloc: Global, query: &Query) -> Result<QueryAnswer, Fault> {
         match query {
             Query::Totals => {

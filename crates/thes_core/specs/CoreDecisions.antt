@@ -37,8 +37,8 @@ abbrev pub IsVerdict : Setting → State → Command → Verdict → Type 0
 IsVerdict setting s command (Settled answer) = Step setting s command answer s
 IsVerdict setting s command (Accepted answer changes) = AcceptedVerdict setting s command answer changes
 
--- The request passes the checks that need no postings. For a Split these are the checks with an empty list of postings;
--- for a Post or a Withdraw there are none; for any other request they are all its checks.
+-- The request passes its checks, except those of the postings that it names: a Split is checked with an empty list of
+-- postings, a Post or a Withdraw not at all, any other request in full.
 abbrev pub IsAcceptedWithoutPostings : Setting → State → Command → Type 0
 IsAcceptedWithoutPostings setting s (request.Split source tag text postings) =
     IsAccepted setting s (request.Split source tag text [])
@@ -46,7 +46,7 @@ IsAcceptedWithoutPostings setting s (request.Post key rec concept) = Unit {0}
 IsAcceptedWithoutPostings setting s (request.Withdraw posting) = Unit {0}
 IsAcceptedWithoutPostings setting s command = IsAccepted setting s command
 
--- The request passes the checks that need no postings, in the core's state without its postings.
+-- In the core's state without its postings, the request passes its checks, except those of the postings that it names.
 abbrev pub MayApply : CoreView → Command → Type 0
 MayApply core command = IsAcceptedWithoutPostings core.setting (with_histories [] core) command
 

@@ -14,8 +14,8 @@ use Rattle.serde_json.specs.Find.{get_member}
 abbrev order : List ℕ → List ℕ → Ordering
 order = slice_cmp nat_cmp
 
--- A look-up may compare its name with the first member and with a greater name put in, in either
--- order.
+-- After a member with a greater name than the first one's is inserted, a look-up finds the same value whichever of the
+-- two names it compares first.
 put_other_name : (o q : Ordering) (e d : Option Data) (rest : Option Data) → (o ≡ Equal → q ≡ Greater)
     → match_ordering q (match_ordering o rest d rest) e (match_ordering o rest d rest)
     ≡ match_ordering o (match_ordering q rest e rest) d (match_ordering q rest e rest)
