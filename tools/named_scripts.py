@@ -11,7 +11,7 @@ from collections.abc import Iterator
 from dataclasses import dataclass, field
 from pathlib import Path
 
-from thesaurus_tools import REFUSED, ToolError
+from thesaurus_tools import REFUSED, ToolError, to_json
 
 # What a request makes that has a name: a resource or a posting.
 MAKES = {"scheme": "resource", "concept": "resource", "collection": "resource", "outside": "resource", "split": "resource", "post": "posting"}
@@ -31,24 +31,24 @@ class Line:
     request: dict
     name: str
     digest: str
+    kind: str
+    greatest: int  # the greatest number of a resource in it; 0 if it has none
     uses: set[str] = field(default_factory=set)
+    members: set[str] = field(default_factory=set)  # those that have the names it uses
     entry: int | None = None  # that of an earlier run, which sent the line and didn't see its answer
-
-    def kind(self) -> str:
-        return str(self.request.get("do"))
 
 
 # --- The script ---
 
 
-def names_in(request: dict) -> Iterator[tuple[str, str]]:
-    """Yields each name that a request uses, with what must have it: a resource or a posting."""
+def names_in(request: dict) -> Iterator[tuple[str, str, str]]:
+    """Yields each name that a request uses, with its member, and with what must have it: a resource or a posting."""
     for member, value in request.items():
         is_posting = member in ("posting", "postings") or member == "number" and request.get("get") == "posting"
         if is_posting or member in RESOURCE_MEMBERS or member == "number":
             for it in value if isinstance(value, list) else [value]:
                 if isinstance(it, str) and it.startswith("$"):
-                    yield it[1:], "posting" if is_posting else "resource"
+                    yield member, it[1:], "posting" if is_posting else "resource"
 
 
 def parse_line(number: int, data: bytes, kinds: dict[str, str]) -> Line:
@@ -63,17 +63,20 @@ def parse_line(number: int, data: bytes, kinds: dict[str, str]) -> Line:
     if not isinstance(request, dict):
         raise ValueError("no JSON object")
     name = request.pop("as", "")
-    line = Line(number, text, request, name, hashlib.sha256(text.encode()).hexdigest()[:16])
-    for used, kind in names_in(request):
+    greatest = max((it for member, it in request.items() if member in RESOURCE_MEMBERS and isinstance(it, int)), default=0)
+    digest = hashlib.sha256(text.encode()).hexdigest()[:16]
+    line = Line(number, text, request, name, digest, str(request.get("do")), greatest)
+    for member, used, kind in names_in(request):
         if kinds.get(used) != kind:
             raise ValueError(f"${used} is a {kinds[used]}'s name, where a {kind}'s is needed" if used in kinds else f"no line before this one makes ${used}")
         line.uses.add(used)
+        line.members.add(member)
     if name != "":
-        if not isinstance(name, str) or line.kind() not in MAKES:
+        if not isinstance(name, str) or line.kind not in MAKES:
             raise ValueError('"as" needs a text, and a request that makes something')
         if name in kinds:
             raise ValueError(f"the name {name} is given twice")
-        kinds[name] = MAKES[line.kind()]
+        kinds[name] = MAKES[line.kind]
     return line
 
 
@@ -91,14 +94,11 @@ def parse_script(data: bytes, file: str) -> list[Line]:
     return lines
 
 
-def resolve(request: dict, numbers: dict[str, int]) -> dict:
-    """Returns a request with numbers in place of names."""
-    names = {f"${name}" for name, _ in names_in(request)}
-    if not names:
-        return request
-    number = lambda it: numbers[it[1:]] if isinstance(it, str) and it in names else it
-    members = RESOURCE_MEMBERS | {"posting", "number"}
-    return {key: [number(it) for it in value] if key == "postings" else number(value) if key in members else value for key, value in request.items()}
+def resolve(line: Line, numbers: dict[str, int]) -> dict:
+    """Returns the request of a line with numbers in place of names."""
+    number = lambda it: numbers[it[1:]] if isinstance(it, str) and it.startswith("$") else it
+    of = lambda member, value: [number(it) for it in value] if member == "postings" else number(value)
+    return {**line.request, **{it: of(it, line.request[it]) for it in line.members}} if line.members else line.request
 
 
 # --- The journal ---
@@ -182,7 +182,7 @@ class Journal:
 
     def note_answer(self, number: int, answer: dict) -> None:
         self.settle(number, answer)
-        self.records.append(f"= {number} {json.dumps(answer, separators=(',', ':'))}")
+        self.records.append(f"= {number} {to_json(answer)}")
 
     def note_refusal(self, number: int) -> None:
         """Notes that the line of an entry wasn't performed, and is to be sent again by the next run."""

@@ -225,10 +225,14 @@ def find_program(given: str | None = None) -> str:
     return found
 
 
+# Returns a value as JSON without white space.
+to_json = json.JSONEncoder(ensure_ascii=False, separators=(",", ":")).encode
+
+
 def encode(request: dict) -> bytes:
     """Returns a request as a line of a script."""
     try:
-        return json.dumps(request, ensure_ascii=False, separators=(",", ":")).encode() + b"\n"
+        return to_json(request).encode() + b"\n"
     except UnicodeEncodeError:
         return json.dumps(request, separators=(",", ":")).encode() + b"\n"
 
