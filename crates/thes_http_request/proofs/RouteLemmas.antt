@@ -29,7 +29,6 @@ use Rattle.thes_http_request.proofs.MatchLemmas.{TakesParam, Matches, is_byte, m
 use Rattle.thes_http_request.proofs.MatchLemmas.{any_elim, found_matches, steps, none_after, none_end, none_suffix}
 use Rattle.thes_http_request.proofs.MatchLemmas.{segment_all, segment_to_slash, no_cut, cuts_at_slash}
 
-
 -- A route without a number.
 abbrev plain_route : List ℕ → Endpoint → RouteOf Endpoint
 plain_route text endpoint = record { pattern = text; text = text; names = []; value = endpoint }
@@ -147,7 +146,6 @@ walk_one w t text path name v rest h e stop =
     let part : part_of path (length w) (length w + length v) ≡ v = rw e
     (part_between w v rest (length w + length v) refl) in
     rw (found, stop, part) refl
-
 
 -- The text that the parameter of a route took, or an empty text.
 abbrev pub number_in : RouteOf Endpoint → List ℕ → List ℕ
@@ -297,7 +295,6 @@ pub route_found : (rows : RouteRows) (path : List ℕ) (r : RouteOf Endpoint) �
     → first rows path ≡ Some r → IsPlaceOf path r
 route_found rows path r e f =
     place_found_in path r (found_matches 0 nine_rows path r (rw (e ∙ nine_rows_are) at f))
-
 
 -- A choice by a name is None if its second branch is, and its first whenever the name is chosen.
 unless_named : (a w : List ℕ) (x y : Option EndpointMatch) → (a ≡ w → x ≡ None) → y ≡ None

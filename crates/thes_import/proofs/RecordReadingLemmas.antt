@@ -83,7 +83,6 @@ fewer_after cfg a b text fields (Some unread) r = go (next_record cfg a [] [] te
         let fewer = fewer_records cfg a [] [] text p e in
         omega (arith, same, fewer)
 
-
 -- Each text has a list of records.
 pub records_exist : (cfg : Config) (n : ℕ) (s : State) (text : List ℕ) → most_records s (Some text) < n
     → (records : List (List (List ℕ))) × AreRecords cfg s text records

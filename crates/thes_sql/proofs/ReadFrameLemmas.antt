@@ -118,7 +118,6 @@ module _ {S : Type 0} (g : Ghosts S) (sql : List ℕ) (params : Row) (old new : 
   pub keeps_database : KeepsDatabase g old new r
   keeps_database = keeps_after r ok
 
-
 -- The error of a store that failed is never that of a query that finds nothing.
 pub cause_finds : (e : Error) (cause : StoreError) → e ≡ store_error cause → finds_nothing e ≡ false
 cause_finds e cause.OutOfMemory is = ap finds_nothing is
