@@ -17,7 +17,7 @@ import sys
 import tempfile
 import time
 import urllib.parse
-from collections import Counter
+from collections import Counter, deque
 from collections.abc import Callable, Iterable, Iterator
 from dataclasses import dataclass, field
 from pathlib import Path
@@ -493,6 +493,7 @@ class Vocabulary:
     findings: list[Finding] = field(default_factory=list)
     places: dict[str, str] = field(default_factory=dict)  # what findings call a resource, where that isn't its name
     changed: int = 0
+    tops: set[str] = field(default_factory=set)  # concepts that are said to be top concepts
 
     def find(self, rule: str, resource: str, what: str) -> None:
         self.findings.append(Finding(rule, resource, what))
@@ -542,7 +543,9 @@ class Vocabulary:
             it.labels["pref"].sort(key=lambda label: (label[0] != lang.lower(), label))
         self.check_deaths()
         rules = LinkRules(self)
-        self.links = [it for it in sorted(self.links, key=lambda it: LINK_ORDER.index(it[0])) if rules.accept(*it)]
+        # Of the links of a ring, one that leads up from a top concept is left out.
+        place = lambda it: (LINK_ORDER.index(it[0]), it[1] in self.tops)
+        self.links = [it for it in sorted(self.links, key=place) if rules.accept(*it)]
         self.rules = rules
 
     def qualify(self) -> None:
@@ -610,11 +613,12 @@ class LinkRules:
             return False
         why = self.refusal_of_ends(kind, a, b) or self.refusal(kind, a, b)
         if why:
-            self.vocabulary.find(why, a, f"{kind} {b}")
+            ring = f", which closes the ring {' < '.join(self.chain(*self.low_and_high(kind, a, b)[::-1]))}" if why == "Cycle" else ""
+            self.vocabulary.find(why, a, f"{kind} {b}{ring}")
             return False
         self.seen.add(held)
         if kind in HIERARCHICAL or kind in ("broad", "narrow"):
-            low, high = (b, a) if kind == "narrow" else (a, b)
+            low, high = self.low_and_high(kind, a, b)
             self.above.setdefault(low, set()).add(high)
         if kind in ("broad", "narrow", "relMatch"):
             self.apart.setdefault(a, set()).add(b)
@@ -642,7 +646,7 @@ class LinkRules:
     def refusal(self, kind: str, a: str, b: str) -> str | None:
         """Returns the rule that a link would break, or None."""
         if kind in HIERARCHICAL or kind in ("broad", "narrow"):
-            low, high = (b, a) if kind == "narrow" else (a, b)
+            low, high = self.low_and_high(kind, a, b)
             return "Cycle" if self.is_above(high, low) else None
         if kind in ("related", "relMatch"):
             return "S27" if self.is_above(a, b) or self.is_above(b, a) else None
@@ -651,17 +655,30 @@ class LinkRules:
             return "S46" if any(not self.apart.get(it, set()).isdisjoint(others) for it in ones) else None
         return None
 
+    @staticmethod
+    def low_and_high(kind: str, a: str, b: str) -> tuple[str, str]:
+        """The narrower and the broader of two concepts that a hierarchical link joins."""
+        return (b, a) if kind == "narrow" else (a, b)
+
     def is_above(self, low: str, high: str) -> bool:
         """Whether a chain of links leads up from one to the other."""
-        found, todo = set(), [low]
-        while todo:
-            for it in self.above.get(todo.pop(), ()):
-                if it == high:
-                    return True
-                if it not in found:
-                    found.add(it)
+        return bool(self.chain(low, high))
+
+    def chain(self, low: str, high: str) -> list[str]:
+        """The concepts of a chain of links that leads up from one to the other, both among them; empty if there is none."""
+        before, todo = {}, deque([low])
+        while todo and high not in before:
+            one = todo.popleft()
+            for it in self.above.get(one, ()):
+                if it not in before:
+                    before[it] = one
                     todo.append(it)
-        return False
+        if high not in before:
+            return []
+        chain = [high]
+        while chain[-1] != low or len(chain) == 1:
+            chain.append(before[chain[-1]])
+        return chain[::-1]
 
     def join(self, a: str, b: str) -> None:
         joined = self.alike.get(a, {a}) | self.alike.get(b, {b})
@@ -790,7 +807,8 @@ def print_findings(vocabulary: Vocabulary, given: argparse.Namespace, tool: str,
     if vocabulary.changed:
         say(tool, f"{vocabulary.changed} texts were trimmed or cut")
     kinds = dict.fromkeys(it.group() or it.rule for it in vocabulary.findings)
-    advice = ", ".join(f"{KEPT_BY[it]} ({it})" for it in kinds if KEPT_BY.get(it, "").split(" ")[0] in options.split())
+    unused = [it for it in options.split() if getattr(given, it.strip("-").replace("-", "_"), None) in (None, "", [], "refuse")]
+    advice = ", ".join(f"{KEPT_BY[it]} ({it})" for it in kinds if KEPT_BY.get(it, "").split(" ")[0] in unused)
     if by_rule:
         left_out = "left out" if given.drop else "nothing is written, and --drop would leave out"
         counts = ", ".join(count_findings(*it) for it in by_rule.items())
