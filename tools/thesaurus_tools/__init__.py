@@ -1,0 +1,17 @@
+"""What the tools of this folder share, a topic a module; a tool loads those that it needs.
+
+  command_line, files, requests        how a tool is called and ends, what it reads and writes, JSON
+  program, server                      a run of the program, and one that serves
+  ntriples, rdf_files, skos            RDF: N-Triples, its other forms, and a vocabulary of SKOS
+  vocabulary, link_rules, converting   what a converter makes of a vocabulary, and the rules that it may break
+  script_writer                        the script that loads a vocabulary
+  named_scripts, journal, loader       such a script, and how it is loaded
+  store, opening                       a thesaurus as objects, and where it comes from:
+  table_store, export_store, served_store
+  reports, changes                     questions about a thesaurus
+  site_export, site_pages              the pages of a web site
+"""
+import sys
+
+if sys.version_info < (3, 11):
+    sys.exit(f"{sys.argv[0]}: it needs Python 3.11 or later, and {sys.executable} is {sys.version.split()[0]}")

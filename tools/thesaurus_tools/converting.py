@@ -1,0 +1,88 @@
+"""What the converters share: their options, the report of what they found, and the script that they write."""
+from __future__ import annotations
+
+import argparse
+from collections import Counter
+from pathlib import Path
+
+from thesaurus_tools.command_line import DONE, REFUSED, say
+from thesaurus_tools.files import write_output
+from thesaurus_tools.requests import encode
+from thesaurus_tools.script_writer import ScriptWriter
+from thesaurus_tools.vocabulary import Finding, Vocabulary
+
+
+def add_converter_options(parser: argparse.ArgumentParser) -> None:
+    parser.add_argument("--lang", default="", metavar="TAG", help="the language of labels without a tag, and of made labels")
+    parser.add_argument("--scheme", default="", metavar="TEXT", help="the label of the scheme for concepts without one, or of a scheme without a label")
+    parser.add_argument("--qualify", choices=["parent"], help="distinguish concepts with the same label by their parent: Bass (fish)")
+    parser.add_argument("--keep-iris", action="store_true", help="give each concept an exact match to an outside concept with its old IRI")
+    codes = "give each concept its old codes as hidden labels in TAG, such as zxx, the tag of what is in no language; also beside --keep-iris"
+    parser.add_argument("--hidden-codes", default="", metavar="TAG", help=codes)
+    texts = "what to do with texts that aren't in the form: refuse them; trim spaces and control characters; cut them, too"
+    parser.add_argument("--texts", choices=["refuse", "trim", "cut"], default="refuse", help=texts)
+    parser.add_argument("--drop", action="store_true", help="leave out what is lost and what breaks a rule")
+    parser.add_argument("--all", action="store_true", help="list all findings of a rule, and not the first ten")
+    parser.add_argument("-o", "--output", type=Path, metavar="FILE", help="write the script to this file, and not to standard output")
+
+
+# How many findings of a rule are listed, and how many of one kind of thing that is lost; how many characters of each.
+SHOWN, SHOWN_OF_KIND, LONGEST_SHOWN = 10, 3, 200
+# Options that keep what is left out otherwise, by the rule or by what is lost.
+KEPT_BY = {
+    "BadText": "--texts trim", "BadTag": "--lang TAG", "P1": "--qualify parent", "NoScheme": "--scheme TEXT",
+    "notation": "--hidden-codes TAG",
+    **{it: f"--as-scope {it}" for it in ("definition", "example", "note", "historyNote", "editorialNote", "changeNote")},
+}
+
+
+def print_findings(vocabulary: Vocabulary, given: argparse.Namespace, tool: str, options: str) -> None:
+    """Prints the findings by rule, and which of the tool's options would keep what is left out."""
+    by_rule: dict[str, list[Finding]] = {}
+    for it in dict.fromkeys(vocabulary.findings):
+        by_rule.setdefault(it.rule, []).append(it)
+    for rule, found in by_rule.items():
+        shown = found if given.all else first_findings(found)
+        for it in shown:
+            what = it.what if len(it.what) <= LONGEST_SHOWN or given.all else f"{it.what[:LONGEST_SHOWN]} .."
+            say(tool, f"{rule}: {vocabulary.places.get(it.resource, it.resource)}: {what}")
+        if len(found) > len(shown):
+            say(tool, f"{rule}: and {len(found) - len(shown)} more; --all lists them")
+    if vocabulary.changed:
+        say(tool, f"{vocabulary.changed} texts were trimmed or cut")
+    kinds = dict.fromkeys(it.group() or it.rule for it in vocabulary.findings)
+    unused = [it for it in options.split() if getattr(given, it.strip("-").replace("-", "_"), None) in (None, "", [], "refuse")]
+    advice = ", ".join(f"{KEPT_BY[it]} ({it})" for it in kinds if KEPT_BY.get(it, "").split(" ")[0] in unused)
+    if by_rule:
+        left_out = "left out" if given.drop else "nothing is written, and --drop would leave out"
+        counts = ", ".join(count_findings(*it) for it in by_rule.items())
+        say(tool, f"{left_out}: {counts}{f'; options that keep more: {advice}' if advice else ''}")
+
+
+def first_findings(found: list[Finding]) -> list[Finding]:
+    """Returns the first findings of a rule; of what is lost the first of each kind."""
+    shown, counts = [], Counter()
+    for it in found:
+        counts[it.group()] += 1
+        if counts[it.group()] <= (SHOWN_OF_KIND if it.group() else SHOWN):
+            shown.append(it)
+    return shown
+
+
+def count_findings(rule: str, found: list[Finding]) -> str:
+    """Returns a rule with the number of its findings, and of each kind of thing that is lost."""
+    kinds = ", ".join(f"{kind} {count}" for kind, count in Counter(it.group() for it in found).most_common() if kind)
+    return f"{rule} {len(found)}" + (f" ({kinds})" if kinds else "")
+
+
+def write_script(vocabulary: Vocabulary, given: argparse.Namespace, tool: str) -> int:
+    """Prints the findings, writes the script if it may be written, and returns the exit status."""
+    print_findings(vocabulary, given, tool, " ".join(f"--{it.replace('_', '-')}" for it in vars(given)))
+    if vocabulary.findings and not given.drop:
+        return REFUSED
+    data = b"".join(encode(it) for it in ScriptWriter(vocabulary).requests())
+    if given.output:
+        given.output.write_bytes(data)
+    else:
+        sys.stdout.buffer.write(data)
+    return DONE

@@ -1,0 +1,111 @@
+"""Reads N-Triples, and names the vocabularies of RDF that an export uses."""
+from __future__ import annotations
+
+import re
+from collections.abc import Iterator
+from pathlib import Path
+from typing import NamedTuple
+
+from thesaurus_tools.command_line import REFUSED, ToolError
+from thesaurus_tools.files import read_file
+
+RDF = "http://www.w3.org/1999/02/22-rdf-syntax-ns#"
+SKOS = "http://www.w3.org/2004/02/skos/core#"
+OWL = "http://www.w3.org/2002/07/owl#"
+DCTERMS = "http://purl.org/dc/terms/"
+XSD = "http://www.w3.org/2001/XMLSchema#"
+
+
+class Iri(str):
+    """An IRI, with its escapes undone."""
+
+    __slots__ = ()
+
+
+class Blank(str):
+    """A blank node: its label with the `_:` before it, so that it equals no IRI."""
+
+    __slots__ = ()
+
+
+class Literal(NamedTuple):
+    """A literal: its text, its language tag as written or "", and its datatype's IRI or ""."""
+
+    text: str
+    tag: str = ""
+    datatype: str = ""
+
+
+Node = Iri | Blank | Literal
+
+
+class Triple(NamedTuple):
+    subject: Iri | Blank
+    predicate: Iri
+    object: Node
+
+
+CODE = r"\\u[0-9A-Fa-f]{4}|\\U[0-9A-Fa-f]{8}"
+IN_IRI = r'[^\x00-\x20<>"{}|^`\\]*'
+IRI_TERM = rf"<({IN_IRI}(?:(?:{CODE}){IN_IRI})*)>"
+BLANK_TERM = r"(_:\w(?:[\w.·-]*[\w·-])?)"
+IN_TEXT = r'[^"\\\n\r]*'
+TEXT_TERM = rf'"({IN_TEXT}(?:(?:\\[tbnrf"\'\\]|{CODE}){IN_TEXT})*)"'
+TYPE_OR_TAG = rf"(?:@([A-Za-z]+(?:-[A-Za-z0-9]+)*)|\^\^{IRI_TERM})?"
+STATEMENT = re.compile(
+    rf"[ \t]*(?:{IRI_TERM}|{BLANK_TERM})[ \t]*{IRI_TERM}[ \t]*(?:{IRI_TERM}|{BLANK_TERM}|{TEXT_TERM}{TYPE_OR_TAG})[ \t]*\.[ \t]*(?:#.*)?"
+)
+NO_STATEMENT = re.compile(r"[ \t]*(?:#.*)?")
+ESCAPE = re.compile(r"\\(?:u([0-9A-Fa-f]{4})|U([0-9A-Fa-f]{8})|(.))")
+ESCAPED = {"t": "\t", "b": "\b", "n": "\n", "r": "\r", "f": "\f", '"': '"', "'": "'", "\\": "\\"}
+
+
+def unescape(text: str) -> str:
+    """Undoes the escapes of N-Triples. Raises ValueError for a code that is no character."""
+    if "\\" not in text:
+        return text
+
+    def character(match: re.Match) -> str:
+        code = match[1] or match[2]
+        if not code:
+            return ESCAPED[match[3]]
+        number = int(code, 16)
+        if 0xD800 <= number <= 0xDFFF or number > 0x10FFFF:
+            raise ValueError(f"U+{number:04X} is no character")
+        return chr(number)
+
+    return ESCAPE.sub(character, text)
+
+
+def parse_statement(line: str) -> Triple | None:
+    """Returns the triple of a line, or None for a blank line or a comment. Raises ValueError for anything else."""
+    match = STATEMENT.fullmatch(line)
+    if not match:
+        if NO_STATEMENT.fullmatch(line):
+            return None
+        raise ValueError("no triple of N-Triples")
+    iri, blank, predicate, object_iri, object_blank, text, tag, datatype = match.groups()
+    subject = Blank(blank) if iri is None else Iri(unescape(iri))
+    if text is not None:
+        target = Literal(unescape(text), tag or "", unescape(datatype or ""))
+    else:
+        target = Blank(object_blank) if object_iri is None else Iri(unescape(object_iri))
+    return Triple(subject, Iri(unescape(predicate)), target)
+
+
+def parse_ntriples(data: bytes, name: str) -> Iterator[Triple]:
+    """Yields the triples of a document in the order of its lines; `name` is what an error calls it."""
+    for number, line in enumerate(re.split(rb"\r\n|\n|\r", data), 1):
+        try:
+            triple = parse_statement(line.decode("utf-8"))
+        except UnicodeDecodeError:
+            raise ToolError(f"{name}:{number}: no UTF-8", REFUSED) from None
+        except ValueError as error:
+            raise ToolError(f"{name}:{number}: {error}", REFUSED) from None
+        if triple:
+            yield triple
+
+
+def read_ntriples(path: Path | str) -> Iterator[Triple]:
+    """Yields the triples of a file of N-Triples. Raises ToolError with `FILE:LINE` for a line that is none."""
+    yield from parse_ntriples(read_file(path), str(path))

@@ -1,0 +1,40 @@
+"""Opens the store that a tool's options name."""
+from __future__ import annotations
+
+import argparse
+import contextlib
+from collections.abc import Iterator
+from pathlib import Path
+
+from thesaurus_tools.command_line import USAGE, ToolError, languages
+from thesaurus_tools.store import Store
+from thesaurus_tools.table_store import TableStore, open_tables
+
+
+def add_store_arguments(parser: argparse.ArgumentParser, default=None) -> None:
+    """Adds the options that say which store is read, and in which languages its terms are shown."""
+    add = parser.add_argument
+    add("--db", metavar="FILE", type=Path, default=default, help="the store, or a copy of it; no program may have it open")
+    add("--http", metavar="URL", default=default, help="a program that serves the store, as http://127.0.0.1:8080")
+    add("--langs", metavar="TAG,..", type=languages, default=default or [], help="languages of terms, the first that a concept has; else the commonest")
+
+
+@contextlib.contextmanager
+def open_file(path: Path) -> Iterator[Store]:
+    """Opens a store or a copy of one."""
+    with open_tables(path) as tables:
+        yield TableStore(path, tables)
+
+
+@contextlib.contextmanager
+def open_store(given: argparse.Namespace) -> Iterator[Store]:
+    """Opens the store that the options name."""
+    if bool(given.http) == bool(given.db):
+        raise ToolError("one of --db FILE and --http URL is needed, and not both", USAGE)
+    if given.http:
+        from thesaurus_tools.served_store import ServedStore  # (a tool starts faster without what talks HTTP)
+
+        yield ServedStore(given.http)
+    else:
+        with open_file(given.db) as store:
+            yield store

@@ -1,0 +1,217 @@
+"""Runs the program: a run of its command `script` to which requests are sent, and its other commands."""
+from __future__ import annotations
+
+import contextlib
+import fcntl
+import json
+import os
+import select
+import shutil
+import subprocess
+import sys
+import time
+from pathlib import Path
+
+from thesaurus_tools.command_line import DONE, USAGE, ToolError, say
+from thesaurus_tools.requests import encode
+
+# A script of the program has at most 1,000,000 lines.
+MOST_LINES = 900_000
+# How many seconds a store may stay locked by a run that is about to end.
+PATIENCE = 20
+# The most seconds to sleep while answers come.
+LONGEST_SLEEP = 0.02
+LOCKED = b"thesaurus: fault Store\n"
+IN_USE = "another program has it open: end that program, or use --http URL if it serves"
+# The bytes of a store that SQLite locks for reading.
+LOCK_START, LOCK_SIZE = 0x40000002, 510
+
+
+def lock_file(file, path: Path | str) -> None:
+    """Locks a store for reading as SQLite does, until the file is closed. Raises ToolError if a program has it."""
+    try:
+        fcntl.lockf(file, fcntl.LOCK_SH | fcntl.LOCK_NB, LOCK_SIZE, LOCK_START)
+    except (BlockingIOError, PermissionError):
+        raise ToolError(f"{path}: {IN_USE}") from None
+
+
+def is_in_use(path: Path) -> bool:
+    """Whether a program has a store open."""
+    try:
+        with open(path, "rb") as file:
+            lock_file(file, path)
+    except OSError:
+        return False
+    except ToolError:
+        return True
+    return False
+
+
+def find_program(given: str | None = None) -> str:
+    """Returns the program: the one given, or `thesaurus` in PATH, or the repository's ./thesaurus."""
+    launcher = Path(__file__).resolve().parents[2] / "thesaurus"
+    found = given or shutil.which("thesaurus") or (str(launcher) if launcher.is_file() else None)
+    if not found or not shutil.which(found):
+        raise ToolError(f"the program {given} can't be run" if given else "there is no program `thesaurus` in PATH; name it by --program", USAGE)
+    return found
+
+
+class Performer:
+    """What performs requests: a run of the program, or a server."""
+
+    def is_worn(self) -> bool:
+        """Whether it has had as many requests as it takes."""
+        return False
+
+    def reopen(self) -> None:
+        """Begins anew."""
+
+    def send(self, requests: bytes, count: int) -> None:
+        """Sends this number of requests, a line each."""
+        raise NotImplementedError
+
+    def answers(self, wanted: int = 1) -> list[bytes]:
+        """Waits for answers, of which the wanted number will come, and returns those that have come. Raises ToolError if none will."""
+        raise NotImplementedError
+
+    def ask(self, request: dict) -> dict:
+        """Returns the answer to a request, while no other is under way."""
+        self.send(encode(request), 1)
+        return json.loads(self.answers()[0])
+
+    def export(self) -> bytes:
+        """Returns the vocabulary as N-Triples."""
+        raise NotImplementedError
+
+    def close(self) -> int:
+        """Ends it, and returns its exit status."""
+        return DONE
+
+
+class Script(Performer):
+    """A run of `thesaurus script` over a store. Requests may be sent ahead of their answers."""
+
+    def __init__(self, program: str, db: Path | None, base: str | None = None):
+        self.words = [program, *(["--db", str(db)] if db else []), *(["--base", base] if base else [])]
+        self.db = db
+        self.open()
+
+    def open(self) -> None:
+        """Starts the program, and waits while another run has the store."""
+        end, waits, tries = time.monotonic() + PATIENCE, 0, 0
+        while True:
+            self.errors = open(os.memfd_create("errors"), "w+b")
+            self.run = subprocess.Popen([*self.words, "script"], stdin=subprocess.PIPE, stdout=subprocess.PIPE, stderr=self.errors, bufsize=0)
+            os.set_blocking(self.run.stdin.fileno(), False)
+            self.unsent, self.partial, self.lines = bytearray(), b"", 0
+            # The number of requests under way, the seconds that an answer takes, and when the last ones came.
+            self.under_way, self.pace, self.since = 0, 0.0, 0.0
+            try:
+                self.ask({"get": "totals"})
+                return
+            except ToolError:
+                # (the other run may have ended since)
+                is_used, tries = self.db and is_in_use(self.db), tries + 1
+                if not self.said().endswith(LOCKED) or not is_used and tries > waits + 1:
+                    raise
+                if time.monotonic() > end:
+                    raise ToolError(f"{self.db}: {IN_USE}") from None
+            if is_used and not waits:
+                say(Path(sys.argv[0]).name, f"{self.db}: another program has it open; waiting up to {PATIENCE} seconds")
+            waits += bool(is_used)
+            time.sleep(0.2)
+
+    def said(self) -> bytes:
+        """Returns what the program wrote to standard error."""
+        self.errors.seek(0)
+        return self.errors.read()
+
+    def is_worn(self) -> bool:
+        return self.lines >= MOST_LINES
+
+    def reopen(self) -> None:
+        self.close()
+        self.open()
+
+    def send(self, requests: bytes, count: int) -> None:
+        if not self.under_way:
+            self.since = time.monotonic()
+        self.unsent += requests
+        self.lines += count
+        self.under_way += count
+        self.write()
+
+    def write(self) -> None:
+        """Writes as much as the pipe takes now."""
+        with contextlib.suppress(BlockingIOError):
+            while self.unsent:
+                try:
+                    del self.unsent[: os.write(self.run.stdin.fileno(), self.unsent[:65536])]
+                except BrokenPipeError:
+                    self.unsent.clear()
+
+    def answers(self, wanted: int = 1) -> list[bytes]:
+        # The program writes answers one by one. So this sleeps while most of the wanted ones come, since to wake up for each takes as long as
+        # a request. If it sleeps for too long, more have come, so the next sleep is shorter.
+        if wanted > 1 and not self.unsent:
+            time.sleep(min(wanted * self.pace, LONGEST_SLEEP))
+        out = self.run.stdout.fileno()
+        while True:
+            waiting = [self.run.stdin.fileno()] if self.unsent else []
+            readable, writable, _ = select.select([out], waiting, [])
+            if writable:
+                self.write()
+            if readable:
+                data = os.read(out, 1 << 16)
+                if not data:
+                    raise ToolError(f"the program ended with status {self.close()}{self.reason()}")
+                *whole, self.partial = (self.partial + data).split(b"\n")
+                if whole:
+                    self.note_pace(len(whole))
+                    return whole
+
+    def note_pace(self, count: int) -> None:
+        """Notes that this number of answers have come."""
+        before, self.since = self.since, time.monotonic()
+        self.under_way -= count
+        self.pace = (self.since - before) / count
+
+    def reason(self) -> str:
+        said = self.said().decode(errors="replace").strip()
+        return f": {said}" if said else ""
+
+    def export(self) -> bytes:
+        # (the run ends for it, and another one begins)
+        self.close()
+        data = run_program([*self.words, "export"])
+        self.open()
+        return data
+
+    def close(self) -> int:
+        self.run.stdin.close()
+        self.run.stdout.close()
+        return self.run.wait()
+
+
+def run_program(words: list[str]) -> bytes:
+    """Runs a command of the program, and returns what it prints. Raises ToolError if it fails."""
+    ran = subprocess.run(words, stdin=subprocess.DEVNULL, capture_output=True, check=False)
+    if ran.returncode:
+        raise ToolError(ran.stderr.decode(errors="replace").strip() or f"{' '.join(words)}: status {ran.returncode}", ran.returncode)
+    return ran.stdout
+
+
+def count_resources(store: Performer) -> int:
+    """Returns the number of resources, found by looks at numbers."""
+
+    def is_there(number: int) -> bool:
+        return store.ask({"get": "concept", "number": number}).get("no") != "UnknownResource"
+
+    high = 1
+    while is_there(high):
+        high *= 2
+    low = high // 2
+    while high - low > 1:
+        middle = (low + high) // 2
+        low, high = (middle, high) if is_there(middle) else (low, middle)
+    return low

@@ -1,0 +1,77 @@
+"""A thesaurus read from a program that serves it."""
+from __future__ import annotations
+
+import json
+from collections.abc import Iterator
+from functools import cached_property
+
+from thesaurus_tools.command_line import REFUSED, ToolError
+from thesaurus_tools.export_store import ExportStore
+from thesaurus_tools.ntriples import parse_ntriples
+from thesaurus_tools.server import Server
+from thesaurus_tools.store import BROADER, Link, Move, Posting
+
+
+class ServedStore(ExportStore):
+    """The store of a program that serves: its export, and what else is asked for. Others may change it meanwhile."""
+
+    has_types = True
+
+    def __init__(self, url: str):
+        self.server = Server(url)
+        super().__init__(url, parse_ntriples(self.server.export(), f"{url}/export"))
+        number = next((it for it, found in self.resources.items() if found.kind == "concept"), None)
+        if number and "number" not in self.look("concepts", number):
+            raise ToolError(f"{url}: no concept has the number {number}: a store whose base ends in a digit can't be read over HTTP")
+        # Links have their types once `links` is asked for.
+        self.untyped = self.__dict__.pop("links")
+
+    def look(self, what: str, number: int) -> dict:
+        """Returns the program's view of a concept or of a posting."""
+        return json.loads(self.server.call("GET", f"/{what}/{number}"))
+
+    @cached_property
+    def views(self) -> dict[int, dict]:
+        """The program's view of each concept."""
+        return {it.number: self.look("concepts", it.number) for it in self.resources.values() if it.kind == "concept"}
+
+    @cached_property
+    def links(self) -> set[Link]:
+        typed = {Link(kind, number, to) for number, it in self.views.items() for kind, to in it["typed"] if kind in BROADER}
+        pairs = {(it.a, it.b) for it in typed}
+        return typed | {it for it in self.untyped if it.kind != "broader" or (it.a, it.b) not in pairs}
+
+    def each_history(self) -> Iterator[dict]:
+        """Yields the program's view of each posting."""
+        return (self.look("postings", number) for number in range(1, self.totals()["accepted"] + 1))
+
+    def each_posting(self) -> Iterator[Posting]:
+        return (posting_of(it) for it in self.each_history())
+
+    def each_move(self) -> Iterator[Move]:
+        return iter(sorted(move for it in self.each_history() for move in moves_in(it)))
+
+    def posting(self, number: int) -> Posting:
+        found = self.look("postings", number)
+        if "no" in found:
+            raise ToolError(f"{self.name}: no posting has the number {number}", REFUSED)
+        return posting_of(found)
+
+    def moves_of(self, number: int) -> list[Move]:
+        return moves_in(self.look("postings", number))
+
+    def count_postings(self) -> dict[int, int]:
+        return {number: it["postings"] for number, it in self.views.items() if it["postings"]}
+
+    def totals(self) -> dict[str, int]:
+        return self.server.ask({"get": "totals"})
+
+
+def posting_of(view: dict) -> Posting:
+    """Returns the posting in the program's view of it."""
+    return Posting(view["number"], view["key"], view["record"], view["first"], view["place"], view["withdrawn"])
+
+
+def moves_in(view: dict) -> list[Move]:
+    """Returns the moves in the program's view of a posting."""
+    return [Move(move, view["number"], source, target) for move, source, target in view["moves"]]

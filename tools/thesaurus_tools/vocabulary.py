@@ -1,0 +1,177 @@
+"""A vocabulary that is to be loaded: what a converter read, and what it found in it that a thesaurus can't have."""
+from __future__ import annotations
+
+import re
+from collections.abc import Iterable
+from dataclasses import dataclass, field
+from typing import NamedTuple
+
+from thesaurus_tools.link_rules import HIERARCHICAL, LinkRules
+
+KINDS = ("pref", "alt", "hidden", "scope")
+HIERARCHICAL = ("broaderGeneric", "broaderPartitive", "broaderInstantial", "broader")
+MAPPINGS = ("broad", "narrow", "relMatch", "exact", "close")
+SYMMETRIC = ("related", "relMatch", "exact", "close")
+# The order in which links are added: hierarchical ones first, so that a rule that two links break is the other one's.
+LINK_ORDER = (*HIERARCHICAL, "broad", "narrow", "related", "relMatch", "exact", "close", "member")
+MOST_BYTES = {"scope": 2000}
+TAG_FORM = re.compile(r"(?=.{1,35}\Z)[A-Za-z]{1,8}(-[A-Za-z0-9]{1,8})*")
+IRI_FORM = re.compile(r'[A-Za-z][A-Za-z0-9+.-]*:[^\x00-\x20<>"{}|^`\\]+')
+# The name of an outside concept is its IRI after this.
+OUTSIDE = "outside "
+CONTROL = re.compile(r"[\x00-\x1f\x7f]+")
+
+
+def fit_text(text: str, most: int, how: str) -> str | None:
+    """Returns a text in the form that the program takes, or None. It is changed only if `how` is trim or cut."""
+    if how != "refuse":
+        text = CONTROL.sub(" ", text).strip(" ")
+    if how == "cut":
+        text = text.encode()[:most].decode(errors="ignore").strip(" ")
+    return text if 1 <= len(text.encode()) <= most and not CONTROL.search(text) and text.strip(" ") == text else None
+
+
+def natural(text: str) -> list:
+    """Returns a key that sorts the numbers in texts by their size."""
+    return [*((int(it), "") if it.isdecimal() else (-1, it) for it in re.split(r"(\d+)", text)), (-2, text)]
+
+
+class Finding(NamedTuple):
+    """What a vocabulary has that a thesaurus can't have: the rule, the resource, and what is left out."""
+
+    rule: str
+    resource: str
+    what: str
+
+    def group(self) -> str:
+        """Returns what kind of thing is lost, such as `notation`; "" for a rule that is broken."""
+        words = self.what.split()
+        return " ".join(words[: 2 if words[0] in ("a", "the", "column") else 1]).strip(":") if self.rule == "lost" else ""
+
+
+@dataclass
+class Resource:
+    """A scheme, a concept or a collection; `replaced` is the name of a dead concept's replacement."""
+
+    name: str
+    kind: str
+    scheme: str = ""
+    labels: dict[str, list[tuple[str, str]]] = field(default_factory=lambda: {it: [] for it in KINDS})
+    is_dead: bool = False
+    replaced: str = ""
+
+    def names(self) -> set[tuple[str, str]]:
+        """Returns the tags and texts of its labels, but for notes."""
+        return {it for kind in KINDS[:3] for it in self.labels[kind]}
+
+
+@dataclass
+class Vocabulary:
+    """What is to be loaded. What breaks a rule is left out, and noted as a finding."""
+
+    texts: str = "refuse"
+    resources: dict[str, Resource] = field(default_factory=dict)
+    links: list[tuple[str, str, str]] = field(default_factory=list)
+    findings: list[Finding] = field(default_factory=list)
+    places: dict[str, str] = field(default_factory=dict)  # what findings call a resource, where that isn't its name
+    changed: int = 0
+    tops: set[str] = field(default_factory=set)  # concepts that are said to be top concepts
+
+    def find(self, rule: str, resource: str, what: str) -> None:
+        self.findings.append(Finding(rule, resource, what))
+
+    def of_kind(self, kind: str) -> list[Resource]:
+        return [it for it in self.resources.values() if it.kind == kind]
+
+    def add_label(self, owner: Resource, kind: str, tag: str, text: str) -> None:
+        """Adds a label, unless it breaks a rule. Preferred labels are added before alternative and hidden ones."""
+        said = f"{kind} label {text!r}@{tag}"
+        label = tag.lower(), fit_text(text, MOST_BYTES.get(kind, 256), self.texts)
+        held = owner.labels[kind]
+        if not TAG_FORM.fullmatch(tag):
+            self.find("BadTag", owner.name, f"{said} has no legal language tag" if tag else f"{said[:-1]} has no language tag; --lang gives one")
+        elif label[1] is None:
+            self.find("BadText", owner.name, f"{said} is empty, too long, or has spaces or control characters; --texts trim or cut")
+        elif label in held:
+            return
+        elif kind == "pref" and any(label[0] == it for it, _ in held):
+            self.find("S14", owner.name, f"{said} is a second preferred label in its language")
+        elif kind != "scope" and label in owner.names():
+            self.find("S13", owner.name, f"{said} is a label of another kind already")
+        else:
+            self.changed += label[1] != text
+            held.append(label)
+
+    def leave_out(self, names: Iterable[str]) -> None:
+        """Leaves resources out, with the links at them, and what has no scheme then."""
+        for name in names:
+            self.resources.pop(name, None)
+        for it in list(self.resources.values()):
+            if it.kind != "scheme" and it.scheme not in self.resources:
+                self.find("UnknownResource", it.name, "its scheme is left out")
+                del self.resources[it.name]
+
+    def check(self, lang: str, qualify: bool = False) -> None:
+        """Applies the rules to all labels and links."""
+        self.links = list(dict.fromkeys(self.links))
+        if qualify:
+            self.qualify()
+        lacking = [it for it in self.resources.values() if not it.labels["pref"]]
+        for it in lacking:
+            self.find("NoLabel", it.name, f"the {it.kind} has no preferred label")
+        self.leave_out(it.name for it in lacking)
+        self.check_unique()
+        for it in self.resources.values():
+            it.labels["pref"].sort(key=lambda label: (label[0] != lang.lower(), label))
+        self.check_deaths()
+        rules = LinkRules(self)
+        # Of the links of a ring, one that leads up from a top concept is left out.
+        place = lambda it: (LINK_ORDER.index(it[0]), it[1] in self.tops)
+        self.links = [it for it in sorted(self.links, key=place) if rules.accept(*it)]
+        self.rules = rules
+
+    def qualify(self) -> None:
+        """Adds its parent's label to each preferred label that several live concepts of a scheme have."""
+        parents: dict[str, list[str]] = {}
+        for kind, a, b in self.links:
+            if kind in HIERARCHICAL and b in self.resources:
+                parents.setdefault(a, []).append(b)
+        before = {name: dict(it.labels["pref"]) for name, it in self.resources.items()}
+        for (_, tag, text), names in self.claims().items():
+            for name in names if len(names) > 1 else ():
+                above = [before[it][tag] for it in sorted(parents.get(name, ()), key=natural) if tag in before[it]]
+                if above:
+                    new, labels = (tag, f"{text} ({above[0]})"), self.resources[name].labels
+                    for kind in ("alt", "hidden"):
+                        labels[kind] = [it for it in labels[kind] if it != new]
+                    labels["pref"] = [new if it == (tag, text) else it for it in labels["pref"]]
+                    if len(new[1].encode()) > 256:
+                        self.find("BadText", name, f"{new[1]!r} is too long")
+
+    def claims(self, with_dead: bool = False) -> dict[tuple[str, str, str], list[str]]:
+        """Returns the live concepts that have a preferred label, by scheme, tag and text."""
+        found: dict[tuple[str, str, str], list[str]] = {}
+        for it in self.of_kind("concept"):
+            for tag, text in it.labels["pref"] if with_dead or not it.is_dead else ():
+                found.setdefault((it.scheme, tag, text), []).append(it.name)
+        return found
+
+    def check_unique(self) -> None:
+        """Leaves out preferred labels that another live concept of the scheme has (P1)."""
+        for (_, tag, text), (first, *others) in self.claims().items():
+            for name in others:
+                labels = self.resources[name].labels
+                labels["pref"].remove((tag, text))
+                self.find("P1", name, f"the preferred label {text!r}@{tag} is that of {first}" + ("" if labels["pref"] else "; the concept is left out"))
+        self.leave_out([it.name for it in self.of_kind("concept") if not it.labels["pref"]])
+
+    def check_deaths(self) -> None:
+        """Leaves out replacements that a merge can't make."""
+        for it in self.of_kind("concept"):
+            way, end = {it.name}, it
+            while end.replaced in self.resources and end.replaced not in way and self.resources[end.replaced].scheme == it.scheme:
+                end = self.resources[end.replaced]
+                way.add(end.name)
+            if end.replaced:
+                self.find("lost", end.name, f"isReplacedBy {end.replaced}, which is no other concept of its scheme")
+                end.replaced = ""
