@@ -81,8 +81,5 @@ def write_script(vocabulary: Vocabulary, given: argparse.Namespace, tool: str) -
     if vocabulary.findings and not given.drop:
         return REFUSED
     data = b"".join(encode(it) for it in ScriptWriter(vocabulary).requests())
-    if given.output:
-        given.output.write_bytes(data)
-    else:
-        sys.stdout.buffer.write(data)
+    write_output(data, given.output)
     return DONE

@@ -1,7 +1,21 @@
 """The rules that a link of a vocabulary may break."""
 from __future__ import annotations
 
+import re
 from collections import deque
+from typing import TYPE_CHECKING
+
+if TYPE_CHECKING:
+    from thesaurus_tools.vocabulary import Vocabulary
+
+HIERARCHICAL = ("broaderGeneric", "broaderPartitive", "broaderInstantial", "broader")
+MAPPINGS = ("broad", "narrow", "relMatch", "exact", "close")
+SYMMETRIC = ("related", "relMatch", "exact", "close")
+# The order in which links are added: hierarchical ones first, so that a rule that two links break is the other one's.
+LINK_ORDER = (*HIERARCHICAL, "broad", "narrow", "related", "relMatch", "exact", "close", "member")
+IRI_FORM = re.compile(r'[A-Za-z][A-Za-z0-9+.-]*:[^\x00-\x20<>"{}|^`\\]+')
+# The name of an outside concept is its IRI after this.
+OUTSIDE = "outside "
 
 
 class LinkRules:

@@ -3,7 +3,8 @@ from __future__ import annotations
 
 from collections.abc import Iterator
 
-from thesaurus_tools.vocabulary import KINDS, OUTSIDE, Resource, Vocabulary, fit_text
+from thesaurus_tools.link_rules import OUTSIDE
+from thesaurus_tools.vocabulary import KINDS, Resource, Vocabulary, fit_text
 
 
 class ScriptWriter:

@@ -5,14 +5,14 @@ import re
 import shutil
 import sqlite3
 import tempfile
-import unicodedata
 from collections import defaultdict
 from collections.abc import Iterable
 from contextlib import closing
 from dataclasses import dataclass, field
 from pathlib import Path
 
-from thesaurus_tools import DCTERMS, OWL, RDF, REFUSED, SKOS, Literal, ToolError, Triple, read_ntriples
+from thesaurus_tools.command_line import REFUSED, ToolError
+from thesaurus_tools.ntriples import DCTERMS, OWL, RDF, SKOS, Literal, Triple, read_ntriples
 
 KINDS = ("Concept", "Collection", "ConceptScheme")
 # The types of broader links by their numbers in the table `hier`: generic, partitive, instantial.
@@ -118,15 +118,3 @@ def read_types(store: Path) -> dict[tuple[str, str], str]:
         except (sqlite3.Error, TypeError, IndexError) as error:
             raise ToolError(f"{store}: the types of its links can't be read: {error}") from None
     return dict(found)
-
-
-def fold(text: str) -> str:
-    """A text without case and accents."""
-    lower = text.casefold()
-    return lower if lower.isascii() else "".join(it for it in unicodedata.normalize("NFKD", lower) if not unicodedata.combining(it))
-
-
-def sort_key(text: str) -> tuple[bool, str, str]:
-    """The key by which terms are sorted: letters before all else, without case, accents and marks before the first word."""
-    folded = fold(text).lstrip("\"'«»„“”‘’([-. ") or text
-    return not folded[0].isalpha(), folded, text

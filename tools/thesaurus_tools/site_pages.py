@@ -1,4 +1,4 @@
-"""The pages of one language of the site that tools/site makes."""
+"""The pages of one language of a web site."""
 from __future__ import annotations
 
 import hashlib
@@ -11,9 +11,10 @@ from html import escape
 from pathlib import Path
 from typing import NamedTuple
 
-from thesaurus_export import Resource, Thesaurus, fold, sort_key
+from thesaurus_tools.site_export import Resource, Thesaurus
+from thesaurus_tools.texts import sort_key, without_marks
 
-FILES = Path(__file__).resolve().parent.parent / "share" / "site"
+FILES = Path(__file__).resolve().parents[2] / "share" / "site"
 NAMES = ("prefLabel", "altLabel", "hiddenLabel")
 # The tags of labels in no language, or in several or unknown ones, such as codes: the search finds them in each language.
 OF_NO_LANGUAGE = ("zxx", "mul", "und", "mis")
@@ -55,7 +56,7 @@ def page_of_letter(letter: str) -> str:
 
 def page_of_lead(text: str) -> str:
     """The page of an alternative label: it stays the same as others come and go."""
-    words = re.sub(r"[^a-z0-9]+", "-", fold(text)).strip("-")[:40]
+    words = re.sub(r"[^a-z0-9]+", "-", without_marks(text)).strip("-")[:40]
     return f"use-{words}-{hashlib.sha256(text.encode()).hexdigest()[:8]}"
 
 

@@ -6,19 +6,11 @@ from collections.abc import Iterable
 from dataclasses import dataclass, field
 from typing import NamedTuple
 
-from thesaurus_tools.link_rules import HIERARCHICAL, LinkRules
+from thesaurus_tools.link_rules import HIERARCHICAL, LINK_ORDER, LinkRules
 
 KINDS = ("pref", "alt", "hidden", "scope")
-HIERARCHICAL = ("broaderGeneric", "broaderPartitive", "broaderInstantial", "broader")
-MAPPINGS = ("broad", "narrow", "relMatch", "exact", "close")
-SYMMETRIC = ("related", "relMatch", "exact", "close")
-# The order in which links are added: hierarchical ones first, so that a rule that two links break is the other one's.
-LINK_ORDER = (*HIERARCHICAL, "broad", "narrow", "related", "relMatch", "exact", "close", "member")
 MOST_BYTES = {"scope": 2000}
 TAG_FORM = re.compile(r"(?=.{1,35}\Z)[A-Za-z]{1,8}(-[A-Za-z0-9]{1,8})*")
-IRI_FORM = re.compile(r'[A-Za-z][A-Za-z0-9+.-]*:[^\x00-\x20<>"{}|^`\\]+')
-# The name of an outside concept is its IRI after this.
-OUTSIDE = "outside "
 CONTROL = re.compile(r"[\x00-\x1f\x7f]+")
 
 
@@ -31,7 +23,7 @@ def fit_text(text: str, most: int, how: str) -> str | None:
     return text if 1 <= len(text.encode()) <= most and not CONTROL.search(text) and text.strip(" ") == text else None
 
 
-def natural(text: str) -> list:
+def by_numbers(text: str) -> list:
     """Returns a key that sorts the numbers in texts by their size."""
     return [*((int(it), "") if it.isdecimal() else (-1, it) for it in re.split(r"(\d+)", text)), (-2, text)]
 
@@ -139,7 +131,7 @@ class Vocabulary:
         before = {name: dict(it.labels["pref"]) for name, it in self.resources.items()}
         for (_, tag, text), names in self.claims().items():
             for name in names if len(names) > 1 else ():
-                above = [before[it][tag] for it in sorted(parents.get(name, ()), key=natural) if tag in before[it]]
+                above = [before[it][tag] for it in sorted(parents.get(name, ()), key=by_numbers) if tag in before[it]]
                 if above:
                     new, labels = (tag, f"{text} ({above[0]})"), self.resources[name].labels
                     for kind in ("alt", "hidden"):

@@ -1,0 +1,198 @@
+"""Questions about a thesaurus: each is a function from a store and the options of a report to a table."""
+from __future__ import annotations
+
+import argparse
+import itertools
+import sys
+from collections import Counter, defaultdict, deque
+from collections.abc import Iterable, Iterator
+from typing import NamedTuple
+
+from thesaurus_tools.changes import changes_since
+from thesaurus_tools.opening import open_file
+from thesaurus_tools.store import BROADER, Label, Resource, Store
+from thesaurus_tools.texts import fold, normalize
+
+SEPARATOR = " > "
+
+
+class Table(NamedTuple):
+    """A report: the names of its columns, and its rows."""
+
+    columns: tuple[str, ...]
+    rows: Iterable[tuple]
+
+
+def state_of(resource: Resource) -> str:
+    """Returns whether a resource is live, or why not."""
+    return "live" if resource.is_live else f"replaced by {resource.replaced}" if resource.replaced else "deprecated"
+
+
+def find(store: Store, given: argparse.Namespace) -> Table:
+    """Labels that contain a text, whatever its case and accents."""
+    wanted = fold(given.text)
+
+    def rows():
+        for number, resource in sorted(store.resources.items()):
+            for label in store.labels_of.get(number, ()):
+                if (label.kind in given.kinds) and given.lang in (None, label.tag) and wanted in fold(label.text):
+                    yield number, resource.kind, label.kind, label.tag, label.text, store.term(number, given.langs), state_of(resource)
+
+    return Table(("number", "kind", "label", "lang", "text", "term", "state"), rows())
+
+
+def missing(store: Store, given: argparse.Namespace) -> Table:
+    """Live concepts without a preferred label in a language, or without another kind of label in it."""
+    having = {it.owner for it in store.labels if it.kind == given.kind and it.tag == given.lang}
+    rows = ((it.number, store.term(it.number, given.langs)) for it in store.live_concepts() if it.number not in having)
+    return Table(("number", "term"), rows)
+
+
+def orphans(store: Store, given: argparse.Namespace) -> Table:
+    """Live concepts without broader, narrower and related ones."""
+    linked = {end for link in store.links if link.kind in (*BROADER, "related") for end in link[1:]}
+    rows = ((it.number, store.term(it.number, given.langs)) for it in store.live_concepts() if it.number not in linked)
+    return Table(("number", "term"), rows)
+
+
+def tops(store: Store, given: argparse.Namespace) -> Table:
+    """Live concepts without a broader one, with the number of concepts below each."""
+    rows = (
+        (it.scheme, it.number, store.term(it.number, given.langs), sum(1 for _ in walk_down(store, it.number)) - 1)
+        for it in store.live_concepts()
+        if not store.broader(it.number)
+    )
+    return Table(("scheme", "number", "term", "below"), rows)
+
+
+def ways_up(store: Store, number: int) -> Iterator[tuple[int, ...]]:
+    """Yields each way from a top concept down to a concept, the lowest numbers first."""
+    waiting = [(number,)]
+    while waiting:
+        way = waiting.pop()
+        broader = store.broader(way[0])
+        if not broader:
+            yield way
+        waiting += [(it, *way) for it in reversed(broader)]
+
+
+def path(store: Store, given: argparse.Namespace) -> Table:
+    """The ways from the top down to a concept."""
+    store.live_concept(given.number)
+    ways = list(itertools.islice(ways_up(store, given.number), given.most + 1))
+    if len(ways) > given.most:
+        print(f"report: there are more ways than {given.most}; --most N shows more", file=sys.stderr)
+    rows = ((SEPARATOR.join(store.term(it, given.langs) for it in way), SEPARATOR.join(map(str, way))) for way in ways[: given.most])
+    return Table(("path", "numbers"), rows)
+
+
+def walk_down(store: Store, number: int) -> Iterator[tuple[int, int]]:
+    """Yields a concept and those below it, each once, with the fewest steps that lead to it."""
+    waiting, met = deque([(0, number)]), {number}
+    while waiting:
+        depth, here = waiting.popleft()
+        yield depth, here
+        for it in store.narrower(here):
+            if it not in met:
+                met.add(it)
+                waiting.append((depth + 1, it))
+
+
+def below(store: Store, given: argparse.Namespace) -> Table:
+    """Concepts below a concept, each once, the nearest first."""
+    store.live_concept(given.number)
+    rows = ((depth, it, store.term(it, given.langs)) for depth, it in walk_down(store, given.number) if 0 < depth <= given.depth)
+    return Table(("steps", "number", "term"), rows)
+
+
+def duplicates(store: Store, given: argparse.Namespace) -> Table:
+    """Labels that live concepts of one scheme share in a language, but for case, spaces, dashes, quotes and stops."""
+    groups: dict[tuple, list[Label]] = defaultdict(list)
+    alike = (lambda text: fold(normalize(text))) if given.accents else normalize
+    for concept in store.live_concepts():
+        for label in store.labels_of.get(concept.number, ()):
+            if label.kind != "scope":
+                groups[concept.scheme, label.tag, alike(label.text)].append(label)
+    shared = [group for _, group in sorted(groups.items()) if len({it.owner for it in group}) > 1]
+    rows = (
+        (place, it.owner, it.kind, it.tag, it.text, store.term(it.owner, given.langs))
+        for place, group in enumerate(shared, 1)
+        for it in group
+    )
+    return Table(("group", "number", "label", "lang", "text", "term"), rows)
+
+
+def each_count(store: Store, langs: list[str]) -> Iterator[tuple]:
+    """Yields how much there is of everything."""
+    for (kind, state), count in sorted(Counter((it.kind, state_of(it).split()[0]) for it in store.resources.values()).items()):
+        yield f"{kind}s", state, count
+    for scheme, count in sorted(Counter(it.scheme for it in store.live_concepts()).items()):
+        yield f"live concepts of scheme {scheme}", store.term(scheme, langs), count
+    mapped = {it.b for it in store.links if isinstance(it.b, str)}
+    yield "outside concepts", "in mappings", len(mapped)
+    if len(store.outside) > len(mapped):
+        yield "outside concepts", "in no mapping", len(store.outside) - len(mapped)
+    for (kind, tag), count in sorted(Counter((it.kind, it.tag) for it in store.labels).items()):
+        yield f"labels {kind}", tag, count
+    for kind, count in sorted(Counter(it.kind for it in store.links).items()):
+        yield "links", kind, count
+    for name, count in sorted(store.totals().items()):
+        yield "postings", name, count
+
+
+def counts(store: Store, given: argparse.Namespace) -> Table:
+    """How much there is of everything; with --concepts, the postings at each concept and at all below it."""
+    if given.concepts:
+        return counts_of_concepts(store, given)
+    return Table(("what", "which", "count"), each_count(store, given.langs))
+
+
+def counts_of_concepts(store: Store, given: argparse.Namespace) -> Table:
+    """The postings at each live concept, and at it and all concepts below it."""
+    at = store.count_postings()
+    rows = (
+        (it.number, store.term(it.number, given.langs), at.get(it.number, 0), sum(at.get(number, 0) for _, number in walk_down(store, it.number)))
+        for it in store.live_concepts()
+    )
+    return Table(("number", "term", "postings", "with below"), rows)
+
+
+def record(store: Store, given: argparse.Namespace) -> Table:
+    """Postings of a catalogue record, and the concept of each."""
+    wanted = fold(given.name)
+    is_wanted = (lambda name: wanted in fold(name)) if given.part else (lambda name: name == given.name)
+    rows = (
+        (it.number, it.key, it.record, it.first, it.place, store.term(it.place, given.langs), "withdrawn" if it.is_withdrawn else "standing")
+        for it in store.each_posting()
+        if is_wanted(it.record)
+    )
+    return Table(("posting", "key", "record", "first", "place", "term", "state"), rows)
+
+
+def moves(store: Store, given: argparse.Namespace) -> Table:
+    """The moves of a posting, or with --concept those from and to a concept."""
+    if given.concept:
+        store.concept(given.number)
+        found = (it for it in store.each_move() if given.number in (it.source, it.target))
+    else:
+        store.posting(given.number)
+        found = store.moves_of(given.number)
+    rows = (
+        (it.number, it.posting, it.source, store.term(it.source, given.langs), it.target, store.term(it.target, given.langs))
+        for it in found
+    )
+    return Table(("move", "posting", "from", "term", "to", "its term"), rows)
+
+
+def changed(store: Store, given: argparse.Namespace) -> Table:
+    """What was made, changed and posted since a copy was taken."""
+
+    def rows():
+        with open_file(given.since) as then:
+            for what, number, detail in changes_since(then, store, given.langs):
+                yield what, number, store.term(number, given.langs) if number in store.resources else "", detail
+
+    return Table(("change", "number", "term", "detail"), rows())
+
+
+REPORTS = (find, missing, orphans, tops, path, below, duplicates, counts, record, moves, changed)
