@@ -33,7 +33,7 @@ class Journal:
 
     `# N`: a run began, with N resources in the store;  `> DIGEST LINE`: a line is sent, and is entry 0, 1, .. ;
     `> DIGEST LINE ENTRY`: so it is, in place of that entry;  `= ENTRY ANSWER`: its final answer;
-    `+ ENTRY COUNT`: so many entries from that one on were done;
+    `+ ENTRY COUNT NUMBER`: so many entries from that one on were done; unless NUMBER is 0, they made the resources from it on;
     `! ENTRY`: it wasn't performed, and may be sent again. All this is on the disk before a request is sent."""
 
     def __init__(self, path: Path | None):
@@ -74,8 +74,9 @@ class Journal:
         elif sign == "=":
             self.settle(int(first), parse_json(rest))
         elif sign == "+":
-            for number in range(int(first), int(first) + int(rest)):
-                self.settle(number, DONE)
+            count, made = map(int, rest.split())
+            for place in range(count):
+                self.settle(int(first) + place, {"ok": made + place} if made else DONE)
         elif sign == "!":
             self.entries[int(first)].is_closed = True
         else:
@@ -102,9 +103,10 @@ class Journal:
         self.resources = max(self.resources, answer.get("ok", 0))
         self.records.append(f"= {number} {to_json(answer)}\n")
 
-    def note_done(self, number: int, count: int) -> None:
-        """Notes that all lines of a block were done."""
-        self.records.append(f"+ {number} {count}\n")
+    def note_done(self, number: int, count: int, made: int) -> None:
+        """Notes that all lines of a block were done. If they made resources, the number of the first is `made`, else that is 0."""
+        self.resources = max(self.resources, made + count - 1) if made else self.resources
+        self.records.append(f"+ {number} {count} {made}\n")
 
     def note_refusal(self, number: int) -> None:
         """Notes that the line of an entry wasn't performed, and is to be sent again by the next run."""

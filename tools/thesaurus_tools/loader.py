@@ -24,7 +24,8 @@ AGAIN = {
 }
 # The most lines that are under way; a block has half of it.
 AHEAD = 64
-# The answers to lines of a block that were done.
+# The answers to lines that were done: of those that make something, and of any.
+MADE_ALL = re.compile(rb'(?:\{"ok":[0-9]+\}(?:\n|\Z))++')
 DONE_ALL = re.compile(rb'(?:\{"(?:done":true|ok":[0-9]+|again":[0-9]+)\}(?:\n|\Z))++')
 # The class in an export of what a request makes.
 CLASSES = {"scheme": "ConceptScheme", "concept": "Concept", "split": "Concept", "collection": "Collection"}
@@ -162,9 +163,9 @@ class Loader:
         return part.count == 1 and (part.kind not in ADDITIONS or part.greatest > self.journal.resources)
 
     def next_part(self) -> Line | Block:
-        """Returns what is to be sent next. A block with a resource that may not be there yet becomes lines."""
+        """Returns what is to be sent next. A block with a resource that may not be there yet, or with a name without a number, becomes lines."""
         part = self.pending[0]
-        if part.count > 1 and part.greatest > self.journal.resources:
+        if part.count > 1 and (part.greatest > self.journal.resources or not self.flight and not part.uses <= self.numbers.keys()):
             self.pending.popleft()
             self.pending.extendleft(reversed(part.lines()))
         return self.pending[0]
@@ -213,16 +214,25 @@ class Loader:
             self.flight.popleft()
             if part.count == 1:
                 self.receive_one(part, number, answers[0])
-            elif part.count == len(answers) and DONE_ALL.fullmatch(b"\n".join(answers)):
-                self.journal.note_done(number, part.count)
-                self.counts["done"] += part.count
-                self.counts["behind"] += part.count * self.is_stopped
-            else:
+            elif part.count > len(answers) or not self.receive_all(part, number, b"\n".join(answers)):
                 self.flight.extendleft(reversed([(line, entry) for entry, line in enumerate(part.lines(), number)]))
                 continue
             self.under_way -= part.count
             taken += part.count
         del self.answers[:taken]
+
+    def receive_all(self, block: Block, number: int, data: bytes) -> bool:
+        """Takes note of the answers to a block, if all its lines were done, and returns whether they were."""
+        if not (MADE_ALL if block.names else DONE_ALL).fullmatch(data):
+            return False
+        made = list(map(int, re.findall(rb"[0-9]+", data))) if block.names else [0]
+        if block.names and made != list(range(made[0], made[0] + block.count)):
+            return False
+        self.numbers.update(zip(block.names, made))
+        self.journal.note_done(number, block.count, made[0])
+        self.counts["done"] += block.count
+        self.counts["behind"] += block.count * self.is_stopped
+        return True
 
     def receive_one(self, line: Line, number: int, data: bytes) -> None:
         """Takes note of the answer to a line."""

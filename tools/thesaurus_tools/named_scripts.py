@@ -14,14 +14,19 @@ RESOURCE_MEMBERS = {"scheme", "owner", "a", "b", "concept", "source", "target"}
 POSTING_MEMBERS = {"posting", "postings"}
 NUMBERED_MEMBERS = RESOURCE_MEMBERS | POSTING_MEMBERS | {"number"}
 NO_NAMES = frozenset()
-# The most bytes of a line, and the most lines of a block.
+# The most characters of a line or a block, and the most lines of a block.
 LONGEST, MOST_LINES = 1_048_000, 32
-# Requests that only add something that has no name: texts without escapes that begin with no dollar, and numbers.
-PLAIN_LINES = re.compile(
-    rb'(?:\{"do": ?"(?:addLabel|link|post)"'
-    rb'(?:, ?"(?:owner|kind|tag|text|a|b|key|record|concept)": ?(?:"(?!\$)[^"\\\x00-\x1f]*+"|[1-9][0-9]{0,9}+))++\}\n){1,%d}+' % MOST_LINES
+# What lines hold that aren't read one by one: texts without escapes that begin with no dollar, numbers, and names of resources.
+IN_TEXT, NUMBERED = r'[^"\\\x00-\x1f]', '"(?:scheme|owner|a|b|concept)": ?'
+MEMBER = rf'(?:, ?{NUMBERED}(?:[1-9][0-9]{{0,9}}+|"\${IN_TEXT}++")|, ?"(?:kind|tag|text|key|record)": ?"(?!\$){IN_TEXT}*+")'
+# Lines that make concepts with names; and lines that only add something, which gets no name.
+BLOCK = re.compile(
+    rf'(?:\{{"as": ?"{IN_TEXT}++", ?"do": ?"concept"{MEMBER}++\}}\n){{2,{MOST_LINES}}}+|(?:\{{"do": ?"(?:addLabel|link|post)"{MEMBER}++\}}\n){{2,{MOST_LINES}}}+'
 )
-NUMBERS_IN_BLOCK = re.compile(rb'"(?:owner|a|b|concept)": ?([0-9]+)')
+NAME_MADE = re.compile(r'^\{"as": ?"([^"]*)", ?', re.M)
+NAME_USED = re.compile(rf'({NUMBERED})"\$([^"]*)"')
+NUMBER_USED = re.compile(rf"{NUMBERED}([0-9]+)")
+BLANKS = " \t\r\v\f"
 
 
 def digest_of(line: bytes) -> str:
@@ -83,38 +88,46 @@ class Line:
 
 
 class Block:
-    """Lines that follow one another, none of which makes something with a name or uses a name. They are sent as they are."""
+    """Lines that follow one another and aren't read one by one: all make concepts with names, or none makes anything that has a name."""
 
-    __slots__ = ("number", "data", "count", "greatest")
-    uses: Set[str] = NO_NAMES
+    __slots__ = ("number", "text", "count", "greatest", "names", "uses")
     entry = None
 
-    def __init__(self, number: int, data: bytes):
-        self.number, self.data, self.count = number, data, data.count(b"\n")
-        self.greatest = max(map(int, NUMBERS_IN_BLOCK.findall(data)), default=0)
+    def __init__(self, number: int, text: str):
+        self.number, self.text, self.count = number, text, text.count("\n")
+        self.greatest = max(map(int, NUMBER_USED.findall(text)), default=0)
+        self.names = NAME_MADE.findall(text)
+        self.uses: Set[str] = frozenset([name for _, name in NAME_USED.findall(text)])
 
-    def raw_lines(self) -> list[bytes]:
-        return self.data.split(b"\n")[:-1]
+    def claim_names(self, kinds: dict[str, str]) -> bool:
+        """Notes in `kinds` what has names, unless a name is given twice, or one is used that no line before the block gives to a resource."""
+        is_new = len({*self.names}) == len(self.names) and kinds.keys().isdisjoint(self.names)
+        is_right = is_new and all(kinds.get(it) == "resource" for it in self.uses)
+        if is_right:
+            kinds.update(dict.fromkeys(self.names, "resource"))
+        return is_right
 
     def digests(self) -> list[str]:
-        return [digest_of(it) for it in self.raw_lines()]
+        return [digest_of(it) for it in self.text.encode().split(b"\n")[:-1]]
 
-    def lines(self) -> list[Line]:
+    def lines(self, kinds: dict[str, str] | None = None) -> list[Line]:
         """Returns the lines one by one."""
-        return [parse_line(number, it, {}) for number, it in enumerate(self.raw_lines(), self.number)]
+        kinds = dict.fromkeys(self.uses, "resource") if kinds is None else kinds
+        return [parse_line(number, it, kinds) for number, it in enumerate(self.text.split("\n")[:-1], self.number)]
 
     def encoded(self, numbers: dict[str, int]) -> bytes:
-        return self.data
+        """Returns the requests as the program reads them."""
+        text = NAME_MADE.sub("{", self.text) if self.names else self.text
+        return (NAME_USED.sub(lambda it: f"{it[1]}{numbers[it[2]]}", text) if self.uses else text).encode()
 
 
-def parse_line(number: int, data: bytes, kinds: dict[str, str]) -> Line:
+def parse_line(number: int, text: str, kinds: dict[str, str]) -> Line:
     """Returns the request of a line, and notes in `kinds` what its name is given to. Raises ValueError if it is none."""
-    if len(data) > LONGEST:
+    if len(text) > LONGEST:
         raise ValueError("the line is too long")
-    try:
-        text = data.decode("utf-8").strip()
-    except UnicodeDecodeError:
-        raise ValueError("no UTF-8") from None
+    if not is_utf8(text):
+        raise ValueError("no UTF-8")
+    text = text.strip()
     request = parse_json(text)
     if not isinstance(request, dict):
         raise ValueError("no JSON object")
@@ -129,35 +142,35 @@ def parse_line(number: int, data: bytes, kinds: dict[str, str]) -> Line:
     return line
 
 
-def find_blocks(data: bytes, has_blocks: bool):
-    """Yields the number of each line of a script with the line; where there may be blocks, in place of the lines of one the block's lines."""
-    at, number, data = 0, 1, data if data.endswith(b"\n") else data + b"\n"
-    while at < len(data):
-        found = PLAIN_LINES.match(data, at) if has_blocks else None
-        end = found.end() if found and found.end() - at <= LONGEST else data.index(b"\n", at) + 1
-        yield number, data[at:end]
-        number, at = number + (data.count(b"\n", at, end) if found else 1), end
-
-
-def is_utf8(data: bytes) -> bool:
+def is_utf8(text: str) -> bool:
+    """Whether a text that was decoded with surrogates in place of other bytes has none."""
     try:
-        data.decode("utf-8")
-    except UnicodeDecodeError:
+        text.encode()
+    except UnicodeEncodeError:
         return False
     return True
 
 
 def parse_script(data: bytes, file: str, has_blocks: bool = False) -> list[Line | Block]:
     """Returns the requests of a script, in blocks where that may be. Raises ToolError that lists each line that is wrong."""
-    parts, wrong, kinds = [], [], {}
-    for number, lines in find_blocks(data, has_blocks and is_utf8(data)):
-        if lines.find(b"\n") < len(lines) - 1:
-            parts.append(Block(number, lines))
-        elif lines.strip() and not lines.lstrip().startswith(b"#"):
+    text = data.decode("utf-8", "surrogateescape") + "\n"
+    has_blocks = has_blocks and is_utf8(text)
+    parts, wrong, kinds, at, number = [], [], {}, 0, 1
+    while at < len(text):
+        found = BLOCK.match(text, at) if has_blocks else None
+        block = Block(number, found[0]) if found and len(found[0]) <= LONGEST else None
+        if block and block.claim_names(kinds):
+            parts.append(block)
+            at, number = found.end(), number + block.count
+            continue
+        end = text.index("\n", at)
+        line, at = text[at:end], end + 1
+        if line.strip(BLANKS) and not line.lstrip(BLANKS).startswith("#"):
             try:
-                parts.append(parse_line(number, lines[:-1], kinds))
+                parts.append(parse_line(number, line, kinds))
             except (ValueError, RecursionError) as error:
                 wrong.append(f"{file}:{number}: {error}")
+        number += 1
     if wrong:
         raise ToolError("\n".join(wrong[:20] + ([f"and {len(wrong) - 20} more lines"] if len(wrong) > 20 else [])), REFUSED)
     return parts

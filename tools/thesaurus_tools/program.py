@@ -105,7 +105,7 @@ class Script(Performer):
             os.set_blocking(self.run.stdin.fileno(), False)
             self.unsent, self.partial, self.lines = bytearray(), b"", 0
             # The number of requests under way, the seconds that an answer takes, and when the last ones came.
-            self.under_way, self.pace, self.since = 0, 0.0, 0.0
+            self.under_way, self.pace, self.since = 0, LONGEST_SLEEP, 0.0
             try:
                 self.ask({"get": "totals"})
                 return
@@ -152,9 +152,10 @@ class Script(Performer):
 
     def answers(self, wanted: int = 1) -> list[bytes]:
         # The program writes answers one by one. So this sleeps while most of the wanted ones come, since to wake up for each takes as long as
-        # a request. If it sleeps for too long, more have come, so the next sleep is shorter.
-        if wanted > 1 and not self.unsent:
-            time.sleep(min(wanted * self.pace, LONGEST_SLEEP))
+        # a request.
+        rest = self.since + wanted * self.pace - time.monotonic()
+        if wanted > 1 and rest > 0 and not self.unsent:
+            time.sleep(min(rest, LONGEST_SLEEP))
         out = self.run.stdout.fileno()
         while True:
             waiting = [self.run.stdin.fileno()] if self.unsent else []
@@ -171,10 +172,10 @@ class Script(Performer):
                     return whole
 
     def note_pace(self, count: int) -> None:
-        """Notes that this number of answers have come."""
+        """Notes that this number of answers have come. The pace is the best of the last ones, as they may have waited to be read."""
         before, self.since = self.since, time.monotonic()
         self.under_way -= count
-        self.pace = (self.since - before) / count
+        self.pace = min((self.since - before) / count, 1.2 * self.pace)
 
     def reason(self) -> str:
         said = self.said().decode(errors="replace").strip()
