@@ -2,6 +2,7 @@
 
   command_line, files, requests        how a tool is called and ends, what it reads and writes, JSON
   program, server                      a run of the program, and one that serves
+  kinds, texts                         the kinds of things, and which texts are alike
   ntriples, rdf_files, skos            RDF: N-Triples, its other forms, and a vocabulary of SKOS
   vocabulary, link_rules, converting   what a converter makes of a vocabulary, and the rules that it may break
   script_writer                        the script that loads a vocabulary

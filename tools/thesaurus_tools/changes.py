@@ -5,7 +5,8 @@ import itertools
 from collections.abc import Iterator
 
 from thesaurus_tools.command_line import REFUSED, ToolError
-from thesaurus_tools.store import BROADER, Link, Store, link_order
+from thesaurus_tools.kinds import BROADER
+from thesaurus_tools.store import Link, Store, link_order
 
 
 def changed_resources(then: Store, now: Store) -> Iterator[tuple]:

@@ -6,15 +6,9 @@ from collections import defaultdict
 from collections.abc import Iterable, Iterator
 
 from thesaurus_tools.command_line import REFUSED, USAGE, ToolError
+from thesaurus_tools.kinds import CLASSES, LABEL_PROPERTIES, LINK_PROPERTIES
 from thesaurus_tools.ntriples import DCTERMS, OWL, RDF, SKOS, Iri, Literal, Triple
 from thesaurus_tools.store import Label, Link, Posting, Resource, Store, normal_link
-
-LABEL_PROPERTIES = {"prefLabel": "pref", "altLabel": "alt", "hiddenLabel": "hidden", "scopeNote": "scope"}
-LINK_PROPERTIES = {
-    "broader": "broader", "related": "related", "exactMatch": "exact", "closeMatch": "close", "broadMatch": "broad",
-    "narrowMatch": "narrow", "relatedMatch": "relMatch", "member": "member",
-}
-CLASSES = {"ConceptScheme": "scheme", "Concept": "concept", "Collection": "collection"}
 
 
 def number_of(iri: str, base: str) -> int | None:

@@ -5,14 +5,13 @@ import re
 from collections import deque
 from typing import TYPE_CHECKING
 
+from thesaurus_tools.kinds import BROADER, MAPPINGS, SYMMETRIC
+
 if TYPE_CHECKING:
     from thesaurus_tools.vocabulary import Vocabulary
 
-HIERARCHICAL = ("broaderGeneric", "broaderPartitive", "broaderInstantial", "broader")
-MAPPINGS = ("broad", "narrow", "relMatch", "exact", "close")
-SYMMETRIC = ("related", "relMatch", "exact", "close")
-# The order in which links are added: hierarchical ones first, so that a rule that two links break is the other one's.
-LINK_ORDER = (*HIERARCHICAL, "broad", "narrow", "related", "relMatch", "exact", "close", "member")
+# The order in which links are added: hierarchical ones first, those with a type before others, so that a rule that two links break is the other one's.
+LINK_ORDER = (*BROADER[1:], "broader", "broad", "narrow", "related", "relMatch", "exact", "close", "member")
 IRI_FORM = re.compile(r'[A-Za-z][A-Za-z0-9+.-]*:[^\x00-\x20<>"{}|^`\\]+')
 # The name of an outside concept is its IRI after this.
 OUTSIDE = "outside "
@@ -32,7 +31,7 @@ class LinkRules:
         """Adds a link unless a rule refuses it, which becomes a finding."""
         is_turned = kind in SYMMETRIC and b in self.vocabulary.resources and b < a
         held = (kind, b, a) if is_turned else (kind, a, b)
-        if held in self.seen or kind == "broader" and any((it, a, b) in self.seen for it in HIERARCHICAL):
+        if held in self.seen or kind == "broader" and any((it, a, b) in self.seen for it in BROADER):
             return False
         why = self.refusal_of_ends(kind, a, b) or self.refusal(kind, a, b)
         if why:
@@ -40,7 +39,7 @@ class LinkRules:
             self.vocabulary.find(why, a, f"{kind} {b}{ring}")
             return False
         self.seen.add(held)
-        if kind in HIERARCHICAL or kind in ("broad", "narrow"):
+        if kind in BROADER or kind in ("broad", "narrow"):
             low, high = self.low_and_high(kind, a, b)
             self.above.setdefault(low, set()).add(high)
         if kind in ("broad", "narrow", "relMatch"):
@@ -68,7 +67,7 @@ class LinkRules:
 
     def refusal(self, kind: str, a: str, b: str) -> str | None:
         """Returns the rule that a link would break, or None."""
-        if kind in HIERARCHICAL or kind in ("broad", "narrow"):
+        if kind in BROADER or kind in ("broad", "narrow"):
             low, high = self.low_and_high(kind, a, b)
             return "Cycle" if self.is_above(high, low) else None
         if kind in ("related", "relMatch"):

@@ -9,8 +9,9 @@ from collections.abc import Iterable, Iterator
 from typing import NamedTuple
 
 from thesaurus_tools.changes import changes_since
+from thesaurus_tools.kinds import BROADER
 from thesaurus_tools.opening import open_file
-from thesaurus_tools.store import BROADER, Label, Resource, Store
+from thesaurus_tools.store import Label, Resource, Store
 from thesaurus_tools.texts import fold, normalize
 
 SEPARATOR = " > "

@@ -3,8 +3,9 @@ from __future__ import annotations
 
 from collections.abc import Iterator
 
+from thesaurus_tools.kinds import LABEL_KINDS
 from thesaurus_tools.link_rules import OUTSIDE
-from thesaurus_tools.vocabulary import KINDS, Resource, Vocabulary, fit_text
+from thesaurus_tools.vocabulary import Resource, Vocabulary, fit_text
 
 
 class ScriptWriter:
@@ -69,7 +70,7 @@ class ScriptWriter:
                 target = self.resources[it.replaced]
                 yield {"do": "merge", "source": f"${it.name}", "target": f"${target.name}"}
                 had = target.names() - self.late.get(target.name, set()) | {self.stand_ins.get(target.name, ("", ""))}
-                for kind in KINDS[:3]:
+                for kind in LABEL_KINDS[:3]:
                     for tag, text in it.labels[kind]:
                         if (tag, text) not in had:
                             given = "hidden" if kind == "hidden" else "alt"

@@ -7,9 +7,10 @@ from functools import cached_property
 
 from thesaurus_tools.command_line import REFUSED, ToolError
 from thesaurus_tools.export_store import ExportStore
+from thesaurus_tools.kinds import BROADER
 from thesaurus_tools.ntriples import parse_ntriples
 from thesaurus_tools.server import Server
-from thesaurus_tools.store import BROADER, Link, Move, Posting
+from thesaurus_tools.store import Link, Move, Posting
 
 
 class ServedStore(ExportStore):

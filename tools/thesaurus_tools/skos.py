@@ -6,28 +6,24 @@ import re
 from collections import defaultdict
 from collections.abc import Iterator
 
-from thesaurus_tools.link_rules import HIERARCHICAL, OUTSIDE
+from thesaurus_tools.kinds import BROADER, CLASSES, LABEL_PROPERTIES, LINK_PROPERTIES
+from thesaurus_tools.link_rules import OUTSIDE
 from thesaurus_tools.ntriples import DCTERMS, OWL, RDF, SKOS, Blank, Iri, Literal, Triple
 from thesaurus_tools.vocabulary import Resource, Vocabulary, by_numbers
 
 ISO_THES = "http://purl.org/iso25964/skos-thes#"
 RDFS_LABEL = "http://www.w3.org/2000/01/rdf-schema#label"
 TITLES = (RDFS_LABEL, DCTERMS + "title", "http://purl.org/dc/elements/1.1/title")
-LABELS = {SKOS + "prefLabel": "pref", SKOS + "altLabel": "alt", SKOS + "hiddenLabel": "hidden", SKOS + "scopeNote": "scope"}
-# Properties of links: the kind, and whether subject and object change places.
+LABELS = {SKOS + name: kind for name, kind in LABEL_PROPERTIES.items()}
+# Properties of links: the kind, and whether subject and object change places. Types of broader links have the words of ISO-THES.
 LINKS = {
-    SKOS + "related": ("related", False),
-    SKOS + "exactMatch": ("exact", False),
-    SKOS + "closeMatch": ("close", False),
-    SKOS + "broadMatch": ("broad", False),
-    SKOS + "narrowMatch": ("narrow", False),
-    SKOS + "relatedMatch": ("relMatch", False),
-    SKOS + "member": ("member", False),
-    **{(SKOS if kind == "broader" else ISO_THES) + kind: (kind, False) for kind in HIERARCHICAL},
-    **{(SKOS if kind == "broader" else ISO_THES) + kind.replace("broader", "narrower"): (kind, True) for kind in HIERARCHICAL},
+    **{SKOS + name: (kind, False) for name, kind in LINK_PROPERTIES.items()},
+    SKOS + "narrower": ("broader", True),
+    **{ISO_THES + kind: (kind, False) for kind in BROADER[1:]},
+    **{ISO_THES + kind.replace("broader", "narrower"): (kind, True) for kind in BROADER[1:]},
 }
 OPPOSITE = {"broad": "narrow", "narrow": "broad"}
-CLASSES = {SKOS + "ConceptScheme": "scheme", SKOS + "Concept": "concept", SKOS + "Collection": "collection", SKOS + "OrderedCollection": "collection"}
+KINDS = {**{SKOS + name: kind for name, kind in CLASSES.items()}, SKOS + "OrderedCollection": "collection"}
 TRANSITIVE = {SKOS + "broaderTransitive": False, SKOS + "narrowerTransitive": True}
 
 
@@ -87,8 +83,8 @@ class SkosReader:
 
     def entailed(self, subject: str, predicate: str, node) -> Iterator[tuple[str, str]]:
         """Yields what a triple says of the kinds of its subject and its object."""
-        if predicate == RDF + "type" and node in CLASSES:
-            yield subject, CLASSES[node]
+        if predicate == RDF + "type" and node in KINDS:
+            yield subject, KINDS[node]
         elif predicate in (SKOS + "member", SKOS + "memberList"):
             yield subject, "collection"
         elif isinstance(node, Literal):
@@ -98,7 +94,7 @@ class SkosReader:
         elif predicate in (SKOS + "topConceptOf", SKOS + "hasTopConcept"):
             concept, scheme = (subject, node) if predicate.endswith("topConceptOf") else (node, subject)
             yield from ((concept, "concept"), (scheme, "scheme"))
-        elif predicate in LINKS and LINKS[predicate][0] in (*HIERARCHICAL, "related"):
+        elif predicate in LINKS and LINKS[predicate][0] in (*BROADER, "related"):
             yield from ((subject, "concept"), (node, "concept"))
 
     # --- Schemes, deaths and labels ---
@@ -248,7 +244,7 @@ class SkosReader:
                         self.lose(subject, f"{short(predicate)} {text}")
                 elif predicate == SKOS + "memberList":
                     self.lose(subject, "memberList: the order of its members")
-                elif predicate == RDF + "type" and node not in CLASSES:
+                elif predicate == RDF + "type" and node not in KINDS:
                     self.lose(subject, f"type {text}")
                 elif predicate == RDFS_LABEL and ("pref", node) in {("pref", it) for it in self.values[subject].get(SKOS + "prefLabel", ())}:
                     continue
@@ -258,7 +254,7 @@ class SkosReader:
     def compare_entailed(self) -> None:
         """Notes top concepts that have broader ones, and transitive links that no chain of links entails."""
         rules, resources = self.vocabulary.rules, self.vocabulary.resources
-        below = {a for kind, a, _ in self.vocabulary.links if kind in HIERARCHICAL}
+        below = {a for kind, a, _ in self.vocabulary.links if kind in BROADER}
         for subject in self.subjects:
             values = self.values[subject]
             for concept, scheme in self.declared_tops(subject):

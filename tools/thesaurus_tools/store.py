@@ -7,12 +7,7 @@ from functools import cached_property
 from typing import NamedTuple
 
 from thesaurus_tools.command_line import REFUSED, ToolError
-
-RESOURCE_KINDS = ("scheme", "concept", "collection")
-LABEL_KINDS = ("pref", "alt", "hidden", "scope")
-BROADER = ("broader", "broaderGeneric", "broaderPartitive", "broaderInstantial")
-MAPPINGS = ("exact", "close", "broad", "narrow", "relMatch")
-SYMMETRIC = ("related", "exact", "close", "relMatch")
+from thesaurus_tools.kinds import BROADER, LABEL_KINDS, SYMMETRIC
 
 # A resource of the store by its number, or another publisher's concept by its IRI.
 End = int | str

@@ -10,8 +10,9 @@ from functools import cached_property
 from pathlib import Path
 
 from thesaurus_tools.command_line import ToolError
+from thesaurus_tools.kinds import BROADER, LABEL_KINDS, MAPPINGS, RESOURCE_KINDS
 from thesaurus_tools.program import lock_file
-from thesaurus_tools.store import BROADER, LABEL_KINDS, MAPPINGS, RESOURCE_KINDS, Label, Link, Move, Posting, Resource, Store
+from thesaurus_tools.store import Label, Link, Move, Posting, Resource, Store
 
 # What the numbers in the tables mean: of resources and labels from 1, of links in `link` from 2, of types in `hier` from 0.
 KIND_OF_RESOURCE = dict(enumerate(RESOURCE_KINDS, 1))

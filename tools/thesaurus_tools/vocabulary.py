@@ -6,9 +6,9 @@ from collections.abc import Iterable
 from dataclasses import dataclass, field
 from typing import NamedTuple
 
-from thesaurus_tools.link_rules import HIERARCHICAL, LINK_ORDER, LinkRules
+from thesaurus_tools.kinds import BROADER, LABEL_KINDS
+from thesaurus_tools.link_rules import LINK_ORDER, LinkRules
 
-KINDS = ("pref", "alt", "hidden", "scope")
 MOST_BYTES = {"scope": 2000}
 TAG_FORM = re.compile(r"(?=.{1,35}\Z)[A-Za-z]{1,8}(-[A-Za-z0-9]{1,8})*")
 CONTROL = re.compile(r"[\x00-\x1f\x7f]+")
@@ -48,13 +48,13 @@ class Resource:
     name: str
     kind: str
     scheme: str = ""
-    labels: dict[str, list[tuple[str, str]]] = field(default_factory=lambda: {it: [] for it in KINDS})
+    labels: dict[str, list[tuple[str, str]]] = field(default_factory=lambda: {it: [] for it in LABEL_KINDS})
     is_dead: bool = False
     replaced: str = ""
 
     def names(self) -> set[tuple[str, str]]:
         """Returns the tags and texts of its labels, but for notes."""
-        return {it for kind in KINDS[:3] for it in self.labels[kind]}
+        return {it for kind in LABEL_KINDS[:3] for it in self.labels[kind]}
 
 
 @dataclass
@@ -126,7 +126,7 @@ class Vocabulary:
         """Adds its parent's label to each preferred label that several live concepts of a scheme have."""
         parents: dict[str, list[str]] = {}
         for kind, a, b in self.links:
-            if kind in HIERARCHICAL and b in self.resources:
+            if kind in BROADER and b in self.resources:
                 parents.setdefault(a, []).append(b)
         before = {name: dict(it.labels["pref"]) for name, it in self.resources.items()}
         for (_, tag, text), names in self.claims().items():
