@@ -6,11 +6,12 @@
   ntriples, rdf_files, skos            RDF: N-Triples, its other forms, and a vocabulary of SKOS
   vocabulary, link_rules, converting   what a converter makes of a vocabulary, and the rules that it may break
   script_writer                        the script that loads a vocabulary
-  named_scripts, journal, loader       such a script, and how it is loaded
-  store, opening                       a thesaurus as objects, and where it comes from:
-  table_store, export_store, served_store
+  named_scripts, journal, loader,      such a script, and how it is loaded
+  recovery
+  store, opening, table_store,         a thesaurus as objects, and where it comes from
+  export_store, served_store
   reports, changes                     questions about a thesaurus
-  site_export, site_pages              the pages of a web site
+  site_export, site_terms, site_pages  the pages of a web site
 """
 import sys
 

@@ -6,13 +6,13 @@ import math
 import re
 import sys
 import time
-from collections import Counter, defaultdict, deque
-from collections.abc import Iterator
+from collections import Counter, deque
 
 from thesaurus_tools.command_line import DONE, FAULT, REFUSED, ToolError
 from thesaurus_tools.journal import Journal, match
 from thesaurus_tools.named_scripts import Block, Line
 from thesaurus_tools.program import Performer, count_resources
+from thesaurus_tools.recovery import CLASSES, recover
 from thesaurus_tools.requests import parse_json
 
 # Requests that only add, so that what they did can be seen later. All others are sent alone, after all before are answered.
@@ -27,51 +27,6 @@ AHEAD = 64
 # The answers to lines that were done: of those that make something, and of any.
 MADE_ALL = re.compile(rb'(?:\{"ok":[0-9]+\}(?:\n|\Z))++')
 DONE_ALL = re.compile(rb'(?:\{"(?:done":true|ok":[0-9]+|again":[0-9]+)\}(?:\n|\Z))++')
-# The class in an export of what a request makes.
-CLASSES = {"scheme": "ConceptScheme", "concept": "Concept", "split": "Concept", "collection": "Collection"}
-
-
-def number_of(iri: str, count: int) -> int:
-    """Returns the number at the end of a resource's IRI."""
-    number = int(re.search(r"\d*$", iri)[0] or 0)
-    if not 1 <= number <= count:
-        raise ToolError(f"{iri} doesn't end with a number up to {count}: what an earlier run made can't be found")
-    return number
-
-
-def resources_since(export: bytes, least: int, count: int) -> tuple[dict[tuple, list[int]], dict[int, int]]:
-    """Returns the resources with greater numbers than `least`, by class, scheme, tag and text, and the scheme of each resource."""
-    from thesaurus_tools.ntriples import RDF, SKOS, parse_ntriples  # (few runs need it)
-
-    classes, schemes, labels = {}, {}, defaultdict(list)
-    for subject, predicate, node in parse_ntriples(export, "export"):
-        if predicate == RDF + "type":
-            classes[number_of(subject, count)] = node.removeprefix(SKOS)
-        elif predicate == SKOS + "inScheme":
-            schemes[number_of(subject, count)] = number_of(node, count)
-        elif predicate == SKOS + "prefLabel":
-            labels[number_of(subject, count)].append(node)
-    found = defaultdict(list)
-    for number in sorted(it for it in classes if it > least):
-        for label in labels[number]:
-            found[classes[number], schemes.get(number), label.tag, label.text].append(number)
-    return found, schemes
-
-
-def recover(target: Performer, journal: Journal, lines: list[Line], numbers: dict[str, int], count: int) -> Iterator[tuple[Line, dict]]:
-    """Finds what lines made whose answer no run has seen, and yields their answers. Those that made nothing are new again."""
-    if not lines:
-        return
-    found, schemes = resources_since(target.export(), min(journal.entries[it.entry].resources for it in lines), count)
-    for line in lines:
-        request = line.resolved(numbers)
-        scheme = schemes.get(request["source"]) if line.kind == "split" else request.get("scheme")
-        made = found.get((CLASSES[line.kind], scheme, str(request.get("tag")).lower(), request.get("text")), [])
-        made = [it for it in made if it > journal.entries[line.entry].resources]
-        if made:
-            answer = {"ok": made[0]}
-            journal.note_answer(line.entry, answer)
-            yield line, answer
 
 
 class Progress:
