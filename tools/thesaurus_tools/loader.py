@@ -56,9 +56,9 @@ class Loader:
         self.numbers: dict[str, int] = {}
         self.counts, self.status, self.is_stopped = Counter(), DONE, False
         self.ahead = AHEAD if may_send_ahead(given) else 1
-        # What is sent, with the number of its first entry; the answers that aren't taken up; and what is to be sent.
+        # What is sent, with the number of its first entry; the answers that nobody took note of; and what is to be sent.
         self.flight: deque[tuple[Line | Block, int]] = deque()
-        self.answers: list[bytes] = []
+        self.unread: deque[bytes] = deque()
         self.pending = deque(self.take_up(parts))
         self.under_way, self.left = 0, sum(it.count for it in self.pending)
         self.progress = Progress(sum(it.count for it in parts))
@@ -99,7 +99,7 @@ class Loader:
                 if not self.is_stopped:
                     self.send_more()
                 if self.flight:
-                    self.answers += self.target.answers(self.wanted())
+                    self.unread += self.target.answers(self.wanted())
                     self.receive()
                 self.progress.show(self.left)
         except ToolError as error:
@@ -160,21 +160,17 @@ class Loader:
 
     def receive(self, is_last: bool = False) -> None:
         """Takes note of the answers that have come; of a block, once all are there, or if no more will come."""
-        taken = 0
-        while self.flight and taken < len(self.answers):
-            part, number = self.flight[0]
-            answers = self.answers[taken : taken + part.count]
-            if part.count > len(answers) and not is_last:
-                break
-            self.flight.popleft()
+        while self.unread and self.flight and (is_last or self.flight[0][0].count <= len(self.unread)):
+            part, number = self.flight.popleft()
+            answers = [self.unread.popleft() for _ in range(min(part.count, len(self.unread)))]
             if part.count == 1:
+                self.under_way -= 1
                 self.receive_one(part, number, answers[0])
-            elif part.count > len(answers) or not self.receive_all(part, number, b"\n".join(answers)):
+            elif part.count == len(answers) and self.receive_all(part, number, b"\n".join(answers)):
+                self.under_way -= part.count
+            else:
+                self.unread.extendleft(reversed(answers))
                 self.flight.extendleft(reversed([(line, entry) for entry, line in enumerate(part.lines(), number)]))
-                continue
-            self.under_way -= part.count
-            taken += part.count
-        del self.answers[:taken]
 
     def receive_all(self, block: Block, number: int, data: bytes) -> bool:
         """Takes note of the answers to a block, if all its lines were done, and returns whether they were."""

@@ -14,15 +14,15 @@ RESOURCE_MEMBERS = {"scheme", "owner", "a", "b", "concept", "source", "target"}
 POSTING_MEMBERS = {"posting", "postings"}
 NUMBERED_MEMBERS = RESOURCE_MEMBERS | POSTING_MEMBERS | {"number"}
 NO_NAMES = frozenset()
-# The most characters of a line or a block, and the most lines of a block.
+# The most bytes of a line or a block, and the most lines of a block.
 LONGEST, MOST_LINES = 1_048_000, 32
 # What lines hold that aren't read one by one: texts without escapes that begin with no dollar, numbers, and names of resources.
 IN_TEXT, NUMBERED = r'[^"\\\x00-\x1f]', '"(?:scheme|owner|a|b|concept)": ?'
 MEMBER = rf'(?:, ?{NUMBERED}(?:[1-9][0-9]{{0,9}}+|"\${IN_TEXT}++")|, ?"(?:kind|tag|text|key|record)": ?"(?!\$){IN_TEXT}*+")'
 # Lines that make concepts with names; and lines that only add something, which gets no name.
-BLOCK = re.compile(
-    rf'(?:\{{"as": ?"{IN_TEXT}++", ?"do": ?"concept"{MEMBER}++\}}\n){{2,{MOST_LINES}}}+|(?:\{{"do": ?"(?:addLabel|link|post)"{MEMBER}++\}}\n){{2,{MOST_LINES}}}+'
-)
+CONCEPT_LINE = rf'\{{"as": ?"{IN_TEXT}++", ?"do": ?"concept"{MEMBER}++\}}\n'
+ADDING_LINE = rf'\{{"do": ?"(?:addLabel|link|post)"{MEMBER}++\}}\n'
+BLOCK = re.compile(rf"(?:{CONCEPT_LINE}){{2,{MOST_LINES}}}+|(?:{ADDING_LINE}){{2,{MOST_LINES}}}+")
 NAME_MADE = re.compile(r'^\{"as": ?"([^"]*)", ?', re.M)
 NAME_USED = re.compile(rf'({NUMBERED})"\$([^"]*)"')
 NUMBER_USED = re.compile(rf"{NUMBERED}([0-9]+)")
@@ -110,9 +110,9 @@ class Block:
     def digests(self) -> list[str]:
         return [digest_of(it) for it in self.text.encode().split(b"\n")[:-1]]
 
-    def lines(self, kinds: dict[str, str] | None = None) -> list[Line]:
+    def lines(self) -> list[Line]:
         """Returns the lines one by one."""
-        kinds = dict.fromkeys(self.uses, "resource") if kinds is None else kinds
+        kinds = dict.fromkeys(self.uses, "resource")
         return [parse_line(number, it, kinds) for number, it in enumerate(self.text.split("\n")[:-1], self.number)]
 
     def encoded(self, numbers: dict[str, int]) -> bytes:
@@ -123,11 +123,11 @@ class Block:
 
 def parse_line(number: int, text: str, kinds: dict[str, str]) -> Line:
     """Returns the request of a line, and notes in `kinds` what its name is given to. Raises ValueError if it is none."""
-    if len(text) > LONGEST:
-        raise ValueError("the line is too long")
     if not is_utf8(text):
         raise ValueError("no UTF-8")
     text = text.strip()
+    if len(text.encode()) > LONGEST:
+        raise ValueError("the line is too long")
     request = parse_json(text)
     if not isinstance(request, dict):
         raise ValueError("no JSON object")
@@ -158,7 +158,7 @@ def parse_script(data: bytes, file: str, has_blocks: bool = False) -> list[Line 
     parts, wrong, kinds, at, number = [], [], {}, 0, 1
     while at < len(text):
         found = BLOCK.match(text, at) if has_blocks else None
-        block = Block(number, found[0]) if found and len(found[0]) <= LONGEST else None
+        block = Block(number, found[0]) if found and len(found[0].encode()) <= LONGEST else None
         if block and block.claim_names(kinds):
             parts.append(block)
             at, number = found.end(), number + block.count
