@@ -36,7 +36,7 @@ def natural(text: str) -> int:
 
 def languages(text: str) -> list[str]:
     """Returns the language tags in an argument as en,de, each once."""
-    found = list(dict.fromkeys(text.lower().split(",")))
+    found = list(dict.fromkeys(it.strip() for it in text.lower().split(",")))
     if not all(re.fullmatch("[a-z]{1,8}(-[a-z0-9]{1,8})*", it) for it in found):
         raise argparse.ArgumentTypeError(f"not language tags: {text!r}")
     return found
