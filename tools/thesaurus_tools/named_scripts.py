@@ -24,8 +24,8 @@ CONCEPT_LINE = rf'\{{"as": ?"{IN_TEXT}++", ?"do": ?"concept"{MEMBER}++\}}\n'
 ADDING_LINE = rf'\{{"do": ?"(?:addLabel|link|post)"{MEMBER}++\}}\n'
 BLOCK = re.compile(rf"(?:{CONCEPT_LINE}){{2,{MOST_LINES}}}+|(?:{ADDING_LINE}){{2,{MOST_LINES}}}+")
 NAME_MADE = re.compile(r'^\{"as": ?"([^"]*)", ?', re.M)
-NAME_USED = re.compile(rf'({NUMBERED})"\$([^"]*)"')
-NUMBER_USED = re.compile(rf"{NUMBERED}([0-9]+)")
+NAME_USED = re.compile(r'(": ?)"\$([^"]*)"')
+NUMBER_USED = re.compile('": ?([0-9]+)')
 BLANKS = " \t\r\v\f"
 
 
@@ -96,8 +96,8 @@ class Block:
     def __init__(self, number: int, text: str):
         self.number, self.text, self.count = number, text, text.count("\n")
         self.greatest = max(map(int, NUMBER_USED.findall(text)), default=0)
-        self.names = NAME_MADE.findall(text)
-        self.uses: Set[str] = frozenset([name for _, name in NAME_USED.findall(text)])
+        self.names: list[str] = NAME_MADE.findall(text) if text.startswith('{"as"') else []
+        self.uses: Set[str] = frozenset([name for _, name in NAME_USED.findall(text)]) if '"$' in text else NO_NAMES
 
     def claim_names(self, kinds: dict[str, str]) -> bool:
         """Notes in `kinds` what has names, unless a name is given twice, or one is used that no line before the block gives to a resource."""
@@ -154,7 +154,7 @@ def is_utf8(text: str) -> bool:
 def parse_script(data: bytes, file: str, has_blocks: bool = False) -> list[Line | Block]:
     """Returns the requests of a script, in blocks where that may be. Raises ToolError that lists each line that is wrong."""
     text = data.decode("utf-8", "surrogateescape") + "\n"
-    has_blocks = has_blocks and is_utf8(text)
+    has_blocks = has_blocks and (text.isascii() or is_utf8(text))
     parts, wrong, kinds, at, number = [], [], {}, 0, 1
     while at < len(text):
         found = BLOCK.match(text, at) if has_blocks else None
