@@ -1,9 +1,9 @@
 """Scripts with names in place of numbers, as lines, and as blocks of lines that nothing but the program needs to read."""
 from __future__ import annotations
 
-import hashlib
 import re
 from collections.abc import Set
+from hashlib import sha256
 
 from thesaurus_tools.command_line import REFUSED, ToolError
 from thesaurus_tools.requests import encode, parse_json
@@ -15,7 +15,7 @@ POSTING_MEMBERS = {"posting", "postings"}
 NUMBERED_MEMBERS = RESOURCE_MEMBERS | POSTING_MEMBERS | {"number"}
 NO_NAMES = frozenset()
 # The most bytes of a line or a block, and the most lines of a block.
-LONGEST, MOST_LINES = 1_048_000, 32
+LONGEST, MOST_LINES = 1_048_000, 64
 # What lines hold that aren't read one by one: texts without escapes that begin with no dollar, numbers, and names of resources.
 IN_TEXT, NUMBERED = r'[^"\\\x00-\x1f]', '"(?:scheme|owner|a|b|concept)": ?'
 MEMBER = rf'(?:, ?{NUMBERED}(?:[1-9][0-9]{{0,9}}+|"\${IN_TEXT}++")|, ?"(?:kind|tag|text|key|record)": ?"(?!\$){IN_TEXT}*+")'
@@ -31,7 +31,7 @@ BLANKS = " \t\r\v\f"
 
 def digest_of(line: bytes) -> str:
     """Returns what a journal calls a line."""
-    return hashlib.sha256(line).hexdigest()[:16]
+    return sha256(line).hexdigest()[:16]
 
 
 class Line:
@@ -108,7 +108,7 @@ class Block:
         return is_right
 
     def digests(self) -> list[str]:
-        return [digest_of(it) for it in self.text.encode().split(b"\n")[:-1]]
+        return [sha256(it).hexdigest()[:16] for it in self.text.encode().split(b"\n")[:-1]]
 
     def lines(self) -> list[Line]:
         """Returns the lines one by one."""
