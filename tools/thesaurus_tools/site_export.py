@@ -2,21 +2,17 @@
 from __future__ import annotations
 
 import re
-import shutil
-import sqlite3
-import tempfile
 from collections import defaultdict
 from collections.abc import Iterable
-from contextlib import closing
 from dataclasses import dataclass, field
 from pathlib import Path
 
 from thesaurus_tools.command_line import REFUSED, ToolError
+from thesaurus_tools.kinds import BROADER
 from thesaurus_tools.ntriples import DCTERMS, OWL, RDF, SKOS, Literal, Triple, read_ntriples
+from thesaurus_tools.opening import open_file
 
 KINDS = ("Concept", "Collection", "ConceptScheme")
-# The types of broader links by their numbers in the table `hier`: generic, partitive, instantial.
-TYPES = ("", "G", "P", "I")
 
 
 @dataclass
@@ -100,21 +96,11 @@ def read_thesaurus(path: Path, types: dict[tuple[str, str], str] | None = None) 
 
 
 def read_types(store: Path) -> dict[tuple[str, str], str]:
-    """Reads the types of broader links in a store that no program has open. What is read is a copy, so the store stays as it is."""
+    """Reads the types of broader links, as letters, in a store that no program has open."""
     found: dict[tuple[str, str], str] = defaultdict(str)
-    with tempfile.TemporaryDirectory() as room:
-        copy = Path(room) / "copy.db"
-        try:
-            shutil.copyfile(store, copy)
-            log = store.with_name(f"{store.name}-wal")
-            if log.exists():
-                shutil.copyfile(log, f"{copy}-wal")
-            with closing(sqlite3.connect(copy)) as base:
-                first = base.execute("SELECT base FROM meta").fetchone()[0]
-                for narrower, broader, typ in base.execute("SELECT a, b, typ FROM hier ORDER BY typ"):
-                    found[f"{first}{narrower}", f"{first}{broader}"] += TYPES[typ]
-        except OSError as error:
-            raise ToolError(f"{store}: {error.strerror}") from None
-        except (sqlite3.Error, TypeError, IndexError) as error:
-            raise ToolError(f"{store}: the types of its links can't be read: {error}") from None
+    with open_file(store) as tables:
+        for kind in BROADER[1:]:
+            for link in tables.links:
+                if link.kind == kind:
+                    found[f"{tables.base}{link.a}", f"{tables.base}{link.b}"] += kind.removeprefix("broader")[0]
     return dict(found)
