@@ -17,11 +17,12 @@ NO_NAMES = frozenset()
 # The most bytes of a line or a block, and the most lines of a block.
 LONGEST, MOST_LINES = 1_048_000, 64
 # What lines hold that aren't read one by one: texts without escapes that begin with no dollar, numbers, and names of resources.
-IN_TEXT, NUMBERED = r'[^"\\\x00-\x1f]', '"(?:scheme|owner|a|b|concept)": ?'
-MEMBER = rf'(?:, ?{NUMBERED}(?:[1-9][0-9]{{0,9}}+|"\${IN_TEXT}++")|, ?"(?:kind|tag|text|key|record)": ?"(?!\$){IN_TEXT}*+")'
+IN_TEXT = r'[^"\\\x00-\x1f]'
+TEXT, NUMBER = rf'"(?!\$){IN_TEXT}*+"', rf'(?:[1-9][0-9]{{0,9}}+|"\${IN_TEXT}++")'
+MEMBER = rf', ?"(?:(?:kind|tag|text|key|record)": ?{TEXT}|(?:scheme|owner|a|b|concept)": ?{NUMBER})'
 # Lines that make concepts with names; and lines that only add something, which gets no name.
-CONCEPT_LINE = rf'\{{"as": ?"{IN_TEXT}++", ?"do": ?"concept"{MEMBER}++\}}\n'
-ADDING_LINE = rf'\{{"do": ?"(?:addLabel|link|post)"{MEMBER}++\}}\n'
+CONCEPT_LINE = rf'\{{"as": ?"{IN_TEXT}++", ?"do": ?"concept"(?:{MEMBER})++\}}\n'
+ADDING_LINE = rf'\{{"do": ?"(?:addLabel|link|post)"(?:{MEMBER})++\}}\n'
 BLOCK = re.compile(rf"(?:{CONCEPT_LINE}){{2,{MOST_LINES}}}+|(?:{ADDING_LINE}){{2,{MOST_LINES}}}+")
 NAME_MADE = re.compile(r'^\{"as": ?"([^"]*)", ?', re.M)
 NAME_USED = re.compile(r'(": ?)"\$([^"]*)"')
@@ -90,14 +91,18 @@ class Line:
 class Block:
     """Lines that follow one another and aren't read one by one: all make concepts with names, or none makes anything that has a name."""
 
-    __slots__ = ("number", "text", "count", "greatest", "names", "uses")
+    __slots__ = ("number", "text", "count", "names", "uses")
     entry = None
 
     def __init__(self, number: int, text: str):
         self.number, self.text, self.count = number, text, text.count("\n")
-        self.greatest = max(map(int, NUMBER_USED.findall(text)), default=0)
         self.names: list[str] = NAME_MADE.findall(text) if text.startswith('{"as"') else []
         self.uses: Set[str] = frozenset([name for _, name in NAME_USED.findall(text)]) if '"$' in text else NO_NAMES
+
+    @property
+    def greatest(self) -> int:
+        """The greatest number of a resource in the lines, or 0."""
+        return max(map(int, NUMBER_USED.findall(self.text)), default=0)
 
     def claim_names(self, kinds: dict[str, str]) -> bool:
         """Notes in `kinds` what has names, unless a name is given twice, or one is used that no line before the block gives to a resource."""
@@ -108,7 +113,7 @@ class Block:
         return is_right
 
     def digests(self) -> list[str]:
-        return [sha256(it).hexdigest()[:16] for it in self.text.encode().split(b"\n")[:-1]]
+        return list(map(digest_of, self.text.encode().split(b"\n")[:-1]))
 
     def lines(self) -> list[Line]:
         """Returns the lines one by one."""
