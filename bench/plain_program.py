@@ -27,8 +27,6 @@ SKOS, TYPE = "http://www.w3.org/2004/02/skos/core#", "<http://www.w3.org/1999/02
 KINDS = {"pref": 1, "alt": 2, "hidden": 3, "scope": 4}
 PROPERTIES = (None, "prefLabel", "altLabel", "hiddenLabel", "scopeNote")
 SCHEME, CONCEPT = 1, 2
-# How many rows of a posting file are one transaction.
-BLOCK = 1000
 
 
 class Refused(Exception):
@@ -285,7 +283,7 @@ class Plain:
         return is_refused
 
     def import_rows(self, path):
-        """Performs the rows of a posting file, many to a transaction, and returns whether one was refused."""
+        """Performs the rows of a posting file, each a transaction, and returns whether one was refused."""
         is_refused, rows = False, csv.reader(open(path, encoding="utf-8", newline=""))
         assert next(rows) == ["key", "record", "concept"]
         sys.stdout.write("row,outcome,number\n")
@@ -296,9 +294,7 @@ class Plain:
             except Refused as error:
                 told, is_refused = f"{error},", True
             sys.stdout.write(f"{row},{told}\n")
-            if row % BLOCK == 0:
-                self.commit()
-        self.commit()
+            self.commit()
         return is_refused
 
     # --- texts ---
