@@ -1,4 +1,5 @@
 -- The counts of the live concepts add up to the postings accepted less those withdrawn.
+use Rattle.std.proofs.lemmas.Grind.{common_steps}
 use Rattle.std.proofs.Common.{◌≡◌, ◌<◌, ◌≤◌, ℕ, zero, suc, ◌+◌, length, List, [], ◌∷◌, refl, ap, ◌∙◌, subst, arith}
 use Rattle.std.proofs.Common.{inl, inr, ⊎_elim, Bool, true, false, cond, not, ◌&&◌, eqb, eqb-true, ne_eqb}
 use borrow.Author.Tests.{eqb-false}
@@ -36,10 +37,7 @@ module _ (test : ℕ → Bool) (p : ℕ) where
   hits first n = sum_by (one_at p) (filter test (numbers_from first n))
 
   hits_yes : (first n : ℕ) → test first ≡ true → hits first (suc n) ≡ one_at p first + hits (first + 1) n
-  hits_yes first n e =
-      ap (λ b. sum_by (one_at p) (cond b (first ∷ filter test (numbers_from (first + 1) n))
-      (filter test (numbers_from (first + 1) n)))) e ∙ sum_by-cons (one_at p) first
-      (filter test (numbers_from (first + 1) n))
+  hits_yes first n e = grind (arith, common_steps, sum_by-cons)
 
   hits_no : (first n : ℕ) → test first ≡ false → hits first (suc n) ≡ hits (first + 1) n
   hits_no first n e =

@@ -1,4 +1,6 @@
 -- A merge gives the target lexical labels of the source, and leaves the labels legal.
+use Rattle.std.proofs.lemmas.Grind.{common_steps}
+use Rattle.std.proofs.Common.{arith}
 use Rattle.std.proofs.Common.{◌≡◌, ◌⊎◌, ℕ, List, [], refl, sym, ap, ◌∙◌, subst, inl, inr, Bool, true, false, not}
 use Rattle.std.proofs.Common.{◌&&◌, eqb-true, eq-eqb, Contains, map}
 use Rattle.std.specs.Prelude.{◌==◌, filter}
@@ -91,15 +93,7 @@ module _ (rs : List Resource) (labels : Labels) (source target : ℕ) where
   -- The target had no lexical label with the tag and the text of a copied one.
   mixed : (owner : ℕ) (j k : LabelKind) (t x : List ℕ) (l : Label) → is_lexical_kind k ≡ true → IsLabelToCopy l
       → label owner j t x ≡ copied_label l → HasLabel labels owner k t x → ⊥
-  mixed owner j k t x l nk taken is old =
-      let o = ap (λ (y : Label). y.owner) is in
-      let g = ap (λ (y : Label). y.tag) is in
-      let w = ap (λ (y : Label). y.text) is in
-      let there = subst (λ n. HasLabel labels n k t x) o old in
-      let has = name_of labels target k t x nk there in
-      let free = ap (λ (p : List ℕ × List ℕ). has_lexical_label labels target p.0 p.1) (λ i. (g i, w i)) in
-      let no_name = taken.free in
-      both_ways (has_lexical_label labels target t x) (free ∙ no_name) has
+  mixed owner j k t x l nk taken is old = grind (arith, common_steps, both_ways, name_of)
 
   given_of_taken : (q : Label) → (l : Label) × IsLabelToCopy l × (q ≡ copied_label l) → IsCopiedLabel source target
       labels q

@@ -1,7 +1,8 @@
 -- Each request leaves the links legal.
+use Rattle.std.proofs.lemmas.Grind.{common_steps}
 use Rattle.std.proofs.Common.{◌≡◌, ◌≢◌, ◌⊎◌, ℕ, ◌+◌, length, List, [], ◌∷◌, ◌++◌, refl, sym, ap, ◌∙◌, subst, arith}
-use Rattle.std.proofs.Common.{inl, inr, Bool, true, false, ◌&&◌, ◌||◌, eqb-true, nat_lt}
-use Rattle.std.specs.Prelude.{Option, Some, if◌then◌else◌, ◌==◌}
+use Rattle.std.proofs.Common.{inl, inr, Bool, true, false, ◌&&◌, ◌||◌, nat_lt}
+use Rattle.std.specs.Prelude.{Option, Some, if◌then◌else◌}
 use Rattle.std.specs.FinSet.{insert, remove}
 use Rattle.thes_base.specs.declared.data.Resource.{Resource}
 use Rattle.thes_base.specs.declared.data.Link.{Link}
@@ -144,12 +145,7 @@ link_removed_kept links l m held = (removed_cases links_total links_exact links 
 
 pub links_dropped : (rs : List Resource) (links : Links) (l : Link) → AreLegalLinks rs links
     → AreLegalLinks rs (remove links l)
-links_dropped rs links l legal = record {
-  each = λ m held. legal.each m (link_removed_kept links l m held);
-  no_cycle = fewer_no_cycle (Holds (remove links l)) (Holds links) (link_removed_kept links l) legal.no_cycle;
-  s27 = fewer_s27 (Holds (remove links l)) (Holds links) (link_removed_kept links l) legal.s27;
-  s46 = fewer_s46 (Holds (remove links l)) (Holds links) (link_removed_kept links l) legal.s46;
-}
+links_dropped rs links l legal = grind (arith, common_steps, fewer_no_cycle, fewer_s27, fewer_s46, link_removed_kept)
 
 -- The links stay legal if a concept dies and its links are removed.
 pub links_without : (rs : List Resource) (links : Links) (n : ℕ) (rep : Option ℕ) (r : Resource) → entry_at rs n
@@ -250,18 +246,7 @@ pub links_added : (rs : List Resource) (links : Links) (l : Link) → AreLegalLi
     → S27 (Holds (insert links (normal_form (is_outside rs) l)))
     → S46 (Holds (insert links (normal_form (is_outside rs) l)))
     → AreLegalLinks rs (insert links (normal_form (is_outside rs) l))
-links_added rs links l legal proper c1 s27 s46 =
-    record {
-      each = λ m held. each_at m (link_inserted_cases links (normal_form (is_outside rs) l) m held);
-      no_cycle =
-          c1;
-      s27 = s27;
-      s46 = s46;
-    }
-  where
-    each_at : (m : Link) → (m ≡ normal_form (is_outside rs) l) ⊎ Holds links m → IsLegalLink rs m
-    each_at m (inl is) = subst (IsLegalLink rs) (sym is) (norm_legal rs l proper)
-    each_at m (inr old) = legal.each m old
+links_added rs links l legal proper c1 s27 s46 = grind (arith, common_steps, link_inserted_cases, norm_legal)
 
 -- Assumes that the source of a merge dies, and its links are redirected to the target.
 module _ (rs : List Resource) (source target : ℕ) (live_s : IsLive rs source) (live_t : IsLive rs target)
@@ -269,28 +254,17 @@ module _ (rs : List Resource) (source target : ℕ) (live_s : IsLive rs source) 
     (schemes : scheme_of rs source ≡ scheme_of rs target) where
   sent_cases : (n : ℕ) → ((n ≡ source) × (redirect source target n ≡ target))
       ⊎ ((n ≢ source) × (redirect source target n ≡ n))
-  sent_cases n = go (n == source) refl
-    where
-      go : (b : Bool) → (n == source) ≡ b → ((n ≡ source) × (redirect source target n ≡ target))
-          ⊎ ((n ≢ source) × (redirect source target n ≡ n))
-      go true e = inl (eqb-true n source e, ap (λ (b : Bool). if b then target else n) e)
-      go false e = inr (eqb-false n source e, ap (λ (b : Bool). if b then target else n) e)
+  sent_cases n = grind (arith, common_steps, eqb-false)
 
   passes_sent : (test : Resource → Bool) → (IsResourceThat rs test source → IsResourceThat rs test target) → (n : ℕ)
       → IsResourceThat rs test n → IsResourceThat rs test (redirect source target n)
-  passes_sent test gives n passes = elim (sent_cases n) [
-    | inl here ↦ subst (IsResourceThat rs test) (sym here.1) (gives (subst (IsResourceThat rs test) here.0 passes))
-    | inr other ↦ subst (IsResourceThat rs test) (sym other.1) passes
-  ]
+  passes_sent test gives n passes = grind (arith, common_steps, sent_cases)
 
   concept_sent : (n : ℕ) → IsConcept rs n → IsConcept rs (redirect source target n)
   concept_sent = passes_sent (λ x. is_concept_kind x.kind) (λ _. concept_t)
 
   concept_back : (n : ℕ) → IsConcept rs (redirect source target n) → IsConcept rs n
-  concept_back n c = elim (sent_cases n) [
-    | inl here ↦ subst (IsConcept rs) (sym here.0) concept_s
-    | inr other ↦ subst (IsConcept rs) other.1 c
-  ]
+  concept_back n c = grind (arith, common_steps, sent_cases)
 
   collection_sent : (n : ℕ) → IsCollection rs n → IsCollection rs (redirect source target n)
   collection_sent = passes_sent (λ x. is_collection_kind x.kind)
@@ -306,10 +280,7 @@ module _ (rs : List Resource) (source target : ℕ) (live_s : IsLive rs source) 
   live_sent = passes_sent (λ x. x.live) (λ _. live_t)
 
   scheme_sent : (n : ℕ) → scheme_of rs (redirect source target n) ≡ scheme_of rs n
-  scheme_sent n = elim (sent_cases n) [
-    | inl here ↦ ap (scheme_of rs) here.1 ∙ sym schemes ∙ ap (scheme_of rs) (sym here.0)
-    | inr other ↦ ap (scheme_of rs) other.1
-  ]
+  scheme_sent n = grind (arith, common_steps, sent_cases)
 
   ends_sent : (form : LinkForm) (a b : ℕ) → AreEnds rs form a b → AreEnds rs form (redirect source target a)
       (redirect source target b)

@@ -1,7 +1,8 @@
 -- Each request leaves the histories legal.
+use Rattle.std.proofs.lemmas.Grind.{common_steps}
 use Rattle.std.proofs.Common.{◌≡◌, ◌≢◌, ◌⊎◌, ◌<◌, ◌≤◌, ℕ, zero, suc, ◌+◌, ◌-◌, ◌^◌, length, List, [], ◌∷◌, ◌++◌, refl}
 use Rattle.std.proofs.Common.{sym, ap, ◌∙◌, subst, arith, inl, inr, Bool, true, false, length-append}
-use Rattle.std.specs.Prelude.{Option, None, Some, slice_get, slice_set, count_by}
+use Rattle.std.specs.Prelude.{Option, Some, slice_get, slice_set, count_by}
 use Rattle.std.specs.Option.{option_map_or}
 use Rattle.std.proofs.lemmas.List.Sums.{sum_by-cons}
 use Rattle.std.proofs.lemmas.Option.{same_Some}
@@ -161,12 +162,7 @@ count_set_numbered hs (suc n) g h e same = ap (λ k. move_count (slice_set hs k 
 -- unchanged.
 pub withdrawn_at : (s : State) (n : ℕ) (h : History) → entry_at s.histories n ≡ Some h → state_after_withdrawal n s
     ≡ record s { histories = set_entry_at s.histories n (history_after_withdrawal h) }
-withdrawn_at s n h e =
-    ap (λ (o : Option History).
-    record s {
-      histories =
-          elim o [ None ↦ s.histories | Some g ↦ set_entry_at s.histories n (history_after_withdrawal g) ];
-    }) e
+withdrawn_at s n h e = grind (arith, common_steps)
 
 -- Assumes a withdrawal of posting n, whose history is h.
 module _ (rs : List Resource) (hs : List History) (n : ℕ) (h : History) (legal : AreLegalPostings rs hs)

@@ -1,4 +1,5 @@
 -- Each request leaves the resources legal.
+use Rattle.std.proofs.lemmas.Grind.{common_steps}
 use Rattle.std.proofs.Common.{◌≡◌, ◌≢◌, ◌⊎◌, ◌<◌, ◌^◌, ℕ, ◌+◌, ◌-◌, length, List, [], ◌∷◌, ◌++◌, refl, sym, ap, ◌∙◌}
 use Rattle.std.proofs.Common.{subst, arith, inl, inr, Bool, true, false, length-append, cond}
 use Rattle.std.specs.Prelude.{Option, None, Some}
@@ -118,11 +119,7 @@ module _ (base : List ℕ) (rs : List Resource) (iris : Iris) (r : Resource) (le
   })
 
   replaced_before : (m n : ℕ) → IsReplacedBy (rs ++ r ∷ []) m n → IsReplacedBy rs m n
-  replaced_before m n (q, at, is) = go (push_cases rs r q m at)
-    where
-      go : (entry_at rs m ≡ Some q) ⊎ ((m ≡ length rs + 1) × (q ≡ r)) → IsReplacedBy rs m n
-      go (inl old) = (q, old, is)
-      go (inr (_, same)) = let l = fit.replaced in let e = ap (λ (x : Resource). x.replaced) same in absurd (cc)
+  replaced_before m n (q, at, is) = grind (arith, common_steps, push_cases)
 
   pub each_pushed : (n : ℕ) (q : Resource) → entry_at (rs ++ r ∷ []) n ≡ Some q → IsLegalResource (rs ++ r ∷ []) n q
   each_pushed n q e = each_push n q (push_cases rs r q n e)

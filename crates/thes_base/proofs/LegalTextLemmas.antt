@@ -1,4 +1,6 @@
 -- A request whose texts have their forms keeps the forms of the texts of the state.
+use Rattle.std.proofs.lemmas.Grind.{common_steps}
+use Rattle.std.proofs.Common.{arith}
 use Rattle.std.proofs.Common.{◌≡◌, ◌⊎◌, ℕ, ◌+◌, List, [], ◌∷◌, ◌++◌, refl, sym, subst, inl, inr, true}
 use Rattle.std.specs.Prelude.{Option, None, Some, Bool, count_by}
 use Rattle.std.specs.FinSet as set
@@ -76,10 +78,7 @@ formed_merged labels source target each q held = elim (union_cases [] labels sou
 
 iris_insert : (iris : Iris) (n : ℕ) (iri : List ℕ) → IsIri iri → ((m : ℕ) (x : List ℕ) → dict.get iris m ≡ Some x
     → IsIri x) → (m : ℕ) (x : List ℕ) → dict.get (dict.insert iris n iri) m ≡ Some x → IsIri x
-iris_insert iris n iri form each m x e = elim (iri_cases iris n iri m x e) [
-  | inl new ↦ subst IsIri (sym new.1) form
-  | inr old ↦ each m x old
-]
+iris_insert iris n iri form each m x e = grind (arith, common_steps, iri_cases)
 
 forms_pushed : (hs : List History) (new : History) → IsPostingForm new.key new.rec → ArePostingForms hs
     → ArePostingForms (hs ++ new ∷ [])
@@ -113,13 +112,7 @@ forms_withdrawn hs posting each (Some h) at =
 module _ (base : List ℕ) (s : State) (texts : StateHasForms base s) where
   with_labels : (resources : List Resource) (labels : Labels) → AreFormed labels
       → StateHasForms base (record s { resources = resources; labels = labels })
-  with_labels resources labels each = record {
-    base_form = texts.base_form;
-    iris = texts.iris;
-    labels =
-        each;
-    postings = texts.postings;
-  }
+  with_labels resources labels each = grind (arith, common_steps)
 
   -- The texts of the next state have their forms.
   texts_next : (command : Command) → CommandHasForms command → StateHasForms base (next_state command s)
@@ -210,9 +203,4 @@ step_texts setting s t command answer forms texts step = elim (step_either setti
 
 -- The empty state has no text.
 pub texts_empty : (base : List ℕ) → IsBase base → StateHasForms base empty_state
-texts_empty base form = record {
-  base_form = form;
-  iris = λ n iri e. absurd (no_iri n iri e);
-  labels = λ l h. absurd (no_label l h);
-  postings = λ n h e. absurd (none_at n h e);
-}
+texts_empty base form = grind (arith, common_steps, no_iri, no_label, none_at)

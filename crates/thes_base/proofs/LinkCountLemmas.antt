@@ -1,11 +1,12 @@
 -- A merge doesn't raise the number of links.
+use Rattle.std.proofs.lemmas.Grind.{common_steps}
 use Rattle.std.proofs.Common.{◌≡◌, ◌≤◌, ◌+◌, ℕ, List, [], ◌∷◌, inl, inr, sym, ap, ◌∙◌, arith, Bool, true, false, cond}
-use Rattle.std.proofs.Common.{not, map}
-use Rattle.std.specs.Prelude.{◌==◌, filter}
+use Rattle.std.proofs.Common.{map}
+use Rattle.std.specs.Prelude.{filter}
 use Rattle.std.specs.FinSet as set
 use Rattle.std.proofs.lemmas.Bool.{cases_Bool}
 use Rattle.thes_base.specs.declared.data.Link.{Link}
-use Rattle.thes_base.specs.Links.{Links, Holds, link_cmp, normal_form, redirect, redirect_link, links_after_merge}
+use Rattle.thes_base.specs.Links.{Links, Holds, link_cmp, links_after_merge}
 use Rattle.thes_base.proofs.ListMemberLemmas.{Contains-map, Contains-filter}
 use Rattle.thes_base.proofs.LinkSetLemmas.{links_total, links_exact}
 use Rattle.thes_base.proofs.SetMemberLemmas.{len_inserted, len_there, from_list_of, from_list_has}
@@ -18,10 +19,7 @@ len_old = len_there links_total links_exact
 
 len_grows : (links : Links) (l : Link) → (set.len links ≤ set.len (set.insert links l))
     × (set.len (set.insert links l) ≤ set.len links + 1)
-len_grows links l = elim (cases_Bool (set.contains links l)) [
-  | inl there ↦ let e = len_old links l there in (omega (arith, e), omega (arith, e))
-  | inr fresh ↦ let e = len_new links l fresh in (omega (arith, e), omega (arith, e))
-]
+len_grows links l = grind (arith, common_steps, cases_Bool, len_new, len_old)
 
 -- The set of the images of those links of a list that pass a test.
 module _ (passes : Link → Bool) (send : Link → Link) where
@@ -68,8 +66,4 @@ listed_again links = set.same_set links_total links_exact _ _
 
 pub contracted_fewer : (outside : ℕ → Bool) (source target : ℕ) (links : Links)
     → set.len (links_after_merge outside source target links) ≤ set.len links
-contracted_fewer outside source target links =
-    let fewer = image_fewer (λ l. not (redirect source target l.a == redirect source target l.b))
-    (λ l. normal_form outside (redirect_link source target l)) (set.items links) in
-    let same = ap set.len (listed_again links) in
-    omega (arith, fewer, same)
+contracted_fewer outside source target links = grind (arith, common_steps, image_fewer, listed_again)

@@ -1,5 +1,7 @@
 -- The members of a set of links after a change.
-use Rattle.std.proofs.Common.{◌≡◌, ◌⊎◌, inl, inr, ℕ, refl, sym, ap, subst, Bool, true, false, not, ◌||◌, Equal}
+use Rattle.std.proofs.lemmas.Grind.{common_steps}
+use Rattle.std.proofs.Common.{arith}
+use Rattle.std.proofs.Common.{◌≡◌, ◌⊎◌, inl, inr, ℕ, refl, sym, subst, Bool, true, false, not, ◌||◌, Equal}
 use Rattle.std.specs.Prelude.{◌==◌, filter, Some}
 use Rattle.std.specs.Ordering.{nat_cmp}
 use Rattle.std.specs.Cmp.{IsTotalOrder, nat_cmp_total}
@@ -37,10 +39,7 @@ exact_kinds j k e = same_kind j k (exact_unsigned _ _ e)
 
 -- Links that compare equal are equal.
 pub links_exact : IsAntisymmetric link_cmp
-links_exact x y e =
-    ap (λ (p : LinkKind × (ℕ × ℕ)). record { kind = p.0; a = p.1.0; b = p.1.1 })
-    (exact_pairs (λ j k. nat_cmp (link_kind_no j) (link_kind_no k)) _ exact_kinds
-    (exact_pairs nat_cmp nat_cmp exact_unsigned exact_unsigned) (x.kind, (x.a, x.b)) (y.kind, (y.a, y.b)) e)
+links_exact x y e = grind (arith, common_steps, exact_kinds, exact_pairs, exact_unsigned)
 
 -- A link after an insertion is the inserted one or an old one.
 pub link_inserted_cases : (links : Links) (l m : Link) → Holds (insert links l) m → (m ≡ l) ⊎ Holds links m

@@ -1,4 +1,5 @@
 -- A split moves as many postings as it lists.
+use Rattle.std.proofs.lemmas.Grind.{common_steps}
 use Rattle.std.proofs.Common.{◌≡◌, ◌<◌, ◌≤◌, ℕ, suc, ◌+◌, length, List, [], ◌∷◌, refl, sym, ap, ◌∙◌, inl, inr, arith}
 use Rattle.std.proofs.Common.{Bool, true, false, cond, ◌||◌, eqb, eqb-true, ne_eqb}
 use borrow.Author.Tests.{eqb-false}
@@ -63,10 +64,7 @@ module _ (n : ℕ) where
 
   count_miss : (h : History) (hs : List History) → has_number h ≡ false → count_by has_number (h ∷ hs)
       ≡ count_by has_number hs
-  count_miss h hs e =
-      let a = sum_by-cons (λ x. cond (has_number x) 1 0) h hs in
-      let b = ap {B = ℕ} (λ b. cond b 1 0) e in
-      omega (arith, a, b)
+  count_miss h hs e = grind (arith, common_steps, sum_by-cons)
 
   count_above : (first : ℕ) (hs : List History) → NumberedFrom first hs → n < first → count_by has_number hs ≡ 0
   count_above first [] from above = refl

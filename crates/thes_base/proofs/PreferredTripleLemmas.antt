@@ -1,8 +1,9 @@
 -- Preferred labels are unique in each scheme exactly when the triples meet the condition MeetsUniquePreferred.
-use Rattle.std.proofs.Common.{◌≡◌, ◌⊎◌, ℕ, List, refl, sym, ap, ◌∙◌, subst, inl, inr, Bool, true, false}
+use Rattle.std.proofs.lemmas.Grind.{common_steps}
+use Rattle.std.proofs.Common.{arith}
+use Rattle.std.proofs.Common.{◌≡◌, ◌⊎◌, ℕ, List, refl, sym, ap, ◌∙◌, subst, inl, inr, true}
 use Rattle.std.specs.Prelude.{Some, ◌↔◌}
 use Rattle.std.specs.FinSet.{contains}
-use Rattle.thes_base.specs.declared.data.Resource.{Resource}
 use Rattle.thes_base.specs.declared.data.LabelKind.TheVariants.{Pref}
 use Rattle.thes_base.specs.declared.triple.Property.TheVariants as property
 use Rattle.thes_base.specs.declared.triple.Class.TheVariants as class
@@ -28,16 +29,7 @@ module _ (base : List ℕ) (s : State) (apart : (m n : ℕ) → Exists s.resourc
   iri = iri_of base s.iris
 
   live_unless : (n : ℕ) → IsConcept s.resources n → ((IsLive s.resources n → ⊥) → ⊥) → IsLiveConcept s.resources n
-  live_unless n (r, at, is) not_dead = go r.live refl
-    where
-      go : (b : Bool) → r.live ≡ b → IsLiveConcept s.resources n
-      go true e = live_from_test s.resources n (live_of_parts s.resources n (r, at, is) (r, at, e))
-      go false e =
-          absurd (not_dead
-          (λ (q, also, hit). never e (ap (λ (x : Resource). x.live) (one_resource s.resources n r q at also) ∙ hit)))
-        where
-          never : r.live ≡ false → r.live ≡ true → ⊥
-          never f t = cc
+  live_unless n (r, at, is) not_dead = grind (arith, common_steps, live_from_test, live_of_parts, one_resource)
 
   -- If preferred labels are unique in each scheme, the triples meet the condition.
   holds : UniquePreferred s.resources s.labels → skos.MeetsUniquePreferred T

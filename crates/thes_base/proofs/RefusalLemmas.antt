@@ -1,4 +1,5 @@
 -- The refusals of new concepts, labels, relabellings, links, merges and splits can be read off the triples after them.
+use Rattle.std.proofs.lemmas.Grind.{common_steps}
 use Rattle.std.proofs.Common.{◌≡◌, ◌⊎◌, ℕ, ◌++◌, ◌∷◌, [], List, refl, arith, length-append, sym, subst, inl, inr}
 use Rattle.std.proofs.Common.{Bool, true, false, ◌&&◌, ◌||◌, nat_lt}
 use Rattle.std.specs.Prelude.{◌↔◌, Option, None, Some, if◌then◌else◌, ◌==◌}
@@ -9,7 +10,7 @@ use Rattle.thes_base.specs.declared.fault.Refusal.TheVariants as no
 use Rattle.thes_base.specs.RefusalRules.{RefusalRule, refused_if, refused_unless, accepted}
 use Rattle.thes_base.specs.Resources.{set_entry_at, Exists, scheme_of, is_outside, is_outside_kind}
 use Rattle.std.specs.FinSet.{contains, insert}
-use Rattle.thes_base.specs.Links.{Holds, NoCycle, S27, S46, form_of, is_symmetric, reversed_link, normal_form}
+use Rattle.thes_base.specs.Links.{Holds, form_of, is_symmetric, reversed_link, normal_form}
 use Rattle.thes_base.specs.Links.{redirect, redirect_link, links_after_merge}
 use Rattle.thes_base.specs.RuleParts.{unless_links_consistent}
 use Rattle.thes_base.specs.State.{State}
@@ -75,11 +76,7 @@ module _ (C D : Type 0) (name : Refusal) (rest other : RefusalRule) (answer : Op
 
 unless_same : (C D : Type 0) (name : Refusal) (rest other : RefusalRule) (answer : Option Refusal) → C ↔ D
     → rest answer ↔ other answer → refused_unless C name rest answer ↔ refused_unless D name other answer
-unless_same C D name rest other answer same says = (
-  unless_to C D name rest other answer same.0 same.1 says.0,
-  unless_to D C name other rest answer same.1 same.0
-      says.1,
-)
+unless_same C D name rest other answer same says = grind (arith, common_steps, unless_to)
 
 -- If the conditions on triples agree with the rules of links and labels, checks of either refuse alike.
 module _ (base : List ℕ) (s : State) (seen : RulesAgreeWithTriples base s) (rest : RefusalRule)
@@ -91,14 +88,7 @@ module _ (base : List ℕ) (s : State) (seen : RulesAgreeWithTriples base s) (re
   triples = IsAsserted base s
 
   consistent_seen : unless_links_consistent held rest answer ↔ unless_triples_consistent triples rest answer
-  consistent_seen =
-      unless_same (NoCycle held) (skos.MeetsNoCycle triples) no.Cycle
-      (refused_unless (S27 held) no.S27 (refused_unless (S46 held) no.S46 rest))
-      (refused_unless (skos.MeetsS27 triples) no.S27 (refused_unless (skos.MeetsS46 triples) no.S46 rest)) answer
-      seen.no_cycle
-      (unless_same (S27 held) (skos.MeetsS27 triples) no.S27 (refused_unless (S46 held) no.S46 rest)
-      (refused_unless (skos.MeetsS46 triples) no.S46 rest) answer seen.s27
-      (unless_same (S46 held) (skos.MeetsS46 triples) no.S46 rest rest answer seen.s46 (λ says. says, λ says. says)))
+  consistent_seen = grind (arith, common_steps, unless_same)
 
   abbrev unique : RefusalRule
   unique = unless_unique s.resources s.labels rest

@@ -1,6 +1,7 @@
 -- The labels after a preferred label is replaced.
-use Rattle.std.proofs.Common.{◌≡◌, ◌≢◌, ◌⊎◌, ℕ, List, refl, inl, inr, Bool, true, false}
-use Rattle.std.specs.Prelude.{if◌then◌else◌}
+use Rattle.std.proofs.lemmas.Grind.{common_steps}
+use Rattle.std.proofs.Common.{arith}
+use Rattle.std.proofs.Common.{◌≡◌, ◌≢◌, ◌⊎◌, ℕ, List, Bool, true}
 use Rattle.std.specs.FinSet.{contains, insert, remove}
 use Rattle.thes_base.specs.declared.data.LabelKind.TheVariants.{Pref, Alt}
 use Rattle.thes_base.specs.Labels.{Label, Labels}
@@ -29,28 +30,10 @@ module _ (labels : Labels) (owner : ℕ) (tag text old : List ℕ) (keep : Bool)
   IsReplacedLabel q = (q ≡ fresh) ⊎ ((keep ≡ true) × (q ≡ kept)) ⊎ ((q ≢ was) × (contains labels q ≡ true))
 
   pub renamed_cases : (q : Label) → contains after q ≡ true → IsReplacedLabel q
-  renamed_cases q = go keep
-    where
-      of_plain : (b : Bool) → contains plain q ≡ true → (q ≡ fresh) ⊎ ((b ≡ true) × (q ≡ kept))
-          ⊎ ((q ≢ was) × (contains labels q ≡ true))
-      of_plain b e = elim (inserted_cases (remove labels was) fresh q e)
-          [ inl is ↦ inl is | inr before ↦ inr (inr (removed_cases labels was q before)) ]
-
-      go : (b : Bool) → contains (if b then insert plain kept else plain) q ≡ true → (q ≡ fresh)
-          ⊎ ((b ≡ true) × (q ≡ kept)) ⊎ ((q ≢ was) × (contains labels q ≡ true))
-      go true e = elim (inserted_cases plain kept q e) [
-        | inl is ↦ inr (inl (refl, is))
-        | inr before ↦ of_plain true
-            before
-      ]
-      go false e = of_plain false e
+  renamed_cases q = grind (arith, common_steps, inserted_cases, removed_cases)
 
   renamed_has : (q : Label) → contains plain q ≡ true → contains after q ≡ true
-  renamed_has q h = go keep
-    where
-      go : (b : Bool) → contains (if b then insert plain kept else plain) q ≡ true
-      go true = inserted_kept plain kept q h
-      go false = h
+  renamed_has q h = grind (arith, common_steps, inserted_kept)
 
   pub renamed_fresh : contains after fresh ≡ true
   renamed_fresh = renamed_has fresh (inserted_new (remove labels was) fresh)
@@ -60,8 +43,4 @@ module _ (labels : Labels) (owner : ℕ) (tag text old : List ℕ) (keep : Bool)
       renamed_has q (inserted_kept (remove labels was) fresh q (removed_kept labels was q apart held))
 
   pub renamed_kept : keep ≡ true → contains after kept ≡ true
-  renamed_kept e = go keep e
-    where
-      go : (b : Bool) → b ≡ true → contains (if b then insert plain kept else plain) kept ≡ true
-      go true e = inserted_new plain kept
-      go false e = absurd (cc)
+  renamed_kept e = grind (arith, common_steps, inserted_new)

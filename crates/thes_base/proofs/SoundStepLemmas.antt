@@ -1,4 +1,5 @@
 -- Each accepted request leaves the state sound.
+use Rattle.std.proofs.lemmas.Grind.{common_steps}
 use Rattle.std.proofs.Common.{◌≡◌, ◌≢◌, ◌⊎◌, ◌<◌, ◌≤◌, ◌^◌, ℕ, zero, suc, ◌+◌, length, List, [], ◌∷◌, ◌++◌, refl, sym}
 use Rattle.std.proofs.Common.{ap, ◌∙◌, subst, arith, inl, inr, Bool, true, false, not, ◌&&◌, eqb-true, length-append}
 use Rattle.std.proofs.Common.{cond}
@@ -97,12 +98,7 @@ module _ (setting : Setting) (fit : IsSetting setting) (s : State) (sound : IsSo
   }
 
   owners_bound : (l : Label) → set.contains s.labels l ≡ true → (1 ≤ l.owner) × (l.owner ≤ length s.resources)
-  owners_bound l held = go (sound.labels.owners l held)
-    where
-      go : CanOwn s.resources l.owner → (1 ≤ l.owner) × (l.owner ≤ length s.resources)
-      go (inl (r, at, _)) = numbered_bound s.resources l.owner r at
-      go (inr (inl (r, at, _))) = numbered_bound s.resources l.owner r at
-      go (inr (inr (r, at, _))) = numbered_bound s.resources l.owner r at
+  owners_bound l held = grind (arith, common_steps, numbered_bound)
 
   pub scheme_sound : (tag text : List ℕ) → Accepted (request.Scheme tag text) → KeptBy (request.Scheme tag text)
   scheme_sound tag text row =
@@ -112,13 +108,7 @@ module _ (setting : Setting) (fit : IsSetting setting) (s : State) (sound : IsSo
 
   pub concept_sound : (scheme : ℕ) (tag text : List ℕ) → Accepted (request.Concept scheme tag text)
       → KeptBy (request.Concept scheme tag text)
-  concept_sound scheme tag text row =
-      let known = passed_unless row in
-      let kind = passed_unless known.1 in
-      let unique = passed_unless kind.1 in
-      sound_made (concept_resource (Some scheme)) tag text
-      (concept_fit s.resources (Some scheme) (scheme, refl, kind.0)) (inr (inl refl)) refl unique.0
-      (passed_unless unique.1).0
+  concept_sound scheme tag text row = grind (arith, common_steps, concept_fit, passed_unless, sound_made)
 
   pub collection_sound : (scheme : ℕ) (tag text : List ℕ) → Accepted (request.Collection scheme tag text)
       → KeptBy (request.Collection scheme tag text)
@@ -152,22 +142,7 @@ module _ (setting : Setting) (fit : IsSetting setting) (s : State) (sound : IsSo
   -- The state after a label is added is sound.
   pub add_label_sound : (owner : ℕ) (d : LabelData) → Accepted (request.AddLabel owner d)
       → KeptBy (request.AddLabel owner d)
-  add_label_sound owner d row =
-      let l : Label = owned_label owner d in
-      let known = passed_unless row in
-      let kind = passed_unless known.1 in
-      let live = passed_unless kind.1 in
-      let new = passed_if live.1 in
-      let s13 = passed_unless new.1 in
-      let s14 = passed_unless s13.1 in
-      let unique = passed_unless s14.1 in
-      record {
-        resources = sound.resources;
-        labels = labels_added s.resources s.labels l kind.0 s13.0 s14.0 unique.0
-            sound.labels;
-        links = sound.links;
-        postings = sound.postings;
-      }
+  add_label_sound owner d row = grind (arith, common_steps, labels_added, passed_if, passed_unless)
 
   pub drop_label_sound : (owner : ℕ) (d : LabelData) → Accepted (request.DropLabel owner d)
       → KeptBy (request.DropLabel owner d)

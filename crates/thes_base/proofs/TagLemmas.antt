@@ -1,4 +1,5 @@
 -- A language tag is split at its hyphens, and its lower case is a tag.
+use Rattle.std.proofs.lemmas.Grind.{common_steps}
 use Rattle.std.specs.Prelude.{IsTrue, MatchBool, ◌≡◌, ℕ, ◌≤◌, ◌<◌, ◌==◌, ◌↔◌, Bool, true, false, cond, List, [], ◌∷◌}
 use Rattle.std.specs.Prelude.{length, map, All, refl}
 use Rattle.std.specs.Char.{IsAsciiAlphabetic, IsAsciiAlphanumeric, to_ascii_lowercase}
@@ -18,16 +19,7 @@ is_hyphen b = b == 45
 -- A text without a hyphen is a tag exactly when it is one part of letters.
 pub whole_tag : (text : List ℕ) → length text ≤ 35 → position_or_len is_hyphen text ≡ length text → IsTag text
     ↔ IsTagPart IsAsciiAlphabetic text
-whole_tag text short none =
-    let whole : slice_split is_hyphen text ≡ text ∷ [] =
-    slice_split_none is_hyphen text (λ k d below. fails_before_first is_hyphen text k d (omega arith)) in (
-      λ tag. (subst AreTagParts whole tag.parts).0,
-      λ part. record {
-        short = short;
-        parts =
-            rw whole (part, λ k d below. absurd (omega arith));
-      },
-    )
+whole_tag text short none = grind (arith, common_steps, fails_before_first, slice_split_none)
 
 -- A text with a hyphen is a tag exactly when the part before the first hyphen is of letters, and all further parts are
 -- of letters and digits.
@@ -78,12 +70,7 @@ lower_parts (first ∷ rest) (letters, others) = (
 )
 
 lower_tag : (text : List ℕ) → IsTag text → IsTag (map to_ascii_lowercase text)
-lower_tag text tag = record {
-  short = rw length-map tag.short;
-  parts =
-      rw (slice_split-map is_hyphen to_ascii_lowercase lower_hyphen text)
-      (lower_parts (slice_split is_hyphen text) tag.parts);
-}
+lower_tag text tag = grind (arith, common_steps, length-map, lower_hyphen, lower_parts, slice_split-map)
 
 lower_twice : (xs : List ℕ) → map to_ascii_lowercase (map to_ascii_lowercase xs) ≡ map to_ascii_lowercase xs
 lower_twice [] = refl

@@ -1,5 +1,7 @@
 -- A property has at most one listing.
-use Rattle.std.proofs.Common.{◌≡◌, ◌∙◌, refl, sym, subst, ⊎_elim, List, [], ◌∷◌, Contains}
+use Rattle.std.proofs.lemmas.Grind.{common_steps}
+use Rattle.std.proofs.Common.{arith}
+use Rattle.std.proofs.Common.{◌≡◌, refl, sym, subst, ⊎_elim, List, [], ◌∷◌, Contains}
 use Rattle.std.specs.declared.cmp.Ordering.{Ordering}
 use Rattle.std.specs.declared.cmp.Ordering.TheVariants.{Less}
 use Rattle.std.specs.Cmp.{IsTotalOrder, tied_itself}
@@ -23,21 +25,12 @@ module _ {X : Type 0} {cmp : X → X → Ordering} (o : IsTotalOrder cmp) where
   -- Two sorted lists with the same members have the same first member.
   same_head : (x y : X) (xs ys : List X) → AllByRecursion (λ z. cmp x z ≡ Less) xs
       → AllByRecursion (λ z. cmp y z ≡ Less) ys → Contains (y ∷ ys) x → Contains (x ∷ xs) y → x ≡ y
-  same_head x y xs ys below above c d =
-      ⊎_elim sym
-      (λ later. ⊎_elim (λ e. e)
-      (λ before. absurd (not_both x y (each_of (λ z. cmp x z ≡ Less) xs y below before)
-      (each_of (λ z. cmp y z ≡ Less) ys x above later))) (Contains-cons_cases x xs y d))
-      (Contains-cons_cases y ys x c)
+  same_head x y xs ys below above c d = grind (arith, common_steps, Contains-cons_cases, each_of, not_both)
 
   -- If two sorted lists begin with the same member, a later member of one isn't the first of the other.
   kept : (x y : X) (xs ys : List X) → x ≡ y → AllByRecursion (λ z. cmp x z ≡ Less) xs → (z : X) → Contains xs z
       → Contains (y ∷ ys) z → Contains ys z
-  kept x y xs ys same below z c d =
-      ⊎_elim (λ e.
-      absurd (not_below_itself z
-      (subst (λ w. cmp w z ≡ Less) (same ∙ e) (each_of (λ w. cmp x w ≡ Less) xs z below c)))) (λ more. more)
-      (Contains-cons_cases y ys z d)
+  kept x y xs ys same below z c d = grind (arith, common_steps, Contains-cons_cases, each_of, not_below_itself)
 
   same_lists : (xs ys : List X) → IsStrictlySortedBy cmp xs → IsStrictlySortedBy cmp ys
       → ((z : X) → Contains xs z → Contains ys z) → ((z : X) → Contains ys z → Contains xs z) → xs ≡ ys
