@@ -91,6 +91,8 @@ Exit status:
 In the repository, docs/REQUESTS.md describes each request and its answers, docs/OPERATING.md files and
 faults.";
 
+const SCRIPT_USAGE: &str = "thesaurus [--db <FILE>] script";
+
 const SCRIPT_EXAMPLE: &str = "\
 An example. A merge takes the postings of its source along, and they show the move:
 
@@ -104,6 +106,8 @@ An example. A merge takes the postings of its source along, and they show the mo
 
 Options before the command, as --db, choose the store: thesaurus --help lists them.";
 
+const IMPORT_USAGE: &str = "thesaurus [--db <FILE>] import <FILE>";
+
 const IMPORT_EXAMPLE: &str = "\
 An example. Each posting is performed once, however often its file is imported:
 
@@ -116,12 +120,16 @@ An example. Each posting is performed once, however often its file is imported:
 
 Options before the command, as --db, choose the store: thesaurus --help lists them.";
 
+const EXPORT_USAGE: &str = "thesaurus [--db <FILE>] export";
+
 const EXPORT_EXAMPLE: &str = "\
 An example. The triples of the whole store, for other programs:
 
   thesaurus --db museum.db export > museum.nt
 
 Options before the command, as --db, choose the store: thesaurus --help lists them.";
+
+const ALPHABETICAL_USAGE: &str = "thesaurus [--db <FILE>] alphabetical --scheme <N> --lang <TAG>";
 
 const ALPHABETICAL_EXAMPLE: &str = "\
 An example. A term that was merged into another one refers to it:
@@ -135,6 +143,8 @@ An example. A term that was merged into another one refers to it:
 
 Options before the command, as --db, choose the store: thesaurus --help lists them.";
 
+const HIERARCHICAL_USAGE: &str = "thesaurus [--db <FILE>] hierarchical --scheme <N> --lang <TAG>";
+
 const HIERARCHICAL_EXAMPLE: &str = "\
 An example. Narrower terms are indented below broader ones; a term that was merged isn't shown:
 
@@ -144,6 +154,8 @@ An example. Narrower terms are indented below broader ones; a term that was merg
 
 Options before the command, as --db, choose the store: thesaurus --help lists them.";
 
+const SERVE_USAGE: &str = "thesaurus [--db <FILE>] serve --port <N> [--count <N>]";
+
 const SERVE_EXAMPLE: &str = "\
 An example. The store for other programs on this machine, at http://127.0.0.1:8080/; docs/HTTP.md in the
 repository lists the paths:
@@ -151,6 +163,8 @@ repository lists the paths:
   thesaurus --db museum.db serve --port 8080
 
 Options before the command, as --db, choose the store: thesaurus --help lists them.";
+
+const CHECK_USAGE: &str = "thesaurus [--db <FILE>] check";
 
 const CHECK_EXAMPLE: &str = "\
 An example. A store that breaks a rule is reported by its first faulty table:
@@ -160,6 +174,8 @@ An example. A store that breaks a rule is reported by its first faulty table:
   ok resources=3 labels=4 links=0 accepted=2 withdrawn=0 moves=1
 
 Options before the command, as --db, choose the store: thesaurus --help lists them.";
+
+const MIGRATE_USAGE: &str = "thesaurus [--db <FILE>] migrate";
 
 const MIGRATE_EXAMPLE: &str = "\
 An example. A store that has version 2 already stays as it is:
@@ -209,11 +225,20 @@ fn required_file<'a>(alloc: Global) -> Arg<'a>
 }
 
 // Returns a command without options of its own, with its line and its example in the help.
-fn command<'a>(alloc: Global, name: &'a str, about: &'a str, example: &'a str) -> Command<'a>
+fn command<'a>(
+    alloc: Global,
+    name: &'a str,
+    about: &'a str,
+    usage: &'a str,
+    example: &'a str,
+) -> Command<'a>
     ensures app { app_of result ≡ line.command name.now }
     ensures local { (fields_of result).has_globals ≡ false }
 {
-    Command::new(alloc, name).about(about).after_help(example)
+    Command::new(alloc, name)
+        .about(about)
+        .override_usage(usage)
+        .after_help(example)
 }
 
 // Returns the command `import`, with its required file.
@@ -221,7 +246,7 @@ fn import<'a>(alloc: Global) -> Result<Command<'a>, AllocError>
     ensures app { IfOk result (λ c. app_of c ≡ line.import) }
     ensures local { IfOk result (λ c. (fields_of c).has_globals ≡ false) }
 {
-    command(alloc, "import", IMPORT, IMPORT_EXAMPLE).arg(required_file(alloc))
+    command(alloc, "import", IMPORT, IMPORT_USAGE, IMPORT_EXAMPLE).arg(required_file(alloc))
 }
 
 // Returns a command that prints a display, with the required options `--scheme` and `--lang`.
@@ -229,12 +254,13 @@ fn display<'a>(
     alloc: Global,
     name: &'a str,
     about: &'a str,
+    usage: &'a str,
     example: &'a str,
 ) -> Result<Command<'a>, AllocError>
     ensures app { IfOk result (λ c. app_of c ≡ line.display name.now) }
     ensures local { IfOk result (λ c. (fields_of c).has_globals ≡ false) }
 {
-    command(alloc, name, about, example)
+    command(alloc, name, about, usage, example)
         .arg(option(alloc, "scheme", "N", SCHEME).required(true))?
         .arg(option(alloc, "lang", "TAG", LANG).required(true))
 }
@@ -244,7 +270,7 @@ fn serve<'a>(alloc: Global) -> Result<Command<'a>, AllocError>
     ensures app { IfOk result (λ c. app_of c ≡ line.serve) }
     ensures local { IfOk result (λ c. (fields_of c).has_globals ≡ false) }
 {
-    command(alloc, "serve", SERVE, SERVE_EXAMPLE)
+    command(alloc, "serve", SERVE, SERVE_USAGE, SERVE_EXAMPLE)
         .arg(number_option(alloc, "port", 65_535, PORT).required(true))?
         .arg(number_option(alloc, "count", 4_294_967_295, COUNT))
 }
@@ -282,12 +308,24 @@ pub fn program<'a>(alloc: Global) -> Result<Command<'a>, AllocError>
     ensures { IfOk result (λ program. app_of program ≡ line.program) }
 {
     program_options(alloc)?
-        .subcommand(command(alloc, "script", SCRIPT, SCRIPT_EXAMPLE))?
+        .subcommand(command(alloc, "script", SCRIPT, SCRIPT_USAGE, SCRIPT_EXAMPLE))?
         .subcommand(import(alloc)?)?
-        .subcommand(command(alloc, "export", EXPORT, EXPORT_EXAMPLE))?
-        .subcommand(display(alloc, "alphabetical", ALPHABETICAL, ALPHABETICAL_EXAMPLE)?)?
-        .subcommand(display(alloc, "hierarchical", HIERARCHICAL, HIERARCHICAL_EXAMPLE)?)?
+        .subcommand(command(alloc, "export", EXPORT, EXPORT_USAGE, EXPORT_EXAMPLE))?
+        .subcommand(display(
+            alloc,
+            "alphabetical",
+            ALPHABETICAL,
+            ALPHABETICAL_USAGE,
+            ALPHABETICAL_EXAMPLE,
+        )?)?
+        .subcommand(display(
+            alloc,
+            "hierarchical",
+            HIERARCHICAL,
+            HIERARCHICAL_USAGE,
+            HIERARCHICAL_EXAMPLE,
+        )?)?
         .subcommand(serve(alloc)?)?
-        .subcommand(command(alloc, "check", CHECK, CHECK_EXAMPLE))?
-        .subcommand(command(alloc, "migrate", MIGRATE, MIGRATE_EXAMPLE))
+        .subcommand(command(alloc, "check", CHECK, CHECK_USAGE, CHECK_EXAMPLE))?
+        .subcommand(command(alloc, "migrate", MIGRATE, MIGRATE_USAGE, MIGRATE_EXAMPLE))
 }
