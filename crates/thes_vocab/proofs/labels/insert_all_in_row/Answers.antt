@@ -1,4 +1,4 @@
-use Rattle.std.proofs.Common.{rules, ◌≡◌, ◌∙◌, ◌<◌, ap, sym, length, ◌||◌}
+use Rattle.std.proofs.Common.{rules, ◌∙◌, ◌<◌, ap, sym, length, ◌||◌}
 use Rattle.std.proofs.lemmas.Result.{on_ok_weaker, on_err_weaker}
 use Rattle.thes_vocab.specs.OwnLabels.{has_own}
 use Rattle.thes_vocab.proofs.LabelTableLemmas.{row_set, row_at, row_put_all, row_kept}

@@ -1,4 +1,4 @@
-use Rattle.std.proofs.Common.{◌∙◌, ◌+◌, ◌≤◌, arith}
+use Rattle.std.proofs.Common.{◌∙◌, arith}
 use Rattle.std.specs.Prelude.{vec_len}
 use Rattle.thes_vocab.proofs.OwnLabelLemmas.{has_moved}
 use Rattle.thes_vocab.proofs.row.insert_reserved.Goals as goal

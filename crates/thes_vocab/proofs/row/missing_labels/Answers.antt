@@ -1,4 +1,4 @@
-use Rattle.std.proofs.Common.{◌≡◌, ◌∙◌, ◌<◌, ◌++◌, ◌∷◌, [], length, sym, ap, subst, List, get_or}
+use Rattle.std.proofs.Common.{◌∙◌, ◌<◌, ◌++◌, ◌∷◌, [], length, sym, ap, subst, List, get_or}
 use Rattle.thes_base.specs.Data.{LabelData}
 use Rattle.thes_vocab.specs.OwnLabels.{has_own}
 use Rattle.thes_vocab.proofs.MergedRowLemmas.{copies_taken, copies_left}
