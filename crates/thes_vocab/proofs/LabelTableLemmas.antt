@@ -25,7 +25,8 @@ use Rattle.thes_base.proofs.SetMemberLemmas.{both_equal}
 use Rattle.thes_vocab.specs.OwnLabels.{data_cmp, own_label, has_own, HasNoOwnPreferred, HasTwoOwnPreferred}
 use Rattle.thes_vocab.specs.Rivals.{HasTwoPreferred}
 use Rattle.thes_vocab.specs.LabelRows.{LabelRows, all_owned, labels_in, owner_row, IsRowOfOwner, HasNoLabels}
-use Rattle.thes_vocab.specs.LabelRows.{RowsAfterInsert, RowsAfterRemove, IsRowWritten, AreSameLabelRows}
+use Rattle.thes_vocab.specs.LabelRows.{RowsAfterInsert, RowsAfterInsertions, RowsAfterRemove, IsRowWritten}
+use Rattle.thes_vocab.specs.LabelRows.{AreSameLabelRows}
 
 -- The label without its owner.
 abbrev pub data_of : Label → LabelData
@@ -165,6 +166,22 @@ row_put old new owner now l w each n q = ap (λ row. has_own row q) (row_after o
     go true tie = each q ∙ ap (λ k. eq_by_cmp data_cmp q l || has_own (owner_row old k) q)
         (sym (exact_unsigned n owner ((Equal-is (nat_cmp n owner)).0 tie)))
     go false tie = refl
+
+pub row_put_all : (old new : LabelRows) (owner : ℕ) (now inserted : List LabelData) → IsRowWritten old new owner now
+    → ((q : LabelData) → has_own now q ≡ (has_own inserted q || has_own (owner_row old owner) q))
+    → RowsAfterInsertions old new owner inserted
+row_put_all old new owner now inserted w each = record {
+  own = λ q. ap (λ row. has_own row q) w.own ∙ each q;
+  others = w.others;
+}
+
+-- Rows that show the same labels are the same after the insertions.
+pub put_all_after : (old mid new : LabelRows) (owner : ℕ) (inserted : List LabelData) → AreSameLabelRows old mid
+    → RowsAfterInsertions mid new owner inserted → RowsAfterInsertions old new owner inserted
+put_all_after old mid new owner inserted same after = record {
+  own = λ q. after.own q ∙ ap (λ row. has_own inserted q || has_own row q) (same owner);
+  others = λ n apart. after.others n apart ∙ same n;
+}
 
 pub row_taken : (old new : LabelRows) (owner : ℕ) (now : List LabelData) (l : LabelData)
     → IsRowWritten old new owner now

@@ -6,6 +6,7 @@ mod IriLemmas
 mod LabelCheckLemmas
 mod NameLemmas
 mod ConsistencyLemmas
+mod LexicalLabelLemmas
 mod MergedRowLemmas
 mod ForwardingLemmas
 mod LoadingLemmas

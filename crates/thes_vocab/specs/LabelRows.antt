@@ -50,11 +50,15 @@ pub record IsRowWritten (old new : LabelRows) (owner : ℕ) (row : List LabelDat
   pub own : owner_row new owner ≡ row
   pub others : (n : ℕ) → n ≢ owner → owner_row new n ≡ owner_row old n
 
--- The row has the target's labels, and copies of the lexical labels of the source that the target lacks.
-abbrev pub IsMergedRow : LabelRows → ℕ → ℕ → List LabelData → Type 0
-IsMergedRow rows source target row = (l : LabelData) →
-    has_own row l ≡ (has_own (owner_row rows target) l || copies_label (owner_row rows source) (owner_row rows target)
-    l)
+-- The new rows are the old ones after the insertion of labels for the owner.
+pub record RowsAfterInsertions (old new : LabelRows) (owner : ℕ) (inserted : List LabelData) : Type 0 where
+  pub own : (l : LabelData) → has_own (owner_row new owner) l ≡ (has_own inserted l || has_own (owner_row old owner) l)
+  pub others : (n : ℕ) → n ≢ owner → owner_row new n ≡ owner_row old n
+
+-- The list has copies of exactly the lexical labels of the source that the target lacks.
+abbrev pub AreMissingLabels : LabelRows → ℕ → ℕ → List LabelData → Type 0
+AreMissingLabels rows source target copies = (l : LabelData) →
+    has_own copies l ≡ copies_label (owner_row rows source) (owner_row rows target) l
 
 -- Each owner has the same row, or the same lack of labels, in both.
 abbrev pub AreSameLabelRows : LabelRows → LabelRows → Type 0

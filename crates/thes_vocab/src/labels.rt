@@ -8,9 +8,9 @@ ghost use Rattle.thes_base.specs.Labels.{HasLabel};
 ghost use Rattle.thes_base.specs.Machine.{owned_label};
 ghost use Rattle.thes_vocab.specs.Rivals.{HasTwoPreferred, HasClash};
 ghost use Rattle.thes_vocab.specs.OwnLabels.{own_label, has_own, AreLabelsOf};
-ghost use Rattle.thes_vocab.specs.LabelRows.{IsRowOfOwner, HasNoLabels, owner_row, RowsAfterInsert, RowsAfterRemove, IsRowWritten, IsMergedRow, AreSameLabelRows};
+ghost use Rattle.thes_vocab.specs.LabelRows.{IsRowOfOwner, HasNoLabels, owner_row, RowsAfterInsert, RowsAfterRemove, RowsAfterInsertions, AreMissingLabels, AreSameLabelRows};
 
-use crate::row::{OwnerRow, merge_rows};
+use crate::row::{OwnerRow, missing_labels};
 use std::alloc::{AllocError, Global};
 use std::marker::Model;
 use thes_base::data::{Label, LabelKind, LabelValue};
@@ -226,8 +226,8 @@ impl LabelTable {
         ensures err { OnErr result (self.new ≡ self.old) }
     {
         let count = self.count.checked_add(gained).ok_or(AllocError)?;
-        let row = merged_row(self.rows.as_slice(), self.alloc, source, target)?;
-        write_row(&mut self.rows, self.alloc, target, row)?;
+        let copies = missing_of(self.rows.as_slice(), self.alloc, source, target)?;
+        put_all(&mut self.rows, self.alloc, target, copies)?;
         self.count = count;
         Ok(())
     }
@@ -281,29 +281,35 @@ fn open_row(rows: &mut Vec<OwnerRow>, alloc: Global, owner: ResNo) -> Result<(),
     Ok(())
 }
 
-// Replaces the owner's row.
-fn write_row(
+// Inserts labels into their owner's row.
+fn put_all(
     rows: &mut Vec<OwnerRow>,
     alloc: Global,
     owner: ResNo,
-    row: OwnerRow,
+    labels: Vec<Label>,
 ) -> Result<(), AllocError>
-    ensures ok { OnOk result (IsRowWritten rows.old.items rows.new.items owner row) }
+    ensures ok { OnOk result
+        (RowsAfterInsertions rows.old.items rows.new.items owner labels.items) }
     ensures err { OnErr result (AreSameLabelRows rows.old.items rows.new.items) }
 {
     open_row(rows, alloc, owner)?;
-    replace_row(rows, owner, row);
-    Ok(())
+    insert_all_in_row(rows, owner, labels)
 }
 
-// Replaces the row of an owner that has one.
-fn replace_row(rows: &mut Vec<OwnerRow>, owner: ResNo, row: OwnerRow)
+// Inserts labels into the row of an owner that has one.
+fn insert_all_in_row(
+    rows: &mut Vec<OwnerRow>,
+    owner: ResNo,
+    labels: Vec<Label>,
+) -> Result<(), AllocError>
     requires { owner < length rows.old.items }
-    ensures { IsRowWritten rows.old.items rows.new.items owner row }
+    ensures ok { OnOk result
+        (RowsAfterInsertions rows.old.items rows.new.items owner labels.items) }
+    ensures err { OnErr result (AreSameLabelRows rows.old.items rows.new.items) }
 {
     match rows.get_mut(owner.get() as usize) {
-        Some(place) => *place = row,
-        None => {}
+        Some(row) => row.insert_all(labels),
+        None => Ok(()),
     }
 }
 
@@ -320,18 +326,18 @@ fn take(rows: &mut Vec<OwnerRow>, owner: ResNo, kind: LabelKind, tag: &Tag, text
     }
 }
 
-// Returns a copy of the target's row, with the lexical labels of the source that the target lacks,
-// preferred ones as alternative ones.
-fn merged_row(
+// Returns copies of the lexical labels of the source that the target lacks, with preferred ones as
+// alternative ones.
+fn missing_of(
     rows: &[OwnerRow],
     alloc: Global,
     source: ResNo,
     target: ResNo,
-) -> Result<OwnerRow, AllocError>
-    ensures { IfOk result (IsMergedRow rows.now source target) }
+) -> Result<Vec<Label>, AllocError>
+    ensures { IfOk result (λ copies. AreMissingLabels rows.now source target copies.items) }
 {
     let none = OwnerRow::new(alloc);
     let from = rows.get(source.get() as usize).unwrap_or(&none);
     let to = rows.get(target.get() as usize).unwrap_or(&none);
-    merge_rows(alloc, from, to)
+    missing_labels(alloc, from, to)
 }
