@@ -1,6 +1,7 @@
 pub mod StateTableLemmas
 pub mod FactLemmas
 pub mod StepLemmas
+pub mod VerdictLemmas
 pub mod OfficeViewLemmas
 pub mod GroupLemmas
 pub mod PostingListLemmas

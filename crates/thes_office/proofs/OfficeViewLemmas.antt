@@ -93,21 +93,6 @@ module _ {K : Type 0} (rows : K → Raw) (is_up : K → Type 0) (failed : K → 
       so (inl e) = still (kept.why e)
       so (inr once) = inr once
 
-  -- A request that is answered keeps the invariant.
-  pub consistent_after_answer : (new : K) (copy copy' : core.CoreView) (limits : Limits) (stale : Bool) (old : Raw)
-      (command : Command) (answer : Answer) → AreLimits limits → (is_up new → copy.setting.limits ≡ limits) → stale
-      ≡ copy'.spent
-      → (is_up new → TablesAfterStep copy.setting.limits old command answer (rows new))
-      → (is_up new → copy'.spent ≡ false → IsCopy (rows new) copy.setting.limits copy') → IsConsistent rows is_up
-      failed new copy' limits stale
-  consistent_after_answer new copy copy' limits stale old command answer few set is steps copies = record {
-    few = few;
-    shows = λ up. let x = steps up in (x.base, x.state_after, x.shows);
-    unspent = λ e. sym is ∙ e;
-    copies = λ e up. subst (λ (l : Limits). IsCopy (rows new) l copy') (set up) (copies up (sym is ∙ e));
-    why = λ e. inl (sym is ∙ e);
-  }
-
   -- A load that fails has run out of memory or reports a Store fault, since the tables encode a
   -- state.
   pub behaviour_of_load_fault : (old new : K) (copy : core.CoreView) (limits : Limits) (stale : Bool) (fault : Fault)

@@ -11,7 +11,6 @@ pub mod numbers;
 mod office;
 mod reading;
 mod row_lists;
-mod serving;
 
 pub use loader::Loader;
 pub use office::Office;

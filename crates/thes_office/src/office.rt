@@ -7,18 +7,18 @@ ghost use Rattle.thes_store.specs.Causes.{max_failures};
 ghost use Rattle.thes_load_rules.specs.Verdicts.{HasVerdict};
 ghost use Rattle.thes_office.specs.Office.{FaultBehaviour, PerformResult, RunResult, SameTables};
 ghost use Rattle.thes_office.specs.Groups.{GroupResult, IsGroup};
+ghost use Rattle.thes_office.specs.QueryFrames.{FactsInTables};
 ghost use Rattle.thes_office.specs.TablesOfState.{TablesOfState};
 
 use crate::facts::facts_of;
 use crate::group::{group_length, perform_group};
 use crate::keeper_load::load;
-use crate::serving::perform_at;
 use std::alloc::Global;
 use std::marker::Model;
 use thes_base::data::Limits;
 use thes_base::fault::Fault;
 use thes_base::request::{Answer, Command};
-use thes_core::Core;
+use thes_core::{Core, Facts, Verdict};
 use thes_store::keeper::Keeper;
 
 /// The storage of the tables, with a copy of their vocabulary, links and counts in memory.
@@ -121,25 +121,18 @@ impl<K: Keeper> Office<K> {
         Ok(())
     }
 
-    // Performs a request with a copy that isn't stale. A `Store` fault makes the copy stale, and so
-    // does running out of memory after the commit.
-    fn serve(&mut self, command: &Command) -> Result<Answer, Fault>
-        requires { self.old.stale ≡ false }
+    // Reloads the copy if it is stale, and queries the storage for the facts about postings that the
+    // check of a request needs. A `Store` fault makes the copy stale.
+    fn gather_facts(&mut self, command: &Command) -> Result<Facts, Fault>
         ensures fault_behaviour { FaultBehaviour K.rows K.is_up K.failed self.old self.new result }
-        ensures performed { PerformResult K.rows K.is_up self.old command.now result self.new }
+        ensures same { SameTables K.rows K.is_up self.old self.new }
+        ensures fresh { OnOk result (self.new.stale ≡ false) }
+        ensures in_tables { IfOk result (λ facts. K.is_up self.new.keeper
+            → FactsInTables (K.rows self.new.keeper) command.now facts) }
     {
-        let facts = match facts_of(self.alloc, &mut self.keeper, command) {
-            Ok(facts) => facts,
-            Err(fault) => {
-                self.stale = fault == Fault::Store;
-                return Err(fault);
-            }
-        };
-        match perform_at(&mut self.keeper, &mut self.core, command, &facts) {
-            Ok(answer) => {
-                self.stale = self.core.is_spent();
-                Ok(answer)
-            }
+        self.refresh()?;
+        match facts_of(self.alloc, &mut self.keeper, command) {
+            Ok(facts) => Ok(facts),
             Err(fault) => {
                 self.stale = fault == Fault::Store;
                 Err(fault)
@@ -154,8 +147,22 @@ impl<K: Keeper> Office<K> {
         ensures fault_behaviour { FaultBehaviour K.rows K.is_up K.failed self.old self.new result }
         ensures performed { PerformResult K.rows K.is_up self.old command.now result self.new }
     {
-        self.refresh()?;
-        self.serve(command)
+        let facts = self.gather_facts(command)?;
+        match self.core.decide(command, &facts)? {
+            Verdict::Settled(answer) => Ok(answer),
+            Verdict::Accepted(answer, delta) => {
+                if let Err(fault) = self.keeper.commit(delta) {
+                    self.stale = fault == Fault::Store;
+                    return Err(fault);
+                }
+                // No effect; states the forms of the command's texts for the proof.
+                command.learn_forms();
+                // The request is committed, so a failure of `apply` is no fault.
+                let _ = self.core.apply(command, &facts);
+                self.stale = self.core.is_spent();
+                Ok(answer)
+            }
+        }
     }
 
     // Performs one request, and appends its answer.

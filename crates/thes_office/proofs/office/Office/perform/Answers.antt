@@ -1,0 +1,60 @@
+use Rattle.std.proofs.Common.{◌≡◌, ap, subst, ◌∙◌, inr, rules}
+use Rattle.thes_base.specs.declared.fault.Fault.TheVariants as faults
+use Rattle.thes_core.specs.CoreDecisions.{VerdictMayApply}
+use Rattle.thes_office.specs.Office.{OfficeView}
+use Rattle.thes_office.proofs.OfficeViewLemmas.{has_failed, consistent_after_query, never_falls}
+use Rattle.thes_office.proofs.VerdictLemmas.{accepted_fits, consistent_when_accepted}
+use Rattle.thes_office.proofs.VerdictLemmas.{performed_when_accepted, performed_when_settled}
+use Rattle.thes_office.proofs.office.Office.perform.Goals as goal
+
+pub returns-in-Settled-clause-performed : goal.returns-in-Settled-clause-performed
+returns-in-Settled-clause-performed g c =
+    performed_when_settled g.K.Keeper.rows g.K.Keeper.is_up g.K.Keeper.failed c.self.inside.keeper c.self.inside.core
+    c.self.inside.limits c.self.inside.stale c.gather_facts.new.self c.self.invariant c.self.view_is
+    c.in_ok-facts.ensures.fresh c.args.command.now c.in_ok-facts.facts c.in_ok-facts.ensures.in_tables _
+    c.in_ok-answer.ensures.ok
+    c.args.self.now c.in-Settled.answer c.in_ok-facts.ensures.fault_behaviour.limits c.in_ok-facts.ensures.same
+    c.in-Settled.is
+
+pub commit-requires : goal.commit-requires
+commit-requires g c = record {
+  fits = accepted_fits g.K.Keeper.rows g.K.Keeper.is_up g.K.Keeper.failed c.self.inside.keeper c.self.inside.core
+      c.self.inside.limits c.self.inside.stale c.gather_facts.new.self c.self.invariant c.self.view_is
+      c.in_ok-facts.ensures.fresh c.args.command.now c.in_ok-facts.facts c.in_ok-facts.ensures.in_tables _
+      c.in_ok-answer.ensures.ok
+      c.in-Accepted.answer c.in-Accepted.delta c.in-Accepted.is;
+}
+
+pub invariant_of-self : goal.invariant_of-self
+invariant_of-self g c =
+    consistent_after_query g.K.Keeper.rows g.K.Keeper.is_up g.K.Keeper.failed c.self.inside.keeper c.commit.new.self
+    c.self.inside.core c.self.inside.limits c.self.inside.stale c.eq-self-inside.result c.self.invariant
+    (never_falls _ _ _ c.commit.ensures.cause)
+    (λ e. let is : c.in-Err.fault ≡ faults.Store = search rules in
+    inr (has_failed _ _ _ c.in-Err.ensures.cause is))
+    (λ e. ap (λ (d : OfficeView _). d.stale) c.self.view_is ∙ c.in_ok-facts.ensures.fresh) c.commit.ensures.was
+    c.in-Err.ensures.err
+
+pub apply-requires-clause-may : goal.apply-requires-clause-may
+apply-requires-clause-may g c = subst (VerdictMayApply c.self.inside.core c.args.command.now) c.in-Accepted.is
+    c.in_ok-answer.ensures.may
+
+pub invariant_of-self-in-Accepted : goal.invariant_of-self-in-Accepted
+invariant_of-self-in-Accepted g c =
+    consistent_when_accepted g.K.Keeper.rows g.K.Keeper.is_up g.K.Keeper.failed c.self.inside.keeper c.self.inside.core
+    c.self.inside.limits c.self.inside.stale c.gather_facts.new.self c.self.invariant c.self.view_is
+    c.in_ok-facts.ensures.fresh c.args.command.now c.in_ok-facts.facts c.in_ok-facts.ensures.in_tables _
+    c.in_ok-answer.ensures.ok
+    c.in-Accepted.answer c.in-Accepted.delta c.in-Accepted.is c.commit.new.self c.learn_forms.ensures
+    c.commit.ensures.was c.in_default.ensures.ok c.apply.new.self c.apply.result c.is_spent-self-inside.result
+    c.is_spent-self-inside.ensures.value c.apply.ensures.made c.apply.ensures.ok c.apply.ensures.err
+
+pub returns-clause-performed : goal.returns-clause-performed
+returns-clause-performed g c =
+    performed_when_accepted g.K.Keeper.rows g.K.Keeper.is_up g.K.Keeper.failed c.self.inside.keeper c.self.inside.core
+    c.self.inside.limits c.self.inside.stale c.gather_facts.new.self c.self.invariant c.self.view_is
+    c.in_ok-facts.ensures.fresh c.args.command.now c.in_ok-facts.facts c.in_ok-facts.ensures.in_tables _
+    c.in_ok-answer.ensures.ok
+    c.in-Accepted.answer c.in-Accepted.delta c.in-Accepted.is c.commit.new.self c.learn_forms.ensures
+    c.commit.ensures.was c.in_default.ensures.ok c.args.self.now c.is_spent-self-inside.result
+    c.in_ok-facts.ensures.fault_behaviour.limits c.in_ok-facts.ensures.same
