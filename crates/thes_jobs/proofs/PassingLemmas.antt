@@ -5,8 +5,8 @@ use Rattle.thes_base.specs.declared.fault.Fault.{Fault}
 use Rattle.thes_base.specs.declared.fault.Table.{Table}
 use Rattle.thes_tables.specs.declared.cells.Cell.{Cell}
 use Rattle.thes_store.specs.Sinks.{SinkAcceptsAll, SinkAcceptsPrefix, SinkOutcome}
-use Rattle.thes_cli.specs.Passing.{Passes}
-use Rattle.thes_cli.specs.declared.progress.counting_sink.CountingSink.{CountingSink}
+use Rattle.thes_jobs.specs.Passing.{Passes}
+use Rattle.thes_jobs.specs.declared.progress.counting_sink.CountingSink.{CountingSink}
 
 module _ {S P : Type 0} (gives : S → Table × Option (List Cell) → Result (Unit {0}) Fault → S → Type 0) where
   passes_none : (old new : CountingSink S P) → new ≡ old → (new.sink.ghost_name ≡ old.sink.ghost_name)

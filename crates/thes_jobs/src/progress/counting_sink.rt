@@ -13,7 +13,7 @@ pub(crate) struct CountingSink<'a, S, P> {
 }
 
 impl<S: RowSink, P: Progress + Copy> RowSink for CountingSink<'_, S, P> {
-    ghost use Rattle.thes_cli.specs.Passing.{Passes};
+    ghost use Rattle.thes_jobs.specs.Passing.{Passes};
 
     ghost gives = { Passes S.gives };
 

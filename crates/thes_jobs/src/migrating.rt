@@ -1,7 +1,7 @@
 //! The command `migrate`: migrates a store, and prints its version.
 ghost use Rattle.std.specs.Prelude.{◌≡◌, false};
 ghost use Rattle.thes_base.specs.Pipe.{IsFresh};
-ghost use Rattle.thes_cli.specs.Migrating.{MigratesDatabase, version_line};
+ghost use Rattle.thes_jobs.specs.Migrating.{MigratesDatabase, version_line};
 ghost use Rattle.thes_command_line.specs.Printing.{PrintsText};
 
 use sqlite::{Alter, Connection};

@@ -1,14 +1,17 @@
 //! Opens what the job of a command line names: its store, and its file or socket.
 ghost use Rattle.std.specs.Prelude.{◌≡◌, false, IfOk};
-ghost use Rattle.thes_cli.specs.Starting.{IsIdle};
+ghost use Rattle.thes_jobs.specs.Starting.{IsIdle};
 
+use crate::databases::Databases;
 use crate::making::MakingMark;
+use crate::new_store::{is_blank, make_store};
 use crate::screen::Screen;
-use crate::store_files::{StoreFiles, has_long_name, is_linked};
-use crate::stores::{DatabaseWork, MemoryWork, is_blank, make_store};
+use crate::store_files::{has_long_name, is_linked};
 use crate::trouble::trouble_of;
-use crate::work::{PlannedWork, Work, import_work, planned_work, serve_work};
-use sqlite::{Alter, Connection, Error, FileStore};
+use crate::work::{
+    DatabaseWork, MemoryWork, PlannedWork, Work, import_work, planned_work, serve_work,
+};
+use sqlite::{Alter, Connection, Error};
 use std::fs;
 use std::fs::File;
 use std::io::{ErrorKind, IsTerminal};
@@ -26,9 +29,9 @@ use thes_command_line::trouble::{StoreTrouble, name_trouble, refused_access};
 use thes_sqlite::faults::fault_of;
 
 /// A job whose store, and whose file or socket if it has one, are open.
-pub enum OpenJob<'r, S: Alter> {
+pub enum OpenJob<'r, S: Alter, O> {
     /// Work over the store in a file.
-    InFile(DatabaseWork<S, StoreFiles<'r>, Option<Screen<'r, HostRuntime>>, File, TcpListener>),
+    InFile(DatabaseWork<S, O, Option<Screen<'r, HostRuntime>>, File, TcpListener>),
     /// Work over a new store in memory.
     InMemory(MemoryWork<Option<Screen<'r, HostRuntime>>, File, TcpListener>),
     /// The migration of the store in the file with this name.
@@ -68,19 +71,20 @@ fn open_trouble(
 
 // Opens the database in a file, which it marks first if a store is to be made in it. An error is
 // the fault with its reason.
-fn open_database(
+fn open_database<S: Alter + Drop, O, D: Databases<S, O>>(
     rt: &HostRuntime,
+    databases: &D,
     opening: Opening,
     found: FileState,
     mark: &MakingMark<'_>,
     file: &str,
-) -> Result<Connection<FileStore<sqlite::File>>, (StoreTrouble, Fault)>
+) -> Result<Connection<S>, (StoreTrouble, Fault)>
     ensures { IfOk result (λ conn. conn.in_transaction ≡ false) }
 {
     if opening == Opening::New {
         mark.make();
     }
-    match Connection::open(rt, file) {
+    match databases.open(file) {
         Ok(conn) => Ok(conn),
         Err(error) => {
             let trouble = open_trouble(rt, opening, found, file, &error);
@@ -118,11 +122,12 @@ struct StoreDatabase<'r, S: Alter> {
 }
 
 // Opens the database of the store in a file for a task. An error is the fault with its reason.
-fn open_store<'r>(
+fn open_store<'r, S: Alter + Drop, O, D: Databases<S, O>>(
     rt: &'r HostRuntime,
+    databases: &D,
     task: &Task,
     file: &str,
-) -> Result<StoreDatabase<'r, FileStore<sqlite::File>>, (StoreTrouble, Fault)>
+) -> Result<StoreDatabase<'r, S>, (StoreTrouble, Fault)>
     ensures { IfOk result (λ store. store.conn.in_transaction ≡ false) }
 {
     let mark = match MakingMark::new(rt, file) {
@@ -131,16 +136,13 @@ fn open_store<'r>(
     };
     let found = file_state(&fs::metadata(rt, file));
     let opening = opening_for(rt, task, found, &mark, file)?;
-    let conn = open_database(rt, opening, found, &mark, file)?;
+    let conn = open_database(rt, databases, opening, found, &mark, file)?;
     Ok(StoreDatabase {
         conn,
         mark,
         opening,
     })
 }
-
-// The functions from here to `open_over` work for a database of any kind, since their proofs would
-// go through all parts of one in a file.
 
 // Makes the tables of a new store in a database, removes its mark, and reports the store. An error
 // is the fault with its reason.
@@ -231,13 +233,14 @@ fn open_work(
 
 // Prepares the store in an open database for its task, and opens the task's file or socket. An
 // error is the fault of either.
-fn open_over<'r, S: Alter + Drop>(
+fn open_over<'r, S: Alter + Drop, O: Drop, D: Databases<S, O>>(
     rt: &'r HostRuntime,
+    databases: &D,
     task: Task,
     mut store: StoreDatabase<'r, S>,
     file: String,
     setting: StoreSetting,
-) -> Result<OpenJob<'r, S>, StartFailure>
+) -> Result<OpenJob<'r, S, O>, StartFailure>
     requires { store.conn.in_transaction ≡ false }
     ensures { IfOk result IsIdle }
 {
@@ -257,7 +260,7 @@ fn open_over<'r, S: Alter + Drop>(
     ) {
         return Err(StartFailure::InStore(file, trouble, fault));
     }
-    let opener = match StoreFiles::new(rt, file.as_str()) {
+    let opener = match databases.reopener(file.as_str()) {
         Ok(opener) => opener,
         Err(fault) => {
             return Err(StartFailure::InStore(file, StoreTrouble::Unreadable, fault));
@@ -283,26 +286,27 @@ fn open_over<'r, S: Alter + Drop>(
 
 // Opens the job of a task over the store in a file. If the file is absent or empty, or making its
 // store was cut short, every task but a check makes the store.
-fn open_in_file(
-    rt: &HostRuntime,
+fn open_in_file<'r, S: Alter + Drop, O: Drop, D: Databases<S, O>>(
+    rt: &'r HostRuntime,
+    databases: &D,
     task: Task,
     file: String,
     setting: StoreSetting,
-) -> Result<OpenJob<'_, FileStore<sqlite::File>>, StartFailure>
+) -> Result<OpenJob<'r, S, O>, StartFailure>
     ensures { IfOk result IsIdle }
 {
-    match open_store(rt, &task, file.as_str()) {
-        Ok(store) => open_over(rt, task, store, file, setting),
+    match open_store(rt, databases, &task, file.as_str()) {
+        Ok(store) => open_over(rt, databases, task, store, file, setting),
         Err((trouble, fault)) => Err(StartFailure::InStore(file, trouble, fault)),
     }
 }
 
 // Opens the job of a task over a new store in memory.
-fn open_in_memory<S: Alter>(
+fn open_in_memory<S: Alter, O>(
     rt: &HostRuntime,
     task: Task,
     setting: StoreSetting,
-) -> Result<OpenJob<'_, S>, StartFailure>
+) -> Result<OpenJob<'_, S, O>, StartFailure>
     ensures { IfOk result IsIdle }
 {
     let StoreSetting { base, limits } = setting;
@@ -320,10 +324,11 @@ fn open_in_memory<S: Alter>(
 }
 
 /// Opens the store that a job names, and the file or socket of its task.
-pub fn open_job(
-    rt: &HostRuntime,
+pub fn open_job<'r, S: Alter + Drop, O: Drop, D: Databases<S, O>>(
+    rt: &'r HostRuntime,
+    databases: &D,
     planned: Result<Job, EarlyExit>,
-) -> Result<OpenJob<'_, FileStore<sqlite::File>>, StartFailure>
+) -> Result<OpenJob<'r, S, O>, StartFailure>
     ensures { IfOk result IsIdle }
 {
     match planned {
@@ -334,7 +339,7 @@ pub fn open_job(
                 setting,
             },
         ) => match file {
-            Some(file) => open_in_file(rt, task, file, setting),
+            Some(file) => open_in_file(rt, databases, task, file, setting),
             None => open_in_memory(rt, task, setting),
         },
         Err(early_exit) => Err(StartFailure::EarlyExit(early_exit)),

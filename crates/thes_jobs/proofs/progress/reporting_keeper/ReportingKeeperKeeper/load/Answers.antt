@@ -1,7 +1,7 @@
 use Rattle.std.proofs.Common.{rules, ap}
 use Rattle.thes_store.specs.Sinks.{sink_rows}
-use Rattle.thes_cli.proofs.PassingLemmas.{hands_lent}
-use Rattle.thes_cli.proofs.progress.reporting_keeper.ReportingKeeperKeeper.load.Goals as goal
+use Rattle.thes_jobs.proofs.PassingLemmas.{hands_lent}
+use Rattle.thes_jobs.proofs.progress.reporting_keeper.ReportingKeeperKeeper.load.Goals as goal
 
 pub returns-clause-yields : goal.returns-clause-yields
 returns-clause-yields g c = λ up.

@@ -1,6 +1,6 @@
 //! The reasons for faults of a store in a database.
 ghost use Rattle.std.specs.Prelude.{◌≡◌};
-ghost use Rattle.thes_cli.specs.Trouble as trouble;
+ghost use Rattle.thes_jobs.specs.Trouble as trouble;
 
 use sqlite::{Error, ErrorCode};
 use thes_command_line::trouble::StoreTrouble;

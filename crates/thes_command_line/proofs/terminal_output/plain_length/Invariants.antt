@@ -1,5 +1,5 @@
 use Rattle.std.proofs.Common.{length, ◌-◌, ◌≤◌}
-use Rattle.thes_cli.proofs.terminal_output.plain_length.Given as goal
+use Rattle.thes_command_line.proofs.terminal_output.plain_length.Given as goal
 
 abbrev pub invariant-loop-at : goal.invariant-loop-at
 invariant-loop-at l = l.at ≤ length l.text

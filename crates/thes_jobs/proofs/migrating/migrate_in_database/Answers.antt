@@ -1,7 +1,7 @@
 use Rattle.std.proofs.Common.{Ok, Err, refl, sym, subst}
 use Rattle.thes_sqlite.specs.KeeperView.{KeeperView}
 use Rattle.thes_sqlite.specs.MigrationEffects.{Migrates}
-use Rattle.thes_cli.proofs.migrating.migrate_in_database.Goals as goal
+use Rattle.thes_jobs.proofs.migrating.migrate_in_database.Goals as goal
 
 pub returns-in-Ok : goal.returns-in-Ok
 returns-in-Ok g c = record {
