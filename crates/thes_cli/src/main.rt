@@ -3,6 +3,7 @@
 #![tactic(auto)]
 
 ghost use Rattle.thes_cli.specs.Streams.{AreFresh};
+ghost use Rattle.thes_jobs.specs.Starting.{OpensIdle};
 
 mod checking;
 mod displaying;
@@ -47,7 +48,11 @@ fn escapes_output(rt: &HostRuntime, planned: &Result<Job, EarlyExit>) -> bool {
 
 // Closes the connection, if there is one, and prints a line if a request that was answered with a
 // fault may have been performed.
-fn close<S: Alter, O, D: Databases<S, O>>(rt: &HostRuntime, databases: &D, leaving: Leaving<S>) {
+fn close<S: Alter, O, D: Databases<Connection<S>, O>>(
+    rt: &HostRuntime,
+    databases: &D,
+    leaving: Leaving<S>,
+) {
     let Leaving { conn, is_in_doubt } = leaving;
     if let Some(conn) = conn {
         databases.close(conn);
@@ -65,7 +70,7 @@ fn close<S: Alter, O, D: Databases<S, O>>(rt: &HostRuntime, databases: &D, leavi
 fn perform<
     S: Alter + Drop,
     O: Reopen<Connection<S>> + Drop,
-    D: Databases<S, O>,
+    D: Databases<Connection<S>, O>,
     R: Read,
     W: Write,
     E: Write,
@@ -75,7 +80,8 @@ fn perform<
     planned: Result<Job, EarlyExit>,
     streams: &mut Streams<R, W, E>,
 ) -> u8
-    requires { AreFresh streams.old }
+    requires idle { OpensIdle D.opens }
+    requires streams { AreFresh streams.old }
 {
     match open_job(rt, databases, planned) {
         Ok(OpenJob::InFile(work)) => {

@@ -1,6 +1,6 @@
 //! Opens what the job of a command line names: its store, and its file or socket.
 ghost use Rattle.std.specs.Prelude.{◌≡◌, false, IfOk};
-ghost use Rattle.thes_jobs.specs.Starting.{IsIdle};
+ghost use Rattle.thes_jobs.specs.Starting.{IsIdle, OpensIdle};
 
 use crate::databases::Databases;
 use crate::making::MakingMark;
@@ -71,7 +71,7 @@ fn open_trouble(
 
 // Opens the database in a file, which it marks first if a store is to be made in it. An error is
 // the fault with its reason.
-fn open_database<S: Alter + Drop, O, D: Databases<S, O>>(
+fn open_database<S: Alter + Drop, O, D: Databases<Connection<S>, O>>(
     rt: &HostRuntime,
     databases: &D,
     opening: Opening,
@@ -79,6 +79,7 @@ fn open_database<S: Alter + Drop, O, D: Databases<S, O>>(
     mark: &MakingMark<'_>,
     file: &str,
 ) -> Result<Connection<S>, (StoreTrouble, Fault)>
+    requires { OpensIdle D.opens }
     ensures { IfOk result (λ conn. conn.in_transaction ≡ false) }
 {
     if opening == Opening::New {
@@ -122,12 +123,13 @@ struct StoreDatabase<'r, S: Alter> {
 }
 
 // Opens the database of the store in a file for a task. An error is the fault with its reason.
-fn open_store<'r, S: Alter + Drop, O, D: Databases<S, O>>(
+fn open_store<'r, S: Alter + Drop, O, D: Databases<Connection<S>, O>>(
     rt: &'r HostRuntime,
     databases: &D,
     task: &Task,
     file: &str,
 ) -> Result<StoreDatabase<'r, S>, (StoreTrouble, Fault)>
+    requires { OpensIdle D.opens }
     ensures { IfOk result (λ store. store.conn.in_transaction ≡ false) }
 {
     let mark = match MakingMark::new(rt, file) {
@@ -233,7 +235,7 @@ fn open_work(
 
 // Prepares the store in an open database for its task, and opens the task's file or socket. An
 // error is the fault of either.
-fn open_over<'r, S: Alter + Drop, O: Drop, D: Databases<S, O>>(
+fn open_over<'r, S: Alter + Drop, O: Drop, D: Databases<Connection<S>, O>>(
     rt: &'r HostRuntime,
     databases: &D,
     task: Task,
@@ -286,13 +288,14 @@ fn open_over<'r, S: Alter + Drop, O: Drop, D: Databases<S, O>>(
 
 // Opens the job of a task over the store in a file. If the file is absent or empty, or making its
 // store was cut short, every task but a check makes the store.
-fn open_in_file<'r, S: Alter + Drop, O: Drop, D: Databases<S, O>>(
+fn open_in_file<'r, S: Alter + Drop, O: Drop, D: Databases<Connection<S>, O>>(
     rt: &'r HostRuntime,
     databases: &D,
     task: Task,
     file: String,
     setting: StoreSetting,
 ) -> Result<OpenJob<'r, S, O>, StartFailure>
+    requires { OpensIdle D.opens }
     ensures { IfOk result IsIdle }
 {
     match open_store(rt, databases, &task, file.as_str()) {
@@ -324,11 +327,12 @@ fn open_in_memory<S: Alter, O>(
 }
 
 /// Opens the store that a job names, and the file or socket of its task.
-pub fn open_job<'r, S: Alter + Drop, O: Drop, D: Databases<S, O>>(
+pub fn open_job<'r, S: Alter + Drop, O: Drop, D: Databases<Connection<S>, O>>(
     rt: &'r HostRuntime,
     databases: &D,
     planned: Result<Job, EarlyExit>,
 ) -> Result<OpenJob<'r, S, O>, StartFailure>
+    requires { OpensIdle D.opens }
     ensures { IfOk result IsIdle }
 {
     match planned {
