@@ -5,7 +5,7 @@ use Rattle.serde_json.specs.Data.{Data}
 use Rattle.serde_json.specs.View.{view}
 use Rattle.thes_base.specs.declared.data.Label.{Label}
 use Rattle.thes_core.specs.LabelLists.{tagged_text}
-use Rattle.thes_exchange.specs.ViewTexts.{array_data, tagged_data}
+use Rattle.thes_exchange.specs.ViewTexts.{tagged_data}
 use Rattle.thes_exchange.proofs.ViewLemmas.{array_of_converted}
 use Rattle.thes_exchange.proofs.view.labels_value.Goals as goal
 

@@ -4,7 +4,7 @@ use Rattle.std.specs.Borrow.{Bor}
 use Rattle.serde_json.specs.Data.{Data}
 use Rattle.serde_json.specs.View.{view}
 use Rattle.thes_base.specs.declared.data.History.{History}
-use Rattle.thes_exchange.specs.ViewTexts.{array_data, row_data}
+use Rattle.thes_exchange.specs.ViewTexts.{row_data}
 use Rattle.thes_exchange.proofs.ViewLemmas.{array_of_converted}
 use Rattle.thes_exchange.proofs.view.rows_value.Goals as goal
 
