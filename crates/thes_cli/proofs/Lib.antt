@@ -2,4 +2,3 @@ pub mod ScriptLemmas
 pub mod ReadyLemmas
 pub mod NewStoreLemmas
 pub mod ServedLemmas
-pub mod PassingLemmas

@@ -23,7 +23,7 @@ use Rattle.thes_command_line.specs.Printing.{Prints, fault_line}
 use Rattle.thes_cli.specs.Opening.{IsUnopened}
 use Rattle.thes_cli.specs.declared.streams.Streams.{Streams}
 use Rattle.thes_cli.specs.Work.{WorksOverKeeper, WorksInMemory}
-use Rattle.thes_cli.specs.declared.work.Work.{Work}
+use Rattle.thes_jobs.specs.declared.work.Work.{Work}
 
 no_link : (l : Link) → Holds set.empty l → ⊥
 no_link l h = let e = set.contains-empty link_cmp l in cc

@@ -7,9 +7,5 @@ pub mod Exporting
 pub mod Displaying
 pub mod Importing
 pub mod Serving
-pub mod Trouble
-pub mod Migrating
 pub mod Work
 pub mod Stores
-pub mod Passing
-pub mod Starting

@@ -2,39 +2,36 @@
 //! performs their task, and exits with its status.
 #![tactic(auto)]
 
+ghost use Rattle.thes_cli.specs.Streams.{AreFresh};
+ghost use Rattle.thes_jobs.specs.Starting.{OpensIdle};
+
 mod checking;
 mod displaying;
 mod ending;
 mod exporting;
 mod importing;
-mod making;
-mod migrating;
-mod progress;
-mod screen;
 mod serving;
-mod starting;
-mod store_files;
 mod stores;
 mod streams;
-mod terminal_output;
-mod trouble;
 mod work;
 
-use migrating::{migrate_in_database, print_version};
-use sqlite::FileStore;
-use starting::{OpenJob, open_job};
+use sqlite::{Alter, Connection, FileStore};
 use std::alloc::Global;
-use std::io::IsTerminal;
+use std::io::{IsTerminal, Read, Write};
 use std::process::ExitCode;
 use std::rt::Env;
 use stores::{work_in_database, work_in_memory};
 use streams::Streams;
-use terminal_output::TerminalOutput;
 use thes_base::pipe::Pipe;
 use thes_command_line::arguments::{EarlyExit, Job, is_display, plan_args};
 use thes_command_line::printing::print_error;
 use thes_command_line::start_failure::report_start_failure;
-use thes_sqlite::reopening::Leaving;
+use thes_command_line::terminal_output::TerminalOutput;
+use thes_jobs::databases::{Databases, FileDatabases};
+use thes_jobs::migrating::{migrate_in_database, print_version};
+use thes_jobs::starting::{OpenJob, open_job};
+use thes_jobs::store_files::StoreFiles;
+use thes_sqlite::reopening::{Leaving, Reopen};
 
 // Parses the arguments of the process.
 fn plan_command_line<R: Env + Alloc<A = Global>>(rt: &R) -> Result<Job, EarlyExit> {
@@ -51,18 +48,71 @@ fn escapes_output(rt: &HostRuntime, planned: &Result<Job, EarlyExit>) -> bool {
 
 // Closes the connection, if there is one, and prints a line if a request that was answered with a
 // fault may have been performed.
-fn close(rt: &HostRuntime, leaving: Leaving<FileStore<sqlite::File>>) {
+fn close<S: Alter, O, D: Databases<Connection<S>, O>>(
+    rt: &HostRuntime,
+    databases: &D,
+    leaving: Leaving<S>,
+) {
     let Leaving { conn, is_in_doubt } = leaving;
     if let Some(conn) = conn {
-        // The log holds every change that was answered; if it can't be copied into the file now,
-        // the next run copies it.
-        let _ = conn.close();
+        databases.close(conn);
     }
     if is_in_doubt {
         print_error(
             &mut Pipe::new(rt.stderr()),
             b"thesaurus: a request answered Store may have been performed\n",
         );
+    }
+}
+
+// Opens the job that the arguments name, performs its task, and closes its store. Returns the exit
+// status.
+fn perform<
+    S: Alter + Drop,
+    O: Reopen<Connection<S>> + Drop,
+    D: Databases<Connection<S>, O>,
+    R: Read,
+    W: Write,
+    E: Write,
+>(
+    rt: &HostRuntime,
+    databases: &D,
+    planned: Result<Job, EarlyExit>,
+    streams: &mut Streams<R, W, E>,
+) -> u8
+    requires idle { OpensIdle D.opens }
+    requires streams { AreFresh streams.old }
+{
+    match open_job(rt, databases, planned) {
+        Ok(OpenJob::InFile(work)) => {
+            let (status, leaving) = work_in_database::<HostRuntime, S, O, _, _, R, W, E>(
+                rt.alloc(),
+                rt,
+                work,
+                streams,
+            );
+            close(rt, databases, leaving);
+            status
+        }
+        Ok(OpenJob::InMemory(work)) => work_in_memory::<HostRuntime, _, _, R, W, E>(
+            rt.alloc(),
+            rt,
+            work,
+            streams,
+        ),
+        Ok(OpenJob::Migration(file, conn)) => {
+            let (status, conn) = migrate_in_database(
+                rt.alloc(),
+                file.as_str(),
+                conn,
+                &mut streams.output,
+                &mut streams.errors,
+            );
+            close(rt, databases, Leaving::with_connection(conn));
+            status
+        }
+        Ok(OpenJob::Version) => print_version(&mut streams.output, &mut streams.errors),
+        Err(failure) => report_start_failure(&mut streams.output, &mut streams.errors, &failure),
     }
 }
 
@@ -74,36 +124,12 @@ fn main(rt: HostRuntime) -> ExitCode {
         output: Pipe::new(TerminalOutput::new(rt.stdout(), escapes)),
         errors: Pipe::new(rt.stderr()),
     };
-    let status = match open_job(&rt, planned) {
-        Ok(OpenJob::InFile(work)) => {
-            let (status, leaving) = work_in_database::<HostRuntime, _, _, _, _, _, _, _>(
-                rt.alloc(),
-                &rt,
-                work,
-                &mut streams,
-            );
-            close(&rt, leaving);
-            status
-        }
-        Ok(OpenJob::InMemory(work)) => work_in_memory::<HostRuntime, _, _, _, _, _>(
-            rt.alloc(),
-            &rt,
-            work,
-            &mut streams,
-        ),
-        Ok(OpenJob::Migration(file, conn)) => {
-            let (status, conn) = migrate_in_database(
-                rt.alloc(),
-                file.as_str(),
-                conn,
-                &mut streams.output,
-                &mut streams.errors,
-            );
-            close(&rt, Leaving::with_connection(conn));
-            status
-        }
-        Ok(OpenJob::Version) => print_version(&mut streams.output, &mut streams.errors),
-        Err(failure) => { report_start_failure(&mut streams.output, &mut streams.errors, &failure) }
-    };
+    let databases = FileDatabases { rt: &rt };
+    let status = perform::<FileStore<sqlite::File>, StoreFiles<'_>, _, _, _, _>(
+        &rt,
+        &databases,
+        planned,
+        &mut streams,
+    );
     ExitCode::from(status)
 }

@@ -12,18 +12,11 @@ use std::rt::Clock;
 use thes_base::fault::PipeFault;
 use thes_base::pipe::Pipe;
 use thes_command_line::printing::{print, report_fault, report_net_fault};
+use thes_jobs::work::Listening;
 use thes_office::Office;
 use thes_requests::line::ShortLine;
 use thes_service::{OfficeHandler, office_serve};
 use thes_store::keeper::Keeper;
-
-/// A listening socket, its port, and the number of connections to serve.
-#[derive(Drop)]
-pub struct Listening<L> {
-    pub listener: L,
-    pub port: u16,
-    pub count: u32,
-}
 
 // Returns the line that names the address, such as `listening on 127.0.0.1:8080`.
 fn listening_line(port: u16) -> ShortLine

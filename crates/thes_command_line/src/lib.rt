@@ -8,4 +8,5 @@ pub mod early_exit;
 pub mod opening;
 pub mod printing;
 pub mod start_failure;
+pub mod terminal_output;
 pub mod trouble;

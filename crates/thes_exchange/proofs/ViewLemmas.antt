@@ -1,5 +1,5 @@
 -- Proves that no view has a float, and that a posting is assigned to the target of its last move.
-use Rattle.std.proofs.Common.{◌≡◌, ◌-◌, refl, ℕ, List, [], ◌∷◌, length, false, Some, None, Option, slice_get, ap}
+use Rattle.std.proofs.Common.{◌≡◌, ◌-◌, refl, ℕ, List, [], ◌∷◌, length, map, false, Some, None, Option, slice_get, ap}
 use Rattle.std.proofs.Common.{subst, suc, arith}
 use Rattle.serde_json.specs.Data.{Data, object, Members, no_members}
 use Rattle.serde_json.specs.Written.{has_float}
@@ -16,6 +16,15 @@ list_has_none : {A : Type 0} (show : A → Data) → ((x : A) → has_float (sho
     → has_float (array_data show xs) ≡ false
 list_has_none show none [] = refl
 list_has_none show none (x ∷ xs) = rw (none x) (list_has_none show none xs)
+
+map_map : {A B C : Type 0} (f : A → B) (g : B → C) (xs : List A) → map g (map f xs) ≡ map (λ x. g (f x)) xs
+map_map f g [] = refl
+map_map f g (x ∷ xs) = ap (λ ys. g (f x) ∷ ys) (map_map f g xs)
+
+-- An array of elements that are converted before they are shown.
+pub array_of_converted : {A B : Type 0} (convert : A → B) (show : B → Data) (xs : List A) → array_data
+    (λ x. show (convert x)) xs ≡ array_data show (map convert xs)
+array_of_converted convert show xs = rw (map_map convert show xs) refl
 
 or_null_has_none : (n : Option ℕ) → has_float (number_or_null n) ≡ false
 or_null_has_none None = refl

@@ -113,34 +113,37 @@ fn number_or_null(number: Option<ResNo>) -> Value
     }
 }
 
-// Returns a JSON array of numbers, in the order given.
-fn numbers_value(alloc: Global, numbers: &[ResNo]) -> Result<Value, AllocError>
-    ensures { IfOk result (λ v. view v ≡ array_data number_data numbers.now) }
-{
-    let mut list = Vec::new(alloc);
-    for number in numbers {
-        list.push(Value::from(number.get()))?;
-    }
-    Ok(Value::Array(list))
+// An element of a list that a view shows.
+trait Element {
+    // The element as JSON.
+    ghost data: { Self → Data };
+
+    // Returns the element as JSON.
+    fn value(&self, alloc: Global) -> Result<Value, AllocError>
+        ensures { IfOk result (λ v. view v ≡ Self.data self.now) };
 }
 
-// Returns a label as a JSON array of its language tag and its text.
-fn label_value(alloc: Global, label: &Label) -> Result<Value, AllocError>
-    ensures { IfOk result (λ v. view v ≡ tagged_data (tagged_text label.now)) }
-{
-    json!(in alloc; [label.tag.as_str(), label.text()])
+// A number.
+impl Element for ResNo {
+    ghost use Rattle.thes_exchange.specs.ViewTexts.{number_data};
+
+    ghost data = { number_data };
+
+    fn value(&self, _: Global) -> Result<Value, AllocError> {
+        Ok(Value::from(self.get()))
+    }
 }
 
-// Returns a JSON array of labels, in the order given.
-fn labels_value(alloc: Global, labels: &[&Label]) -> Result<Value, AllocError>
-    ensures { IfOk result
-        (λ v. view v ≡ array_data tagged_data (map (λ l. tagged_text l.now) labels.now)) }
-{
-    let mut list = Vec::new(alloc);
-    for label in labels {
-        push_value(&mut list, label_value(alloc, label))?;
+// A label as a JSON array of its language tag and its text.
+impl Element for &Label {
+    ghost use Rattle.thes_core.specs.LabelLists.{tagged_text};
+    ghost use Rattle.thes_exchange.specs.ViewTexts.{tagged_data};
+
+    ghost data = { λ label. tagged_data (tagged_text label.now) };
+
+    fn value(&self, alloc: Global) -> Result<Value, AllocError> {
+        json!(in alloc; [self.tag.as_str(), self.text()])
     }
-    Ok(Value::Array(list))
 }
 
 // Returns a JSON array of a keyword and a number.
@@ -150,30 +153,97 @@ fn keyword_value(alloc: Global, name: &str, number: ResNo) -> Result<Value, Allo
     json!(in alloc; [name, number.get()])
 }
 
-// Returns the mappings as a JSON array of pairs: the keyword of a mapping's kind, and its other
-// end.
-fn mappings_value(alloc: Global, mappings: &[(LinkKind, ResNo)]) -> Result<Value, AllocError>
-    ensures { IfOk result (λ v. view v ≡ array_data mapping_data mappings.now) }
+// A mapping as a pair of the keyword of its kind and its other end.
+impl Element for (LinkKind, ResNo) {
+    ghost use Rattle.thes_exchange.specs.ViewTexts.{mapping_data};
+
+    ghost data = { mapping_data };
+
+    fn value(&self, alloc: Global) -> Result<Value, AllocError> {
+        let (kind, other) = *self;
+        keyword_value(alloc, kind.name(), other)
+    }
+}
+
+// A typed link as a pair of the keyword of its kind and its other end.
+impl Element for (TypedKind, ResNo) {
+    ghost use Rattle.thes_exchange.specs.ViewTexts.{typed_data};
+
+    ghost data = { typed_data };
+
+    fn value(&self, alloc: Global) -> Result<Value, AllocError> {
+        let (kind, other) = *self;
+        keyword_value(alloc, kind.name(), other)
+    }
+}
+
+// A move as a JSON array of its number, source and target.
+impl Element for Move {
+    ghost use Rattle.thes_exchange.specs.ViewTexts.{move_data};
+
+    ghost data = { move_data };
+
+    fn value(&self, alloc: Global) -> Result<Value, AllocError> {
+        json!(in alloc; [self.number.get(), self.source.get(), self.target.get()])
+    }
+}
+
+// Returns a posting of a list as a JSON array of its number, key and record name.
+pub(crate) fn entry_value(
+    alloc: Global,
+    number: PostNo,
+    key: &Key,
+    rec: &RecordName,
+) -> Result<Value, AllocError>
+    ensures { IfOk result (λ v. view v ≡ entry_data number key.now rec.now) }
+{
+    json!(in alloc; [number.get(), key.as_str(), rec.as_str()])
+}
+
+// A posting as an entry of a list.
+impl Element for &History {
+    ghost use Rattle.thes_exchange.specs.ViewTexts.{row_data};
+
+    ghost data = { λ history. row_data history.now };
+
+    fn value(&self, alloc: Global) -> Result<Value, AllocError> {
+        entry_value(alloc, self.number, &self.key, &self.rec)
+    }
+}
+
+// Appends a value to an array; fails if memory runs out, or if it had run out for the value.
+fn push_value(list: &mut Vec<Value>, value: Result<Value, AllocError>) -> Result<(), AllocError>
+    ensures { (d : Data) → IfOk value (λ v. view v ≡ d) → OnOk result
+        (map view list.new.items ≡ map view list.old.items ++ d ∷ []) }
+{
+    list.push(value?)?;
+    Ok(())
+}
+
+// Returns a JSON array of the elements, in the order given.
+fn array_value<T: Element>(alloc: Global, elements: &[T]) -> Result<Value, AllocError>
+    ensures { IfOk result (λ v. view v ≡ array_data T.data elements.now) }
 {
     let mut list = Vec::new(alloc);
-    for mapping in mappings {
-        let (kind, other) = *mapping;
-        push_value(&mut list, keyword_value(alloc, kind.name(), other))?;
+    for element in elements {
+        push_value(&mut list, element.value(alloc))?;
     }
     Ok(Value::Array(list))
 }
 
-// Returns the typed links as a JSON array of pairs: the keyword of a link's kind, and its other
-// end.
-fn typed_value(alloc: Global, typed: &[(TypedKind, ResNo)]) -> Result<Value, AllocError>
-    ensures { IfOk result (λ v. view v ≡ array_data typed_data typed.now) }
+// Returns a JSON array of labels, in the order given.
+fn labels_value(alloc: Global, labels: &[&Label]) -> Result<Value, AllocError>
+    ensures { IfOk result
+        (λ v. view v ≡ array_data tagged_data (map (λ l. tagged_text l.now) labels.now)) }
 {
-    let mut list = Vec::new(alloc);
-    for link in typed {
-        let (kind, other) = *link;
-        push_value(&mut list, keyword_value(alloc, kind.name(), other))?;
-    }
-    Ok(Value::Array(list))
+    array_value(alloc, labels)
+}
+
+// Returns a JSON array of postings, in the order given.
+fn rows_value(alloc: Global, rows: &[&History]) -> Result<Value, AllocError>
+    ensures { IfOk result (λ v. view v ≡ array_data row_data (map (λ h. h.now) rows.now)) }
+{
+    array_value(alloc, rows)
 }
 
 // Puts a member into an object; fails if memory runs out, or if it had run out for the value.
@@ -187,15 +257,6 @@ fn put_value(
         (members_view members.new.entries ≡ put name.now d (members_view members.old.entries)) }
 {
     put(members, alloc, name, value?)
-}
-
-// Appends a value to an array; fails if memory runs out, or if it had run out for the value.
-fn push_value(list: &mut Vec<Value>, value: Result<Value, AllocError>) -> Result<(), AllocError>
-    ensures { (d : Data) → IfOk value (λ v. view v ≡ d) → OnOk result
-        (map view list.new.items ≡ map view list.old.items ++ d ∷ []) }
-{
-    list.push(value?)?;
-    Ok(())
 }
 
 // Puts the labels of a concept into the members of its view, as `alt`, `hidden`, `pref` and
@@ -233,33 +294,33 @@ fn put_links(
         members,
         alloc,
         "broader",
-        numbers_value(alloc, &concept.broader),
+        array_value(alloc, &concept.broader),
     )?;
     put_value(
         members,
         alloc,
         "collections",
-        numbers_value(alloc, &concept.collections),
+        array_value(alloc, &concept.collections),
     )?;
     put_value(
         members,
         alloc,
         "mappings",
-        mappings_value(alloc, &concept.mappings),
+        array_value(alloc, &concept.mappings),
     )?;
     put_value(
         members,
         alloc,
         "narrower",
-        numbers_value(alloc, &concept.narrower),
+        array_value(alloc, &concept.narrower),
     )?;
     put_value(
         members,
         alloc,
         "related",
-        numbers_value(alloc, &concept.related),
+        array_value(alloc, &concept.related),
     )?;
-    put_value(members, alloc, "typed", typed_value(alloc, &concept.typed))
+    put_value(members, alloc, "typed", array_value(alloc, &concept.typed))
 }
 
 // Puts the other facts about a concept into the members of its view: `live`, `number`, `postings`,
@@ -292,60 +353,12 @@ fn concept_value(alloc: Global, concept: &ConceptView) -> Result<Value, AllocErr
     Ok(Value::Object(members))
 }
 
-// Returns a posting of a list as a JSON array of its number, key and record name.
-pub(crate) fn entry_value(
-    alloc: Global,
-    number: PostNo,
-    key: &Key,
-    rec: &RecordName,
-) -> Result<Value, AllocError>
-    ensures { IfOk result (λ v. view v ≡ entry_data number key.now rec.now) }
-{
-    json!(in alloc; [number.get(), key.as_str(), rec.as_str()])
-}
-
-// Returns a posting as an entry of a list: an array of its number, key and record name.
-fn row_value(alloc: Global, history: &History) -> Result<Value, AllocError>
-    ensures { IfOk result (λ v. view v ≡ row_data history.now) }
-{
-    entry_value(alloc, history.number, &history.key, &history.rec)
-}
-
-// Returns a JSON array of postings, in the order given.
-fn rows_value(alloc: Global, rows: &[&History]) -> Result<Value, AllocError>
-    ensures { IfOk result (λ v. view v ≡ array_data row_data (map (λ h. h.now) rows.now)) }
-{
-    let mut list = Vec::new(alloc);
-    for row in rows {
-        push_value(&mut list, row_value(alloc, row))?;
-    }
-    Ok(Value::Array(list))
-}
-
 // Returns the postings of a concept as a JSON object with the one member `postings`.
 fn postings_value(alloc: Global, postings: &PostingRows) -> Result<Value, AllocError>
     ensures { IfOk result (λ v. view v ≡ postings_data postings.now) }
 {
     let rows = rows_value(alloc, &postings.rows)?;
     json!(in alloc; {"postings": rows})
-}
-
-// Returns a move as a JSON array of its number, source and target.
-fn move_value(alloc: Global, step: &Move) -> Result<Value, AllocError>
-    ensures { IfOk result (λ v. view v ≡ move_data step.now) }
-{
-    json!(in alloc; [step.number.get(), step.source.get(), step.target.get()])
-}
-
-// Returns a JSON array of moves, in the order given.
-fn moves_value(alloc: Global, moves: &[Move]) -> Result<Value, AllocError>
-    ensures { IfOk result (λ v. view v ≡ array_data move_data moves.now) }
-{
-    let mut list = Vec::new(alloc);
-    for step in moves {
-        push_value(&mut list, move_value(alloc, step))?;
-    }
-    Ok(Value::Array(list))
 }
 
 // Returns the concept to which a posting is assigned: the target of its last move, or else its
@@ -387,7 +400,7 @@ fn put_posting(
         members,
         alloc,
         "moves",
-        moves_value(alloc, history.moves.as_slice()),
+        array_value(alloc, history.moves.as_slice()),
     )?;
     put(members, alloc, "number", Value::from(history.number.get()))?;
     put(

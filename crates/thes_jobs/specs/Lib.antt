@@ -1,0 +1,6 @@
+pub mod Trouble
+pub mod PlannedWork
+pub mod NewStore
+pub mod Passing
+pub mod Migrating
+pub mod Starting

@@ -1,0 +1,13 @@
+//! Opens the job of a command line: its store, in a database or in memory, and its file or socket.
+#![tactic(auto)]
+
+pub mod databases;
+mod making;
+pub mod migrating;
+pub mod new_store;
+pub mod progress;
+pub mod screen;
+pub mod starting;
+pub mod store_files;
+mod trouble;
+pub mod work;

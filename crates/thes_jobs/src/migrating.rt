@@ -1,0 +1,50 @@
+//! The command `migrate`: migrates a store, and prints its version.
+ghost use Rattle.std.specs.Prelude.{◌≡◌, false};
+ghost use Rattle.thes_base.specs.Pipe.{IsFresh};
+ghost use Rattle.thes_jobs.specs.Migrating.{MigratesDatabase, version_line};
+ghost use Rattle.thes_command_line.specs.Printing.{PrintsText};
+
+use sqlite::{Alter, Connection};
+use std::alloc::Global;
+use std::io::Write;
+use thes_base::pipe::Pipe;
+use thes_command_line::printing::{print_out, report_in_file};
+use thes_command_line::trouble::StoreTrouble;
+use thes_sqlite::keeper::SqlKeeper;
+
+/// Prints the line of version 2, and returns the exit status: 0, or 3 if it can't be written.
+pub fn print_version<W: Write, E: Write>(output: &mut Pipe<W>, errors: &mut Pipe<E>) -> u8
+    requires output { IsFresh output.old }
+    requires errors { IsFresh errors.old }
+    ensures { PrintsText W.contents E.contents output.old output.new errors.old errors.new
+        version_line result }
+{
+    print_out(output, errors, "version 2\n".as_bytes())
+}
+
+/// Migrates the store in a database to version 2, prints the version or the fault, and returns the
+/// exit status with the connection.
+pub fn migrate_in_database<S: Alter, W: Write, E: Write>(
+    alloc: Global,
+    file: &str,
+    conn: Connection<S>,
+    output: &mut Pipe<W>,
+    errors: &mut Pipe<E>,
+) -> (u8, Connection<S>)
+    requires idle { conn.in_transaction ≡ false }
+    requires output { IsFresh output.old }
+    requires errors { IsFresh errors.old }
+    ensures { MigratesDatabase W.contents E.contents output.old output.new errors.old errors.new
+        S.Store file.now conn result.0 result.1 }
+{
+    let mut keeper = SqlKeeper::adopt(alloc, conn);
+    let ended = keeper.migrate();
+    let conn = keeper.into_connection();
+    match ended {
+        Ok(_) => (print_version(output, errors), conn),
+        Err(fault) => (
+            report_in_file(errors, file, StoreTrouble::Unwritable, fault),
+            conn,
+        ),
+    }
+}

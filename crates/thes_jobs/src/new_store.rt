@@ -1,0 +1,40 @@
+//! New stores in databases.
+ghost use Rattle.std.specs.Prelude.{◌≡◌, ◌↔◌, false, IsTrue};
+ghost use Rattle.sqlite.specs.Held.{state};
+ghost use Rattle.thes_sql.specs.Schema.{empty_schema};
+ghost use Rattle.thes_jobs.specs.NewStore.{MakesStore};
+
+use crate::trouble::trouble_of;
+use sqlite::{Alter, Connection};
+use thes_base::fault::Fault;
+use thes_base::text::Base;
+use thes_command_line::trouble::StoreTrouble;
+use thes_sql::create::create_tables;
+use thes_sqlite::faults::fault_of;
+
+/// Returns whether a database has no tables, and nothing else that its schema lists.
+pub fn is_blank<S: Alter>(conn: &Connection<S>) -> bool
+    ensures { IsTrue result ↔ ((state S.Store conn.now).now.schema ≡ empty_schema) }
+{
+    let schema = conn.schema();
+    schema.tables.is_empty() && schema.indexes.is_empty() && schema.views.is_empty()
+}
+
+/// Makes the tables of a new store with this base in a database without tables, atomically. An
+/// error is the fault with its reason.
+pub fn make_store<S: Alter>(
+    conn: &mut Connection<S>,
+    base: &Base,
+) -> Result<(), (StoreTrouble, Fault)>
+    requires idle { conn.old.in_transaction ≡ false }
+    ensures made { MakesStore S.Store base.now conn.old result conn.new }
+    ensures idle { conn.new.in_transaction ≡ false }
+{
+    match create_tables(conn, base) {
+        Ok(_) => Ok(()),
+        Err(error) => Err((
+            trouble_of(&error, StoreTrouble::Unwritable),
+            fault_of(error),
+        )),
+    }
+}
