@@ -26,8 +26,7 @@ returns-in-Err-finish-clause-verdict g c up =
 pub returns-in-Ok-finish-clause-found : goal.returns-in-Ok-finish-clause-found
 returns-in-Ok-finish-clause-found g c up =
     let found = c.in-Ok.ensures.found.passes up in
-    let knows = loader_reads_all c.args.limits found.0 c.new-loader.result c.load.new.sink c.new-loader.ensures found.2 in
-    (
+    let knows = loader_reads_all c.args.limits found.0 c.new-loader.result c.load.new.sink c.new-loader.ensures found.2 in (
       found.0,
       found.1,
       loaded_copies found.0 c.args.limits c.in-Ok-finish.core (c.in-Ok-finish.ensures.limits ∙ knows.1)
