@@ -54,8 +54,7 @@ impl<K: Keeper> Office<K> {
     ghost use Rattle.thes_office.specs.Office.{ReadyResult};
 
     /// Opens an office over a storage whose tables encode a state. Returns a fault with the
-    /// storage; any but OutOfMemory and Store is the verdict on the rows, whatever the storage has
-    /// (`found`).
+    /// storage; any but OutOfMemory and Store is the verdict on the rows.
     pub fn start(alloc: Global, mut keeper: K, limits: Limits) -> Result<Office<K>, (Fault, K)>
         ensures limits { IfOk result (λ o. o.limits ≡ limits) }
         ensures fresh { IfOk result (λ o. o.stale ≡ false) }

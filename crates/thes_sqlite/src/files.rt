@@ -9,9 +9,9 @@ ghost use Rattle.thes_sqlite.specs.DatabaseFiles.{ClosesFiles, OpensFiles};
 use sqlite::{Connection, Error, FileFrom, FileStore, Leftover};
 use sqlite_disk::{Disk, Files, Start};
 
-/// Opens the database in the two files at a path, whatever they hold: `start` stands for their
-/// contents. If they are a store, the database is this store. An error comes with what is left of
-/// the files, once they were opened.
+/// Opens the database in the files at a path; if they hold a store, it is this store. `start`
+/// stands for their contents, which may be anything. An error comes with what is left of the files,
+/// once they were opened.
 pub fn open_files<S: Start>(
     rt: &HostRuntime,
     path: &str,
@@ -24,8 +24,8 @@ pub fn open_files<S: Start>(
     Connection::open_from(rt, path, false, start)
 }
 
-/// Closes a database, and returns its files. If it was a store, they hold this store, as they read
-/// now and after a crash. An error comes with the database.
+/// Closes a database and returns its files, which hold its store. A crash leaves it in them. An
+/// error comes with the database.
 pub fn close_files<D: Disk + Drop>(
     conn: Connection<FileStore<D>>,
 ) -> Result<Files<D>, (Error, FileStore<D>)>
