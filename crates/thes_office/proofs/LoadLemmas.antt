@@ -10,6 +10,7 @@ use Rattle.thes_core.specs.CoreView.{CoreView}
 use Rattle.thes_office.specs.LoadedCore.{IsLoaded}
 use Rattle.thes_load_rules.specs.Verdicts.{HasVerdict}
 use Rattle.thes_load_rules.specs.Rules.{state_of}
+use Rattle.thes_office.specs.FoundStates.{IsFaultOfFound}
 use Rattle.thes_office.specs.Office.{IsCopy}
 use Rattle.thes_office.specs.TablesOfState.{TablesOfState}
 use Rattle.thes_office.proofs.StateTableLemmas.{loaded_shows_state}
@@ -70,3 +71,11 @@ pub verdict_of_fault : (raw : Raw) (fault told : Fault) → (fault ≢ faults.St
 verdict_of_fault raw fault told same (inl is) = inl (same (λ e. absurd (cc)) ∙ is)
 verdict_of_fault raw fault told same (inr loads) =
     inr (inr (subst (λ (f : Fault). HasVerdict raw (Err f)) (sym (same (never_store raw fault loads))) loads))
+
+-- The fault of a load is OutOfMemory, Store or the verdict on the rows found.
+pub found_fault : {finds : Raw → Type 0} {fault : Fault} (raw : Raw) → finds raw
+    → (fault ≡ faults.OutOfMemory) ⊎ ((fault ≡ faults.Store) ⊎ HasVerdict raw (Err fault))
+    → IsFaultOfFound finds fault
+found_fault raw found (inl is) = inl is
+found_fault raw found (inr (inl is)) = inr (inl is)
+found_fault raw found (inr (inr loads)) = inr (inr (raw, found, loads))

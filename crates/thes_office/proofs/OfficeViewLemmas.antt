@@ -113,6 +113,7 @@ module _ {K : Type 0} (rows : K → Raw) (is_up : K → Type 0) (failed : K → 
         later = read.later;
         count = tt;
         store = read.store;
+        other_faults = read.other_faults;
         stale = λ e. is;
         fault = λ up. only up (none up);
       }
@@ -138,8 +139,8 @@ module _ {K : Type 0} (rows : K → Raw) (is_up : K → Type 0) (failed : K → 
           was = fault_behaviour.was;
           later = fault_behaviour.later;
           count = fault_behaviour.count;
-          store =
-              tt;
+          store = tt;
+          other_faults = tt;
           stale = tt;
           fault = λ up. tt;
         };

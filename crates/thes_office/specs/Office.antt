@@ -1,5 +1,5 @@
 -- The view of an office, and the effects of its calls on the tables of its storage.
-use Rattle.std.specs.Prelude.{◌≡◌, ◌⊎◌, ◌<◌, ◌≤◌, ◌++◌, ℕ, List, length, Bool, true, false, Result, Ok, Err}
+use Rattle.std.specs.Prelude.{◌≡◌, ◌≢◌, ◌⊎◌, ◌<◌, ◌≤◌, ◌++◌, ℕ, List, length, Bool, true, false, Result, Ok, Err}
 use Rattle.std.specs.Prelude.{OnOk, IfOk, IfErr}
 use Rattle.std.specs.List.{AllByRecursion}
 use Rattle.std.specs.Borrow.{Bor}
@@ -49,7 +49,7 @@ pub record IsConsistent {K : Type 0} (rows : K → Raw) (is_up : K → Type 0) (
 
 -- The faults of every call of an office. While the storage is up, a fault is OutOfMemory or Store.
 -- Store leaves the copy stale, and is counted as a failure of the storage unless the count is at
--- its maximum.
+-- its maximum. Any other fault leaves the count unchanged.
 pub record FaultBehaviour {K T : Type 0} (rows : K → Raw) (is_up : K → Type 0) (failed : K → ℕ)
     (old new : OfficeView K) (result : Result T Fault) : Type 0 where
   pub limits : new.limits ≡ old.limits
@@ -58,6 +58,7 @@ pub record FaultBehaviour {K T : Type 0} (rows : K → Raw) (is_up : K → Type 
   pub count : OnOk result (failed new.keeper ≡ failed old.keeper)
   pub store : IfErr result (λ f. f ≡ faults.Store → (failed old.keeper < failed new.keeper)
       ⊎ (failed old.keeper ≡ max_failures))
+  pub other_faults : IfErr result (λ f. f ≢ faults.Store → failed new.keeper ≡ failed old.keeper)
   pub stale : IfErr result (λ f. f ≡ faults.Store → new.stale ≡ true)
   pub fault : is_up new.keeper → IfErr result (λ f. (f ≡ faults.OutOfMemory) ⊎ (f ≡ faults.Store))
 

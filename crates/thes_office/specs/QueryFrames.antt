@@ -1,5 +1,5 @@
 -- The effects and results of queries of the storage.
-use Rattle.std.specs.Prelude.{◌≡◌, ◌⊎◌, ◌<◌, ◌≤◌, ◌++◌, ℕ, List, [], ◌∷◌, map, Option, Result, Ok, Err, OnOk, IfErr}
+use Rattle.std.specs.Prelude.{◌≡◌, ◌≢◌, ◌⊎◌, ◌<◌, ◌≤◌, ◌++◌, ℕ, List, [], ◌∷◌, map, Option, Result, Ok, Err, OnOk, IfErr}
 use Rattle.thes_base.specs.declared.fault.Fault.{Fault}
 use Rattle.thes_base.specs.declared.fault.Fault.TheVariants as faults
 use Rattle.thes_base.specs.declared.data.History.{History}
@@ -22,7 +22,7 @@ pub record QueryFrame {K T : Type 0} (rows : K → Raw) (is_up : K → Type 0) (
   pub cause : HasCause (failed old) (failed new) result
 
 -- The effect of a load: the tables are unchanged, and a Store fault is counted as a failure of the
--- storage, unless the count is at its maximum.
+-- storage, unless the count is at its maximum; any other fault leaves the count unchanged.
 pub record LoadFrame {K T : Type 0} (rows : K → Raw) (is_up : K → Type 0) (failed : K → ℕ)
     (old new : K) (result : Result T Fault) : Type 0 where
   pub same : is_up new → rows new ≡ rows old
@@ -30,6 +30,7 @@ pub record LoadFrame {K T : Type 0} (rows : K → Raw) (is_up : K → Type 0) (f
   pub later : failed old ≤ failed new
   pub count : OnOk result (failed new ≡ failed old)
   pub store : IfErr result (λ f. f ≡ faults.Store → (failed old < failed new) ⊎ (failed old ≡ max_failures))
+  pub other_faults : IfErr result (λ f. f ≢ faults.Store → failed new ≡ failed old)
 
 -- The property holds in every state that the rows encode.
 abbrev pub InStateOfTables : Raw → (State → Type 0) → Type 0

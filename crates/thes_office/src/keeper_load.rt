@@ -3,6 +3,7 @@ ghost use Rattle.std.specs.Prelude.{◌≡◌, ◌≢◌, ◌⊎◌, false, Err,
 ghost use Rattle.thes_load_rules.specs.Verdicts.{HasVerdict};
 ghost use Rattle.thes_office.specs.QueryFrames.{LoadFrame};
 ghost use Rattle.thes_office.specs.Office.{IsCopy};
+ghost use Rattle.thes_office.specs.FoundStates.{IsCopyOfFound, IsFaultOfFound};
 
 use crate::loader::Loader;
 use std::alloc::Global;
@@ -20,6 +21,10 @@ pub fn load<K: Keeper>(alloc: Global, keeper: &mut K, limits: Limits) -> Result<
     ensures verdict { IfErr result (λ fault. K.is_up keeper.new
         → (fault ≡ Fault.OutOfMemory) ⊎ (fault ≡ Fault.Store)
         ⊎ HasVerdict (K.rows keeper.old) (Err fault)) }
+    ensures found { IfOk result (λ core. K.is_open keeper.new
+        → IsCopyOfFound (K.finds keeper.old) limits core) }
+    ensures refused { IfErr result (λ fault. K.is_open keeper.new
+        → IsFaultOfFound (K.finds keeper.old) fault) }
     ensures reads { LoadFrame K.rows K.is_up K.failed keeper.old keeper.new result }
 {
     let mut loader = Loader::new(alloc, limits);

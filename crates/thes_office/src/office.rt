@@ -1,11 +1,12 @@
 //! The office, which performs requests and answers queries.
-ghost use Rattle.std.specs.Prelude.{⊤, ◌≡◌, ◌⊎◌, ◌<◌, ◌∷◌, [], false, Err, OnOk, IfOk, IfErr, List};
-ghost use Rattle.std.specs.Prelude.{length, ℕ};
+ghost use Rattle.std.specs.Prelude.{⊤, ◌≡◌, ◌≢◌, ◌⊎◌, ◌<◌, ◌∷◌, [], false, Err, OnOk, IfOk, IfErr, List};
+ghost use Rattle.std.specs.Prelude.{length, ℕ, MatchResult};
 ghost use Rattle.thes_base.specs.Headline.{IsConsistentState};
 ghost use Rattle.thes_base.specs.State.{State};
 ghost use Rattle.thes_store.specs.Causes.{max_failures};
 ghost use Rattle.thes_load_rules.specs.Verdicts.{HasVerdict};
 ghost use Rattle.thes_office.specs.Office.{FaultBehaviour, PerformResult, RunResult, SameTables};
+ghost use Rattle.thes_office.specs.FoundStates.{FindsLegalState, IsFaultOfFound};
 ghost use Rattle.thes_office.specs.Groups.{GroupResult, IsGroup};
 ghost use Rattle.thes_office.specs.QueryFrames.{FactsInTables};
 ghost use Rattle.thes_office.specs.TablesOfState.{TablesOfState};
@@ -64,8 +65,13 @@ impl<K: Keeper> Office<K> {
         ensures verdict { IfErr result (λ e. K.is_up e.1
             → (e.0 ≡ Fault.OutOfMemory) ⊎ (e.0 ≡ Fault.Store)
             ⊎ HasVerdict (K.rows keeper) (Err e.0)) }
+        ensures found { MatchResult result
+            (λ o. K.is_open o.keeper → FindsLegalState (K.finds keeper))
+            (λ e. K.is_open e.1 → IsFaultOfFound (K.finds keeper) e.0) }
         ensures store { IfErr result (λ e. e.0 ≡ Fault.Store → (K.failed keeper < K.failed e.1)
             ⊎ (K.failed keeper ≡ max_failures)) }
+        ensures counts { MatchResult result (λ o. K.failed o.keeper ≡ K.failed keeper)
+            (λ e. e.0 ≢ Fault.Store → K.failed e.1 ≡ K.failed keeper) }
     {
         match load(alloc, &mut keeper, limits) {
             Ok(core) => Ok(Office {

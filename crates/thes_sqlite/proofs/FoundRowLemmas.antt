@@ -1,6 +1,6 @@
 -- Proves that a load passes the rows that it finds, in a database that may hold anything.
 use Rattle.std.proofs.Common.{◌≡◌, ◌<◌, ◌+◌, ◌∙◌, ℕ, List, [], ◌∷◌, ◌++◌, length, take, get_or, append-nil, append_assoc}
-use Rattle.std.proofs.Common.{Option, None, Result, Ok, Err, OnOk, refl, sym, ap, subst, arith}
+use Rattle.std.proofs.Common.{Option, None, Result, Ok, Err, OnOk, refl, sym, ap, subst, arith, IsTrue}
 use Rattle.sqlite.specs.Effect.{Database}
 use Rattle.sqlite.specs.Held.{Held, state}
 use Rattle.sqlite_trees.specs.declared.store.Store.{Ghosts}
@@ -10,12 +10,15 @@ use Rattle.thes_base.specs.declared.fault.Table.TheVariants as table
 use Rattle.thes_tables.specs.declared.cells.Cell.{Cell}
 use Rattle.thes_tables.specs.Cells.{Raw, RawTable}
 use Rattle.thes_sql.specs.Reads.{LeavesTables}
+use Rattle.thes_store.specs.FoundLoads.{PassesFound}
 use Rattle.thes_store.specs.Sinks.{SinkAcceptsAll, sink_rows_of_table}
 use Rattle.thes_store.specs.Loading.{raw_rows_of, sink_rows_of_tables, table_order}
 use Rattle.thes_store.proofs.IndexPositionLemmas.{take_one}
 use Rattle.thes_store.proofs.SinkLemmas.{accepts_then, all_tables}
-use Rattle.thes_sqlite.specs.KeeperView.{IsUp}
-use Rattle.thes_sqlite.specs.FoundRows.{FindsTable, AreFoundRows, PassesTable, PassesNamed, PassesTables}
+use Rattle.thes_sqlite.specs.KeeperView.{KeeperView, IsUp}
+use Rattle.thes_sqlite.specs.FoundRows.{FindsTable, FindsTables, AreFoundRows, PassesTable, PassesNamed, PassesTables}
+use Rattle.thes_sqlite.specs.FoundRows.{FindsInKeeper, IsKeeperOpen}
+use Rattle.thes_sqlite.specs.MigrationEffects.{LeavesUnwritten}
 use Rattle.thes_sqlite.proofs.KeeperLemmas.{before_read, tables_then}
 
 -- The rows of the tables so far and those of one more table.
@@ -138,4 +141,24 @@ module _ {R : Type 0} (gives : R → Table × Option (List Cell) → Result (Uni
               (found_more (state g start).now (take i names) name done.0 last.0 done.1 last.1),
           accepts_then gives done.0 (sink_rows_of_table name last.0) before between after done.2 last.2,
         );
+  }
+
+-- A call that leaves a database of committed rows unchanged leaves it unwritten.
+pub unwritten : {S : Type 0} (g : Ghosts S) (old new : Held S) → LeavesTables g old new
+    → (IsTrue (state g old).is_open → (state g old).now ≡ (state g old).committed) → LeavesUnwritten g old new
+unwritten g old new leaves settled up =
+    let was = before_read g old new leaves up in
+    (was, leaves.same up.0 up.1 (settled was.1))
+
+module _ {S R : Type 0} (g : Ghosts S)
+    (gives : R → Table × Option (List Cell) → Result (Unit {0}) Fault → R → Type 0) where
+  -- A load of a database that it leaves unwritten passes what it finds.
+  pub database_passed : (old new : KeeperView S) (before : R) (result : Result (Unit {0}) Fault) (after : R)
+      → LeavesUnwritten g old.conn new.conn
+      → OnOk result (IsUp (state g new.conn) → PassesTables gives (state g old.conn).now before after)
+      → PassesFound (IsKeeperOpen g) (FindsInKeeper g) gives old new before result after
+  database_passed old new before result after leaves passes = record {
+    was = λ up. (leaves up).0;
+    stays = λ up raw. subst (λ (d : Database). FindsTables d raw) (sym (leaves up).1.0);
+    passes = passes;
   }

@@ -2,6 +2,8 @@
 use Rattle.std.specs.Prelude.{◌≡◌, ◌⊎◌, List, [], ◌∷◌, ◌++◌, map, Option, Some, None, Result, true, false}
 use Rattle.sqlite.specs.Order.{Row}
 use Rattle.sqlite.specs.Effect.{Database}
+use Rattle.sqlite.specs.Held.{state}
+use Rattle.sqlite_trees.specs.declared.store.Store.{Ghosts}
 use Rattle.thes_base.specs.declared.fault.Fault.{Fault}
 use Rattle.thes_base.specs.declared.fault.Table.{Table}
 use Rattle.thes_tables.specs.declared.cells.Cell.{Cell}
@@ -11,6 +13,7 @@ use Rattle.thes_store.specs.Sinks.{SinkAcceptsAll, sink_rows, sink_rows_of_table
 use Rattle.thes_sql.specs.Declarations.{declares}
 use Rattle.thes_sql.specs.Queries.{Finds}
 use Rattle.thes_sql.specs.Reads.{read_text}
+use Rattle.thes_sqlite.specs.KeeperView.{KeeperView, IsUp}
 use Rattle.thes_sqlite.specs.ValueCells.{cell_of}
 
 -- What a load finds of a table: the rows that its query finds, as cells, or None if the query finds
@@ -23,6 +26,14 @@ FindsTable p db (Some rows) = (declares db.schema p ≡ true) × ((found : List 
 -- The rows of all tables are those that a load finds.
 abbrev pub FindsTables : Database → Raw → Type 0
 FindsTables db raw = (p : Table) → FindsTable p db (raw_rows_of p raw)
+
+-- The connection of the storage is open, and the disk hasn't failed silently, whatever the database has.
+abbrev pub IsKeeperOpen : {S : Type 0} → Ghosts S → KeeperView S → Type 0
+IsKeeperOpen g k = IsUp (state g k.conn)
+
+-- The rows are those that a load finds in the database of the storage.
+abbrev pub FindsInKeeper : {S : Type 0} → Ghosts S → KeeperView S → Raw → Type 0
+FindsInKeeper g k raw = FindsTables (state g k.conn).now raw
 
 -- These are the rows that a load finds of the tables with these names, table after table.
 abbrev pub AreFoundRows : Database → List Table → List (Table × Option (List Cell)) → Type 0

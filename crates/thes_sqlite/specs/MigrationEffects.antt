@@ -107,6 +107,10 @@ IsKnownStore db t = KeepsOld db t ⊎ Keeps db t
 abbrev pub IsUnwritten : State → State → Type 0
 IsUnwritten old new = (new.now ≡ old.now) × (new.committed ≡ old.committed)
 
+-- A call that leaves the database open found it open, and has changed neither it nor what is committed of it.
+abbrev pub LeavesUnwritten : {S : Type 0} → Ghosts S → Held S → Held S → Type 0
+LeavesUnwritten g old new = IsUp (state g new) → IsUp (state g old) × IsUnwritten (state g old) (state g new)
+
 -- Of all faults only Store is counted; the count of failures saturates.
 abbrev pub IsStoreCounted : ℕ → ℕ → Fault → Type 0
 IsStoreCounted before now Store = (before < now) ⊎ ((before ≡ max_failures) × (now ≡ before))

@@ -1,9 +1,11 @@
 -- The state of storage in a database that is opened again after a failure.
 use Rattle.std.specs.Prelude.{◌≡◌, ℕ, Option, None, Some, refl}
 use Rattle.std.specs.Coded.{Coded, code_by, coded×, coded_ℕ, coded_option}
-use Rattle.sqlite.specs.Held.{Held}
+use Rattle.sqlite.specs.Effect.{Database}
+use Rattle.sqlite.specs.Held.{Held, state}
 use Rattle.sqlite_trees.specs.declared.store.Store.{Ghosts}
 use Rattle.thes_tables.specs.Cells.{Raw}
+use Rattle.thes_sqlite.specs.FoundRows.{FindsTables, IsKeeperOpen}
 use Rattle.thes_sqlite.specs.KeeperView.{KeeperView, keeper_view_code, raw_of_keeper, IsKeeperUp}
 
 -- The storage over a connection, before any call.
@@ -53,6 +55,35 @@ rows_still g v = rows_of_first g v.first
 -- The first connection is open and serves its tables.
 abbrev pub IsKeeperStillUp : {S : Type 0} → Ghosts S → ReopeningView S → Type 0
 IsKeeperStillUp g v = IsServingFirst g v.first
+
+-- There is a first connection, which is open.
+abbrev pub IsOpenFirst : {S : Type 0} → Ghosts S → Option (KeeperView S) → Type 0
+IsOpenFirst g None = ⊥
+IsOpenFirst g (Some k) = IsKeeperOpen g k
+
+-- The database of the first connection, as it is.
+abbrev pub database_of_first : {S : Type 0} → Ghosts S → Option (KeeperView S) → Option Database
+database_of_first g None = None
+database_of_first g (Some k) = Some (state g k.conn).now
+
+-- The first connection is still open, whatever its database has.
+abbrev pub IsStillOpen : {S : Type 0} → Ghosts S → ReopeningView S → Type 0
+IsStillOpen g v = IsOpenFirst g v.first
+
+-- These are rows that a load finds in the database, if there is one.
+abbrev pub FindsIn : Option Database → Raw → Type 0
+FindsIn None raw = ⊥
+FindsIn (Some db) raw = FindsTables db raw
+
+-- These are rows that a load finds in the database of the first connection.
+abbrev pub FindsStill : {S : Type 0} → Ghosts S → ReopeningView S → Raw → Type 0
+FindsStill g v raw = FindsIn (database_of_first g v.first) raw
+
+-- A call writes nothing through the first connection: if that is open afterwards, it was before, and its database is the
+-- same.
+pub record LeavesFirst {S : Type 0} (g : Ghosts S) (old new : ReopeningView S) : Type 0 where
+  pub was : IsStillOpen g new → IsStillOpen g old
+  pub same : IsStillOpen g new → database_of_first g new.first ≡ database_of_first g old.first
 
 -- A call leaves the rows unchanged: if the first connection serves its tables afterwards, it did before, and they have
 -- the same rows.

@@ -7,13 +7,14 @@ ghost use Rattle.thes_sql.specs.Schema.{empty_schema};
 ghost use Rattle.thes_sql.specs.TransactionEffects.{IsEmpty};
 ghost use Rattle.thes_base.specs.declared.fault.Table.{Table};
 ghost use Rattle.thes_store.specs.Causes.{HasCause};
+ghost use Rattle.thes_store.specs.FoundLoads.{PassesFound};
 ghost use Rattle.thes_store.specs.Sinks.{SinkOutcome, sink_rows_of_table, sink_rows};
 ghost use Rattle.thes_store.specs.Reading.{IsPostingOfKey, IsPostingOfNumber, assigned_posting_rows};
 ghost use Rattle.thes_store.specs.Loading.{sink_rows_of_tables};
 ghost use Rattle.thes_sqlite.specs.KeeperView.{IsUp, IsStore, IsKeeperUp, RawAfterChanges, LeavesEither, LeavesAfter};
 ghost use Rattle.thes_sqlite.specs.KeeperView.{raw_table, raw_of_keeper};
-ghost use Rattle.thes_sqlite.specs.MigrationEffects.{Migrates, HasCountedCause, ServesMigrated, IsUnwritten};
-ghost use Rattle.thes_sqlite.specs.FoundRows.{PassesTable, PassesNamed, PassesTables};
+ghost use Rattle.thes_sqlite.specs.MigrationEffects.{Migrates, HasCountedCause, ServesMigrated, LeavesUnwritten};
+ghost use Rattle.thes_sqlite.specs.FoundRows.{IsKeeperOpen, FindsInKeeper, PassesTable, PassesNamed};
 ghost use Rattle.thes_sql.specs.Reads.{LeavesTables};
 ghost use Rattle.sqlite.specs.Held.{state};
 
@@ -141,7 +142,10 @@ impl<S: Alter> SqlKeeper<S> {
         ensures was { IsKeeperUp S.Store self.new → IsKeeperUp S.Store self.old }
         ensures failures { self.new.failures ≡ self.old.failures }
         ensures first { self.new.first ≡ self.old.first }
+        ensures leaves { LeavesUnwritten S.Store self.old.conn self.new.conn }
     {
+        let settled = self.conn.is_autocommit();
+        prove!(settled);
         is_shut(&mut self.conn)
     }
 
@@ -219,10 +223,15 @@ impl<S: Alter> SqlKeeper<S> {
 
 impl<S: Alter> Keeper for SqlKeeper<S> {
     ghost use Rattle.thes_sqlite.specs.KeeperView.{raw_of_keeper, IsKeeperUp};
+    ghost use Rattle.thes_sqlite.specs.FoundRows.{IsKeeperOpen, FindsInKeeper};
 
     ghost rows = { λ k. raw_of_keeper S.Store k };
 
     ghost is_up = { λ k. IsKeeperUp S.Store k };
+
+    ghost is_open = { λ k. IsKeeperOpen S.Store k };
+
+    ghost finds = { λ k. FindsInKeeper S.Store k };
 
     ghost failed = { λ k. k.failures };
 
@@ -242,10 +251,9 @@ impl<S: Alter> Keeper for SqlKeeper<S> {
 
         // Whatever the database holds, a load leaves it unchanged, and passes the rows that the
         // queries of the tables find.
-        ensures leaves { IsUp (state S.Store self.new.conn)
-            → IsUnwritten (state S.Store self.old.conn) (state S.Store self.new.conn) }
-        ensures passes { OnOk result (IsUp (state S.Store self.new.conn)
-            → PassesTables R.gives (state S.Store self.old.conn).now sink.old sink.new) }
+        ensures leaves { LeavesUnwritten S.Store self.old.conn self.new.conn }
+        ensures found { PassesFound (IsKeeperOpen S.Store) (FindsInKeeper S.Store) R.gives
+            self.old self.new sink.old result sink.new }
     {
         let settled = self.conn.is_autocommit();
         prove!(settled);

@@ -2,6 +2,7 @@
 #![tactic(auto)]
 
 pub mod faults;
+pub mod files;
 mod finding;
 mod found;
 pub mod keeper;

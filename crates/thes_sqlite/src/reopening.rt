@@ -4,11 +4,13 @@ ghost use Rattle.thes_tables.specs.Tables.{Tables};
 ghost use Rattle.thes_tables.specs.Rows.{DeltaFits};
 ghost use Rattle.thes_tables.specs.Cells.{cells_of_tables};
 ghost use Rattle.thes_store.specs.Causes.{IsCounted};
+ghost use Rattle.thes_store.specs.FoundLoads.{PassesFound};
 ghost use Rattle.thes_store.specs.Sinks.{SinkOutcome, sink_rows};
 ghost use Rattle.thes_store.specs.Reading.{IsPostingOfKey, IsPostingOfNumber, assigned_posting_rows};
 ghost use Rattle.thes_sqlite.specs.Faults.{IsKeeperFault};
 ghost use Rattle.thes_sqlite.specs.KeeperView.{RawAfterChanges};
 ghost use Rattle.thes_sqlite.specs.Reopening.{IsKeeperStillUp, rows_still, KeepsRows, keeper_of_connection};
+ghost use Rattle.thes_sqlite.specs.Reopening.{IsStillOpen, FindsStill, LeavesFirst};
 
 use crate::faults::{count_fault, fault_of};
 use crate::finding::{find_posting, find_with_moves};
@@ -209,6 +211,7 @@ impl<S: Alter + Drop, O: Reopen<Connection<S>>> ReopeningKeeper<S, O> {
     // and the one removed.
     fn take_shut(&mut self) -> (bool, Option<Connection<S>>)
         ensures keeps { KeepsRows S.Store self.old self.new }
+        ensures leaves { LeavesFirst S.Store self.old self.new }
         ensures gone { IsTrue result.0 → self.new.first ≡ None }
         ensures failures { self.new.failures ≡ self.old.failures }
     {
@@ -232,6 +235,7 @@ impl<S: Alter + Drop, O: Reopen<Connection<S>>> ReopeningKeeper<S, O> {
     // can't be opened, there is no connection afterwards.
     fn reopen_if_shut(&mut self) -> bool
         ensures keeps { KeepsRows S.Store self.old self.new }
+        ensures leaves { LeavesFirst S.Store self.old self.new }
         ensures gone { IsTrue result → self.new.first ≡ None }
         ensures failures { self.new.failures ≡ self.old.failures }
     {
@@ -277,6 +281,8 @@ impl<S: Alter + Drop, O: Reopen<Connection<S>>> ReopeningKeeper<S, O> {
         ensures keeps { KeepsRows S.Store self.old self.new }
         ensures failures { self.new.failures ≡ self.old.failures }
         ensures kind { IfErr result IsKeeperFault }
+        ensures found { PassesFound (IsStillOpen S.Store) (FindsStill S.Store) R.gives
+            self.old self.new sink.old result sink.new }
     {
         if let Some(keeper) = &mut self.first {
             return keeper.load(sink);
@@ -370,11 +376,15 @@ impl<S: Alter + Drop, O: Reopen<Connection<S>>> ReopeningKeeper<S, O> {
 }
 
 impl<S: Alter + Drop, O: Reopen<Connection<S>>> Keeper for ReopeningKeeper<S, O> {
-    ghost use Rattle.thes_sqlite.specs.Reopening.{rows_still, IsKeeperStillUp};
+    ghost use Rattle.thes_sqlite.specs.Reopening.{rows_still, IsKeeperStillUp, IsStillOpen, FindsStill};
 
     ghost rows = { λ k. rows_still S.Store k };
 
     ghost is_up = { λ k. IsKeeperStillUp S.Store k };
+
+    ghost is_open = { λ k. IsStillOpen S.Store k };
+
+    ghost finds = { λ k. FindsStill S.Store k };
 
     ghost failed = { λ k. k.failures };
 

@@ -2,6 +2,7 @@ pub mod IndexPositionLemmas
 pub mod RowEqualityLemmas
 pub mod CoverLemmas
 pub mod SinkLemmas
+pub mod FoundLemmas
 pub mod IndexLookUpLemmas
 pub mod BulkMoveLemmas
 pub mod SlotLemmas

@@ -1,6 +1,7 @@
 pub mod AddedRow
 pub mod Causes
 pub mod Covers
+pub mod FoundLoads
 pub mod Sinks
 pub mod Index
 pub mod Keys

@@ -53,11 +53,16 @@ impl FailOnce {
 }
 
 impl Keeper for FailOnce {
+    ghost use Rattle.std.specs.Prelude.{◌≡◌};
     ghost use Rattle.thes_tables.specs.Cells.{cells_of_tables};
 
     ghost rows = { λ k. cells_of_tables k.keeper };
 
     ghost is_up = { λ k. Unit {0} };
+
+    ghost is_open = { λ k. Unit {0} };
+
+    ghost finds = { λ k raw. raw ≡ cells_of_tables k.keeper };
 
     ghost failed = { λ k. k.failures };
 
@@ -65,6 +70,7 @@ impl Keeper for FailOnce {
         self.failures
     }
 
+    #[tactic(auto, using(crate::proofs::FoundLemmas::passes_known))]
     fn load<S: RowSink>(&mut self, sink: &mut S) -> Result<(), Fault> {
         if self.next == Next::Load {
             return Err(self.fail());

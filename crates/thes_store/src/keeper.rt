@@ -4,6 +4,7 @@ ghost use Rattle.thes_tables.specs.Tables.{Tables};
 ghost use Rattle.thes_tables.specs.Rows.{tables_after_delta, DeltaFits};
 ghost use Rattle.thes_tables.specs.Cells.{Raw, cells_of_tables};
 ghost use Rattle.thes_store.specs.Causes.{HasCause};
+ghost use Rattle.thes_store.specs.FoundLoads.{PassesFound};
 ghost use Rattle.thes_store.specs.Sinks.{SinkOutcome, sink_rows};
 ghost use Rattle.thes_store.specs.Reading.{IsPostingOfKey, IsPostingOfNumber, assigned_posting_rows};
 
@@ -40,6 +41,12 @@ pub trait Keeper {
     // The storage works, and what it reads is what was committed. If this is false once, it stays false.
     ghost is_up: { Self → Type 0 };
 
+    // The storage is open, and what it reads is what was committed, whatever its tables have.
+    ghost is_open: { Self → Type 0 };
+
+    // A load may find these rows in the tables, whatever they have.
+    ghost finds: { Self → Raw → Type 0 };
+
     // The number of failures other than running out of memory.
     ghost failed: { Self → ℕ };
 
@@ -54,7 +61,9 @@ pub trait Keeper {
             → SinkOutcome S.gives sink.old (sink_rows (rows self.old)) result sink.new }
         ensures same { is_up self.new → rows self.new ≡ rows self.old }
         ensures was { is_up self.new → is_up self.old }
-        ensures cause { HasCause (failed self.old) (failed self.new) result };
+        ensures cause { HasCause (failed self.old) (failed self.new) result }
+        ensures found { PassesFound is_open finds S.gives self.old self.new sink.old result
+            sink.new };
 
     /// Applies all changes, or none of them and returns a fault.
     fn commit(&mut self, delta: Delta) -> Result<(), Fault>

@@ -181,11 +181,16 @@ fn yield_postings<S: PostingSink>(
 }
 
 impl Keeper for MemKeeper {
+    ghost use Rattle.std.specs.Prelude.{◌≡◌};
     ghost use Rattle.thes_tables.specs.Cells.{cells_of_tables};
 
     ghost rows = { λ k. cells_of_tables k };
 
     ghost is_up = { λ k. Unit {0} };
+
+    ghost is_open = { λ k. Unit {0} };
+
+    ghost finds = { λ k raw. raw ≡ cells_of_tables k };
 
     ghost failed = { λ k. 0 };
 
@@ -193,6 +198,7 @@ impl Keeper for MemKeeper {
         0
     }
 
+    #[tactic(auto, using(crate::proofs::FoundLemmas::passes_known))]
     fn load<S: RowSink>(&mut self, sink: &mut S) -> Result<(), Fault> {
         yield_all(self.alloc, &self.tables, sink)
     }

@@ -22,3 +22,8 @@ returns-in-Ok-clause-shows g c up =
     let here = copies_over (g.K.Keeper.rows c.args.keeper) (g.K.Keeper.rows c.load.new.keeper) c.args.limits
     c.in-Ok.core (c.in-Ok.ensures.reads.same up) (c.in-Ok.ensures.copies up) in
     (c.in-Ok.core.setting.base, here.state, here.shows)
+
+pub returns-in-Ok-clause-found : goal.returns-in-Ok-clause-found
+returns-in-Ok-clause-found g c up =
+    let here = c.in-Ok.ensures.found up in
+    (here.0, here.1, (c.in-Ok.core.setting.base, here.2.state, here.2.shows))

@@ -1,0 +1,24 @@
+-- An office over storage whose tables may have anything.
+use Rattle.std.specs.Prelude.{◌≡◌, ◌⊎◌, ℕ, List, Err}
+use Rattle.thes_base.specs.declared.data.Limits.{Limits}
+use Rattle.thes_base.specs.declared.fault.Fault.{Fault}
+use Rattle.thes_base.specs.declared.fault.Fault.TheVariants.{OutOfMemory, Store}
+use Rattle.thes_base.specs.State.{State}
+use Rattle.thes_tables.specs.Cells.{Raw}
+use Rattle.thes_core.specs.CoreView.{CoreView}
+use Rattle.thes_load_rules.specs.Verdicts.{HasVerdict}
+use Rattle.thes_office.specs.Office.{IsCopy}
+use Rattle.thes_office.specs.TablesOfState.{TablesOfState}
+
+-- The core holds the state that rows encode which a load finds.
+abbrev pub IsCopyOfFound : (Raw → Type 0) → Limits → CoreView → Type 0
+IsCopyOfFound finds limits copy = (raw : Raw) × finds raw × IsCopy raw limits copy
+
+-- Rows that a load finds encode a legal state.
+abbrev pub FindsLegalState : (Raw → Type 0) → Type 0
+FindsLegalState finds = (raw : Raw) × finds raw × ((base : List ℕ) × (s : State) × TablesOfState raw base s)
+
+-- The fault is OutOfMemory or Store, or the verdict on rows that a load finds.
+abbrev pub IsFaultOfFound : (Raw → Type 0) → Fault → Type 0
+IsFaultOfFound finds fault =
+    (fault ≡ OutOfMemory) ⊎ ((fault ≡ Store) ⊎ ((raw : Raw) × finds raw × HasVerdict raw (Err fault)))

@@ -1,0 +1,75 @@
+-- Proves that the files of a store are opened as this store, and hold it again once they are closed.
+use Rattle.std.proofs.Common.{◌≡◌, ◌∙◌, sym, ap, subst}
+use Rattle.std.proofs.Math.Logic.{∥∥₁_elim}
+use Rattle.std.specs.Prelude.{Result, Ok, Err, IfOk}
+use Rattle.sqlite_disk.specs.declared.Disk as disk
+use Rattle.sqlite_disk.specs.declared.Files.{Files}
+use Rattle.sqlite_wal.specs.Recovery.{Image}
+use Rattle.sqlite_trees.specs.Tree.{Trees}
+use Rattle.sqlite_trees.specs.Props.{Trees-set}
+use Rattle.sqlite_trees.specs.Objects.{catalog_tree}
+use Rattle.sqlite_catalog.specs.Listing.{IsSound}
+use Rattle.sqlite_catalog.proofs.ReadLemmas.{read_once, reads}
+use Rattle.sqlite_schema.specs.declared.schema.Schema.{Schema}
+use Rattle.sqlite_store.specs.declared.store.FileStore.{FileStore}
+use Rattle.sqlite.specs.Closing.{HoldsAlone, IsCopied}
+use Rattle.sqlite.specs.Effect.{Database, IsDatabase}
+use Rattle.sqlite.specs.Files.{file_state, image_of, IsOpened}
+use Rattle.sqlite.specs.Held.{Held}
+use Rattle.sqlite.specs.Start.{FindsIn}
+use Rattle.sqlite.specs.State.{State, HasCleanDisk, IsLive, Opens}
+use Rattle.thes_tables.specs.Tables.{Tables}
+use Rattle.thes_sql.specs.StoredRows.{Keeps}
+use Rattle.thes_sqlite.specs.DatabaseFiles.{ClosesFiles, HoldsStore, OpensFiles}
+
+-- The trees of a database determine its schema.
+pub one_schema : (a b : Schema) (db : Trees) → IsSound a db → IsSound b db → a ≡ b
+one_schema a b db x y =
+    let first = reads (db catalog_tree) a x.lists in
+    read_once _ a b first.tables first.indexes first.views (reads (db catalog_tree) b y.lists)
+
+same_database : (a b : Database) → IsDatabase a → IsDatabase b → a.trees ≡ b.trees → a ≡ b
+same_database a b x y trees =
+    let schema = one_schema a.schema b.schema b.trees (subst (IsSound a.schema) trees x) y in
+    λ i. record { schema = schema i; trees = trees i }
+
+-- A store that files hold is found by opening them.
+pub opens_files : (image : Image) (s : State) → FindsIn image s → Opens s → IsLive s → OpensFiles image s
+opens_files image s found opened live = record {
+  finds = found;
+  settled = opened.clean;
+  serves = λ t store.
+      let trees : s.committed.trees ≡ store.database.trees = ∥∥₁_elim store.files_hold (Trees-set _ _) (found.holds _) in
+      subst (λ (d : Database). Keeps d t)
+      (sym (opened.clean ∙ same_database s.committed store.database (live opened.is_open).1 store.sound trees))
+      store.keeps;
+}
+
+pub opened_files : {D E : Type 0} {g : disk.Ghosts D} (image : Image) (r : Result (Held (FileStore D g)) E)
+    → IfOk r (λ c. HasCleanDisk (file_state c) → IsOpened c)
+    → IfOk r (λ c. HasCleanDisk (file_state c) → FindsIn image (file_state c))
+    → IfOk r (λ c. HasCleanDisk (file_state c) → OpensFiles image (file_state c))
+opened_files image (Ok c) opened found = λ clean.
+    opens_files image (file_state c) (found clean) (opened clean).0 (opened clean).1
+opened_files image (Err e) opened found = tt
+
+-- Closing leaves the committed store in the files.
+pub closes_files : {D : Type 0} {g : disk.Ghosts D} (c : Held (FileStore D g)) (files : Files D) → IsLive (file_state c)
+    → IsCopied c files → ClosesFiles g (file_state c) files
+closes_files {D} {g} c files live copied = record {
+  was_up = (copied.was_clean, copied.was_open);
+  holds = λ settled t keeps. held settled t keeps (image_of g files) copied.seen;
+  crash = λ settled t keeps image may. held settled t keeps image (copied.left image may);
+}
+  where
+    s : State
+    s = file_state c
+
+    held : s.now ≡ s.committed → (t : Tables) → Keeps s.now t → (image : Image) → HoldsAlone image s.committed.trees
+        → HoldsStore image t
+    held settled t keeps image holds = record {
+      database = s.committed;
+      files_hold = holds.both;
+      sound = (live copied.was_open).1;
+      keeps = subst (λ (d : Database). Keeps d t) settled keeps;
+    }

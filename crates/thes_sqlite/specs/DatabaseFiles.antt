@@ -1,0 +1,35 @@
+-- Stores in the two files of a database: what opening finds, and what closing leaves.
+use Rattle.std.specs.Prelude.{◌≡◌}
+use Rattle.sqlite_disk.specs.declared.Disk.{Ghosts}
+use Rattle.sqlite_disk.specs.declared.Files.{Files}
+use Rattle.sqlite_wal.specs.Recovery.{Image}
+use Rattle.sqlite_wal.specs.Files.{outcomes}
+use Rattle.sqlite.specs.Effect.{Database, IsDatabase}
+use Rattle.sqlite.specs.Files.{HoldsDatabase, image_of}
+use Rattle.sqlite.specs.Start.{FindsIn}
+use Rattle.sqlite.specs.State.{State}
+use Rattle.thes_tables.specs.Tables.{Tables}
+use Rattle.thes_sql.specs.StoredRows.{Keeps}
+use Rattle.thes_sqlite.specs.KeeperView.{IsUp}
+
+-- The contents of the two files are a database that is a store with these tables.
+pub record HoldsStore (image : Image) (t : Tables) : Type 0 where
+  pub database : Database
+  pub files_hold : ∥ HoldsDatabase image database.trees ∥₁
+  pub sound : IsDatabase database
+  pub keeps : Keeps database t
+
+-- A database was opened in files with these contents, which may be anything. If they are a store, the database is this
+-- store, and nothing in it is uncommitted.
+pub record OpensFiles (image : Image) (s : State) : Type 0 where
+  pub finds : FindsIn image s
+  pub settled : s.now ≡ s.committed
+  pub serves : (t : Tables) → HoldsStore image t → Keeps s.now t
+
+-- The files were closed. If the database was a store, and nothing in it was uncommitted, they hold this store, as they
+-- read now and whatever a crash leaves of them.
+pub record ClosesFiles {D : Type 0} (g : Ghosts D) (s : State) (files : Files D) : Type 0 where
+  pub was_up : IsUp s
+  pub holds : s.now ≡ s.committed → (t : Tables) → Keeps s.now t → HoldsStore (image_of g files) t
+  pub crash : s.now ≡ s.committed → (t : Tables) → Keeps s.now t → (image : Image)
+      → outcomes g files.log files.db image → HoldsStore image t
