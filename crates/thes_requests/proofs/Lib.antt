@@ -1,4 +1,3 @@
-pub mod ServeLemmas
 pub mod GrammarLemmas
 pub mod ObjectLemmas
 pub mod TreeLemmas

@@ -22,7 +22,7 @@ use Rattle.thes_requests.specs.Members.{has_count, counted_members, number_in, t
 use Rattle.thes_requests.specs.MemberReadings.{is_form_stop, both, if_exact, IsStoppedEarly, ReadsMember, both_found}
 use Rattle.thes_requests.specs.MemberReadings.{pair_of}
 use Rattle.thes_requests.specs.MemberReadings.{row, a_label_value, label_value_of}
-use Rattle.thes_requests.specs.Readings.{RequestReading, reads, fails, unless, ReadsAs, Gives, ◌>>=◌, value_if}
+use Rattle.thes_requests.specs.Readings.{RequestReading, reads, fails, unless, Gives, ◌>>=◌, value_if}
 use Rattle.thes_requests.specs.Readings.{present_or_bad_shape}
 use Rattle.thes_requests.specs.Requests.{Member, number_form, tag_form, label_text_form, number_at, a_tag, label_line}
 use Rattle.thes_requests.specs.Requests.{members1, members2, members3, members4}

@@ -19,12 +19,13 @@ use Rattle.thes_base.specs.declared.pipe.Pipe.{Pipe}
 use Rattle.thes_requests.specs.LineBuffer.{bytes_left, line_bytes, line_content, line_limit, ConsumesLine}
 use Rattle.thes_requests.specs.LineBuffer.{ConsumesPartOfLine, IsLineTooLong, IsEndFound}
 use Rattle.thes_requests.specs.Serving.{LineBehaviour}
-use Rattle.thes_requests.specs.Script.{LineOutcome, StepLine, RunLines, AreAllowed, lines_limit, EndsLine, raw_lines}
-use Rattle.thes_requests.specs.Script.{ServesLines, answer_of_outcome, answer_text_or_none, script_text, noted_end}
+use Rattle.thes_requests.specs.Script.{StepLine, RunLines, AreAllowed, lines_limit, EndsLine, raw_lines}
+use Rattle.thes_requests.specs.Script.{ServesLines, outcome_text, script_text, end_after_outcome}
 use Rattle.thes_requests.specs.Script.{end_of_outcomes, end_without_lines, Session, session, StopsWithinAnswer}
 use Rattle.thes_requests.specs.Script.{ExceedsLimits, IsCause, Completes, Stops}
-use Rattle.thes_requests.specs.ScriptSteps.{LineServed, StopsAfter, StopsAtLine, ScriptProgress}
+use Rattle.thes_requests.specs.ScriptSteps.{OutcomeWritten, StopsWithOutcome, ScriptProgress}
 use Rattle.thes_requests.specs.declared.script.ScriptEnd.{ScriptEnd}
+use Rattle.thes_requests.specs.declared.serve.LineOutcome.{LineOutcome}
 use Rattle.thes_requests.proofs.LineLemmas.{lines-more, raw_lines-more, line_whole, ends_line_after_line}
 
 -- One more line adds its outcome, its effect and its answer to those of the lines before.
@@ -51,16 +52,16 @@ allowed_one_more whole raw a few short = record {
 }
 
 text_one_more : (line_outcomes : List LineOutcome) (f : LineOutcome) → script_text (line_outcomes ++ f ∷ [])
-    ≡ script_text line_outcomes ++ answer_text_or_none (answer_of_outcome f)
+    ≡ script_text line_outcomes ++ outcome_text f
 text_one_more line_outcomes f =
     rw (
-      flat_map-append (λ g. answer_text_or_none (answer_of_outcome g)) line_outcomes (f ∷ []),
-      append-nil (answer_text_or_none (answer_of_outcome f)),
+      flat_map-append outcome_text line_outcomes (f ∷ []),
+      append-nil (outcome_text f),
     ) refl
 
 end_one_more : (line_outcomes : List LineOutcome) (f : LineOutcome) → end_of_outcomes (line_outcomes ++ f ∷ [])
-    ≡ noted_end (end_of_outcomes line_outcomes) (answer_of_outcome f)
-end_one_more line_outcomes f = fold-append (λ e g. noted_end e (answer_of_outcome g)) end_without_lines line_outcomes
+    ≡ end_after_outcome (end_of_outcomes line_outcomes) f
+end_one_more line_outcomes f = fold-append end_after_outcome end_without_lines line_outcomes
     (f ∷ [])
 
 -- The last line of an input isn't empty, if no line feed ends it.
@@ -138,29 +139,29 @@ module _ {R W S : Type 0} (remaining : R → Option (List ℕ)) (contents : W �
       (s : ScriptProgress remaining contents serves old (session reader writer handler) held count ended) where
     -- A line that was skipped or answered extends the progress.
     pub progress_line : (reader' : Pipe R) (writer' : Pipe W) (desk' : S) (held' : List ℕ) (ended' : ScriptEnd)
-        (raw : List ℕ) → ended_of reader ≡ false → count < lines_limit
+        (raw : List ℕ) (line_outcome : LineOutcome) → ended_of reader ≡ false → count < lines_limit
         → ConsumesLine (bytes_left remaining held reader) (bytes_left remaining held' reader') raw (ended_of reader')
-        → LineServed contents serves is_open (line_content raw (ended_of reader')) handler desk' writer writer' ended
-        ended'
+        → StepLine serves handler (line_content raw (ended_of reader')) line_outcome desk'
+        → OutcomeWritten contents is_open desk' writer writer' line_outcome ended ended'
         → ScriptProgress remaining contents serves old (session reader' writer' desk') held' (count + 1) ended'
-    progress_line reader' writer' desk' held' ended' raw goes few k v = let whole = s.whole goes in let c =
+    progress_line reader' writer' desk' held' ended' raw line_outcome goes few k step v = let whole = s.whole goes in let c =
         s.line_count in let line = line_bytes raw (ended_of reader') in record {
           bytes = s.bytes ++ line;
           taken = Consumes-trans (unread_bytes remaining old.reader) (bytes_left remaining held reader)
               (bytes_left remaining held' reader') s.bytes line s.taken k.bytes;
           whole = ends_line_after_line s.bytes raw (ended_of reader');
           last = λ t. let l = k.last t in l.1;
-          line_outcomes = s.line_outcomes ++ v.line_outcome ∷ [];
-          lines = serves_one_more v.line_outcome s.lines whole (omega (arith, c, few)) k v.step;
+          line_outcomes = s.line_outcomes ++ line_outcome ∷ [];
+          lines = serves_one_more line_outcome s.lines whole (omega (arith, c, few)) k step;
           line_count = rw (
             raw_lines-more s.bytes raw (ended_of reader') whole k.one (some_last k),
             length-append (raw_lines s.bytes) (raw ∷ []),
           ) (ap (λ n. n + 1) s.line_count);
-          text = rw (text_one_more s.line_outcomes v.line_outcome) (Appends-trans (written_bytes contents old.writer)
+          text = rw (text_one_more s.line_outcomes line_outcome) (Appends-trans (written_bytes contents old.writer)
               (written_bytes contents writer) (written_bytes contents writer') (script_text s.line_outcomes)
-              (answer_text_or_none (answer_of_outcome v.line_outcome)) s.text v.text);
-          noted_end = v.noted_end ∙ (ap (λ x. noted_end x (answer_of_outcome v.line_outcome)) s.noted_end
-              ∙ sym (end_one_more s.line_outcomes v.line_outcome));
+              (outcome_text line_outcome) s.text v.text);
+          noted_end = v.noted_end ∙ (ap (λ x. end_after_outcome x line_outcome) s.noted_end
+              ∙ sym (end_one_more s.line_outcomes line_outcome));
         }
 
     -- A script whose input has ended between two lines is complete.
@@ -214,12 +215,12 @@ module _ {R W S : Type 0} (remaining : R → Option (List ℕ)) (contents : W �
 
     -- A script that stops at the answer to a line has served that line.
     pub stops_at_line : (reader' : Pipe R) (writer' : Pipe W) (desk' : S) (held' : List ℕ) (fault : PipeFault)
-        (raw : List ℕ) → ended_of reader ≡ false → count < lines_limit
+        (raw : List ℕ) (line_outcome : LineOutcome) → ended_of reader ≡ false → count < lines_limit
         → ConsumesLine (bytes_left remaining held reader) (bytes_left remaining held' reader') raw (ended_of reader')
-        → failed_of reader' ≡ false → StopsAtLine contents serves is_open (line_content raw (ended_of reader'))
-        handler desk' writer writer' fault
+        → failed_of reader' ≡ false → StepLine serves handler (line_content raw (ended_of reader')) line_outcome desk'
+        → StopsWithOutcome contents is_open desk' writer writer' line_outcome fault
         → Stops remaining contents serves is_open old (session reader' writer' desk') fault
-    stops_at_line reader' writer' desk' held' fault raw goes few k fine v =
+    stops_at_line reader' writer' desk' held' fault raw line_outcome goes few k fine step v =
         let whole = s.whole goes in let c = s.line_count in let line = line_bytes raw (ended_of reader') in record {
           served = s.bytes ++ line;
           rest = bytes_left remaining held' reader';
@@ -227,11 +228,11 @@ module _ {R W S : Type 0} (remaining : R → Option (List ℕ)) (contents : W �
               (bytes_left remaining held' reader') s.bytes line s.taken k.bytes;
           whole = by_end (ended_of reader') (ends_line_after_line s.bytes raw (ended_of reader')) (λ t. let l =
               k.last t in l.1);
-          line_outcomes = s.line_outcomes ++ v.line_outcome ∷ [];
-          lines = serves_one_more v.line_outcome s.lines whole (omega (arith, c, few)) k v.step;
-          cause = after fault v.cause;
-          read = never_read fault v.cause;
-          wrote = wrote_only fault v.cause;
+          line_outcomes = s.line_outcomes ++ line_outcome ∷ [];
+          lines = serves_one_more line_outcome s.lines whole (omega (arith, c, few)) k step;
+          cause = after fault v;
+          read = never_read fault v;
+          wrote = wrote_only fault v;
         }
       where
         by_end : (e : Bool) → (e ≡ false → EndsLine (s.bytes ++ line_bytes raw (ended_of reader')))
@@ -242,45 +243,42 @@ module _ {R W S : Type 0} (remaining : R → Option (List ℕ)) (contents : W �
         by_end false f g = inl (f refl)
 
         breaks_off : AppendsPrefix (written_bytes contents writer) (written_bytes contents writer')
-            (answer_text_or_none (answer_of_outcome v.line_outcome)) → StopsWithinAnswer remaining contents serves
-            is_open old (session reader' writer' desk') (s.line_outcomes ++ v.line_outcome ∷ [])
+            (outcome_text line_outcome) → StopsWithinAnswer remaining contents serves
+            is_open old (session reader' writer' desk') (s.line_outcomes ++ line_outcome ∷ [])
         breaks_off f = record {
           before = s.line_outcomes;
-          last = v.line_outcome;
+          last = line_outcome;
           all = refl;
           count = f.count;
           within = f.within;
           text = Appends-trans (written_bytes contents old.writer) (written_bytes contents writer)
               (written_bytes contents writer') (script_text s.line_outcomes)
-              (take f.count (answer_text_or_none (answer_of_outcome v.line_outcome))) s.text f.front;
+              (take f.count (outcome_text line_outcome)) s.text f.front;
         }
 
-        after : (fault : PipeFault) → StopsAfter contents serves is_open (line_content raw (ended_of reader')) handler
-            desk' writer writer' fault (answer_text_or_none (answer_of_outcome v.line_outcome))
+        after : (fault : PipeFault) → StopsWithOutcome contents is_open desk' writer writer' line_outcome fault
             → IsCause remaining contents serves is_open old (session reader' writer' desk') fault
             (s.bytes ++ line_bytes raw (ended_of reader')) (bytes_left remaining held' reader')
-            (s.line_outcomes ++ v.line_outcome ∷ [])
+            (s.line_outcomes ++ line_outcome ∷ [])
         after Read h = absurd h
         after Write h = breaks_off h.0
         after TooLong h = inl (breaks_off h.0, h.2)
         after (Fault f) h = (
-          rw (text_one_more s.line_outcomes v.line_outcome) (Appends-trans (written_bytes contents old.writer)
+          rw (text_one_more s.line_outcomes line_outcome) (Appends-trans (written_bytes contents old.writer)
               (written_bytes contents writer) (written_bytes contents writer') (script_text s.line_outcomes)
-              (answer_text_or_none (answer_of_outcome v.line_outcome)) s.text h.0),
+              (outcome_text line_outcome) s.text h.0),
           h.2,
           inr h.3,
         )
 
-        never_read : (fault : PipeFault) → StopsAfter contents serves is_open (line_content raw (ended_of reader'))
-            handler desk' writer writer' fault (answer_text_or_none (answer_of_outcome v.line_outcome))
+        never_read : (fault : PipeFault) → StopsWithOutcome contents is_open desk' writer writer' line_outcome fault
             → (fault ≡ Read) ↔ (failed_of reader' ≡ true)
         never_read Read h = absurd h
         never_read Write h = (λ e. cc, λ e. let f = fine in cc)
         never_read TooLong h = (λ e. cc, λ e. let f = fine in cc)
         never_read (Fault g) h = (λ e. cc, λ e. let f = fine in cc)
 
-        wrote_only : (fault : PipeFault) → StopsAfter contents serves is_open (line_content raw (ended_of reader'))
-            handler desk' writer writer' fault (answer_text_or_none (answer_of_outcome v.line_outcome))
+        wrote_only : (fault : PipeFault) → StopsWithOutcome contents is_open desk' writer writer' line_outcome fault
             → (fault ≡ Write) ↔ (failed_of writer' ≡ true)
         wrote_only Read h = absurd h
         wrote_only Write h = (λ e. h.1, λ e. refl)

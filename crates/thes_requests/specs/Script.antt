@@ -10,11 +10,14 @@ use Rattle.thes_base.specs.declared.fault.PipeFault.{PipeFault}
 use Rattle.thes_base.specs.declared.fault.PipeFault.TheVariants.{Read, Write, TooLong, Fault}
 use Rattle.thes_base.specs.declared.pipe.Pipe.{Pipe}
 use Rattle.thes_base.specs.declared.request.Answer.TheVariants as answer
+use Rattle.thes_requests.specs.AnswerTexts.{reply_text}
 use Rattle.thes_requests.specs.LineBuffer.{has_newline, line_limit}
 use Rattle.thes_requests.specs.Serving.{LineBehaviour, line_answer_text}
 use Rattle.thes_requests.specs.declared.answer.Reply.TheVariants as reply
 use Rattle.thes_requests.specs.declared.serve.LineAnswer.{LineAnswer}
 use Rattle.thes_requests.specs.declared.serve.LineAnswer.TheVariants.{Reply, View}
+use Rattle.thes_requests.specs.declared.serve.LineOutcome.{LineOutcome}
+use Rattle.thes_requests.specs.declared.serve.LineOutcome.TheVariants.{Skipped, Unheld, Answered}
 use Rattle.thes_requests.specs.declared.script.ScriptEnd.{ScriptEnd}
 
 -- The greatest number of lines in a script.
@@ -45,13 +48,6 @@ EndsLine bytes = (bytes ≡ []) ⊎ ((front : List ℕ) × (bytes ≡ front ++ 1
 abbrev pub is_blank : List ℕ → Bool
 is_blank line = list_all (λ b. b == 32 || b == 9) line
 
--- The outcome of a line: skipped since it is blank, not held since memory ran out, or answered.
-pub data LineOutcome : Type 0 where
-  Skipped : LineOutcome
-  -- No memory was left to hold the line.
-  Unheld : LineOutcome
-  Answered : LineAnswer → LineOutcome
-
 -- The effect of one line on the handler: none if the line is blank or isn't held, else that of its
 -- request.
 abbrev pub StepLine : {S : Type 0} → LineBehaviour S → S → List ℕ → LineOutcome → S → Type 0
@@ -73,20 +69,16 @@ pub record ServesLines {S : Type 0} (serves : LineBehaviour S) (bytes : List ℕ
   pub lines_allowed : AreAllowed (raw_lines bytes)
   pub run : RunLines serves old (lines bytes) line_outcomes new
 
--- The answer to a line with this outcome: none if it is blank, and `OutOfMemory` if it isn't held.
-abbrev pub answer_of_outcome : LineOutcome → Option LineAnswer
-answer_of_outcome Skipped = None
-answer_of_outcome Unheld = Some (Reply (reply.Fault OutOfMemory))
-answer_of_outcome (Answered o) = Some o
-
--- The text of an answer, empty if there is none.
-abbrev pub answer_text_or_none : Option LineAnswer → List ℕ
-answer_text_or_none None = []
-answer_text_or_none (Some o) = line_answer_text o
+-- The text of the answer to a line with this outcome: empty if it is skipped, and `OutOfMemory` if
+-- it isn't held.
+abbrev pub outcome_text : LineOutcome → List ℕ
+outcome_text Skipped = []
+outcome_text Unheld = reply_text (reply.Fault OutOfMemory)
+outcome_text (Answered o) = line_answer_text o
 
 -- The output of a script: the answers to its lines.
 abbrev pub script_text : List LineOutcome → List ℕ
-script_text line_outcomes = flat_map (λ f. answer_text_or_none (answer_of_outcome f)) line_outcomes
+script_text line_outcomes = flat_map outcome_text line_outcomes
 
 -- The end of a script after another answer: records a refusal, a form fault or a fault.
 abbrev pub end_after_answer : ScriptEnd → LineAnswer → ScriptEnd
@@ -96,10 +88,11 @@ end_after_answer e (Reply (reply.Bad f)) = record e { refused = true }
 end_after_answer e (Reply (reply.Fault f)) = record e { fault = Some f }
 end_after_answer e (View text) = e
 
--- The end of a script after another line: unchanged if there is no answer.
-abbrev pub noted_end : ScriptEnd → Option LineAnswer → ScriptEnd
-noted_end e None = e
-noted_end e (Some o) = end_after_answer e o
+-- The end of a script after a line with this outcome: unchanged if it is skipped.
+abbrev pub end_after_outcome : ScriptEnd → LineOutcome → ScriptEnd
+end_after_outcome e Skipped = e
+end_after_outcome e Unheld = record e { fault = Some OutOfMemory }
+end_after_outcome e (Answered o) = end_after_answer e o
 
 -- The end of a script without lines.
 abbrev pub end_without_lines : ScriptEnd
@@ -107,7 +100,7 @@ end_without_lines = record { refused = false; fault = None }
 
 -- The end of a script after lines with these outcomes.
 abbrev pub end_of_outcomes : List LineOutcome → ScriptEnd
-end_of_outcomes line_outcomes = fold (λ e f. noted_end e (answer_of_outcome f)) end_without_lines line_outcomes
+end_of_outcomes line_outcomes = fold end_after_outcome end_without_lines line_outcomes
 
 -- A run of a script has a reader, a writer and a request handler. If a device, such as standard
 -- input, doesn't know its bytes, a statement about its bytes only says that some such bytes exist.
@@ -160,8 +153,8 @@ module _ {R W S : Type 0} (remaining : R → Option (List ℕ)) (contents : W �
     pub last : LineOutcome
     pub all : line_outcomes ≡ before ++ last ∷ []
     pub count : ℕ
-    pub within : count ≤ length (answer_text_or_none (answer_of_outcome last))
-    pub text : WritesOutput (script_text before ++ take count (answer_text_or_none (answer_of_outcome last)))
+    pub within : count ≤ length (outcome_text last)
+    pub text : WritesOutput (script_text before ++ take count (outcome_text last))
 
   -- The reason why the script stopped after these lines, and the output up to then, by fault.
   -- `Read`: the reader failed, and exactly the lines that it returned with their line feeds were

@@ -1,6 +1,5 @@
 -- The progress of a script line by line, for private contracts and proofs.
 use Rattle.std.specs.Prelude.{◌≡◌, ℕ, Bool, true, false, List, length, Option}
-use Rattle.std.specs.Str.Lines.{lines}
 use Rattle.std.specs.Io.KnownBytes.{Appends, Consumes, IsAtEnd}
 use Rattle.thes_base.specs.Pipe.{IsFresh, failed_of, ended_of, denied_of, unread_bytes, written_bytes, AppendsPrefix}
 use Rattle.thes_base.specs.declared.fault.Fault.TheVariants.{OutOfMemory}
@@ -9,46 +8,34 @@ use Rattle.thes_base.specs.declared.fault.PipeFault.TheVariants.{Read, Write, To
 use Rattle.thes_base.specs.declared.pipe.Pipe.{Pipe}
 use Rattle.thes_requests.specs.LineBuffer.{bytes_left}
 use Rattle.thes_requests.specs.Serving.{LineBehaviour}
-use Rattle.thes_requests.specs.Script.{LineOutcome, StepLine, ServesLines, EndsLine, Session, raw_lines}
-use Rattle.thes_requests.specs.Script.{answer_of_outcome, answer_text_or_none, script_text, noted_end}
-use Rattle.thes_requests.specs.Script.{end_of_outcomes}
+use Rattle.thes_requests.specs.Script.{ServesLines, EndsLine, Session, raw_lines, outcome_text, script_text}
+use Rattle.thes_requests.specs.Script.{end_after_outcome, end_of_outcomes}
 use Rattle.thes_requests.specs.declared.script.ScriptEnd.{ScriptEnd}
+use Rattle.thes_requests.specs.declared.serve.LineOutcome.{LineOutcome}
 
-module _ {W S : Type 0} (contents : W → Option (List ℕ)) (serves : LineBehaviour S) (is_open : S → Bool)
-    (line : List ℕ) (old new : S) (writer writer' : Pipe W) where
-  -- The text was appended to the output.
-  abbrev pub WritesLineOutput : List ℕ → Type 0
-  WritesLineOutput text = Appends (written_bytes contents writer) (written_bytes contents writer') text
-
-  -- A prefix of the text was appended to the output.
-  abbrev pub WritesLineOutputPrefix : List ℕ → Type 0
-  WritesLineOutputPrefix text = AppendsPrefix (written_bytes contents writer) (written_bytes contents writer') text
-
-  -- One line was skipped, or was answered and its whole answer written; the handler is still open.
-  pub record LineServed (ended ended' : ScriptEnd) : Type 0 where
-    pub line_outcome : LineOutcome
-    pub step : StepLine serves old line line_outcome new
-    pub text : WritesLineOutput (answer_text_or_none (answer_of_outcome line_outcome))
-    pub noted_end : ended' ≡ noted_end ended (answer_of_outcome line_outcome)
-    pub stays_open : is_open new ≡ true
+module _ {W S : Type 0} (contents : W → Option (List ℕ)) (is_open : S → Bool) (handler : S)
+    (writer writer' : Pipe W) where
+  -- The answer to a line was written, if it has one; the handler is still open.
+  pub record OutcomeWritten (line_outcome : LineOutcome) (ended ended' : ScriptEnd) : Type 0 where
+    pub text : Appends (written_bytes contents writer) (written_bytes contents writer') (outcome_text line_outcome)
+    pub noted_end : ended' ≡ end_after_outcome ended line_outcome
+    pub stays_open : is_open handler ≡ true
     pub fresh : IsFresh writer'
 
-  -- The output and the state that a fault leaves after this line. `Write`, `TooLong`: the writer
-  -- failed or was denied a write, after a prefix of the answer. `Fault`: the handler closed, after
-  -- the whole answer.
-  abbrev pub StopsAfter : PipeFault → List ℕ → Type 0
-  StopsAfter Read text = ⊥
-  StopsAfter Write text = WritesLineOutputPrefix text × (failed_of writer' ≡ true)
-  StopsAfter TooLong text =
-      WritesLineOutputPrefix text × (failed_of writer' ≡ false) × (denied_of writer' ≡ true)
-  StopsAfter (Fault f) text =
-      WritesLineOutput text × (failed_of writer' ≡ false) × (f ≡ OutOfMemory) × (is_open new ≡ false)
-
-  -- The line had its effect, and the script stopped within its answer or right after it.
-  pub record StopsAtLine (fault : PipeFault) : Type 0 where
-    pub line_outcome : LineOutcome
-    pub step : StepLine serves old line line_outcome new
-    pub cause : StopsAfter fault (answer_text_or_none (answer_of_outcome line_outcome))
+  -- The output and the state that a fault leaves after a line. `Write`, `TooLong`: the writer failed
+  -- or was denied a write, after a prefix of the answer. `Fault`: the handler closed, after the
+  -- whole answer.
+  abbrev pub StopsWithOutcome : LineOutcome → PipeFault → Type 0
+  StopsWithOutcome line_outcome Read = ⊥
+  StopsWithOutcome line_outcome Write =
+      AppendsPrefix (written_bytes contents writer) (written_bytes contents writer') (outcome_text line_outcome)
+      × (failed_of writer' ≡ true)
+  StopsWithOutcome line_outcome TooLong =
+      AppendsPrefix (written_bytes contents writer) (written_bytes contents writer') (outcome_text line_outcome)
+      × (failed_of writer' ≡ false) × (denied_of writer' ≡ true)
+  StopsWithOutcome line_outcome (Fault f) =
+      Appends (written_bytes contents writer) (written_bytes contents writer') (outcome_text line_outcome)
+      × (failed_of writer' ≡ false) × (f ≡ OutOfMemory) × (is_open handler ≡ false)
 
 -- The lines of `bytes` were served; the bytes after them are in the buffer or still in the reader.
 pub record ScriptProgress {R W S : Type 0} (remaining : R → Option (List ℕ)) (contents : W → Option (List ℕ))

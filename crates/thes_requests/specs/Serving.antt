@@ -58,6 +58,17 @@ Serves performs shows old line (Reply (reply.Fault f)) new =
 Serves performs shows old line (View text) new =
     (query : Query) × IsQueryLine line query × shows old query (Ok (view.Line text)) new
 
+-- The answer to the line of a command with this result.
+abbrev pub command_answer : Result Answer Fault → LineAnswer
+command_answer (Ok a) = Reply (reply.Answer a)
+command_answer (Err f) = Reply (reply.Fault f)
+
+-- The answer to the line of a query with this result.
+abbrev pub query_answer : Result QueryAnswer Fault → LineAnswer
+query_answer (Ok (view.Line text)) = View text
+query_answer (Ok (view.No r)) = Reply (reply.Answer (answer.No r))
+query_answer (Err f) = Reply (reply.Fault f)
+
 -- The text of an answer to a line, with its line feed.
 abbrev pub line_answer_text : LineAnswer → List ℕ
 line_answer_text (Reply r) = reply_text r

@@ -1,16 +1,16 @@
 //! Scripts: one request a line, each answered with a line before the next one is performed.
-ghost use Rattle.std.specs.Prelude.{◌≡◌, ◌≢◌, true, false, List, ℕ, IfOk, IfErr, OnOk};
+ghost use Rattle.std.specs.Prelude.{◌≡◌, true, IfOk, IfErr, OnOk};
 ghost use Rattle.thes_base.specs.Pipe.{IsFresh, PaysCalls, KeepsSharedCallLimit};
-ghost use Rattle.thes_requests.specs.Script.{is_blank, end_after_answer, end_without_lines, session, Completes, Stops};
+ghost use Rattle.thes_requests.specs.Script.{end_after_outcome, end_without_lines, session, Completes, Stops};
 ghost use Rattle.thes_requests.specs.Serving.{Serves};
-ghost use Rattle.thes_requests.specs.ScriptSteps.{LineServed, StopsAtLine};
+ghost use Rattle.thes_requests.specs.ScriptSteps.{OutcomeWritten, StopsWithOutcome};
 
 use crate::answer::Reply;
 use crate::handler::RequestHandler;
 use crate::line_buffer::LineSearch;
 use crate::lines::ScriptLines;
 use crate::request::RequestScratch;
-use crate::serve::{LineAnswer, serve};
+use crate::serve::{LineAnswer, LineOutcome, serve_line};
 use std::alloc::Global;
 use std::io::{Read, Write};
 use thes_base::fault::{Fault, PipeFault};
@@ -37,82 +37,40 @@ impl ScriptEnd {
         }
     }
 
-    // Records an answer that is a refusal, a form fault or a fault.
-    fn note(&mut self, outcome: &LineAnswer)
-        ensures { self.new ≡ end_after_answer self.old outcome.now }
+    // Records the outcome of a line: whether its answer is a refusal, a form fault or a fault.
+    fn note(&mut self, outcome: &LineOutcome)
+        ensures { self.new ≡ end_after_outcome self.old outcome.now }
     {
         match outcome {
-            LineAnswer::Reply(Reply::Answer(Answer::No(_)) | Reply::Bad(_)) => self.refused = true,
-            LineAnswer::Reply(Reply::Fault(fault)) => self.fault = Some(*fault),
-            LineAnswer::Reply(Reply::Answer(_)) | LineAnswer::View(_) => {}
+            LineOutcome::Answered(
+                LineAnswer::Reply(Reply::Answer(Answer::No(_)) | Reply::Bad(_)),
+            ) => self.refused = true,
+            LineOutcome::Answered(LineAnswer::Reply(Reply::Fault(fault))) => {
+                self.fault = Some(*fault)
+            }
+            LineOutcome::Unheld => self.fault = Some(Fault::OutOfMemory),
+            LineOutcome::Skipped
+            | LineOutcome::Answered(LineAnswer::Reply(Reply::Answer(_)) | LineAnswer::View(_)) => {}
         }
     }
 }
 
-// Returns whether the line holds only spaces and tabs.
-fn is_blank(line: &[u8]) -> bool
-    ensures { result ≡ is_blank line.now }
-{
-    line.iter().all(|byte| *byte == b' ' || *byte == b'\t')
-}
-
-// Returns whether the line is skipped: it was found and held in memory, and is blank.
-fn is_skipped(line: &[u8], found: LineSearch) -> bool
-    ensures skipped { result ≡ true → (found ≡ LineSearch.Line) × (is_blank line.now ≡ true) }
-    ensures kept { result ≡ false → found ≡ LineSearch.Line → is_blank line.now ≡ false }
-{
-    match found {
-        LineSearch::Line => is_blank(line),
-        LineSearch::NoRoom | LineSearch::End => false,
-    }
-}
-
-// Answers a line. A line that didn't fit into memory has no effect, and is answered with
-// `OutOfMemory`.
-fn answer_for_line<D: RequestHandler>(
-    memory: &mut RequestScratch,
-    handler: &mut D,
-    line: &[u8],
-    found: LineSearch,
-) -> LineAnswer
-    requires { D.is_open handler.old ≡ true }
-    ensures held { found ≡ LineSearch.Line →
-        Serves D.performs D.shows handler.old line.now result handler.new }
-    ensures unheld { found ≢ LineSearch.Line →
-        (result ≡ LineAnswer.Reply (Reply.Fault Fault.OutOfMemory)) × (handler.new ≡ handler.old) }
-{
-    match found {
-        LineSearch::Line => serve(memory, handler, line),
-        LineSearch::NoRoom | LineSearch::End => LineAnswer::Reply(Reply::Fault(Fault::OutOfMemory)),
-    }
-}
-
-// Skips a blank line; answers any other, records the answer in `ended`, and writes it. Fails if the
-// writer fails or is denied a write, and with `OutOfMemory` if the handler has closed.
-fn serve_line<W: Write, D: RequestHandler>(
-    memory: &mut RequestScratch,
+// Records the outcome of a line in `ended`, and writes its answer. Fails if the writer fails or is
+// denied a write, and with `OutOfMemory` if the handler has closed.
+fn write_outcome<W: Write, D: RequestHandler>(
     writer: &mut Pipe<W>,
     budget: &mut Budget,
-    handler: &mut D,
-    line: &[u8],
-    found: LineSearch,
+    handler: &D,
+    outcome: LineOutcome,
     ended: &mut ScriptEnd,
 ) -> Result<(), PipeFault>
-    requires writer { IsFresh writer.old }
-    requires open { D.is_open handler.old ≡ true }
-    ensures ok { OnOk result ((text : List ℕ) → (found ≡ LineSearch.Line → text ≡ line.now) →
-        LineServed W.contents (Serves D.performs D.shows) D.is_open text
-        handler.old handler.new writer.old writer.new ended.old ended.new) }
-    ensures stopped { IfErr result (λ fault. (text : List ℕ) →
-        (found ≡ LineSearch.Line → text ≡ line.now) →
-        StopsAtLine W.contents (Serves D.performs D.shows) D.is_open text
-        handler.old handler.new writer.old writer.new fault) }
+    requires { IsFresh writer.old }
+    ensures ok { OnOk result (OutcomeWritten W.contents D.is_open handler.now
+        writer.old writer.new outcome ended.old ended.new) }
+    ensures stopped { IfErr result (StopsWithOutcome W.contents D.is_open handler.now
+        writer.old writer.new outcome) }
     ensures paid { PaysCalls writer.old writer.new budget.old budget.new }
 {
-    if is_skipped(line, found) {
-        return Ok(());
-    }
-    let outcome = answer_for_line(memory, handler, line, found);
     ended.note(&outcome);
     if let Err(stop) = outcome.write(writer, budget) {
         return Err(stop.writer_fault());
@@ -159,15 +117,8 @@ pub fn script<R: Read, W: Write, D: RequestHandler>(
         if found == LineSearch::End {
             return Ok(ended);
         }
-        serve_line(
-            &mut memory,
-            writer,
-            &mut budget,
-            handler,
-            &lines.line,
-            found,
-            &mut ended,
-        )?;
+        let outcome = serve_line(&mut memory, handler, &lines.line, found);
+        write_outcome(writer, &mut budget, handler, outcome, &mut ended)?;
     }
     Ok(ended)
 }

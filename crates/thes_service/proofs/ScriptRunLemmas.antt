@@ -17,8 +17,9 @@ use Rattle.thes_requests.specs.declared.answer.Reply.TheVariants as reply
 use Rattle.thes_requests.specs.declared.serve.LineAnswer.{LineAnswer}
 use Rattle.thes_requests.specs.declared.serve.LineAnswer.TheVariants.{Reply, View}
 use Rattle.thes_requests.specs.declared.script.ScriptEnd.{ScriptEnd}
-use Rattle.thes_requests.specs.Script.{LineOutcome, Skipped, Unheld, Answered, StepLine, RunLines, Session, Completes}
-use Rattle.thes_requests.specs.Script.{Stops}
+use Rattle.thes_requests.specs.declared.serve.LineOutcome.{LineOutcome}
+use Rattle.thes_requests.specs.declared.serve.LineOutcome.TheVariants.{Skipped, Unheld, Answered}
+use Rattle.thes_requests.specs.Script.{StepLine, RunLines, Session, Completes, Stops}
 use Rattle.thes_service.specs.OfficeRequests.{IsReachedByRun, OfficeServes, is_always_open}
 
 module _ {K : Type 0} (rows : K → Raw) (is_up : K → Type 0) (failed : K → ℕ) where

@@ -2,6 +2,7 @@ use Rattle.std.proofs.Common.{rules, ◌≡◌, ◌≢◌, ◌<◌, arith, false
 use Rattle.std.proofs.lemmas.Result.{err_from_is_err_and}
 use Rattle.thes_base.proofs.PipeLemmas.{all_left, left_after_reads, left_after_writes, keeps_to_limit}
 use Rattle.thes_base.specs.Pipe.{ended_of, failed_of}
+use Rattle.thes_requests.specs.LineBuffer.{line_content}
 use Rattle.thes_requests.specs.Script.{lines_limit}
 use Rattle.thes_requests.specs.Serving.{Serves}
 use Rattle.thes_requests.specs.declared.line_buffer.LineSearch.TheVariants.{End}
@@ -60,40 +61,46 @@ loop-ended-preserved g c =
     let taken = c.in-Ok.ensures.line some in
     let count = c.in-Ok.ensures.count some in
     let few : c.loop-ended.lines.count < lines_limit = omega (arith, count.0, count.1) in
-    let answered = c.in_ok-serve_line.ensures.ok _ (λ h. rw c.deref.ensures.value (taken.2 h)) in record {
+    let step =
+    c.serve_line-outcome.ensures (line_content taken.0 (ended_of c.next_line.new.reader))
+    (λ h. rw c.deref.ensures.value (taken.2 h)) in
+    let written = c.in_ok-write_outcome.ensures.ok in record {
       served =
           rw count.0 (progress_line g.R.Read.remaining g.W.Write.contents
           (Serves g.D.RequestHandler.performs g.D.RequestHandler.shows) g.D.RequestHandler.is_open
           c.loop-ended.invariant.served
-          c.next_line.new.reader c.serve_line.new.writer c.serve_line.new.handler c.next_line.new.self.line_buffer
-          c.serve_line.new.ended taken.0 goes few taken.1 answered);
+          c.next_line.new.reader c.write_outcome.new.writer c.serve_line-outcome.new.handler
+          c.next_line.new.self.line_buffer c.write_outcome.new.ended taken.0 c.serve_line-outcome.result goes few
+          taken.1 step written);
       reader = search rules;
-      writer = answered.fresh;
-      stays_open = answered.stays_open;
+      writer = written.fresh;
+      stays_open = written.stays_open;
       within = count.1;
       calls = left_after_writes (left_after_reads c.loop-ended.invariant.calls c.in-Ok.ensures.paid)
-          c.in_ok-serve_line.ensures.paid;
+          c.in_ok-write_outcome.ensures.paid;
     }
 
-pub returns-in_err-serve_line-clause-stopped : goal.returns-in_err-serve_line-clause-stopped
-returns-in_err-serve_line-clause-stopped g c =
+pub returns-in_err-write_outcome-clause-stopped : goal.returns-in_err-write_outcome-clause-stopped
+returns-in_err-write_outcome-clause-stopped g c =
     let goes : ended_of c.loop-ended.reader ≡ false = search rules in
     let some : c.in-Ok.found ≢ End = search rules in
     let fine : failed_of c.next_line.new.reader ≡ false = search rules in
     let taken = c.in-Ok.ensures.line some in
     let count = c.in-Ok.ensures.count some in
     let few : c.loop-ended.lines.count < lines_limit = omega (arith, count.0, count.1) in
-    let p = err_from_is_err_and c.from_residual-in_err-serve_line.result c.from_residual-in_err-serve_line.ensures.1 in
+    let p = err_from_is_err_and c.from_residual-in_err-write_outcome.result c.from_residual-in_err-write_outcome.ensures.1 in
     rw (p.1, p.2) (stops_at_line g.R.Read.remaining g.W.Write.contents
     (Serves g.D.RequestHandler.performs g.D.RequestHandler.shows) g.D.RequestHandler.is_open
-    c.loop-ended.invariant.served c.next_line.new.reader c.serve_line.new.writer c.serve_line.new.handler
-    c.next_line.new.self.line_buffer _ taken.0 goes few taken.1 fine
-    (c.in_err-serve_line.ensures.stopped _ (λ h. rw c.deref.ensures.value (taken.2 h))))
+    c.loop-ended.invariant.served c.next_line.new.reader c.write_outcome.new.writer c.serve_line-outcome.new.handler
+    c.next_line.new.self.line_buffer _ taken.0 c.serve_line-outcome.result goes few taken.1 fine
+    (c.serve_line-outcome.ensures (line_content taken.0 (ended_of c.next_line.new.reader))
+    (λ h. rw c.deref.ensures.value (taken.2 h)))
+    c.in_err-write_outcome.ensures.stopped)
 
-pub returns-in_err-serve_line-clause-calls : goal.returns-in_err-serve_line-clause-calls
-returns-in_err-serve_line-clause-calls g c =
+pub returns-in_err-write_outcome-clause-calls : goal.returns-in_err-write_outcome-clause-calls
+returns-in_err-write_outcome-clause-calls g c =
     keeps_to_limit (left_after_writes (left_after_reads c.loop-ended.invariant.calls c.in-Ok.ensures.paid)
-    c.in_err-serve_line.ensures.paid)
+    c.in_err-write_outcome.ensures.paid)
 
 pub returns-clause-completed : goal.returns-clause-completed
 returns-clause-completed g c =
