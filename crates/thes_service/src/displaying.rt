@@ -1,11 +1,10 @@
-//! Displays of the state that an office's tables encode.
+//! Displays of the state that a core holds.
 ghost use Rattle.std.specs.Prelude.{◌≡◌, false, IfOk};
 ghost use Rattle.thes_base.specs.State.{State};
 ghost use Rattle.thes_core.specs.CoreView.{IsViewOf};
-ghost use Rattle.thes_service.specs.Service.{IsDisplay, IsDisplayed, OfficeDisplays};
+ghost use Rattle.thes_service.specs.Service.{IsDisplay, IsDisplayed};
 
 use std::alloc::{AllocError, Global};
-use thes_base::fault::Fault;
 use thes_base::number::ResNo;
 use thes_base::text::Tag;
 use thes_core::Core;
@@ -13,8 +12,6 @@ use thes_display::entry::alphabetical_text;
 use thes_display::gather::hierarchical_text;
 use thes_display::writing::check_scheme;
 use thes_http::service::{Display, DisplayAnswer, Page};
-use thes_office::Office;
-use thes_store::keeper::Keeper;
 
 // Returns the text of the display of a scheme in the language of the tag.
 fn display_text(
@@ -34,9 +31,9 @@ fn display_text(
     }
 }
 
-// Returns a display of a scheme in the state that the core holds, or the refusal of the scheme's
-// number.
-fn display_core_scheme(
+/// Returns a display of a scheme in the state that the core holds, or the refusal of the scheme's
+/// number.
+pub(crate) fn display_of_core(
     core: &Core,
     alloc: Global,
     display: Display,
@@ -52,19 +49,4 @@ fn display_core_scheme(
     }
     let text = display_text(core, alloc, display, scheme, tag)?;
     Ok(DisplayAnswer::Lines(Page::new(text)))
-}
-
-/// Returns a display of a scheme in the language of the tag, or the refusal of the scheme's number.
-pub(crate) fn display_scheme<K: Keeper>(
-    office: &mut Office<K>,
-    alloc: Global,
-    display: Display,
-    scheme: ResNo,
-    tag: &Tag,
-) -> Result<DisplayAnswer, Fault>
-    ensures { OfficeDisplays K.rows K.is_up K.failed office.old display scheme tag.now result
-        office.new }
-{
-    let core = office.ready()?;
-    Ok(display_core_scheme(core, alloc, display, scheme, tag)?)
 }

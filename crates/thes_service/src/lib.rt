@@ -2,15 +2,8 @@
 #![tactic(auto)]
 
 mod displaying;
-mod exporting;
-mod importing;
-mod office_handler;
+mod engine;
 mod posting_lister;
-mod script;
-mod server;
-mod service;
 mod viewing;
 
-pub use office_handler::OfficeHandler;
-pub use script::office_script;
-pub use server::office_serve;
+pub use engine::{OfficeHandler, office_script, office_serve};

@@ -18,7 +18,11 @@ use thes_requests::handler::{QueryAnswer, ViewLine};
 use thes_requests::request::Query;
 use thes_store::keeper::Keeper;
 
-fn view_totals<K: Keeper>(office: &mut Office<K>, alloc: Global) -> Result<QueryAnswer, Fault>
+/// Answers the query for the totals.
+pub(crate) fn view_totals<K: Keeper>(
+    office: &mut Office<K>,
+    alloc: Global,
+) -> Result<QueryAnswer, Fault>
     ensures { OfficeShows K.rows K.is_up K.failed office.old Query.Totals result office.new }
 {
     match office.totals() {
@@ -37,7 +41,8 @@ fn view_core_concept(core: &Core, alloc: Global, number: ResNo) -> Result<QueryA
     query_answer(alloc, &view)
 }
 
-fn view_concept<K: Keeper>(
+/// Answers the query for a concept.
+pub(crate) fn view_concept<K: Keeper>(
     office: &mut Office<K>,
     alloc: Global,
     number: ResNo,
@@ -49,7 +54,8 @@ fn view_concept<K: Keeper>(
     Ok(view_core_concept(core, alloc, number)?)
 }
 
-fn view_postings<K: Keeper>(
+/// Answers the query for the postings of a concept.
+pub(crate) fn view_postings<K: Keeper>(
     office: &mut Office<K>,
     alloc: Global,
     concept: ResNo,
@@ -65,7 +71,8 @@ fn view_postings<K: Keeper>(
     }
 }
 
-fn view_posting<K: Keeper>(
+/// Answers the query for a posting.
+pub(crate) fn view_posting<K: Keeper>(
     office: &mut Office<K>,
     alloc: Global,
     number: PostNo,
@@ -77,21 +84,5 @@ fn view_posting<K: Keeper>(
         Ok(Some(history)) => Ok(query_answer(alloc, &View::Posting(&history))?),
         Ok(None) => Ok(QueryAnswer::No(Refusal::UnknownPosting)),
         Err(fault) => Err(fault),
-    }
-}
-
-/// Returns the line of the view that answers a query, or the refusal of its number.
-pub(crate) fn view_query<K: Keeper>(
-    office: &mut Office<K>,
-    alloc: Global,
-    query: &Query,
-) -> Result<QueryAnswer, Fault>
-    ensures { OfficeShows K.rows K.is_up K.failed office.old query.now result office.new }
-{
-    match *query {
-        Query::Totals => view_totals(office, alloc),
-        Query::Concept(number) => view_concept(office, alloc, number),
-        Query::Postings(concept) => view_postings(office, alloc, concept),
-        Query::Posting(number) => view_posting(office, alloc, number),
     }
 }

@@ -5,7 +5,7 @@ use Rattle.thes_office.specs.Office.{OfficeView}
 use Rattle.thes_office.specs.TablesOfState.{TablesOfState}
 use Rattle.thes_requests.specs.Script.{session}
 use Rattle.thes_service.proofs.ScriptRunLemmas.{script_leads}
-use Rattle.thes_service.proofs.script.office_script.Goals as goal
+use Rattle.thes_service.proofs.engine.office_script.Goals as goal
 
 pub returns-clause-reached : goal.returns-clause-reached
 returns-clause-reached g c =

@@ -4,7 +4,7 @@ use Rattle.thes_base.specs.State.{State}
 use Rattle.thes_office.specs.Office.{OfficeView}
 use Rattle.thes_office.specs.TablesOfState.{TablesOfState}
 use Rattle.thes_service.proofs.ConnectionRunLemmas.{connections_lead}
-use Rattle.thes_service.proofs.server.office_serve.Goals as goal
+use Rattle.thes_service.proofs.engine.office_serve.Goals as goal
 
 pub returns-clause-reached : goal.returns-clause-reached
 returns-clause-reached g c =

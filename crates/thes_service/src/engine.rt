@@ -1,0 +1,209 @@
+//! The engine over an office: performs requests, answers queries, runs scripts, and serves HTTP
+//! connections.
+ghost use Rattle.std.specs.Prelude.{◌≡◌, IfOk, IfErr};
+ghost use Rattle.thes_base.specs.Pipe.{IsFresh, KeepsSharedCallLimit};
+ghost use Rattle.thes_http.specs.Server.{LeadsBy};
+ghost use Rattle.thes_http.specs.Serving.{effects};
+ghost use Rattle.thes_requests.specs.Script.{session, Completes, Stops};
+ghost use Rattle.thes_service.specs.OfficeRequests.{OfficePerforms, OfficeServes, OfficeShows, is_always_open, IsReachedByRun};
+ghost use Rattle.thes_service.specs.Service.{OfficeDisplays, OfficeExports, OfficeImports};
+
+use crate::displaying::display_of_core;
+use crate::viewing::{view_concept, view_posting, view_postings, view_totals};
+use std::alloc::Global;
+use std::io;
+use std::io::{Read, Write};
+use std::marker::Model;
+use std::net::Net;
+use std::rt::Clock;
+use thes_base::fault::{Fault, PipeFault};
+use thes_base::number::ResNo;
+use thes_base::pipe::Pipe;
+use thes_base::request::{Answer, Command};
+use thes_base::text::Tag;
+use thes_export::gather::export_text;
+use thes_http::server::serve;
+use thes_http::service::{Display, DisplayAnswer, ImportAnswer, Page, Service};
+use thes_import::postings;
+use thes_import::postings::{ImportHalt, import_postings};
+use thes_import::report::Report;
+use thes_office::Office;
+use thes_requests::handler::{QueryAnswer, RequestHandler};
+use thes_requests::request::Query;
+use thes_requests::script::{ScriptEnd, script};
+use thes_store::keeper::Keeper;
+
+/// An office that performs the requests of scripts and connections. In contracts its value is that
+/// of the office.
+#[derive(Drop)]
+pub struct OfficeHandler<K: Keeper> {
+    pub office: Office<K>,
+}
+
+impl<K: Keeper> Model for OfficeHandler<K> {
+    ghost use Rattle.std.specs.Coded.{codes};
+    ghost use Rattle.thes_office.specs.Office.{OfficeView};
+
+    ghost Value = { OfficeView K };
+
+    ghost coded = { Prim.hlevel (codes, K.code) };
+
+    ghost view = { λ a. a.office };
+}
+
+impl<K: Keeper> OfficeHandler<K> {
+    /// Wraps an office, fresh or stale.
+    pub fn new(office: Office<K>) -> OfficeHandler<K>
+        ensures { result ≡ office }
+    {
+        OfficeHandler { office }
+    }
+
+    /// Returns the office.
+    pub fn into_office(self) -> Office<K>
+        ensures { result ≡ self }
+    {
+        let OfficeHandler { office } = self;
+        office
+    }
+}
+
+/// Each command is performed by a step of the machine over the tables of the storage, and each view
+/// is of the state that they encode. A stale copy is reloaded first; a fault leaves the tables
+/// unchanged.
+impl<K: Keeper> RequestHandler for OfficeHandler<K> {
+    ghost use Rattle.thes_service.specs.OfficeRequests.{OfficePerforms, OfficeShows, is_always_open};
+
+    ghost performs = { OfficePerforms K.rows K.is_up K.failed };
+
+    ghost shows = { OfficeShows K.rows K.is_up K.failed };
+
+    ghost is_open = { is_always_open };
+
+    fn perform(&mut self, command: &Command) -> Result<Answer, Fault> {
+        self.office.perform(command)
+    }
+
+    fn show(&mut self, alloc: Global, query: &Query) -> Result<QueryAnswer, Fault> {
+        match *query {
+            Query::Totals => view_totals(&mut self.office, alloc),
+            Query::Concept(number) => view_concept(&mut self.office, alloc, number),
+            Query::Postings(concept) => view_postings(&mut self.office, alloc, concept),
+            Query::Posting(number) => view_posting(&mut self.office, alloc, number),
+        }
+    }
+
+    fn is_open(&self) -> bool {
+        true
+    }
+}
+
+// Returns the text of a report, without its counts.
+fn page_of(report: Report) -> Page
+    ensures { result ≡ report.text.items }
+{
+    let Report { text, counts: _ } = report;
+    Page::new(text)
+}
+
+/// An import is a run of the machine over the tables of the storage; a fault ends it, and the rows
+/// before it stay performed. Exports and displays are of the state that the tables encode, and
+/// leave the tables unchanged. A stale copy is reloaded first.
+impl<K: Keeper> Service for OfficeHandler<K> {
+    ghost use Rattle.thes_service.specs.Service.{OfficeDisplays, OfficeExports, OfficeImports};
+
+    ghost imports = { OfficeImports K.rows K.is_up K.failed };
+
+    ghost exports = { OfficeExports K.rows K.is_up K.failed };
+
+    ghost displays = { OfficeDisplays K.rows K.is_up K.failed };
+
+    fn import(&mut self, alloc: Global, file: &[u8]) -> Result<ImportAnswer, Fault> {
+        match import_postings(alloc, file, &mut self.office) {
+            Ok(postings::FileImport::Rows(report)) => Ok(ImportAnswer::Outcomes(page_of(report))),
+            Ok(postings::FileImport::Malformed) => Ok(ImportAnswer::Malformed),
+            Err(ImportHalt { fault, report: _ }) => Err(fault),
+        }
+    }
+
+    fn export(&mut self, alloc: Global) -> Result<Page, Fault> {
+        let core = self.office.ready()?;
+        let triples = export_text(alloc, core)?;
+        Ok(Page::new(triples))
+    }
+
+    fn display(
+        &mut self,
+        alloc: Global,
+        display: Display,
+        scheme: ResNo,
+        tag: &Tag,
+    ) -> Result<DisplayAnswer, Fault> {
+        let core = self.office.ready()?;
+        Ok(display_of_core(core, alloc, display, scheme, tag)?)
+    }
+}
+
+/// Answers each line of the input by a step of the machine, or by a view of the state that the
+/// tables encode.
+///
+/// If the storage is up at the end of the call, a run of the machine leads from the state that the
+/// tables encoded to their new one, whatever the lines are. The new state is consistent: each
+/// posting that isn't withdrawn is assigned to exactly one live concept, the counts add up, and the
+/// triples meet the conditions of SKOS. If the storage fails or memory runs out, the line is
+/// answered with the fault, and the tables are unchanged. The limits on lines are those of
+/// `script`; `OutOfMemory` is returned only before the first line.
+pub fn office_script<K: Keeper, R: Read, W: Write>(
+    alloc: Global,
+    reader: &mut Pipe<R>,
+    writer: &mut Pipe<W>,
+    handler: &mut OfficeHandler<K>,
+) -> Result<ScriptEnd, PipeFault>
+    requires reader { IsFresh reader.old }
+    requires writer { IsFresh writer.old }
+    ensures completed { let serves = OfficeServes K.rows K.is_up K.failed in
+        IfOk result (Completes R.remaining W.contents serves is_always_open
+        (session reader.old writer.old handler.old) (session reader.new writer.new handler.new)) }
+    ensures stopped { let serves = OfficeServes K.rows K.is_up K.failed in
+        IfErr result (Stops R.remaining W.contents serves is_always_open
+        (session reader.old writer.old handler.old) (session reader.new writer.new handler.new)) }
+    ensures reached { IsReachedByRun K.rows K.is_up K.failed handler.old handler.new }
+    ensures calls { KeepsSharedCallLimit reader.old reader.new writer.old writer.new }
+{
+    // No effect; states for the proof that the tables encode a state.
+    let _ = handler.office.is_stale();
+    script(alloc, reader, writer, handler)
+}
+
+// Drops the number of connections served, which is always the number asked for.
+fn forget_count(served: io::Result<u32>) -> io::Result<()> {
+    match served {
+        Ok(_) => Ok(()),
+        Err(error) => Err(error),
+    }
+}
+
+/// Serves `count` connections of a listener, one after another.
+///
+/// If the storage is up at the end of the call, a run of the machine leads from the state that the
+/// tables encoded to their new one, whatever the clients send. The new state is consistent: each
+/// posting that isn't withdrawn is assigned to exactly one live concept, the counts add up, and the
+/// triples meet the conditions of SKOS. An error is that of accepting a connection, or
+/// `OutOfMemory` if memory for the routes ran out.
+pub fn office_serve<N: Net + Clock, K: Keeper>(
+    alloc: Global,
+    clock: &N,
+    listener: &N::Listener,
+    count: u32,
+    handler: &mut OfficeHandler<K>,
+) -> io::Result<()>
+    ensures served { LeadsBy (effects (OfficePerforms K.rows K.is_up K.failed)
+        (OfficeShows K.rows K.is_up K.failed) (OfficeImports K.rows K.is_up K.failed)
+        (OfficeExports K.rows K.is_up K.failed) (OfficeDisplays K.rows K.is_up K.failed)) count
+        handler.old handler.new }
+    ensures reached { IsReachedByRun K.rows K.is_up K.failed handler.old handler.new }
+{
+    // No effect; states for the proof that the tables encode a state.
+    let _ = handler.office.is_stale();
+    forget_count(serve::<N, OfficeHandler<K>>(alloc, clock, listener, count, handler))
+}
