@@ -9,16 +9,9 @@ use std::alloc::Global;
 use std::io;
 use std::net::Net;
 use std::rt::Clock;
+use thes_http::accepting::Accepting;
 use thes_http::server::serve;
 use thes_store::keeper::Keeper;
-
-// Drops the number of connections served, which is always the number asked for.
-fn forget_count(served: io::Result<u32>) -> io::Result<()> {
-    match served {
-        Ok(_) => Ok(()),
-        Err(error) => Err(error),
-    }
-}
 
 /// Serves `count` connections of a listener, one after another.
 ///
@@ -42,5 +35,6 @@ pub fn office_serve<N: Net + Clock, K: Keeper>(
 {
     // No effect; states for the proof that the tables encode a state.
     let _ = handler.office.is_stale();
-    forget_count(serve::<N, OfficeHandler<K>>(alloc, clock, listener, count, handler))
+    let mut connections = Accepting::new(listener);
+    serve::<N, OfficeHandler<K>>(alloc, clock, &mut connections, count, handler)
 }
