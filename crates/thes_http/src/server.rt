@@ -1,16 +1,16 @@
 //! Serves connections, one after another.
-ghost use Rattle.std.specs.Prelude.{◌≡◌, true, IfOk, OnOk};
-ghost use Rattle.std.specs.IoError.{error_kind};
-ghost use Rattle.thes_http.specs.Server.{IsAcceptOutcome, IsServedBy, LeadsBy, is_wait};
+ghost use Rattle.std.specs.Prelude.{◌≡◌, true, OnOk};
+ghost use Rattle.thes_http.specs.Server.{IsServedBy, LeadsBy, is_wait};
 ghost use Rattle.thes_http.specs.Serving.{effects};
 
+use crate::accepting::Accepting;
 use crate::deadline::TimedStream;
 use crate::serve::{ConnectionEnd, serve_routed};
 use crate::service::Service;
 use std::alloc::Global;
 use std::io;
 use std::io::{ErrorKind, Read, Write};
-use std::net::{Net, OpenListener, OpenStream, Shutdown, SocketAddr};
+use std::net::{Net, OpenStream, Shutdown};
 use std::rt::Clock;
 use std::time::{Duration, Instant};
 use thes_base::pipe::Pipe;
@@ -129,26 +129,8 @@ fn is_answered(end: ConnectionEnd) -> bool {
     }
 }
 
-// Returns the stream of an accept, or `None` if the client closed its connection before; any other error is final.
-fn accepted_stream<T: Drop>(accept: io::Result<(T, SocketAddr)>) -> io::Result<Option<T>>
-    ensures { IsAcceptOutcome accept result }
-{
-    match accept {
-        Ok((stream, _)) => Ok(Some(stream)),
-        Err(error) if error.kind() == ErrorKind::ConnectionAborted => Ok(None),
-        Err(error) => Err(error),
-    }
-}
-
-// Accepts the next connection, or returns `None` if its client closed it before.
-fn next_stream<N: Net>(
-    listener: &N::Listener,
-) -> io::Result<Option<<N::Listener as OpenListener>::Stream>> {
-    accepted_stream(listener.accept())
-}
-
-/// Serves `count` connections, one after another, and returns their number; one that its client closed before it was
-/// accepted counts as well. A client has 30 seconds to send its request and 30 to read the response, by the
+/// Takes `count` connections from the listener and serves them, one after another; one that its client closed before it
+/// was accepted counts as well. A client has 30 seconds to send its request and 30 to read the response, by the
 /// clock, and one more second for each 100,000 bytes.
 ///
 /// A client that closes its connection early loses only its own response. An error is that of
@@ -158,12 +140,13 @@ fn next_stream<N: Net>(
 pub fn serve<N: Net + Clock, S: Service>(
     alloc: Global,
     clock: &N,
-    listener: &N::Listener,
+    connections: &mut Accepting<'_, N::Listener>,
     count: u32,
     service: &mut S,
-) -> io::Result<u32>
-    requires { S.is_open service.old ≡ true }
-    ensures all { IfOk result (λ served. served ≡ count) }
+) -> io::Result<()>
+    requires fresh { connections.old ≡ 0 }
+    requires open { S.is_open service.old ≡ true }
+    ensures all { OnOk result (connections.new ≡ count) }
     ensures leads { LeadsBy (effects S.performs S.shows S.imports S.exports S.displays) count
         service.old service.new }
     ensures open { OnOk result (S.is_open service.new ≡ true) }
@@ -171,10 +154,8 @@ pub fn serve<N: Net + Clock, S: Service>(
     let Ok(routes) = Routes::new(alloc) else {
         return Err(io::Error::from(ErrorKind::OutOfMemory));
     };
-    let mut served = 0;
     for _ in 0..count {
-        served += 1;
-        let Some(stream) = next_stream::<N>(listener)? else {
+        let Some(stream) = connections.accept()? else {
             continue;
         };
         serve_stream(alloc, &routes, clock, stream, service);
@@ -182,5 +163,5 @@ pub fn serve<N: Net + Clock, S: Service>(
             return Err(io::Error::from(ErrorKind::OutOfMemory));
         }
     }
-    Ok(served)
+    Ok(())
 }

@@ -22,6 +22,7 @@ use thes_base::pipe::Pipe;
 use thes_base::request::{Answer, Command};
 use thes_base::text::Tag;
 use thes_export::gather::export_text;
+use thes_http::accepting::Accepting;
 use thes_http::server::serve;
 use thes_http::service::{Display, DisplayAnswer, ImportAnswer, Page, Service};
 use thes_import::postings;
@@ -175,14 +176,6 @@ pub fn office_script<K: Keeper, R: Read, W: Write>(
     script(alloc, reader, writer, handler)
 }
 
-// Drops the number of connections served, which is always the number asked for.
-fn forget_count(served: io::Result<u32>) -> io::Result<()> {
-    match served {
-        Ok(_) => Ok(()),
-        Err(error) => Err(error),
-    }
-}
-
 /// Serves `count` connections of a listener, one after another.
 ///
 /// If the storage is up at the end of the call, a run of the machine leads from the state that the
@@ -205,5 +198,6 @@ pub fn office_serve<N: Net + Clock, K: Keeper>(
 {
     // No effect; states for the proof that the tables encode a state.
     let _ = handler.office.is_stale();
-    forget_count(serve::<N, OfficeHandler<K>>(alloc, clock, listener, count, handler))
+    let mut connections = Accepting::new(listener);
+    serve::<N, OfficeHandler<K>>(alloc, clock, &mut connections, count, handler)
 }

@@ -7,8 +7,8 @@ pub loop-init : goal.loop-init
 loop-init g c = record {
   led = leads_nowhere (effects g.S.RequestHandler.performs g.S.RequestHandler.shows g.S.Service.imports
       g.S.Service.exports g.S.Service.displays) 0 _ _ refl;
-  stays_open = c.requires;
-  counted = refl;
+  stays_open = c.requires.«open»;
+  counted = c.requires.fresh;
 }
 
 pub returns-in_err-stream-clause-leads : goal.returns-in_err-stream-clause-leads
