@@ -62,7 +62,7 @@ pub(crate) fn display_scheme<K: Keeper>(
     scheme: ResNo,
     tag: &Tag,
 ) -> Result<DisplayAnswer, Fault>
-    ensures { OfficeDisplays K.rows K.is_up K.failed office.old display scheme tag.now result
+    ensures { OfficeDisplays K.view office.old display scheme tag.now result
         office.new }
 {
     let core = office.ready()?;

@@ -25,7 +25,7 @@ fn export_page(core: &Core, alloc: Global) -> Result<Page, AllocError>
 
 /// Returns the triples of the state that the tables encode, as a page of N-Triples.
 pub(crate) fn export_office<K: Keeper>(office: &mut Office<K>, alloc: Global) -> Result<Page, Fault>
-    ensures { OfficeExports K.rows K.is_up K.failed office.old result office.new }
+    ensures { OfficeExports K.view office.old result office.new }
 {
     let core = office.ready()?;
     Ok(export_page(core, alloc)?)

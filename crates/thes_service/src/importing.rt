@@ -26,7 +26,7 @@ pub(crate) fn import_into_office<K: Keeper>(
     alloc: Global,
     file: &[u8],
 ) -> Result<ImportAnswer, Fault>
-    ensures { OfficeImports K.rows K.is_up K.failed office.old file.now result office.new }
+    ensures { OfficeImports K.view office.old file.now result office.new }
 {
     match import_postings(alloc, file, office) {
         Ok(postings::FileImport::Rows(report)) => Ok(ImportAnswer::Outcomes(page_of(report))),

@@ -52,9 +52,9 @@ impl<K: Keeper> OfficeHandler<K> {
 impl<K: Keeper> RequestHandler for OfficeHandler<K> {
     ghost use Rattle.thes_service.specs.OfficeRequests.{OfficePerforms, OfficeShows, is_always_open};
 
-    ghost performs = { OfficePerforms K.rows K.is_up K.failed };
+    ghost performs = { OfficePerforms K.view };
 
-    ghost shows = { OfficeShows K.rows K.is_up K.failed };
+    ghost shows = { OfficeShows K.view };
 
     ghost is_open = { is_always_open };
 

@@ -29,13 +29,13 @@ pub fn office_script<K: Keeper, R: Read, W: Write>(
 ) -> Result<ScriptEnd, PipeFault>
     requires reader { IsFresh reader.old }
     requires writer { IsFresh writer.old }
-    ensures completed { let serves = OfficeServes K.rows K.is_up K.failed in
+    ensures completed { let serves = OfficeServes K.view in
         IfOk result (Completes R.remaining W.contents serves is_always_open
         (session reader.old writer.old handler.old) (session reader.new writer.new handler.new)) }
-    ensures stopped { let serves = OfficeServes K.rows K.is_up K.failed in
+    ensures stopped { let serves = OfficeServes K.view in
         IfErr result (Stops R.remaining W.contents serves is_always_open
         (session reader.old writer.old handler.old) (session reader.new writer.new handler.new)) }
-    ensures reached { IsReachedByRun K.rows K.is_up K.failed handler.old handler.new }
+    ensures reached { IsReachedByRun K.view handler.old handler.new }
     ensures calls { KeepsSharedCallLimit reader.old reader.new writer.old writer.new }
 {
     // No effect; states for the proof that the tables encode a state.

@@ -34,11 +34,11 @@ pub fn office_serve<N: Net + Clock, K: Keeper>(
     count: u32,
     handler: &mut OfficeHandler<K>,
 ) -> io::Result<()>
-    ensures served { LeadsBy (effects (OfficePerforms K.rows K.is_up K.failed)
-        (OfficeShows K.rows K.is_up K.failed) (OfficeImports K.rows K.is_up K.failed)
-        (OfficeExports K.rows K.is_up K.failed) (OfficeDisplays K.rows K.is_up K.failed)) count
+    ensures served { LeadsBy (effects (OfficePerforms K.view)
+        (OfficeShows K.view) (OfficeImports K.view)
+        (OfficeExports K.view) (OfficeDisplays K.view)) count
         handler.old handler.new }
-    ensures reached { IsReachedByRun K.rows K.is_up K.failed handler.old handler.new }
+    ensures reached { IsReachedByRun K.view handler.old handler.new }
 {
     // No effect; states for the proof that the tables encode a state.
     let _ = handler.office.is_stale();

@@ -16,11 +16,11 @@ use thes_store::keeper::Keeper;
 impl<K: Keeper> Service for OfficeHandler<K> {
     ghost use Rattle.thes_service.specs.Service.{OfficeDisplays, OfficeExports, OfficeImports};
 
-    ghost imports = { OfficeImports K.rows K.is_up K.failed };
+    ghost imports = { OfficeImports K.view };
 
-    ghost exports = { OfficeExports K.rows K.is_up K.failed };
+    ghost exports = { OfficeExports K.view };
 
-    ghost displays = { OfficeDisplays K.rows K.is_up K.failed };
+    ghost displays = { OfficeDisplays K.view };
 
     fn import(&mut self, alloc: Global, file: &[u8]) -> Result<ImportAnswer, Fault> {
         import_into_office(&mut self.office, alloc, file)

@@ -19,7 +19,7 @@ use thes_requests::request::Query;
 use thes_store::keeper::Keeper;
 
 fn view_totals<K: Keeper>(office: &mut Office<K>, alloc: Global) -> Result<QueryAnswer, Fault>
-    ensures { OfficeShows K.rows K.is_up K.failed office.old Query.Totals result office.new }
+    ensures { OfficeShows K.view office.old Query.Totals result office.new }
 {
     match office.totals() {
         Ok(totals) => Ok(query_answer(alloc, &View::Totals(totals))?),
@@ -42,7 +42,7 @@ fn view_concept<K: Keeper>(
     alloc: Global,
     number: ResNo,
 ) -> Result<QueryAnswer, Fault>
-    ensures { OfficeShows K.rows K.is_up K.failed office.old
+    ensures { OfficeShows K.view office.old
         (Query.Concept number) result office.new }
 {
     let core = office.ready()?;
@@ -54,7 +54,7 @@ fn view_postings<K: Keeper>(
     alloc: Global,
     concept: ResNo,
 ) -> Result<QueryAnswer, Fault>
-    ensures { OfficeShows K.rows K.is_up K.failed office.old
+    ensures { OfficeShows K.view office.old
         (Query.Postings concept) result office.new }
 {
     let mut rows = PostingLister::new(alloc);
@@ -70,7 +70,7 @@ fn view_posting<K: Keeper>(
     alloc: Global,
     number: PostNo,
 ) -> Result<QueryAnswer, Fault>
-    ensures { OfficeShows K.rows K.is_up K.failed office.old
+    ensures { OfficeShows K.view office.old
         (Query.Posting number) result office.new }
 {
     match office.posting(number) {
@@ -86,7 +86,7 @@ pub(crate) fn view_query<K: Keeper>(
     alloc: Global,
     query: &Query,
 ) -> Result<QueryAnswer, Fault>
-    ensures { OfficeShows K.rows K.is_up K.failed office.old query.now result office.new }
+    ensures { OfficeShows K.view office.old query.now result office.new }
 {
     match *query {
         Query::Totals => view_totals(office, alloc),

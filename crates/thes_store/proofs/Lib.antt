@@ -5,6 +5,7 @@ pub mod SinkLemmas
 pub mod IndexLookUpLemmas
 pub mod BulkMoveLemmas
 pub mod SlotLemmas
+pub mod StorageLemmas
 pub mod AddedRowLemmas
 pub mod RoomLemmas
 pub mod KeyIndexLemmas

@@ -5,7 +5,7 @@ use Rattle.thes_service.proofs.exporting.export_office.Goals as goal
 
 pub returns : goal.returns
 returns g c =
-    told_ready g.K.Keeper.rows g.K.Keeper.is_up g.K.Keeper.failed IsExportRead c.args.office.now
+    told_ready g.K.Keeper.view IsExportRead c.args.office.now
     c.ready.follows.lender-at-none c.ready.result c.in_ok-core.core c.in_ok-export_page.field-0
     c.ready.follows.holds-at-none c.in_ok-core.was
     (λ s holds legal. let export = c.in_ok-export_page.ensures s holds in
