@@ -69,7 +69,7 @@ fn time_commits<R: Clock + Print + Alloc<A = Global>, K: Keeper>(
     keeper: &mut K,
     posts: u32,
 ) -> Result<(), Failure>
-    requires { AwaitsPosting K.rows K.is_up keeper.old 1 }
+    requires { AwaitsPosting (K.view keeper.old) 1 }
 {
     let (alloc, source, target) = (rt.alloc(), ResNo::new(2), ResNo::new(3));
     let begun = Instant::now(rt)?;
@@ -105,7 +105,7 @@ fn time_keeper<R: Clock + Print + Alloc<A = Global>, K: Keeper>(
     posts: u32,
     looks: u32,
 ) -> Result<(), Failure>
-    requires { AwaitsPosting K.rows K.is_up keeper.old 1 }
+    requires { AwaitsPosting (K.view keeper.old) 1 }
 {
     time_commits(rt, keeper, posts)?;
     time_reads(rt, keeper, posts, looks)

@@ -5,6 +5,7 @@ use Rattle.thes_tables.specs.declared.change.Change.{Change}
 use Rattle.thes_tables.specs.declared.rows.MoveRow.{MoveRow}
 use Rattle.thes_tables.specs.Rows.{tables_after_delta, DeltaFits}
 use Rattle.thes_tables.specs.Tables.{Tables, IsIn}
+use Rattle.thes_store.specs.Storage.{StorageView}
 
 -- The rows are those of tables without moves, whose next posting has the number `next`.
 pub record ArePosted (raw : Raw) (next : ℕ) : Type 0 where
@@ -14,8 +15,8 @@ pub record ArePosted (raw : Raw) (next : ℕ) : Type 0 where
   pub has_no_moves : tables.move ≡ []
 
 -- If the storage is up, its next posting has the number `next`, and it has no moves.
-abbrev pub AwaitsPosting : {K : Type 0} → (K → Raw) → (K → Type 0) → K → ℕ → Type 0
-AwaitsPosting rows is_up keeper next = is_up keeper → ArePosted (rows keeper) next
+abbrev pub AwaitsPosting : StorageView → ℕ → Type 0
+AwaitsPosting storage next = storage.is_up → ArePosted storage.rows next
 
 -- The changes fit the tables, after which no move has a number greater than `last`.
 pub record FitUpTo (changes : List Change) (t : Tables) (last : ℕ) : Type 0 where

@@ -1,8 +1,9 @@
 //! Posts and merges over any storage.
-ghost use Rattle.std.specs.Prelude.{◌≡◌, ◌+◌, [], true, IfOk, OnOk, OnErr};
+ghost use Rattle.std.specs.Prelude.{◌≡◌, ◌+◌, [], true, IfOk, OnOk};
 ghost use Rattle.thes_tables.specs.Cells.{cells_of_tables};
 ghost use Rattle.thes_tables.specs.Rows.{tables_after_change, ChangeFits, DeltaFits};
 ghost use Rattle.thes_tables.specs.Tables.{Tables};
+ghost use Rattle.thes_store.specs.Storage.{CommitFrame};
 ghost use Rattle.test_keeper.specs.PostedTables.{AwaitsPosting};
 
 use crate::failure::Failure;
@@ -20,13 +21,12 @@ pub const CONCEPTS: u32 = 10;
 
 /// Commits one change in a transaction of its own.
 pub fn commit_one<K: Keeper>(alloc: Global, keeper: &mut K, change: Change) -> Result<(), Fault>
-    requires { K.is_up keeper.old → (t : Tables) → K.rows keeper.old ≡ cells_of_tables t
-        → ChangeFits change t }
-    ensures was { K.is_up keeper.new → K.is_up keeper.old }
-    ensures ok { OnOk result (K.is_up keeper.new → (t : Tables)
-        → K.rows keeper.old ≡ cells_of_tables t
-        → K.rows keeper.new ≡ cells_of_tables (tables_after_change change t)) }
-    ensures err { OnErr result (K.is_up keeper.new → K.rows keeper.new ≡ K.rows keeper.old) }
+    requires { (K.view keeper.old).is_up → (t : Tables)
+        → (K.view keeper.old).rows ≡ cells_of_tables t → ChangeFits change t }
+    ensures ok { OnOk result ((K.view keeper.new).is_up → (t : Tables)
+        → (K.view keeper.old).rows ≡ cells_of_tables t
+        → (K.view keeper.new).rows ≡ cells_of_tables (tables_after_change change t)) }
+    ensures keeps { CommitFrame (K.view keeper.old) (K.view keeper.new) result }
 {
     let mut delta = Delta::new(alloc);
     delta.push(change)?;
@@ -42,9 +42,9 @@ fn post<K: Keeper>(
     rec: RecordName,
     concept: ResNo,
 ) -> Result<bool, Fault>
-    requires { AwaitsPosting K.rows K.is_up keeper.old number }
+    requires { AwaitsPosting (K.view keeper.old) number }
     ensures { IfOk result (λ is_new. is_new ≡ true
-        → AwaitsPosting K.rows K.is_up keeper.new (number + 1)) }
+        → AwaitsPosting (K.view keeper.new) (number + 1)) }
 {
     match keeper.find(&key)? {
         Some(_) => Ok(false),
@@ -70,8 +70,8 @@ pub fn name_with_number(alloc: Global, letter: &str, number: u32) -> Result<Stri
 
 /// Inserts `count` postings, each in a commit of its own, and assigns them in turn to the concepts from number 2 on.
 pub fn post_all<K: Keeper>(alloc: Global, keeper: &mut K, count: u32) -> Result<(), Failure>
-    requires { AwaitsPosting K.rows K.is_up keeper.old 1 }
-    ensures { OnOk result (AwaitsPosting K.rows K.is_up keeper.new (count + 1)) }
+    requires { AwaitsPosting (K.view keeper.old) 1 }
+    ensures { OnOk result (AwaitsPosting (K.view keeper.new) (count + 1)) }
 {
     for made in 0..count {
         let number = made + 1;
@@ -118,7 +118,7 @@ pub fn merge<K: Keeper>(
     posts: u32,
     count: u32,
 ) -> Result<(), Failure>
-    requires { AwaitsPosting K.rows K.is_up keeper.old (posts + 1) }
+    requires { AwaitsPosting (K.view keeper.old) (posts + 1) }
 {
     let delta = merge_delta(alloc, source, target, count)?;
     keeper.commit(delta)?;

@@ -69,11 +69,8 @@ impl Faltering {
 impl Keeper for Faltering {
     ghost use Rattle.thes_tables.specs.Cells.{cells_of_tables};
 
-    ghost rows = { λ k. cells_of_tables k.keeper };
-
-    ghost is_up = { λ k. Unit {0} };
-
-    ghost failed = { λ k. k.failures };
+    ghost view = { λ k.
+        record { rows = cells_of_tables k.keeper; is_up = Unit {0}; failures = k.failures } };
 
     fn failures(&self) -> u64 {
         self.failures

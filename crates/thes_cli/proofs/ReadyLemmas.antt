@@ -11,6 +11,7 @@ use Rattle.thes_base.specs.declared.fault.PipeFault.TheVariants as pipe
 use Rattle.thes_base.specs.declared.pipe.Pipe.{Pipe}
 use Rattle.thes_base.specs.Pipe.{KeepsCallLimit}
 use Rattle.thes_tables.specs.Cells.{Raw}
+use Rattle.thes_store.specs.Storage.{StorageView}
 use Rattle.thes_core.specs.CoreView as core
 use Rattle.thes_core.specs.CoreView.{IsViewOf}
 use Rattle.thes_core.specs.declared.reading.Sizes.{Sizes}
@@ -49,28 +50,28 @@ held_in_store raw limits copy P is so base s x =
     let one = state_is_unique raw copy.setting.base base is.state s is.shows x in
     subst (P base) one.1 (subst (λ (b : List ℕ). P b is.state) one.0 (so is.state is.holds))
 
-module _ {K : Type 0} (rows : K → Raw) (is_up : K → Type 0) (failed : K → ℕ) where
+module _ {K : Type 0} (view : K → StorageView) where
   -- What holds for the result of `ready` holds for the core that it returned.
   handed : (old new : OfficeView K) (result : Result (Bor core.CoreView) Fault) (copy : Bor core.CoreView)
-      → ReadyResult rows is_up failed old result new → result ≡ Ok copy → ReadyResult rows is_up failed old (Ok copy)
+      → ReadyResult view old result new → result ≡ Ok copy → ReadyResult view old (Ok copy)
       new
   handed old new result copy ready is =
-      subst (λ (r : Result (Bor core.CoreView) Fault). ReadyResult rows is_up failed old r new) is ready
+      subst (λ (r : Result (Bor core.CoreView) Fault). ReadyResult view old r new) is ready
 
   pub sizes_found : (old new : OfficeView K) (result : Result (Bor core.CoreView) Fault) (copy : Bor core.CoreView)
-      (z : Sizes) → ReadyResult rows is_up failed old result new → result ≡ Ok copy
-      → ((s : State) → IsViewOf copy.now s → z ≡ sizes_of s) → FindsSizes rows is_up failed old (Ok z) new
+      (z : Sizes) → ReadyResult view old result new → result ≡ Ok copy
+      → ((s : State) → IsViewOf copy.now s → z ≡ sizes_of s) → FindsSizes view old (Ok z) new
   sizes_found old new result copy z ready is so =
       let here = handed old new result copy ready is in record {
-        fault_behaviour = goes_on_to rows is_up failed old new copy z here.fault_behaviour;
+        fault_behaviour = goes_on_to view old new copy z here.fault_behaviour;
         same = here.same;
-        sizes = λ up. holds_in_encoded_states (rows new.keeper) new.limits copy.now (λ s. z ≡ sizes_of s)
+        sizes = λ up. holds_in_encoded_states (view new.keeper).rows new.limits copy.now (λ s. z ≡ sizes_of s)
             (here.shown.copies up) so;
       }
 
   -- A call that failed has the same effects, whatever it would have returned.
-  unready : {A B : Type 0} (old new : OfficeView K) (fault : Fault) → FaultBehaviour rows is_up failed old new
-      (let x : Result A Fault = Err fault in x) → FaultBehaviour rows is_up failed old new (let x : Result B Fault =
+  unready : {A B : Type 0} (old new : OfficeView K) (fault : Fault) → FaultBehaviour view old new
+      (let x : Result A Fault = Err fault in x) → FaultBehaviour view old new (let x : Result B Fault =
       Err fault in x)
   unready old new fault fault_behaviour = record {
     limits = fault_behaviour.limits;
@@ -84,28 +85,28 @@ module _ {K : Type 0} (rows : K → Raw) (is_up : K → Type 0) (failed : K → 
   }
 
   failed_as : (old new : OfficeView K) (result : Result (Bor core.CoreView) Fault) (fault : Fault)
-      → ReadyResult rows is_up failed old result new → result ≡ Err fault → ReadyResult rows is_up failed old
+      → ReadyResult view old result new → result ≡ Err fault → ReadyResult view old
       (Err fault) new
   failed_as old new result fault ready is =
-      subst (λ (r : Result (Bor core.CoreView) Fault). ReadyResult rows is_up failed old r new) is ready
+      subst (λ (r : Result (Bor core.CoreView) Fault). ReadyResult view old r new) is ready
 
   module _ {W : Type 0} (out : W → Option (List ℕ)) (output output' : Pipe W) where
     -- An export from the office's core is that of the state that the tables encode.
     pub export_written : (old new : OfficeView K) (result : Result (Bor core.CoreView) Fault)
-        (copy : Bor core.CoreView) (ended : Result (Unit {0}) PipeFault) → ReadyResult rows is_up failed old result
+        (copy : Bor core.CoreView) (ended : Result (Unit {0}) PipeFault) → ReadyResult view old result
         new → result ≡ Ok copy
         → ((s : State) → IsViewOf copy.now s → OnOk ended (export.IsExportWritten out copy.now.setting.base s output
         output'))
         → ((s : State) → IsViewOf copy.now s → IfErr ended (export.IsExportStopped out copy.now.setting.base s output
         output'))
-        → KeepsCallLimit output output' → WritesExport rows is_up failed out old output ended new output'
+        → KeepsCallLimit output output' → WritesExport view out old output ended new output'
     export_written old new result copy (Ok done) ready is ok err calls =
         let here = handed old new result copy ready is in record {
           ready = Ok tt;
-          fault_behaviour = goes_on_to rows is_up failed old new copy tt here.fault_behaviour;
+          fault_behaviour = goes_on_to view old new copy tt here.fault_behaviour;
           same = here.same;
           writes = (
-            λ up. held_in_store (rows new.keeper) new.limits copy.now
+            λ up. held_in_store (view new.keeper).rows new.limits copy.now
                 (λ base s. export.IsExportWritten out base s output output') (here.shown.copies up) ok,
             calls,
           );
@@ -113,10 +114,10 @@ module _ {K : Type 0} (rows : K → Raw) (is_up : K → Type 0) (failed : K → 
     export_written old new result copy (Err fault) ready is ok err calls =
         let here = handed old new result copy ready is in record {
           ready = Ok tt;
-          fault_behaviour = goes_on_to rows is_up failed old new copy tt here.fault_behaviour;
+          fault_behaviour = goes_on_to view old new copy tt here.fault_behaviour;
           same = here.same;
           writes = (
-            λ up. held_in_store (rows new.keeper) new.limits copy.now
+            λ up. held_in_store (view new.keeper).rows new.limits copy.now
                 (λ base s. export.IsExportStopped out base s output output' fault) (here.shown.copies up) err,
             calls,
           );
@@ -126,21 +127,21 @@ module _ {K : Type 0} (rows : K → Raw) (is_up : K → Type 0) (failed : K → 
     pub display_written : (kind : Display) (scheme : ℕ) (tag : List ℕ) (old new : OfficeView K)
         (result : Result (Bor core.CoreView) Fault) (copy : Bor core.CoreView)
         (ended : Result DisplayOutcome PipeFault)
-        → ReadyResult rows is_up failed old result new → result ≡ Ok copy
+        → ReadyResult view old result new → result ≡ Ok copy
         → ((s : State) → IsViewOf copy.now s
         → IfOk ended (display.IsDisplayWritten out s.resources scheme (IsDisplay kind scheme tag s) output
         output'))
         → ((s : State) → IsViewOf copy.now s → IfErr ended (display.IsDisplayStopped out (IsDisplay kind scheme tag s)
         output output'))
-        → KeepsCallLimit output output' → WritesDisplay rows is_up failed out kind scheme tag old output ended new
+        → KeepsCallLimit output output' → WritesDisplay view out kind scheme tag old output ended new
         output'
     display_written kind scheme tag old new result copy (Ok shown) ready is ok err calls =
         let here = handed old new result copy ready is in record {
           ready = Ok tt;
-          fault_behaviour = goes_on_to rows is_up failed old new copy tt here.fault_behaviour;
+          fault_behaviour = goes_on_to view old new copy tt here.fault_behaviour;
           same = here.same;
           shows = (
-            λ up. held_in_store (rows new.keeper) new.limits copy.now
+            λ up. held_in_store (view new.keeper).rows new.limits copy.now
                 (λ base s. display.IsDisplayWritten out s.resources scheme (IsDisplay kind scheme tag s) output
                 output' shown) (here.shown.copies up) ok,
             calls,
@@ -149,10 +150,10 @@ module _ {K : Type 0} (rows : K → Raw) (is_up : K → Type 0) (failed : K → 
     display_written kind scheme tag old new result copy (Err fault) ready is ok err calls =
         let here = handed old new result copy ready is in record {
           ready = Ok tt;
-          fault_behaviour = goes_on_to rows is_up failed old new copy tt here.fault_behaviour;
+          fault_behaviour = goes_on_to view old new copy tt here.fault_behaviour;
           same = here.same;
           shows = (
-            λ up. held_in_store (rows new.keeper) new.limits copy.now
+            λ up. held_in_store (view new.keeper).rows new.limits copy.now
                 (λ base s. display.IsDisplayStopped out (IsDisplay kind scheme tag s) output output' fault)
                 (here.shown.copies up) err,
             calls,
@@ -160,8 +161,8 @@ module _ {K : Type 0} (rows : K → Raw) (is_up : K → Type 0) (failed : K → 
         }
 
     pub export_unready : (old new : OfficeView K) (result : Result (Bor core.CoreView) Fault) (fault : Fault)
-        (ended : Result (Unit {0}) PipeFault) → ReadyResult rows is_up failed old result new → result ≡ Err fault
-        → ended ≡ Err (pipe.Fault fault) → output' ≡ output → WritesExport rows is_up failed out old output ended new
+        (ended : Result (Unit {0}) PipeFault) → ReadyResult view old result new → result ≡ Err fault
+        → ended ≡ Err (pipe.Fault fault) → output' ≡ output → WritesExport view out old output ended new
         output'
     export_unready old new result fault ended ready is reports same =
         let here = failed_as old new result fault ready is in
@@ -174,8 +175,8 @@ module _ {K : Type 0} (rows : K → Raw) (is_up : K → Type 0) (failed : K → 
 
     pub display_unready : (kind : Display) (scheme : ℕ) (tag : List ℕ) (old new : OfficeView K)
         (result : Result (Bor core.CoreView) Fault) (fault : Fault) (ended : Result DisplayOutcome PipeFault)
-        → ReadyResult rows is_up failed old result new → result ≡ Err fault → ended ≡ Err (pipe.Fault fault) → output'
-        ≡ output → WritesDisplay rows is_up failed out kind scheme tag old output ended new output'
+        → ReadyResult view old result new → result ≡ Err fault → ended ≡ Err (pipe.Fault fault) → output'
+        ≡ output → WritesDisplay view out kind scheme tag old output ended new output'
     display_unready kind scheme tag old new result fault ended ready is reports same =
         let here = failed_as old new result fault ready is in
         record {

@@ -7,7 +7,7 @@ use Rattle.thes_base.specs.declared.fault.Fault.{Fault}
 use Rattle.thes_base.specs.declared.fault.Fault.TheVariants.{OutOfMemory}
 use Rattle.thes_base.specs.declared.fault.PipeFault.TheVariants as pipe
 use Rattle.thes_base.specs.declared.pipe.Pipe.{Pipe}
-use Rattle.thes_tables.specs.Cells.{Raw}
+use Rattle.thes_store.specs.Storage.{StorageView}
 use Rattle.thes_core.specs.declared.reading.Sizes.{Sizes}
 use Rattle.thes_office.specs.QueryFrames.{InStateOfTables}
 use Rattle.thes_office.specs.Office.{FaultBehaviour, OfficeView, SameTables}
@@ -38,13 +38,13 @@ module _ {W E : Type 0} (out : W → Option (List ℕ)) (err : E → Option (Lis
       ⊎ PrintsError out err output output' errors errors' (fault_line (pipe.Fault OutOfMemory)) 3 status
   ReportsSizes (Err f) status = PrintsError out err output output' errors errors' (fault_line (pipe.Fault f)) 3 status
 
-module _ {K : Type 0} (rows : K → Raw) (is_up : K → Type 0) (failed : K → ℕ) where
+module _ {K : Type 0} (view : K → StorageView) where
   -- The sizes are those of the state that the tables encode, and the tables are unchanged.
   pub record FindsSizes (old_office : OfficeView K) (result : Result Sizes Fault) (new_office : OfficeView K) : Type
       0 where
-    pub fault_behaviour : FaultBehaviour rows is_up failed old_office new_office result
-    pub same : SameTables rows is_up old_office new_office
-    pub sizes : IfOk result (λ z. is_up new_office.keeper → InStateOfTables (rows new_office.keeper)
+    pub fault_behaviour : FaultBehaviour view old_office new_office result
+    pub same : SameTables view old_office new_office
+    pub sizes : IfOk result (λ z. (view new_office.keeper).is_up → InStateOfTables (view new_office.keeper).rows
         (λ s. z ≡ sizes_of s))
 
   -- The command `check`: the sizes of the store are printed, or a fault.

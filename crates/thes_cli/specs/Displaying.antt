@@ -5,7 +5,7 @@ use Rattle.thes_base.specs.declared.fault.PipeFault.{PipeFault}
 use Rattle.thes_base.specs.declared.fault.PipeFault.TheVariants as pipe
 use Rattle.thes_base.specs.declared.pipe.Pipe.{Pipe}
 use Rattle.thes_base.specs.Pipe.{KeepsCallLimit}
-use Rattle.thes_tables.specs.Cells.{Raw}
+use Rattle.thes_store.specs.Storage.{StorageView}
 use Rattle.thes_office.specs.Office.{FaultBehaviour, OfficeView, SameTables}
 use Rattle.thes_display.specs.DisplayWrites.{IsDisplayWritten, IsDisplayStopped}
 use Rattle.thes_display.specs.declared.writing.DisplayOutcome.{DisplayOutcome}
@@ -22,18 +22,18 @@ EndsDisplay err old new (Ok Written) status = (new ≡ old) × (status ≡ 0)
 EndsDisplay err old new (Ok (No refusal)) status = Prints err old new (refusal_line refusal) × (status ≡ 1)
 EndsDisplay err old new (Err fault) status = Prints err old new (fault_line fault) × (status ≡ 3)
 
-module _ {K W : Type 0} (rows : K → Raw) (is_up : K → Type 0) (failed : K → ℕ) (out : W → Option (List ℕ))
+module _ {K W : Type 0} (view : K → StorageView) (out : W → Option (List ℕ))
     (display : Display) (scheme : ℕ) (tag : List ℕ) where
   -- The display of the state that the tables encode was written or refused, or a prefix of it was
   -- written; or nothing was written, since the tables couldn't be loaded.
   abbrev pub DisplaysState : OfficeView K → Pipe W → Pipe W → Result (Unit {0}) Fault
       → Result DisplayOutcome PipeFault → Type 0
   DisplaysState new_office output output' (Ok ready) (Ok shown) =
-      (is_up new_office.keeper → InStore (rows new_office.keeper)
+      ((view new_office.keeper).is_up → InStore (view new_office.keeper).rows
       (λ base s. IsDisplayWritten out s.resources scheme (IsDisplay display scheme tag s) output output' shown))
       × KeepsCallLimit output output'
   DisplaysState new_office output output' (Ok ready) (Err fault) =
-      (is_up new_office.keeper → InStore (rows new_office.keeper)
+      ((view new_office.keeper).is_up → InStore (view new_office.keeper).rows
       (λ base s. IsDisplayStopped out (IsDisplay display scheme tag s) output output' fault))
       × KeepsCallLimit output output'
   DisplaysState new_office output output' (Err fault) result = (result ≡ Err (pipe.Fault fault)) × (output' ≡ output)
@@ -42,8 +42,8 @@ module _ {K W : Type 0} (rows : K → Raw) (is_up : K → Type 0) (failed : K �
   pub record WritesDisplay (old_office : OfficeView K) (output : Pipe W) (result : Result DisplayOutcome PipeFault)
       (new_office : OfficeView K) (output' : Pipe W) : Type 0 where
     pub ready : Result (Unit {0}) Fault
-    pub fault_behaviour : FaultBehaviour rows is_up failed old_office new_office ready
-    pub same : SameTables rows is_up old_office new_office
+    pub fault_behaviour : FaultBehaviour view old_office new_office ready
+    pub same : SameTables view old_office new_office
     pub shows : DisplaysState new_office output output' ready result
 
   -- The commands `alphabetical` and `hierarchical`: a display is written, and the outcome determines the status.

@@ -3,7 +3,7 @@ use Rattle.std.specs.Prelude.{◌≡◌, ◌==◌, if◌then◌else◌, ℕ, Boo
 use Rattle.thes_base.specs.Pipe.{device_of, IsFresh, KeepsSharedCallLimit}
 use Rattle.thes_base.specs.declared.fault.FormFault.TheVariants.{BadShape}
 use Rattle.thes_base.specs.declared.pipe.Pipe.{Pipe}
-use Rattle.thes_tables.specs.Cells.{Raw}
+use Rattle.thes_store.specs.Storage.{StorageView}
 use Rattle.thes_office.specs.Office.{OfficeView}
 use Rattle.thes_import.specs.ImportEngine.{ImportsFile, StopsImport, import_streams}
 use Rattle.thes_import.specs.declared.import.ImportEnd.{ImportEnd}
@@ -27,16 +27,16 @@ EndsImport err prints_it old new (Ok (Rows counts)) status =
 EndsImport err prints_it old new (Ok Malformed) status = Prints err old new (form_line BadShape) × (status ≡ 1)
 EndsImport err prints_it old new (Err stopped) status = Prints err old new (fault_line stopped.fault) × (status ≡ 3)
 
-module _ {K F W : Type 0} (rows : K → Raw) (is_up : K → Type 0) (failed : K → ℕ)
+module _ {K F W : Type 0} (view : K → StorageView)
     (given : F → Option (List ℕ)) (out : W → Option (List ℕ)) where
   -- The file was imported and its outcomes were written, or a fault stopped the import.
   abbrev pub ImportsPipe : Pipe F → OfficeView K → Pipe W → Result ImportEnd ImportStop → Pipe F → OfficeView K
       → Pipe W → Type 0
   ImportsPipe file old_office output (Ok ended) file' new_office output' =
-      ImportsFile given out rows is_up failed (import_streams file output old_office)
+      ImportsFile given out view (import_streams file output old_office)
       (import_streams file' output' new_office) (Ok ended)
   ImportsPipe file old_office output (Err stopped) file' new_office output' =
-      StopsImport given out rows is_up failed (import_streams file output old_office)
+      StopsImport given out view (import_streams file output old_office)
       (import_streams file' output' new_office) stopped
 
   -- The command `import`: the file is imported, and the result determines the status.

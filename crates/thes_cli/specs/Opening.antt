@@ -6,6 +6,7 @@ use Rattle.thes_base.specs.declared.fault.Fault.TheVariants.{OutOfMemory, Store}
 use Rattle.thes_base.specs.State.{State}
 use Rattle.thes_tables.specs.Cells.{Raw}
 use Rattle.thes_store.specs.Causes.{max_failures}
+use Rattle.thes_store.specs.Storage.{StorageView}
 use Rattle.thes_load_rules.specs.Verdicts.{HasVerdict}
 use Rattle.thes_office.specs.Office.{OfficeView}
 use Rattle.thes_office.specs.TablesOfState.{TablesOfState}
@@ -14,16 +15,19 @@ use Rattle.thes_office.specs.TablesOfState.{TablesOfState}
 abbrev pub InStore : Raw → (List ℕ → State → Type 0) → Type 0
 InStore raw P = (base : List ℕ) (s : State) → TablesOfState raw base s → P base s
 
-module _ {K : Type 0} (rows : K → Raw) (is_up : K → Type 0) (failed : K → ℕ) where
+module _ {K : Type 0} (view : K → StorageView) where
   -- The office is opened with these limits over the tables of the storage, which encode a state.
   pub record IsOpened (limits : Limits) (keeper : K) (office : OfficeView K) : Type 0 where
     pub limits_are : office.limits ≡ limits
-    pub same : is_up office.keeper → rows office.keeper ≡ rows keeper
-    pub shows : is_up office.keeper → (base : List ℕ) × (s : State) × TablesOfState (rows office.keeper) base s
+    pub same : (view office.keeper).is_up → (view office.keeper).rows ≡ (view keeper).rows
+    pub shows : (view office.keeper).is_up → (base : List ℕ) × (s : State)
+        × TablesOfState (view office.keeper).rows base s
 
   -- No office is opened: memory ran out, the storage failed, or the fault is the verdict on the
   -- rows. If the storage is up, the tables are unchanged.
   pub record IsUnopened (keeper : K) (fault : Fault) (back : K) : Type 0 where
-    pub same : is_up back → rows back ≡ rows keeper
-    pub verdict : is_up back → (fault ≡ OutOfMemory) ⊎ (fault ≡ Store) ⊎ HasVerdict (rows keeper) (Err fault)
-    pub store : fault ≡ Store → (failed keeper < failed back) ⊎ (failed keeper ≡ max_failures)
+    pub same : (view back).is_up → (view back).rows ≡ (view keeper).rows
+    pub verdict : (view back).is_up → (fault ≡ OutOfMemory) ⊎ (fault ≡ Store)
+        ⊎ HasVerdict (view keeper).rows (Err fault)
+    pub store : fault ≡ Store → ((view keeper).failures < (view back).failures) ⊎ ((view keeper).failures
+        ≡ max_failures)

@@ -3,7 +3,7 @@ use Rattle.std.specs.Prelude.{◌≡◌, ℕ, List, Option, MatchResult, MatchOp
 use Rattle.thes_base.specs.Pipe.{KeepsSharedCallLimit}
 use Rattle.thes_base.specs.declared.fault.PipeFault.{PipeFault}
 use Rattle.thes_base.specs.declared.pipe.Pipe.{Pipe}
-use Rattle.thes_tables.specs.Cells.{Raw}
+use Rattle.thes_store.specs.Storage.{StorageView}
 use Rattle.thes_office.specs.Office.{OfficeView}
 use Rattle.thes_requests.specs.Script.{session, Completes, Stops}
 use Rattle.thes_requests.specs.declared.script.ScriptEnd.{ScriptEnd}
@@ -20,7 +20,7 @@ ReportsScriptEnd contents old new result status =
     MatchOption (last_fault result) (new ≡ old) (λ fault. Prints contents old new (fault_line fault))
     × (status ≡ status_of result)
 
-module _ {K R W E : Type 0} (rows : K → Raw) (is_up : K → Type 0) (failed : K → ℕ)
+module _ {K R W E : Type 0} (view : K → StorageView)
     (remaining : R → Option (List ℕ)) (out : W → Option (List ℕ)) (err : E → Option (List ℕ)) where
   -- The command `script`: the office answered the lines up to the end of the input or a fault, by a
   -- run of the machine, and the end of the script determines the status.
@@ -28,10 +28,10 @@ module _ {K R W E : Type 0} (rows : K → Raw) (is_up : K → Type 0) (failed : 
       (new : Streams R W E) : Type 0 where
     pub result : Result ScriptEnd PipeFault
     pub script : MatchResult result
-        (Completes remaining out (OfficeServes rows is_up failed) is_always_open
+        (Completes remaining out (OfficeServes view) is_always_open
         (session old.input old.output old_office) (session new.input new.output new_office))
-        (Stops remaining out (OfficeServes rows is_up failed) is_always_open (session old.input old.output old_office)
+        (Stops remaining out (OfficeServes view) is_always_open (session old.input old.output old_office)
         (session new.input new.output new_office))
-    pub reached : IsReachedByRun rows is_up failed old_office new_office
+    pub reached : IsReachedByRun view old_office new_office
     pub calls : KeepsSharedCallLimit old.input new.input old.output new.output
     pub closes : ReportsScriptEnd err old.errors new.errors result status

@@ -4,7 +4,7 @@ use Rattle.std.specs.Io.KnownBytes.{Appends}
 use Rattle.thes_base.specs.Pipe.{written_bytes}
 use Rattle.thes_base.specs.declared.fault.PipeFault.TheVariants.{Write}
 use Rattle.thes_base.specs.declared.pipe.Pipe.{Pipe}
-use Rattle.thes_tables.specs.Cells.{Raw}
+use Rattle.thes_store.specs.Storage.{StorageView}
 use Rattle.thes_office.specs.Office.{OfficeView}
 use Rattle.thes_http.specs.Server.{LeadsBy}
 use Rattle.thes_http.specs.Serving.{effects}
@@ -24,14 +24,14 @@ EndsWell old new status = (new ≡ old) × (status ≡ 0)
 abbrev pub EndsUnserved : {E : Type 0} → (E → Option (List ℕ)) → Pipe E → Pipe E → ℕ → Type 0
 EndsUnserved err old new status = Prints err old new net_line × (status ≡ 3)
 
-module _ {K E : Type 0} (rows : K → Raw) (is_up : K → Type 0) (failed : K → ℕ) (err : E → Option (List ℕ)) where
+module _ {K E : Type 0} (view : K → StorageView) (err : E → Option (List ℕ)) where
   -- At most `count` connections were served, one after another; the requests of their clients are a run of the machine.
   pub record ServesAll (count : ℕ) (old_office : OfficeView K) (errors errors' : Pipe E) (status : ℕ)
       (new_office : OfficeView K) : Type 0 where
-    pub served : LeadsBy (effects (OfficePerforms rows is_up failed) (OfficeShows rows is_up failed)
-        (OfficeImports rows is_up failed) (OfficeExports rows is_up failed) (OfficeDisplays rows is_up failed))
+    pub served : LeadsBy (effects (OfficePerforms view) (OfficeShows view)
+        (OfficeImports view) (OfficeExports view) (OfficeDisplays view))
         count old_office new_office
-    pub reached : IsReachedByRun rows is_up failed old_office new_office
+    pub reached : IsReachedByRun view old_office new_office
     pub ends : EndsWell errors errors' status ⊎ EndsUnserved err errors errors' status
 
   -- The command `serve`: the address is printed, and connections are served; or printing the address failed, and none

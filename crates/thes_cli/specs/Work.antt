@@ -5,8 +5,9 @@ use Rattle.thes_base.specs.declared.data.Limits.{Limits}
 use Rattle.thes_base.specs.declared.fault.Fault.{Fault}
 use Rattle.thes_base.specs.declared.fault.Fault.TheVariants.{OutOfMemory}
 use Rattle.thes_base.specs.declared.fault.PipeFault.TheVariants as pipe
-use Rattle.thes_tables.specs.Cells.{Raw, cells_of_tables}
+use Rattle.thes_tables.specs.Cells.{cells_of_tables}
 use Rattle.thes_tables.specs.Tables.{Tables, empty_tables}
+use Rattle.thes_store.specs.Storage.{StorageView}
 use Rattle.thes_office.specs.Office.{OfficeView}
 use Rattle.thes_office.specs.TablesOfState.{TablesOfState}
 use Rattle.thes_cli.specs.Checking.{no_sizes, sizes_of, ChecksStore}
@@ -22,38 +23,38 @@ use Rattle.thes_command_line.specs.declared.trouble.StoreTrouble.TheVariants.{Un
 use Rattle.thes_jobs.specs.declared.work.Work.{Work}
 use Rattle.thes_jobs.specs.declared.work.Work.TheVariants.{Script, Check, Export, Display, Import, Serve}
 
-module _ {K F R W E : Type 0} (rows : K → Raw) (is_up : K → Type 0) (failed : K → ℕ)
+module _ {K F R W E : Type 0} (view : K → StorageView)
     (given : F → Option (List ℕ)) (remaining : R → Option (List ℕ)) (out : W → Option (List ℕ))
     (err : E → Option (List ℕ)) where
   -- The effect of work over an open store, by its command; only a script reads standard input.
   abbrev pub DoesWork : {L : Type 0} → Work F L → OfficeView K → Streams R W E → ℕ → OfficeView K → Streams R W E
       → Type 0
   DoesWork Script old_office old status new_office new =
-      AnswersScript rows is_up failed remaining out err old_office old status new_office new
+      AnswersScript view remaining out err old_office old status new_office new
   DoesWork Check old_office old status new_office new =
       (new.input ≡ old.input)
-      × ChecksStore rows is_up failed out err old_office old.output new.output old.errors new.errors status new_office
+      × ChecksStore view out err old_office old.output new.output old.errors new.errors status new_office
   DoesWork Export old_office old status new_office new =
       (new.input ≡ old.input)
-      × ExportsStore rows is_up failed out err old_office old.output new.output old.errors new.errors status new_office
+      × ExportsStore view out err old_office old.output new.output old.errors new.errors status new_office
   DoesWork (Display display shown) old_office old status new_office new =
       (new.input ≡ old.input)
-      × DisplaysStore rows is_up failed out display shown.scheme shown.lang err old_office
+      × DisplaysStore view out display shown.scheme shown.lang err old_office
       old.output new.output old.errors new.errors status new_office
   DoesWork (Import file prints_it) old_office old status new_office new =
       (new.input ≡ old.input)
-      × ImportsStore rows is_up failed given out err prints_it file old_office old.output new.output old.errors
+      × ImportsStore view given out err prints_it file old_office old.output new.output old.errors
       new.errors status new_office
   DoesWork (Serve listening) old_office old status new_office new =
       (new.input ≡ old.input)
-      × ServesStore rows is_up failed err out listening.port listening.count old_office
+      × ServesStore view err out listening.port listening.count old_office
       old.output new.output old.errors new.errors status new_office
 
   -- The store was opened, the work was done, and the storage is returned.
   pub record WorksOpened {L : Type 0} (work : Work F L) (limits : Limits) (keeper : K) (old : Streams R W E)
       (status : ℕ) (back : K) (new : Streams R W E) : Type 0 where
     pub old_office : OfficeView K
-    pub opens : IsOpened rows is_up failed limits keeper old_office
+    pub opens : IsOpened view limits keeper old_office
     pub new_office : OfficeView K
     pub does : DoesWork work old_office old status new_office new
     pub back_is : back ≡ new_office.keeper
@@ -62,7 +63,7 @@ module _ {K F R W E : Type 0} (rows : K → Raw) (is_up : K → Type 0) (failed 
   pub record ReportsUnopened (file : Option (List ℕ)) (keeper : K) (old : Streams R W E) (status : ℕ)
       (back : K) (new : Streams R W E) : Type 0 where
     pub fault : Fault
-    pub fails_to_open : IsUnopened rows is_up failed keeper fault back
+    pub fails_to_open : IsUnopened view keeper fault back
     pub input : new.input ≡ old.input
     pub output : new.output ≡ old.output
     pub prints_it : Prints err old.errors new.errors (fault_lines file Unreadable fault)

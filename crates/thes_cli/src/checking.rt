@@ -27,7 +27,7 @@ fn core_sizes(core: &Core) -> Sizes
 
 // Returns the sizes of the state that the office's tables encode.
 fn office_sizes<K: Keeper>(office: &mut Office<K>) -> Result<Sizes, Fault>
-    ensures { FindsSizes K.rows K.is_up K.failed office.old result office.new }
+    ensures { FindsSizes K.view office.old result office.new }
 {
     let core = office.ready()?;
     Ok(core_sizes(core))
@@ -65,7 +65,7 @@ pub fn check_store<K: Keeper, W: Write, E: Write>(
 ) -> u8
     requires output { IsFresh output.old }
     requires errors { IsFresh errors.old }
-    ensures { ChecksStore K.rows K.is_up K.failed W.contents E.contents office.old output.old
+    ensures { ChecksStore K.view W.contents E.contents office.old output.old
         output.new errors.old errors.new result office.new }
 {
     let sizes = office_sizes(office);

@@ -56,7 +56,7 @@ fn write_display<K: Keeper, W: Write>(
     output: &mut Pipe<W>,
 ) -> Result<DisplayOutcome, PipeFault>
     requires { IsFresh output.old }
-    ensures { WritesDisplay K.rows K.is_up K.failed W.contents display scheme tag.now office.old
+    ensures { WritesDisplay K.view W.contents display scheme tag.now office.old
         output.old result office.new output.new }
 {
     let core = office.ready()?;
@@ -101,7 +101,7 @@ pub fn display_store<K: Keeper, W: Write, E: Write>(
 ) -> u8
     requires output { IsFresh output.old }
     requires errors { IsFresh errors.old }
-    ensures { DisplaysStore K.rows K.is_up K.failed W.contents display scheme tag.now E.contents
+    ensures { DisplaysStore K.view W.contents display scheme tag.now E.contents
         office.old output.old output.new errors.old errors.new result office.new }
 {
     let shown = write_display(alloc, office, display, scheme, tag, output);

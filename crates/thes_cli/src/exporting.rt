@@ -18,7 +18,7 @@ fn write_export<K: Keeper, W: Write>(
     output: &mut Pipe<W>,
 ) -> Result<(), PipeFault>
     requires { IsFresh output.old }
-    ensures { WritesExport K.rows K.is_up K.failed W.contents office.old output.old
+    ensures { WritesExport K.view W.contents office.old output.old
         result office.new output.new }
 {
     let core = office.ready()?;
@@ -35,7 +35,7 @@ pub fn export_store<K: Keeper, W: Write, E: Write>(
 ) -> u8
     requires output { IsFresh output.old }
     requires errors { IsFresh errors.old }
-    ensures { ExportsStore K.rows K.is_up K.failed W.contents E.contents office.old output.old
+    ensures { ExportsStore K.view W.contents E.contents office.old output.old
         output.new errors.old errors.new result office.new }
 {
     match write_export(alloc, office, output) {

@@ -23,7 +23,7 @@ fn import_rows<K: Keeper, F: Read, W: Write>(
 ) -> Result<ImportEnd, ImportStop>
     requires file { IsFresh file.old }
     requires output { IsFresh output.old }
-    ensures imports { ImportsPipe K.rows K.is_up K.failed F.remaining W.contents file.old office.old
+    ensures imports { ImportsPipe K.view F.remaining W.contents file.old office.old
         output.old result file.new office.new output.new }
     ensures calls { KeepsSharedCallLimit file.old file.new output.old output.new }
 {
@@ -87,7 +87,7 @@ pub fn import_file<K: Keeper, F: Read + Drop, W: Write, E: Write>(
 ) -> u8
     requires output { IsFresh output.old }
     requires errors { IsFresh errors.old }
-    ensures { ImportsStore K.rows K.is_up K.failed F.remaining W.contents E.contents prints_it file
+    ensures { ImportsStore K.view F.remaining W.contents E.contents prints_it file
         office.old output.old output.new errors.old errors.new result office.new }
 {
     let mut given = Pipe::new(file);

@@ -51,7 +51,7 @@ fn serve_all<N: Net + Clock, K: Keeper, E: Write>(
     errors: &mut Pipe<E>,
 ) -> (u8, Office<K>)
     requires { IsFresh errors.old }
-    ensures { ServesAll K.rows K.is_up K.failed E.contents count office errors.old errors.new
+    ensures { ServesAll K.view E.contents count office errors.old errors.new
         result.0 result.1 }
 {
     let mut handler = OfficeHandler::new(office);
@@ -71,7 +71,7 @@ pub fn serve_store<N: Net + Clock, K: Keeper, W: Write, E: Write>(
 ) -> (u8, Office<K>)
     requires output { IsFresh output.old }
     requires errors { IsFresh errors.old }
-    ensures { ServesStore K.rows K.is_up K.failed E.contents W.contents listening.now.port
+    ensures { ServesStore K.view E.contents W.contents listening.now.port
         listening.now.count office output.old output.new errors.old errors.new result.0 result.1 }
 {
     if print(output, listening_line(listening.port).as_bytes()) {

@@ -28,7 +28,7 @@ pub fn work_over<N: Net + Clock, K: Keeper, F: Read + Drop, R: Read, W: Write, E
     streams: &mut Streams<R, W, E>,
 ) -> (u8, Office<K>)
     requires { AreFresh streams.old }
-    ensures { DoesWork K.rows K.is_up K.failed F.remaining R.remaining W.contents E.contents work
+    ensures { DoesWork K.view F.remaining R.remaining W.contents E.contents work
         office streams.old result.0 result.1 streams.new }
 {
     let status = match work {

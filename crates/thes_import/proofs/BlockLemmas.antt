@@ -12,6 +12,7 @@ use Rattle.thes_base.specs.declared.request.Command.TheVariants as request
 use Rattle.thes_base.specs.Headline.{IsConsistentState}
 use Rattle.thes_base.specs.State.{State}
 use Rattle.thes_tables.specs.Cells.{Raw}
+use Rattle.thes_store.specs.Storage.{StorageView}
 use Rattle.thes_office.specs.Office.{ChangesNothing, CompleteRun, OfficeView, PartialRun, RunResult, TablesAfterRun}
 use Rattle.thes_office.specs.TablesOfState.{TablesOfState}
 use Rattle.thes_office.proofs.OfficeViewLemmas.{empty_run}
@@ -105,23 +106,23 @@ performs_none limits raw base s shows in_order = record {
   same = λ all. refl;
 }
 
-module _ {K : Type 0} (tables : K → Raw) (is_up : K → Type 0) where
+module _ {K : Type 0} (view : K → StorageView) where
   -- If the storage is up, its tables encode a consistent state.
   abbrev pub ShowsState : OfficeView K → Type 0
   ShowsState office =
-      is_up office.keeper → (base : List ℕ) × (s : State) × TablesOfState (tables office.keeper) base s
+      (view office.keeper).is_up → (base : List ℕ) × (s : State) × TablesOfState (view office.keeper).rows base s
       × IsConsistentState base s
 
   -- Before the first row, the empty list of rows has been performed.
-  pub performs_nothing : (office : OfficeView K) → ShowsState office → PerformsWith tables is_up office [] [] office
+  pub performs_nothing : (office : OfficeView K) → ShowsState office → PerformsWith view office [] [] office
   performs_nothing office shows = record {
     each = tt;
-    performs = λ up. let x = shows up in performs_none office.limits (tables office.keeper) x.0 x.1 x.2 x.3;
+    performs = λ up. let x = shows up in performs_none office.limits (view office.keeper).rows x.0 x.1 x.2 x.3;
   }
 
   rows_performed : (old new : OfficeView K) (rows : List CsvRow) (before after : List Answer)
-      (ran : CompleteRun tables is_up old (posts_of rows) before after new)
-      → PerformsWith tables is_up old rows (outcomes_of (map fault_of_row rows) ran.answers) new
+      (ran : CompleteRun view old (posts_of rows) before after new)
+      → PerformsWith view old rows (outcomes_of (map fault_of_row rows) ran.answers) new
   rows_performed old new rows before after ran =
       let r = rows_answered rows (posts_of rows) [] ran.answers (sym (append-nil (posts_of rows))) ran.each in
       let all : rows ≡ r.first = r.all ∙ ap (λ (l : List CsvRow). r.first ++ l) (r.none refl) ∙ append-nil r.first in
@@ -129,15 +130,15 @@ module _ {K : Type 0} (tables : K → Raw) (is_up : K → Type 0) where
         each = subst (λ (l : List CsvRow). AllZip IsOutcome l (outcomes_of (map fault_of_row rows) ran.answers))
             (sym all) r.each;
         performs = λ up. record {
-          goes_on = subst (λ (l : List Answer). TablesAfterRun old.limits (tables old.keeper) (posts_of rows) l
-              (tables new.keeper)) (sym r.given) (ran.goes_on up);
+          goes_on = subst (λ (l : List Answer). TablesAfterRun old.limits (view old.keeper).rows (posts_of rows) l
+              (view new.keeper).rows) (sym r.given) (ran.goes_on up);
           same = λ nothing. ran.same up (subst (AllByRecursion ChangesNothing) r.given nothing);
         };
       }
 
   rows_stopped : (old new : OfficeView K) (rows : List CsvRow) (before after : List Answer)
-      (ran : PartialRun tables is_up old (posts_of rows) before after new)
-      → PerformsSomeWith tables is_up old rows (outcomes_of (map fault_of_row rows) ran.answers) new
+      (ran : PartialRun view old (posts_of rows) before after new)
+      → PerformsSomeWith view old rows (outcomes_of (map fault_of_row rows) ran.answers) new
   rows_stopped old new rows before after ran =
       let r = rows_answered rows ran.commands_done ran.commands_left ran.answers ran.all ran.each in
       record {
@@ -148,10 +149,10 @@ module _ {K : Type 0} (tables : K → Raw) (is_up : K → Type 0) where
         performs = record {
           each = r.each;
           performs = λ up. record {
-            goes_on = subst (λ (p : List Command). TablesAfterRun old.limits (tables old.keeper) p
-                (answers_of (outcomes_of (map fault_of_row rows) ran.answers)) (tables new.keeper)) (sym r.posts)
-                (subst (λ (l : List Answer). TablesAfterRun old.limits (tables old.keeper) ran.commands_done l
-                (tables new.keeper)) (sym r.given) (ran.goes_on up));
+            goes_on = subst (λ (p : List Command). TablesAfterRun old.limits (view old.keeper).rows p
+                (answers_of (outcomes_of (map fault_of_row rows) ran.answers)) (view new.keeper).rows) (sym r.posts)
+                (subst (λ (l : List Answer). TablesAfterRun old.limits (view old.keeper).rows ran.commands_done l
+                (view new.keeper).rows) (sym r.given) (ran.goes_on up));
             same = λ nothing. ran.same up (subst (AllByRecursion ChangesNothing) r.given nothing);
           };
         };
@@ -162,11 +163,11 @@ module _ {K : Type 0} (tables : K → Raw) (is_up : K → Type 0) where
   pub rows_reported : (old new : OfficeView K) (rows : List CsvRow) (posts : List Command)
       (faults : List (Option FormFault)) (answers : List Answer) (result : Result (Unit {0}) Fault)
       (report report' : Report) → posts ≡ posts_of rows → faults ≡ map fault_of_row rows
-      → RunResult tables is_up old posts [] answers result new
+      → RunResult view old posts [] answers result new
       → AddsOutcomes (outcomes_of faults answers) report report'
-      → ReportsRows tables is_up old rows report result report' new
+      → ReportsRows view old rows report result report' new
   rows_reported old new rows posts faults answers (Ok done) report report' p f ran adds =
-      let run = subst (λ (l : List Command). CompleteRun tables is_up old l [] answers new) p ran in
+      let run = subst (λ (l : List Command). CompleteRun view old l [] answers new) p ran in
       let same : outcomes_of faults answers ≡ outcomes_of (map fault_of_row rows) run.answers =
       (λ i. outcomes_of (f i) (run.kept i)) in (
         outcomes_of (map fault_of_row rows) run.answers,
@@ -174,7 +175,7 @@ module _ {K : Type 0} (tables : K → Raw) (is_up : K → Type 0) where
         subst (λ (l : List Outcome). AddsOutcomes l report report') same adds,
       )
   rows_reported old new rows posts faults answers (Err fault) report report' p f ran adds =
-      let run = subst (λ (l : List Command). PartialRun tables is_up old l [] answers new) p ran in
+      let run = subst (λ (l : List Command). PartialRun view old l [] answers new) p ran in
       let same : outcomes_of faults answers ≡ outcomes_of (map fault_of_row rows) run.answers =
       (λ i. outcomes_of (f i) (run.kept i)) in (
         outcomes_of (map fault_of_row rows) run.answers,
@@ -185,7 +186,7 @@ module _ {K : Type 0} (tables : K → Raw) (is_up : K → Type 0) where
   -- A fault before the first row of a block leaves no row performed or reported.
   pub rows_unread : (office : OfficeView K) (rows : List CsvRow) (report report' : Report) (fault : Fault)
       → ShowsState office → 0 < length rows → report'.text.items ≡ report.text.items → report'.counts ≡ report.counts
-      → ReportsRows tables is_up office rows report (Err fault) report' office
+      → ReportsRows view office rows report (Err fault) report' office
   rows_unread office rows report report' fault shows some text counts = (
     [],
     record {
@@ -202,8 +203,8 @@ module _ {K : Type 0} (tables : K → Raw) (is_up : K → Type 0) where
   pub block_reported : (old new : OfficeView K) (reader reader' : RowReader) (report report' : Report)
       (rows : List CsvRow) → ((bytes : List ℕ) (all first : List CsvRow) → HasReadRows bytes all first reader
       → HasReadRows bytes all (first ++ rows) reader') → reader'.unread + length rows ≡ reader.unread → 0 < length rows
-      → length rows ≤ 1000 → ReportsRows tables is_up old rows report (let x : Result (Unit {0}) Fault = Ok tt in x)
-      report' new → ReportsBlock tables is_up old reader report report' reader' new
+      → length rows ≤ 1000 → ReportsRows view old rows report (let x : Result (Unit {0}) Fault = Ok tt in x)
+      report' new → ReportsBlock view old reader report report' reader' new
   block_reported old new reader reader' report report' rows reads unread some few reports = record {
     rows = rows;
     outcomes = reports.0;
@@ -218,8 +219,8 @@ module _ {K : Type 0} (tables : K → Raw) (is_up : K → Type 0) where
   pub block_stopped : (old new : OfficeView K) (reader reader' : RowReader) (report report' : Report)
       (rows : List CsvRow) (fault : Fault) → ((bytes : List ℕ) (all first : List CsvRow)
       → HasReadRows bytes all first reader → HasReadRows bytes all (first ++ rows) reader') → length rows ≤ 1000
-      → ReportsRows tables is_up old rows report (Err fault) report' new
-      → StopsInBlock tables is_up old reader report report' new
+      → ReportsRows view old rows report (Err fault) report' new
+      → StopsInBlock view old reader report report' new
   block_stopped old new reader reader' report report' rows fault reads few reports =
       let part = reports.1 in
       let size = ap (λ (l : List CsvRow). length l) part.all ∙ length-append part.first_rows part.other_rows in
@@ -244,7 +245,7 @@ module _ {K : Type 0} (tables : K → Raw) (is_up : K → Type 0) where
 
   -- If a block can't be read, the import ends before the first row of the block.
   pub block_unread : (office : OfficeView K) (reader : RowReader) (report : Report) → ShowsState office
-      → 0 < reader.unread → StopsInBlock tables is_up office reader report report office
+      → 0 < reader.unread → StopsInBlock view office reader report report office
   block_unread office reader report shows some = record {
     rows = [];
     outcomes = [];
@@ -264,8 +265,8 @@ module _ {K : Type 0} (tables : K → Raw) (is_up : K → Type 0) where
       (rows : List CsvRow) (result : Result (Unit {0}) Fault) → ((bytes : List ℕ) (all first : List CsvRow)
       → HasReadRows bytes all first reader → HasReadRows bytes all (first ++ rows) reader')
       → reader'.unread + length rows ≡ reader.unread → 0 < length rows → length rows ≤ 1000
-      → ReportsRows tables is_up old rows report result report' new
-      → ImportsBlock tables is_up old reader report result report' reader' new
+      → ReportsRows view old rows report result report' new
+      → ImportsBlock view old reader report result report' reader' new
   block_result old new reader reader' report report' rows (Ok done) reads unread some few reports =
       block_reported old new reader reader' report report' rows reads unread some few reports
   block_result old new reader reader' report report' rows (Err fault) reads unread some few reports =

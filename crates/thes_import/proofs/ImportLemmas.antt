@@ -10,6 +10,7 @@ use Rattle.thes_base.specs.declared.fault.Fault.{Fault}
 use Rattle.thes_base.specs.declared.request.Answer.{Answer}
 use Rattle.thes_base.specs.declared.request.Command.{Command}
 use Rattle.thes_tables.specs.Cells.{Raw}
+use Rattle.thes_store.specs.Storage.{StorageView}
 use Rattle.thes_office.specs.Office.{ChangesNothing, FaultBehaviour, OfficeView, TablesAfterRun}
 use Rattle.thes_office.proofs.OfficeViewLemmas.{all_parts, run_of_more}
 use Rattle.thes_import.specs.Imports.{PerformsRows, PerformsWith, ReportsBlock, StopsInBlock}
@@ -53,23 +54,23 @@ performs_both limits first mid last rows more os qs x y =
           y.same parts.1 ∙ x.same parts.0;
     }
 
-module _ {K : Type 0} (tables : K → Raw) (is_up : K → Type 0) (failed : K → ℕ) where
+module _ {K : Type 0} (view : K → StorageView) where
   -- The invariant of an import after some rows.
   pub record ImportInvariant (old now : OfficeView K) (file : List ℕ) (reader : RowReader) (given : Counts) : Type
       0 where
     pub limits : now.limits ≡ old.limits
-    pub was : is_up now.keeper → is_up old.keeper
-    pub count : failed now.keeper ≡ failed old.keeper
+    pub was : (view now.keeper).is_up → (view old.keeper).is_up
+    pub count : (view now.keeper).failures ≡ (view old.keeper).failures
     pub rows : List CsvRow
     pub first : List CsvRow
     pub outcomes : List Outcome
     pub reads : HasReadRows file rows first reader
-    pub performs : PerformsWith tables is_up old first outcomes now
+    pub performs : PerformsWith view old first outcomes now
     pub counts : given ≡ counts_of outcomes
 
   -- The invariant holds at the start.
   abbrev pub importing_none : (old : OfficeView K) (file : List ℕ) (rows : List CsvRow) (reader : RowReader)
-      (counts : Counts) → ShowsState tables is_up old → HasReadRows file rows [] reader → counts ≡ counts_of []
+      (counts : Counts) → ShowsState view old → HasReadRows file rows [] reader → counts ≡ counts_of []
       → ImportInvariant old old file reader counts
   importing_none old file rows reader counts shows reads is = record {
     limits = refl;
@@ -79,25 +80,28 @@ module _ {K : Type 0} (tables : K → Raw) (is_up : K → Type 0) (failed : K �
     first = [];
     outcomes = [];
     reads = reads;
-    performs = performs_nothing tables is_up old shows;
+    performs = performs_nothing view old shows;
     counts = is;
   }
 
   pub performs_on : (old mid new : OfficeView K) (rows more : List CsvRow) (os qs : List Outcome)
-      → mid.limits ≡ old.limits → (is_up new.keeper → is_up mid.keeper) → PerformsWith tables is_up old rows os mid
-      → PerformsWith tables is_up mid more qs new → PerformsWith tables is_up old (rows ++ more) (os ++ qs) new
+      → mid.limits ≡ old.limits → ((view new.keeper).is_up → (view mid.keeper).is_up)
+      → PerformsWith view old rows os mid
+      → PerformsWith view mid more qs new → PerformsWith view old (rows ++ more) (os ++ qs) new
   performs_on old mid new rows more os qs limits was x y = record {
     each = zip_joined rows more os qs x.each y.each;
-    performs = λ up. performs_both old.limits (tables old.keeper) (tables mid.keeper) (tables new.keeper) rows more os
-        qs (x.performs (was up)) (subst (λ (l : Limits). PerformsRows l (tables mid.keeper) more qs (tables new.keeper))
+    performs = λ up. performs_both old.limits (view old.keeper).rows (view mid.keeper).rows
+        (view new.keeper).rows rows more os
+        qs (x.performs (was up)) (subst (λ (l : Limits). PerformsRows l (view mid.keeper).rows more qs
+        (view new.keeper).rows)
         limits (y.performs up));
   }
 
   -- The invariant holds after one more block.
   abbrev pub importing_more : (old mid new : OfficeView K) (file : List ℕ) (reader reader' : RowReader)
       (report report' : Report) → ImportInvariant old mid file reader report.counts
-      → FaultBehaviour tables is_up failed mid new (let x : Result (Unit {0}) Fault = Ok tt in x)
-      → ReportsBlock tables is_up mid reader report report' reader' new
+      → FaultBehaviour view mid new (let x : Result (Unit {0}) Fault = Ok tt in x)
+      → ReportsBlock view mid reader report report' reader' new
       → ImportInvariant old new file reader' report'.counts
   importing_more old mid new file reader reader' report report' so_far fault_behaviour block = record {
     limits = fault_behaviour.limits ∙ so_far.limits;
@@ -118,12 +122,12 @@ module _ {K : Type 0} (tables : K → Raw) (is_up : K → Type 0) (failed : K �
     pub others : List CsvRow
     pub is_file : IsPostingFile file (first ++ others)
     pub some : 0 < length others
-    pub performs : PerformsWith tables is_up old first outcomes new
+    pub performs : PerformsWith view old first outcomes new
 
   pub halted_in : (old mid new : OfficeView K) (file : List ℕ) (reader : RowReader) (report report' : Report)
       (fault : Fault) (so_far : ImportInvariant old mid file reader report.counts)
-      → FaultBehaviour tables is_up failed mid new (let x : Result (Unit {0}) Fault = Err fault in x)
-      → (stop : StopsInBlock tables is_up mid reader report report' new)
+      → FaultBehaviour view mid new (let x : Result (Unit {0}) Fault = Err fault in x)
+      → (stop : StopsInBlock view mid reader report report' new)
       → HaltedImport old new file (so_far.outcomes ++ stop.outcomes)
   halted_in old mid new file reader report report' fault so_far fault_behaviour stop =
       let unread = stop.leaves file so_far.rows so_far.first so_far.reads in record {

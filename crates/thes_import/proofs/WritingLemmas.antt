@@ -15,6 +15,7 @@ use Rattle.thes_base.specs.declared.pipe.Pipe.{Pipe}
 use Rattle.thes_tables.specs.Cells.{Raw}
 use Rattle.thes_office.specs.Office.{FaultBehaviour, OfficeView}
 use Rattle.thes_store.specs.Causes.{max_failures}
+use Rattle.thes_store.specs.Storage.{StorageView}
 use Rattle.thes_import.specs.ImportEngine.{IsReportCut, IsWriterFault, PerformsFirst, StopsAfterRows, WritesPartOf}
 use Rattle.thes_import.specs.ImportEngine.{WritesWhole}
 use Rattle.thes_import.specs.Imports.{ImportsBlock, PerformsWith}
@@ -81,14 +82,14 @@ module _ {W : Type 0} (contents : W → Option (List ℕ)) where
       (Appends-trans (written_bytes contents old) (written_bytes contents mid) (written_bytes contents new)
       (outcomes_text outcomes_written) lines appends_text whole.appends_text)
 
-  module _ {K : Type 0} (tables : K → Raw) (is_up : K → Type 0) (failed : K → ℕ) where
+  module _ {K : Type 0} (view : K → StorageView) where
     -- A fault of the writer ends the import.
     pub stopped_by_writer : (old new : Pipe W) (before after : OfficeView K) (file : List ℕ) (outcomes : List Outcome)
         (others : List CsvRow) (result : Result (Unit {0}) OfficeFault) (fault : PipeFault)
         → IfErr result (λ f. 1 ≤ length others)
-        → PerformsFirst contents tables is_up failed old new before after file outcomes others result
+        → PerformsFirst contents view old new before after file outcomes others result
         → IsWriterFault contents old new fault → WritesPartOf contents old new outcomes
-        → StopsAfterRows contents tables is_up failed old new before after file outcomes fault
+        → StopsAfterRows contents view old new before after file outcomes fault
     stopped_by_writer old new before after file outcomes others result Read some first cause writes = absurd cause
     stopped_by_writer old new before after file outcomes others result Write some first cause writes =
         record { others = others; result = result; some = some; first = first; cause = cause; writes = writes }
@@ -98,8 +99,9 @@ module _ {W : Type 0} (contents : W → Option (List ℕ)) where
 
     -- The faults of an import are those of its last block.
     pub faults_of_last : (old mid new : OfficeView K) (result : Result (Unit {0}) OfficeFault)
-        → mid.limits ≡ old.limits → (is_up mid.keeper → is_up old.keeper) → failed mid.keeper ≡ failed old.keeper
-        → FaultBehaviour tables is_up failed mid new result → FaultBehaviour tables is_up failed old new result
+        → mid.limits ≡ old.limits → ((view mid.keeper).is_up → (view old.keeper).is_up) → (view mid.keeper).failures
+        ≡ (view old.keeper).failures
+        → FaultBehaviour view mid new result → FaultBehaviour view old new result
     faults_of_last old mid new (Ok done) limits was count fb = record {
       limits = fb.limits ∙ limits;
       was = λ up. was (fb.was up);
@@ -119,13 +121,13 @@ module _ {W : Type 0} (contents : W → Option (List ℕ)) where
       fault = fb.fault;
     }
       where
-        go : (failed mid.keeper < failed new.keeper) ⊎ (failed mid.keeper ≡ max_failures)
-            → (failed old.keeper < failed new.keeper) ⊎ (failed old.keeper ≡ max_failures)
+        go : ((view mid.keeper).failures < (view new.keeper).failures) ⊎ ((view mid.keeper).failures ≡ max_failures)
+            → ((view old.keeper).failures < (view new.keeper).failures) ⊎ ((view old.keeper).failures ≡ max_failures)
         go (inl more) = inl (omega (arith, more, count))
         go (inr most) = inr (sym count ∙ most)
 
     -- An office that hasn't performed any row has had no fault.
-    pub no_faults : (office : OfficeView K) → FaultBehaviour tables is_up failed office office
+    pub no_faults : (office : OfficeView K) → FaultBehaviour view office office
         (let x : Result (Unit {0}) OfficeFault = Ok tt in x)
     no_faults office = record {
       limits = refl;
@@ -138,24 +140,24 @@ module _ {W : Type 0} (contents : W → Option (List ℕ)) where
     }
 
     few_outcomes : (old new : OfficeView K) (rows : List CsvRow) (outcomes : List Outcome)
-        → PerformsWith tables is_up old rows outcomes new → length rows ≤ 1000 → length outcomes ≤ 1000
+        → PerformsWith view old rows outcomes new → length rows ≤ 1000 → length outcomes ≤ 1000
     few_outcomes old new rows outcomes performs few =
         let n = AllZip-long IsOutcome rows outcomes performs.each in omega (arith, n, few)
 
     -- A fault of the writer within the outcomes of a block ends the import.
     pub stopped_in_block : (w0 w1 w2 : Pipe W) (old mid new : OfficeView K) (file : List ℕ) (reader reader' : RowReader)
         (report report' : Report) (result : Result (Unit {0}) OfficeFault) (stopped : ImportStop)
-        (so_far : ImportInvariant tables is_up failed old mid file reader report.counts) → report.text.items ≡ []
+        (so_far : ImportInvariant view old mid file reader report.counts) → report.text.items ≡ []
         → Appends (written_bytes contents w0) (written_bytes contents w1) (outcomes_text so_far.outcomes)
-        → FaultBehaviour tables is_up failed mid new result
-        → ImportsBlock tables is_up mid reader report result report' reader' new
+        → FaultBehaviour view mid new result
+        → ImportsBlock view mid reader report result report' reader' new
         → (stopped.counts ≡ report'.counts) × IsReportCut contents w1 w2 report'.text.items stopped.fault
         → IsWriterFault contents w0 w2 stopped.fault
         → (outcomes : List Outcome) × (stopped.counts ≡ counts_of outcomes)
-        × StopsAfterRows contents tables is_up failed w0 w2 old new file outcomes stopped.fault
+        × StopsAfterRows contents view w0 w2 old new file outcomes stopped.fault
     stopped_in_block w0 w1 w2 old mid new file reader reader' report report' (Ok done) stopped so_far cleared
         appends_text fb block e cause =
-        let more = importing_more tables is_up failed old mid new file reader reader' report report' so_far fb block in
+        let more = importing_more view old mid new file reader reader' report report' so_far fb block in
         let o = others_left file more.rows more.first reader' more.reads in
         let adds = block.reports so_far.outcomes so_far.counts in
         let lines : report'.text.items ≡ outcome_lines (1 + length so_far.outcomes) block.outcomes =
@@ -175,7 +177,7 @@ module _ {W : Type 0} (contents : W → Option (List ℕ)) where
         )
     stopped_in_block w0 w1 w2 old mid new file reader reader' report report' (Err fault) stopped so_far cleared
         appends_text fb stop e cause =
-        let halt = halted_in tables is_up failed old mid new file reader report report' fault so_far fb stop in
+        let halt = halted_in view old mid new file reader report report' fault so_far fb stop in
         let adds = stop.reports so_far.outcomes so_far.counts in
         let lines : report'.text.items ≡ outcome_lines (1 + length so_far.outcomes) stop.outcomes =
         adds.1 ∙ ap (λ (l : List ℕ). l ++ outcome_lines (1 + length so_far.outcomes) stop.outcomes) cleared in (

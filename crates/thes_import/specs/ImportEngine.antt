@@ -9,6 +9,7 @@ use Rattle.thes_base.specs.declared.fault.PipeFault.{PipeFault}
 use Rattle.thes_base.specs.declared.fault.PipeFault.TheVariants.{Write, TooLong, Fault}
 use Rattle.thes_base.specs.declared.pipe.Pipe.{Pipe}
 use Rattle.thes_tables.specs.Cells.{Raw}
+use Rattle.thes_store.specs.Storage.{StorageView}
 use Rattle.thes_office.specs.Office.{FaultBehaviour, OfficeView}
 use Rattle.thes_import.specs.Imports.{PerformsWith}
 use Rattle.thes_import.specs.Outcomes.{counts_of, no_counts, outcomes_text}
@@ -68,15 +69,15 @@ pub record ImportStreams (R W K : Type 0) : Type 0 where
 abbrev pub import_streams : {R W K : Type 0} → Pipe R → Pipe W → OfficeView K → ImportStreams R W K
 import_streams reader writer office = record { reader = reader; writer = writer; office = office }
 
-module _ {W K : Type 0} (contents : W → Option (List ℕ)) (tables : K → Raw) (is_up : K → Type 0) (failed : K → ℕ)
+module _ {W K : Type 0} (contents : W → Option (List ℕ)) (view : K → StorageView)
     (old new : Pipe W) (before after : OfficeView K) where
   -- The rows of the file before `others` were performed, with these outcomes.
   pub record PerformsFirst (file : List ℕ) (outcomes : List Outcome) (others : List CsvRow)
       (result : Result (Unit {0}) OfficeFault) : Type 0 where
     pub rows : List CsvRow
     pub is_file : IsPostingFile file (rows ++ others)
-    pub performs : PerformsWith tables is_up before rows outcomes after
-    pub fault_behaviour : FaultBehaviour tables is_up failed before after result
+    pub performs : PerformsWith view before rows outcomes after
+    pub fault_behaviour : FaultBehaviour view before after result
 
   -- A fault of the office ended the import before some row, and the outcomes of the rows before it were written.
   pub record StopsAtRow (file : List ℕ) (outcomes : List Outcome) (fault : OfficeFault) : Type 0 where
@@ -123,14 +124,14 @@ module _ {W K : Type 0} (contents : W → Option (List ℕ)) (tables : K → Raw
       ⊎ ((outcomes : List Outcome) × (stopped.counts ≡ counts_of outcomes) × StopsAfterRows file outcomes stopped.fault)
 
 module _ {R W K : Type 0} (remaining : R → Option (List ℕ)) (contents : W → Option (List ℕ))
-    (tables : K → Raw) (is_up : K → Type 0) (failed : K → ℕ) (old new : ImportStreams R W K) where
+    (view : K → StorageView) (old new : ImportStreams R W K) where
   -- The whole file was read, its import ended or a fault halted it, and the outcomes, or a prefix
   -- of them if the writer failed, were written. Nothing was written if the file has no header, or
   -- if memory ran out before the heading.
   pub record ImportsFile (result : Result ImportEnd ImportStop) : Type 0 where
     pub file : List ℕ
     pub whole : IsWhole remaining file_limit old.reader new.reader file
-    pub imports : ImportsBytes contents tables is_up failed old.writer new.writer old.office new.office file result
+    pub imports : ImportsBytes contents view old.writer new.writer old.office new.office file result
 
   -- The file wasn't read to its end, so nothing was performed or written.
   pub record ReadsNone (stopped : ImportStop) : Type 0 where

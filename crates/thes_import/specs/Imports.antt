@@ -5,6 +5,7 @@ use Rattle.thes_base.specs.declared.data.Limits.{Limits}
 use Rattle.thes_base.specs.declared.fault.Fault.{Fault}
 use Rattle.thes_base.specs.declared.fault.Fault.TheVariants as faults
 use Rattle.thes_tables.specs.Cells.{Raw}
+use Rattle.thes_store.specs.Storage.{StorageView}
 use Rattle.thes_import.specs.PostingFile.{HasNoHeader, IsPostingFile}
 use Rattle.thes_import.specs.declared.csv_row.CsvRow.{CsvRow}
 use Rattle.thes_office.specs.Office.{ChangesNothing, TablesAfterRun, OfficeView}
@@ -24,12 +25,13 @@ pub record PerformsRows (limits : Limits) (old : Raw) (rows : List CsvRow) (outc
   pub goes_on : TablesAfterRun limits old (posts_of rows) (answers_of outcomes) new
   pub same : AllByRecursion ChangesNothing (answers_of outcomes) → new ≡ old
 
-module _ {K : Type 0} (tables : K → Raw) (is_up : K → Type 0) where
+module _ {K : Type 0} (view : K → StorageView) where
   -- These rows were performed, with these outcomes.
   pub record PerformsWith (old : OfficeView K) (rows : List CsvRow) (outcomes : List Outcome) (new : OfficeView K) :
       Type 0 where
     pub each : AllZip IsOutcome rows outcomes
-    pub performs : is_up new.keeper → PerformsRows old.limits (tables old.keeper) rows outcomes (tables new.keeper)
+    pub performs : (view new.keeper).is_up → PerformsRows old.limits (view old.keeper).rows rows outcomes
+        (view new.keeper).rows
 
   -- A proper prefix of the rows was performed, with these outcomes.
   pub record PerformsSomeWith (old : OfficeView K) (rows : List CsvRow) (outcomes : List Outcome)
@@ -84,7 +86,8 @@ module _ {K : Type 0} (tables : K → Raw) (is_up : K → Type 0) where
     pub outcomes : List Outcome
     pub each : AllZip IsOutcome rows outcomes
     pub reports : ReportsOutcomes outcomes report
-    pub performs : is_up new.keeper → PerformsRows old.limits (tables old.keeper) rows outcomes (tables new.keeper)
+    pub performs : (view new.keeper).is_up → PerformsRows old.limits (view old.keeper).rows rows outcomes
+        (view new.keeper).rows
 
   -- A proper prefix of the rows was performed and reported.
   pub record ImportsSome (old : OfficeView K) (rows : List CsvRow) (report : Report) (new : OfficeView K) : Type 0 where

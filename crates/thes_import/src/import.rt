@@ -85,7 +85,7 @@ fn import_bytes<W: Write, K: Keeper>(
     office: &mut Office<K>,
 ) -> Result<ImportEnd, ImportStop>
     requires { IsFresh writer.old }
-    ensures imports { ImportsBytes W.contents K.rows K.is_up K.failed writer.old writer.new
+    ensures imports { ImportsBytes W.contents K.view writer.old writer.new
         office.old office.new file.now result }
     ensures paid { PaysCalls writer.old writer.new budget.old budget.new }
 {
@@ -131,10 +131,10 @@ pub fn import<R: Read, W: Write, K: Keeper>(
 ) -> Result<ImportEnd, ImportStop>
     requires reader { IsFresh reader.old }
     requires writer { IsFresh writer.old }
-    ensures imports { OnOk result (ImportsFile R.remaining W.contents K.rows K.is_up K.failed
+    ensures imports { OnOk result (ImportsFile R.remaining W.contents K.view
         (import_streams reader.old writer.old office.old)
         (import_streams reader.new writer.new office.new) result) }
-    ensures stops { IfErr result (StopsImport R.remaining W.contents K.rows K.is_up K.failed
+    ensures stops { IfErr result (StopsImport R.remaining W.contents K.view
         (import_streams reader.old writer.old office.old)
         (import_streams reader.new writer.new office.new)) }
     ensures calls { KeepsSharedCallLimit reader.old reader.new writer.old writer.new }

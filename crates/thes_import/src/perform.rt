@@ -69,8 +69,8 @@ fn perform_rows<K: Keeper>(
     requires some { 0 < length rows.items }
     requires few { length rows.items ≤ 1000 }
     requires fits { row_count report.old.counts + length rows.items < 2 ^ 64 }
-    ensures fault_behaviour { FaultBehaviour K.rows K.is_up K.failed office.old office.new result }
-    ensures reports { ReportsRows K.rows K.is_up office.old rows.items report.old result report.new
+    ensures fault_behaviour { FaultBehaviour K.view office.old office.new result }
+    ensures reports { ReportsRows K.view office.old rows.items report.old result report.new
         office.new }
 {
     // No effect; states for the proof that the tables encode a state.
@@ -97,8 +97,8 @@ pub(crate) fn import_block<K: Keeper>(
 ) -> Result<(), Fault>
     requires some { 0 < reader.old.unread }
     requires fits { row_count report.old.counts + reader.old.unread < 2 ^ 64 }
-    ensures fault_behaviour { FaultBehaviour K.rows K.is_up K.failed office.old office.new result }
-    ensures imports { ImportsBlock K.rows K.is_up office.old reader.old report.old result report.new
+    ensures fault_behaviour { FaultBehaviour K.view office.old office.new result }
+    ensures imports { ImportsBlock K.view office.old reader.old report.old result report.new
         reader.new office.new }
 {
     // No effect; states for the proof that the tables encode a state.

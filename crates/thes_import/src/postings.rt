@@ -50,9 +50,9 @@ pub fn import_postings<K: Keeper>(
     file: &[u8],
     office: &mut Office<K>,
 ) -> Result<FileImport, ImportHalt>
-    ensures fault_behaviour { FaultBehaviour K.rows K.is_up K.failed office.old office.new
+    ensures fault_behaviour { FaultBehaviour K.view office.old office.new
         (fault_in result) }
-    ensures imports { Imports K.rows K.is_up office.old file.now result office.new }
+    ensures imports { Imports K.view office.old file.now result office.new }
 {
     // No effect; states for the proof that the tables encode a state.
     let _ = office.is_stale();

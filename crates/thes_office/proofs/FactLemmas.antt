@@ -19,7 +19,9 @@ use Rattle.thes_core.specs.declared.facts.Facts.{Facts}
 use Rattle.thes_core.specs.Facts.{AreFacts, IsRowOfKey, posting_row_at, assigned_posting_numbers}
 use Rattle.thes_store.specs.Sinks.{SinkAcceptsAll}
 use Rattle.thes_store.specs.Reading.{IsPostingOfKey, assigned_posting_rows}
-use Rattle.thes_office.specs.QueryFrames.{QueryFrame, PushesNumber, RowInTables, RowsInTables}
+use Rattle.thes_store.specs.Storage.{KeepsStorage, QueryFrame, StorageView}
+use Rattle.thes_store.proofs.StorageLemmas.{kept_after}
+use Rattle.thes_office.specs.QueryFrames.{PushesNumber, RowInTables, RowsInTables}
 use Rattle.thes_office.specs.TablesOfState.{TablesOfState}
 
 -- Each row of the posting table is that of a history.
@@ -99,26 +101,22 @@ assigned_numbers s rows concept old new is none took =
     ∙ numbers_of (filter (is_assigned_to concept) s.histories)
 
 -- The rows found so far, while postings are queried in order.
-pub record RowsReadSoFar {K : Type 0} (rows : K → Raw) (is_up : K → Type 0) (failed : K → ℕ) (old now : K)
+pub record RowsReadSoFar (old now : StorageView)
     (ns : List ℕ) (told : List (Option PostingRow)) : Type 0 where
-  pub same : is_up now → rows now ≡ rows old
-  pub was : is_up now → is_up old
-  pub count : failed now ≡ failed old
-  pub rows_are_read : is_up now → RowsInTables (rows old) ns told
+  pub keeps : KeepsStorage old now
+  pub rows_are_read : now.is_up → RowsInTables old.rows ns told
 
 -- A query for one more posting appends its row to the rows found.
-pub rows_read_more : {K : Type 0} (rows : K → Raw) (is_up : K → Type 0) (failed : K → ℕ) (old mid new : K)
+pub rows_read_more : (old mid new : StorageView)
     (ns more : List ℕ) (told last : List (Option PostingRow)) (n : ℕ) (row : Option PostingRow)
-    → RowsReadSoFar rows is_up failed old mid ns told
-    → QueryFrame rows is_up failed mid new (let x : Result (Option PostingRow) Fault = Ok row in x)
-    → (is_up new → RowInTables (rows mid) n row) → more ≡ ns ++ n ∷ [] → last ≡ told ++ row ∷ []
-    → RowsReadSoFar rows is_up failed old new more last
-rows_read_more rows is_up failed old mid new ns more told last n row t asks one grown pushed = record {
-  same = λ up. asks.same up ∙ t.same (asks.was up);
-  was = λ up. t.was (asks.was up);
-  count = asks.cause ∙ t.count;
+    → RowsReadSoFar old mid ns told
+    → QueryFrame mid new (let x : Result (Option PostingRow) Fault = Ok row in x)
+    → (new.is_up → RowInTables mid.rows n row) → more ≡ ns ++ n ∷ [] → last ≡ told ++ row ∷ []
+    → RowsReadSoFar old new more last
+rows_read_more old mid new ns more told last n row t asks one grown pushed = record {
+  keeps = kept_after old mid new t.keeps row asks;
   rows_are_read = λ up base s x.
-      let here = one up base s (subst (λ (r : Raw). TablesOfState r base s) (sym (t.same (asks.was up))) x) in
+      let here = one up base s (subst (λ (r : Raw). TablesOfState r base s) (sym (t.keeps.same (asks.was up))) x) in
       let before = t.rows_are_read (asks.was up) base s x in
       pushed ∙ (λ i. before i ++ here i ∷ []) ∙ sym (map-append (posting_row_at s.histories) ns (n ∷ []))
       ∙ ap (map (posting_row_at s.histories)) (sym grown);

@@ -27,6 +27,7 @@ use Rattle.thes_tables.specs.ChangeLaw.{AreChangesBetween}
 use Rattle.thes_tables.specs.Rows.{tables_after_delta}
 use Rattle.thes_tables.specs.Tables.{Tables, IsRowsOf}
 use Rattle.thes_tables.proofs.DeltaAppendLemmas.{all_append, fit_append}
+use Rattle.thes_store.specs.Storage.{StorageView}
 use Rattle.thes_core.specs.declared.facts.Facts.{Facts}
 use Rattle.thes_core.specs.CoreDecisions.{AcceptedVerdict}
 use Rattle.thes_core.specs.CoreView.{CoreView, IsViewOf}
@@ -238,17 +239,17 @@ module _ (old new : Raw) (setting : Setting) (group : List Command) (answers : L
     shows = subst (λ (q : Setting). TablesOfState new q.base g.state_after) (sym is) shows_after;
   }
 
-module _ {K : Type 0} (rows : K → Raw) (is_up : K → Type 0) where
+module _ {K : Type 0} (view : K → StorageView) where
   -- A reload before a group changes nothing that its result states.
   pub group_after_reload : (old mid new : OfficeView K) (group : List Command) (before last : List Answer)
-      (result : Result (Unit {0}) Fault) → mid.limits ≡ old.limits → SameTables rows is_up old mid
-      → (is_up new.keeper → is_up mid.keeper) → GroupResult rows is_up mid group before last result new
-      → GroupResult rows is_up old group before last result new
+      (result : Result (Unit {0}) Fault) → mid.limits ≡ old.limits → SameTables view old mid
+      → ((view new.keeper).is_up → (view mid.keeper).is_up) → GroupResult view mid group before last result new
+      → GroupResult view old group before last result new
   group_after_reload old mid new group before last (Ok done) limits same was x = record {
     answers = x.answers;
     each = x.each;
     kept = x.kept;
-    goes_on = λ up. subst (λ (p : Limits × Raw). TablesAfterRun p.0 p.1 group x.answers (rows new.keeper))
+    goes_on = λ up. subst (λ (p : Limits × Raw). TablesAfterRun p.0 p.1 group x.answers (view new.keeper).rows)
         (λ i. (limits i, same (was up) i)) (x.goes_on up);
     same = λ up all. x.same up all ∙ same (was up);
   }

@@ -19,6 +19,7 @@ use Rattle.thes_base.proofs.MachineLemmas.{legal_is_consistent}
 use Rattle.thes_tables.specs.Cells.{Raw}
 use Rattle.thes_core.specs.CoreView as core
 use Rattle.thes_store.specs.Causes.{HasCause, IsCounted}
+use Rattle.thes_store.specs.Storage.{StorageView}
 use Rattle.thes_load_rules.specs.Verdicts.{HasVerdict}
 use Rattle.thes_office.specs.QueryFrames.{LoadFrame}
 use Rattle.thes_office.specs.Office.{ChangesNothing, FaultBehaviour, TablesAfterRun, IsConsistent, IsCopy, OfficeView}
@@ -54,11 +55,12 @@ has_failed before now fault (inl (memory, same)) is = absurd (cc)
 has_failed before now fault (inr (e, inl more)) is = omega (arith, more)
 has_failed before now fault (inr (e, inr (at_most, same))) is = omega (arith, at_most, same)
 
-module _ {K : Type 0} (rows : K → Raw) (is_up : K → Type 0) (failed : K → ℕ) where
+module _ {K : Type 0} (view : K → StorageView) where
   -- A load establishes the invariant, with a copy that isn't stale.
   pub consistent_after_load : (old new : K) (copy : core.CoreView) (limits : Limits) → AreLimits limits → copy.spent
-      ≡ false → (is_up new → IsCopy (rows old) limits copy) → (is_up new → rows new ≡ rows old)
-      → IsConsistent rows is_up failed new copy limits false
+      ≡ false → ((view new).is_up → IsCopy (view old).rows limits copy) → ((view new).is_up → (view new).rows
+      ≡ (view old).rows)
+      → IsConsistent view new copy limits false
   consistent_after_load old new copy limits few unspent copies same = record {
     few = few;
     shows = λ up. let is = here up in (copy.setting.base, is.state, is.shows);
@@ -67,44 +69,46 @@ module _ {K : Type 0} (rows : K → Raw) (is_up : K → Type 0) (failed : K → 
     why = λ e. absurd (cc);
   }
     where
-      here : is_up new → IsCopy (rows new) limits copy
-      here up = copies_over (rows old) (rows new) limits copy (same up) (copies up)
+      here : (view new).is_up → IsCopy (view new).rows limits copy
+      here up = copies_over (view old).rows (view new).rows limits copy (same up) (copies up)
 
   -- A call that changes neither the tables nor the copy keeps the invariant.
   pub consistent_after_query : (old new : K) (copy : core.CoreView) (limits : Limits) (stale stale' : Bool)
-      → IsConsistent rows is_up failed old copy limits stale → failed old ≤ failed new
-      → (stale' ≡ true → (stale ≡ true) ⊎ (0 < failed new)) → (stale' ≡ false → stale ≡ false)
-      → (is_up new → is_up old) → (is_up new → rows new ≡ rows old) → IsConsistent rows is_up failed new copy limits
+      → IsConsistent view old copy limits stale → (view old).failures ≤ (view new).failures
+      → (stale' ≡ true → (stale ≡ true) ⊎ (0 < (view new).failures)) → (stale' ≡ false → stale ≡ false)
+      → ((view new).is_up → (view old).is_up) → ((view new).is_up → (view new).rows ≡ (view old).rows)
+      → IsConsistent view new copy limits
       stale'
   consistent_after_query old new copy limits stale stale' kept later cause fresh was same = record {
     few = kept.few;
     shows = λ up. let x = kept.shows (was up) in
-        (x.0, x.1, same_tables_same_state (rows old) (rows new) x.0 x.1 (same up) x.2);
+        (x.0, x.1, same_tables_same_state (view old).rows (view new).rows x.0 x.1 (same up) x.2);
     unspent = λ e. kept.unspent (fresh e);
-    copies = λ e up. copies_over (rows old) (rows new) limits copy (same up) (kept.copies (fresh e) (was up));
+    copies = λ e up. copies_over (view old).rows (view new).rows limits copy (same up) (kept.copies (fresh e) (was up));
     why = λ e. so (cause e);
   }
     where
-      still : (copy.spent ≡ true) ⊎ (0 < failed old) → (copy.spent ≡ true) ⊎ (0 < failed new)
+      still : (copy.spent ≡ true) ⊎ (0 < (view old).failures) → (copy.spent ≡ true) ⊎ (0 < (view new).failures)
       still (inl spent) = inl spent
       still (inr once) = inr (omega (arith, once, later))
 
-      so : (stale ≡ true) ⊎ (0 < failed new) → (copy.spent ≡ true) ⊎ (0 < failed new)
+      so : (stale ≡ true) ⊎ (0 < (view new).failures) → (copy.spent ≡ true) ⊎ (0 < (view new).failures)
       so (inl e) = still (kept.why e)
       so (inr once) = inr once
 
   -- A load that fails has run out of memory or reports a Store fault, since the tables encode a
   -- state.
   pub behaviour_of_load_fault : (old new : K) (copy : core.CoreView) (limits : Limits) (stale : Bool) (fault : Fault)
-      (office_view : OfficeView K) → LoadFrame rows is_up failed old new (let x : Result core.CoreView Fault =
+      (office_view : OfficeView K) → LoadFrame (view old) (view new) (let x : Result core.CoreView Fault =
       Err fault in x)
-      → (is_up new → (fault ≡ faults.OutOfMemory) ⊎ ((fault ≡ faults.Store) ⊎ HasVerdict (rows old) (Err fault)))
-      → IsConsistent rows is_up failed old copy limits stale → stale ≡ true
+      → ((view new).is_up → (fault ≡ faults.OutOfMemory) ⊎ ((fault ≡ faults.Store)
+      ⊎ HasVerdict (view old).rows (Err fault)))
+      → IsConsistent view old copy limits stale → stale ≡ true
       → record { keeper = old; limits = limits; stale = stale } ≡ office_view
-      → FaultBehaviour rows is_up failed office_view (record { keeper = new; limits = limits; stale = stale })
+      → FaultBehaviour view office_view (record { keeper = new; limits = limits; stale = stale })
       (let x : Result (Unit {0}) Fault = Err fault in x)
   behaviour_of_load_fault old new copy limits stale fault office_view read none kept is same =
-      subst (λ (d : OfficeView K). FaultBehaviour rows is_up failed d
+      subst (λ (d : OfficeView K). FaultBehaviour view d
       (record { keeper = new; limits = limits; stale = stale }) (let x : Result (Unit {0}) Fault = Err fault in
       x)) same
       record {
@@ -118,22 +122,23 @@ module _ {K : Type 0} (rows : K → Raw) (is_up : K → Type 0) (failed : K → 
         fault = λ up. only up (none up);
       }
     where
-      only : is_up new → (fault ≡ faults.OutOfMemory) ⊎ ((fault ≡ faults.Store) ⊎ HasVerdict (rows old) (Err fault))
+      only : (view new).is_up → (fault ≡ faults.OutOfMemory) ⊎ ((fault ≡ faults.Store)
+          ⊎ HasVerdict (view old).rows (Err fault))
           → (fault ≡ faults.OutOfMemory) ⊎ (fault ≡ faults.Store)
       only up (inl e) = inl e
       only up (inr (inl e)) = inr e
       only up (inr (inr faulty)) = let x = kept.shows (read.was up) in
-          absurd (faulty_has_no_state (rows old) fault faulty x.0 x.1 x.2)
+          absurd (faulty_has_no_state (view old).rows fault faulty x.0 x.1 x.2)
 
   -- After a reload, `ready` returns a current copy.
   pub ready_core : (old : OfficeView K) (keeper : K) (copy : core.CoreView) (limits : Limits) (stale : Bool)
-      (office_view : OfficeView K) (lent : Bor core.CoreView) → IsConsistent rows is_up failed keeper copy limits
+      (office_view : OfficeView K) (lent : Bor core.CoreView) → IsConsistent view keeper copy limits
       stale → record { keeper = keeper; limits = limits; stale = stale } ≡ office_view
-      → FaultBehaviour rows is_up failed old office_view (let x : Result (Unit {0}) Fault = Ok tt in x)
-      → SameTables rows is_up old office_view → office_view.stale ≡ false → lent.now ≡ copy
-      → ReadyResult rows is_up failed old (Ok lent) (record { keeper = keeper; limits = limits; stale = stale })
+      → FaultBehaviour view old office_view (let x : Result (Unit {0}) Fault = Ok tt in x)
+      → SameTables view old office_view → office_view.stale ≡ false → lent.now ≡ copy
+      → ReadyResult view old (Ok lent) (record { keeper = keeper; limits = limits; stale = stale })
   ready_core old keeper copy limits stale office_view lent kept is fault_behaviour same fresh lends =
-      subst (ReadyResult rows is_up failed old (Ok lent)) (sym is) record {
+      subst (ReadyResult view old (Ok lent)) (sym is) record {
         fault_behaviour = record {
           limits = fault_behaviour.limits;
           was = fault_behaviour.was;
@@ -149,9 +154,9 @@ module _ {K : Type 0} (rows : K → Raw) (is_up : K → Type 0) (failed : K → 
         shown = record {
           unspent = ap (λ (k : core.CoreView). k.spent) lends ∙ kept.unspent now;
           copies = λ up.
-              subst (λ (d : OfficeView K). IsCopy (rows d.keeper) d.limits lent.now) is
-              (subst (λ (k : core.CoreView). IsCopy (rows keeper) limits k) (sym lends)
-              (kept.copies now (subst (λ (d : OfficeView K). is_up d.keeper) (sym is) up)));
+              subst (λ (d : OfficeView K). IsCopy (view d.keeper).rows d.limits lent.now) is
+              (subst (λ (k : core.CoreView). IsCopy (view keeper).rows limits k) (sym lends)
+              (kept.copies now (subst (λ (d : OfficeView K). (view d.keeper).is_up) (sym is) up)));
         };
       }
     where
@@ -222,11 +227,11 @@ run_of_more limits first mid last commands answers more further x y =
       in_order = subst (λ (b : List ℕ). IsConsistentState b y.state_after) one.0 y.in_order;
     }
 
-module _ {K : Type 0} (rows : K → Raw) (is_up : K → Type 0) (failed : K → ℕ) where
+module _ {K : Type 0} (view : K → StorageView) where
   -- A request that is answered is a complete run.
   pub one_completes : (old new : OfficeView K) (before last : List Answer) (command : Command) (answer : Answer)
-      → PerformResult rows is_up old command (Ok answer) new → last ≡ before ++ answer ∷ []
-      → CompleteRun rows is_up old (command ∷ []) before last new
+      → PerformResult view old command (Ok answer) new → last ≡ before ++ answer ∷ []
+      → CompleteRun view old (command ∷ []) before last new
   one_completes old new before last command answer performed pushed = record {
     answers = answer ∷ [];
     each = refl;
@@ -245,13 +250,13 @@ module _ {K : Type 0} (rows : K → Raw) (is_up : K → Type 0) (failed : K → 
 
   -- A call that makes the copy unusable, and leaves the tables unchanged, keeps the invariant.
   pub consistent_when_spent : (old new : K) (copy copy' : core.CoreView) (limits : Limits) (stale : Bool)
-      → IsConsistent rows is_up failed old copy limits stale → (is_up new → is_up old)
-      → (is_up new → rows new ≡ rows old) → copy'.spent ≡ true
-      → IsConsistent rows is_up failed new copy' limits true
+      → IsConsistent view old copy limits stale → ((view new).is_up → (view old).is_up)
+      → ((view new).is_up → (view new).rows ≡ (view old).rows) → copy'.spent ≡ true
+      → IsConsistent view new copy' limits true
   consistent_when_spent old new copy copy' limits stale kept was same spent = record {
     few = kept.few;
     shows = λ up. let x = kept.shows (was up) in
-        (x.0, x.1, same_tables_same_state (rows old) (rows new) x.0 x.1 (same up) x.2);
+        (x.0, x.1, same_tables_same_state (view old).rows (view new).rows x.0 x.1 (same up) x.2);
     unspent = λ e. absurd (cc);
     copies = λ e. absurd (cc);
     why = λ e. inl spent;
@@ -261,20 +266,21 @@ module _ {K : Type 0} (rows : K → Raw) (is_up : K → Type 0) (failed : K → 
   pub record RunSoFar (old now : OfficeView K) (commands rest : List Command) (before after : List Answer) : Type
       0 where
     pub limits : now.limits ≡ old.limits
-    pub was : is_up now.keeper → is_up old.keeper
-    pub count : failed now.keeper ≡ failed old.keeper
+    pub was : (view now.keeper).is_up → (view old.keeper).is_up
+    pub count : (view now.keeper).failures ≡ (view old.keeper).failures
     pub commands_done : List Command
     pub all : commands ≡ commands_done ++ rest
     pub given : List Answer
     pub each : length given ≡ length commands_done
     pub kept : after ≡ before ++ given
-    pub goes_on : is_up now.keeper → TablesAfterRun old.limits (rows old.keeper) commands_done given
-        (rows now.keeper)
-    pub same : is_up now.keeper → AllByRecursion ChangesNothing given → rows now.keeper ≡ rows old.keeper
+    pub goes_on : (view now.keeper).is_up → TablesAfterRun old.limits (view old.keeper).rows commands_done given
+        (view now.keeper).rows
+    pub same : (view now.keeper).is_up → AllByRecursion ChangesNothing given → (view now.keeper).rows
+        ≡ (view old.keeper).rows
 
   -- Before the first request, the progress is that of no requests.
   pub run_starts : (keeper : K) (copy : core.CoreView) (limits : Limits) (stale : Bool) (office_view : OfficeView K)
-      (commands : List Command) (before : List Answer) → IsConsistent rows is_up failed keeper copy limits stale
+      (commands : List Command) (before : List Answer) → IsConsistent view keeper copy limits stale
       → record { keeper = keeper; limits = limits; stale = stale } ≡ office_view → RunSoFar office_view office_view
       commands commands before before
   run_starts keeper copy limits stale office_view commands before consistent is =
@@ -287,7 +293,7 @@ module _ {K : Type 0} (rows : K → Raw) (is_up : K → Type 0) (failed : K → 
         given = [];
         each = refl;
         kept = sym (append-nil before);
-        goes_on = λ up. let x = consistent.shows up in empty_run limits (rows keeper) x.0 x.1 x.2
+        goes_on = λ up. let x = consistent.shows up in empty_run limits (view keeper).rows x.0 x.1 x.2
             (legal_is_consistent x.0 x.1 x.2.legal);
         same = λ up all. refl;
       }
@@ -295,8 +301,8 @@ module _ {K : Type 0} (rows : K → Raw) (is_up : K → Type 0) (failed : K → 
   -- A complete run of the next requests extends the progress by them.
   pub run_continues : (old mid new : OfficeView K) (commands rest front later : List Command)
       (before after last : List Answer) → RunSoFar old mid commands rest before after
-      → FaultBehaviour rows is_up failed mid new (let x : Result (Unit {0}) Fault = Ok tt in x)
-      → CompleteRun rows is_up mid front after last new → rest ≡ front ++ later
+      → FaultBehaviour view mid new (let x : Result (Unit {0}) Fault = Ok tt in x)
+      → CompleteRun view mid front after last new → rest ≡ front ++ later
       → RunSoFar old new commands later before last
   run_continues old mid new commands rest front later before after last r fault_behaviour x split = record {
     limits = fault_behaviour.limits ∙ r.limits;
@@ -309,9 +315,10 @@ module _ {K : Type 0} (rows : K → Raw) (is_up : K → Type 0) (failed : K → 
     each = let a = length-append r.given x.answers in let b = length-append r.commands_done front in
         omega (arith, a, b, r.each, x.each);
     kept = x.kept ∙ ap (λ (l : List Answer). l ++ x.answers) r.kept ∙ append_assoc before r.given x.answers;
-    goes_on = λ up. run_of_more old.limits (rows old.keeper) (rows mid.keeper) (rows new.keeper) r.commands_done
+    goes_on = λ up. run_of_more old.limits (view old.keeper).rows (view mid.keeper).rows
+        (view new.keeper).rows r.commands_done
         r.given front x.answers (r.goes_on (fault_behaviour.was up))
-        (subst (λ (l : Limits). TablesAfterRun l (rows mid.keeper) front x.answers (rows new.keeper)) r.limits
+        (subst (λ (l : Limits). TablesAfterRun l (view mid.keeper).rows front x.answers (view new.keeper).rows) r.limits
         (x.goes_on up));
     same = λ up all. let parts = all_parts ChangesNothing r.given x.answers all in
         x.same up parts.1 ∙ r.same (fault_behaviour.was up) parts.0;
@@ -320,22 +327,24 @@ module _ {K : Type 0} (rows : K → Raw) (is_up : K → Type 0) (failed : K → 
   -- The progress after the last request is a complete run.
   pub run_completes : (old now : OfficeView K) (commands rest : List Command) (before after : List Answer)
       → RunSoFar old now commands rest before after → length rest ≡ 0
-      → CompleteRun rows is_up old commands before after now
+      → CompleteRun view old commands before after now
   run_completes old now commands [] before after r none =
       let done : r.commands_done ≡ commands = sym (append-nil r.commands_done) ∙ sym r.all in record {
         answers = r.given;
         each = r.each ∙ ap (λ (l : List Command). length l) done;
         kept = r.kept;
-        goes_on = λ up. subst (λ (l : List Command). TablesAfterRun old.limits (rows old.keeper) l r.given
-            (rows now.keeper)) done (r.goes_on up);
+        goes_on = λ up. subst (λ (l : List Command). TablesAfterRun old.limits (view old.keeper).rows l r.given
+            (view now.keeper).rows) done (r.goes_on up);
         same = r.same;
       }
   run_completes old now commands (x ∷ rest) before after r none = absurd (omega (arith, none))
 
   -- A fault before a request makes the progress a partial run.
   pub run_stops : (old now last : OfficeView K) (commands rest : List Command) (before after told : List Answer)
-      → 0 < length rest → RunSoFar old now commands rest before after → (is_up last.keeper → is_up now.keeper)
-      → (is_up last.keeper → rows last.keeper ≡ rows now.keeper) → told ≡ after → PartialRun rows is_up old commands
+      → 0 < length rest → RunSoFar old now commands rest before after → ((view last.keeper).is_up
+      → (view now.keeper).is_up)
+      → ((view last.keeper).is_up → (view last.keeper).rows ≡ (view now.keeper).rows) → told ≡ after
+      → PartialRun view old commands
       before told last
   run_stops old now last commands rest before after told more r was same is = record {
     commands_done = r.commands_done;
@@ -345,7 +354,7 @@ module _ {K : Type 0} (rows : K → Raw) (is_up : K → Type 0) (failed : K → 
     some = more;
     each = r.each;
     kept = is ∙ r.kept;
-    goes_on = λ up. subst (λ (l : Raw). TablesAfterRun old.limits (rows old.keeper) r.commands_done r.given l)
+    goes_on = λ up. subst (λ (l : Raw). TablesAfterRun old.limits (view old.keeper).rows r.commands_done r.given l)
         (sym (same up)) (r.goes_on (was up));
     same = λ up all. same up ∙ r.same (was up) all;
   }

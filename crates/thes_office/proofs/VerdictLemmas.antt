@@ -14,6 +14,7 @@ use Rattle.thes_tables.specs.declared.change.Change.{Change}
 use Rattle.thes_tables.specs.Cells.{Raw, cells_of_tables}
 use Rattle.thes_tables.specs.Rows.{tables_after_delta, DeltaFits}
 use Rattle.thes_tables.specs.Tables.{Tables}
+use Rattle.thes_store.specs.Storage.{StorageView}
 use Rattle.thes_core.specs.declared.facts.Facts.{Facts}
 use Rattle.thes_core.specs.declared.verdict.Verdict.{Verdict}
 use Rattle.thes_core.specs.declared.verdict.Verdict.TheVariants.{Settled, Accepted}
@@ -26,74 +27,80 @@ use Rattle.thes_office.specs.Office.{IsConsistent, IsCopy, OfficeView, PerformRe
 use Rattle.thes_office.proofs.StateTableLemmas.{changes_fit}
 use Rattle.thes_office.proofs.StepLemmas.{copies_accepted, steps_accepted, steps_settled}
 
-module _ {K : Type 0} (rows : K → Raw) (is_up : K → Type 0) (failed : K → ℕ) (keeper : K) (copy : core.CoreView)
+module _ {K : Type 0} (view : K → StorageView) (keeper : K) (copy : core.CoreView)
     (limits : Limits) (stale : Bool) (office : OfficeView K)
-    (kept : IsConsistent rows is_up failed keeper copy limits stale)
+    (kept : IsConsistent view keeper copy limits stale)
     (is : record { keeper = keeper; limits = limits; stale = stale } ≡ office) (current : office.stale ≡ false)
-    (command : Command) (facts : Facts) (in_tables : is_up office.keeper → FactsInTables (rows office.keeper) command facts)
+    (command : Command) (facts : Facts) (in_tables : (view office.keeper).is_up
+    → FactsInTables (view office.keeper).rows command facts)
     (verdict : Verdict) (decides : (s : State) → IsViewOf copy s → AreFacts command s.histories facts
     → IsVerdict copy.setting s command verdict) where
   -- The copy holds the state that the tables encode.
-  pub current_copy : is_up keeper → IsCopy (rows keeper) limits copy
+  pub current_copy : (view keeper).is_up → IsCopy (view keeper).rows limits copy
   current_copy = kept.copies (ap (λ (d : OfficeView K). d.stale) is ∙ current)
 
-  pub right_facts : (up : is_up keeper) → AreFacts command (current_copy up).state.histories facts
+  pub right_facts : (up : (view keeper).is_up) → AreFacts command (current_copy up).state.histories facts
   right_facts up =
-      subst (λ (d : OfficeView K). is_up d.keeper → FactsInTables (rows d.keeper) command facts) (sym is) in_tables up
+      subst (λ (d : OfficeView K). (view d.keeper).is_up → FactsInTables (view d.keeper).rows command facts)
+      (sym is) in_tables up
       copy.setting.base (current_copy up).state (current_copy up).shows
 
-  right : (up : is_up keeper) → IsVerdict copy.setting (current_copy up).state command verdict
+  right : (up : (view keeper).is_up) → IsVerdict copy.setting (current_copy up).state command verdict
   right up = decides (current_copy up).state (current_copy up).holds (right_facts up)
 
   -- A step from these tables is one from the tables before a call that left them unchanged.
   step_since : (old : OfficeView K) (answer : Answer) (new : Raw) → office.limits ≡ old.limits
-      → SameTables rows is_up old office → is_up keeper → TablesAfterStep limits (rows keeper) command answer new
-      → TablesAfterStep old.limits (rows old.keeper) command answer new
+      → SameTables view old office → (view keeper).is_up → TablesAfterStep limits (view keeper).rows command answer new
+      → TablesAfterStep old.limits (view old.keeper).rows command answer new
   step_since old answer new limits_are same up =
       subst (λ (p : Limits × Raw). TablesAfterStep p.0 p.1 command answer new)
       (λ i. (
         (ap (λ (d : OfficeView K). d.limits) is ∙ limits_are) i,
-        subst (SameTables rows is_up old) (sym is) same up i,
+        subst (SameTables view old) (sym is) same up i,
       ))
 
   -- A settled answer is a step of the machine that leaves the tables unchanged.
   pub performed_when_settled : (old : OfficeView K) (answer : Answer) → office.limits ≡ old.limits
-      → SameTables rows is_up old office → verdict ≡ Settled answer
-      → PerformResult rows is_up old command (Ok answer) office
+      → SameTables view old office → verdict ≡ Settled answer
+      → PerformResult view old command (Ok answer) office
   performed_when_settled old answer limits_are same settles =
-      subst (PerformResult rows is_up old command (Ok answer)) is
-      (λ up. step_since old answer (rows keeper) limits_are same up
-      (subst (λ (l : Limits). TablesAfterStep l (rows keeper) command answer (rows keeper)) (current_copy up).limits_are
-      (steps_settled copy.setting (rows keeper) (current_copy up).state command answer (current_copy up).shows
+      subst (PerformResult view old command (Ok answer)) is
+      (λ up. step_since old answer (view keeper).rows limits_are same up
+      (subst (λ (l : Limits). TablesAfterStep l (view keeper).rows command answer (view keeper).rows)
+      (current_copy up).limits_are
+      (steps_settled copy.setting (view keeper).rows (current_copy up).state command answer (current_copy up).shows
       (subst (IsVerdict copy.setting (current_copy up).state command) settles (right up)))))
 
   module _ (answer : Answer) (changes : List Change) (accepts : verdict ≡ Accepted answer changes) where
-    grants : (up : is_up keeper) → AcceptedVerdict copy.setting (current_copy up).state command answer changes
+    grants : (up : (view keeper).is_up) → AcceptedVerdict copy.setting (current_copy up).state command answer changes
     grants up = subst (IsVerdict copy.setting (current_copy up).state command) accepts (right up)
 
     -- The changes of an accepted request fit the tables.
-    pub accepted_fits : is_up keeper → (t : Tables) → rows keeper ≡ cells_of_tables t → DeltaFits changes t
-    accepted_fits up t same = changes_fit (rows keeper) copy.setting.base (current_copy up).state
+    pub accepted_fits : (view keeper).is_up → (t : Tables) → (view keeper).rows ≡ cells_of_tables t
+        → DeltaFits changes t
+    accepted_fits up t same = changes_fit (view keeper).rows copy.setting.base (current_copy up).state
         (next_state command (current_copy up).state) changes (current_copy up).shows (grants up).leads t same
 
-    module _ (new : K) (forms : CommandHasForms command) (was : is_up new → is_up keeper)
-        (made : is_up new → (t : Tables) → rows keeper ≡ cells_of_tables t
-        → rows new ≡ cells_of_tables (tables_after_delta changes t)) where
-      few : (up : is_up keeper) → AreLimits copy.setting.limits
+    module _ (new : K) (forms : CommandHasForms command) (was : (view new).is_up → (view keeper).is_up)
+        (made : (view new).is_up → (t : Tables) → (view keeper).rows ≡ cells_of_tables t
+        → (view new).rows ≡ cells_of_tables (tables_after_delta changes t)) where
+      few : (up : (view keeper).is_up) → AreLimits copy.setting.limits
       few up = subst AreLimits (sym (current_copy up).limits_are) kept.few
 
       -- The commit of the changes of an accepted request is a step of the machine.
-      step_when_accepted : is_up new → TablesAfterStep limits (rows keeper) command answer (rows new)
+      step_when_accepted : (view new).is_up → TablesAfterStep limits (view keeper).rows command answer (view new).rows
       step_when_accepted up =
-          subst (λ (l : Limits). TablesAfterStep l (rows keeper) command answer (rows new)) (current_copy (was up)).limits_are
-          (steps_accepted copy.setting (rows keeper) (rows new) (current_copy (was up)).state command answer changes
+          subst (λ (l : Limits). TablesAfterStep l (view keeper).rows command answer (view new).rows)
+          (current_copy (was up)).limits_are
+          (steps_accepted copy.setting (view keeper).rows (view new).rows
+          (current_copy (was up)).state command answer changes
           (few (was up)) forms (current_copy (was up)).shows (grants (was up)) (made up))
 
       pub performed_when_accepted : (old : OfficeView K) (later : Bool) → office.limits ≡ old.limits
-          → SameTables rows is_up old office
-          → PerformResult rows is_up old command (Ok answer) (record { keeper = new; limits = limits; stale = later })
+          → SameTables view old office
+          → PerformResult view old command (Ok answer) (record { keeper = new; limits = limits; stale = later })
       performed_when_accepted old later limits_are same up =
-          step_since old answer (rows new) limits_are same (was up) (step_when_accepted up)
+          step_since old answer (view new).rows limits_are same (was up) (step_when_accepted up)
 
       -- After the commit and the change of the copy, a usable copy holds the next state.
       pub consistent_when_accepted : {A : Type 0} (copy' : core.CoreView) (result : Result A Fault) (later : Bool)
@@ -102,15 +109,16 @@ module _ {K : Type 0} (rows : K → Raw) (is_up : K → Type 0) (failed : K → 
           → OnOk result (IsViewOf copy' (next_state command s)))
           → OnOk result ((copy'.spent ≡ false) × (copy'.setting ≡ copy.setting))
           → IfErr result (λ fault. (fault ≡ OutOfMemory) × (copy'.spent ≡ true))
-          → IsConsistent rows is_up failed new copy' limits later
+          → IsConsistent view new copy' limits later
       consistent_when_accepted copy' result later spends applies ok err = record {
         few = kept.few;
         shows = λ up. let x = step_when_accepted up in (x.base, x.state_after, x.shows);
         unspent = λ e. sym spends ∙ e;
         copies = λ e up.
             let here = current_copy (was up) in
-            subst (λ (l : Limits). IsCopy (rows new) l copy') here.limits_are
-            (copies_accepted copy.setting (rows keeper) (rows new) here.state command answer changes (few (was up)) forms
+            subst (λ (l : Limits). IsCopy (view new).rows l copy') here.limits_are
+            (copies_accepted copy.setting (view keeper).rows (view new).rows here.state command answer changes
+            (few (was up)) forms
             here.shows (grants (was up)) (made up) copy copy' result refl
             (applies here.state here.holds (right_facts (was up)) (grants (was up)).accepts) ok err (sym spends ∙ e));
         why = λ e. inl (sym spends ∙ e);

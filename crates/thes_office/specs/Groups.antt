@@ -13,6 +13,7 @@ use Rattle.thes_base.specs.State.{State}
 use Rattle.thes_tables.specs.declared.change.Change.{Change}
 use Rattle.thes_tables.specs.Cells.{Raw}
 use Rattle.thes_tables.specs.ChangeLaw.{AreChangesBetween}
+use Rattle.thes_store.specs.Storage.{StorageView}
 use Rattle.thes_core.specs.declared.facts.Facts.{Facts}
 use Rattle.thes_core.specs.CoreView.{CoreView, IsViewOf}
 use Rattle.thes_core.specs.Facts.{AreFacts}
@@ -74,7 +75,7 @@ pub record TablesAfterGroup (limits : Limits) (old : Raw) (commands : List Comma
   pub same : AllByRecursion ChangesNothing answers → new ≡ old
 
 -- All requests of a group are performed and answered, or none.
-abbrev pub GroupResult : {K : Type 0} → (K → Raw) → (K → Type 0) → OfficeView K → List Command → List Answer
+abbrev pub GroupResult : {K : Type 0} → (K → StorageView) → OfficeView K → List Command → List Answer
     → List Answer → Result (Unit {0}) Fault → OfficeView K → Type 0
-GroupResult rows is_up old commands before after (Ok done) new = CompleteRun rows is_up old commands before after new
-GroupResult rows is_up old commands before after (Err fault) new = (after ≡ before) × SameTables rows is_up old new
+GroupResult view old commands before after (Ok done) new = CompleteRun view old commands before after new
+GroupResult view old commands before after (Err fault) new = (after ≡ before) × SameTables view old new

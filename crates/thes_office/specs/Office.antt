@@ -17,6 +17,7 @@ use Rattle.thes_tables.specs.Cells.{Raw}
 use Rattle.thes_core.specs.CoreView as core
 use Rattle.thes_core.specs.CoreView.{IsViewOf}
 use Rattle.thes_store.specs.Causes.{max_failures}
+use Rattle.thes_store.specs.Storage.{StorageView}
 use Rattle.thes_office.specs.TablesOfState.{TablesOfState}
 
 -- An office as contracts see it: all but the copy in memory.
@@ -39,32 +40,32 @@ pub record IsCopy (raw : Raw) (limits : Limits) (copy : core.CoreView) : Type 0 
 
 -- While the storage is up, its tables encode a state, which the copy holds unless it is stale. The
 -- copy is stale only after running out of memory or a failure of the storage.
-pub record IsConsistent {K : Type 0} (rows : K → Raw) (is_up : K → Type 0) (failed : K → ℕ)
+pub record IsConsistent {K : Type 0} (view : K → StorageView)
     (keeper : K) (copy : core.CoreView) (limits : Limits) (stale : Bool) : Type 0 where
   pub few : AreLimits limits
-  pub shows : is_up keeper → (base : List ℕ) × (s : State) × TablesOfState (rows keeper) base s
+  pub shows : (view keeper).is_up → (base : List ℕ) × (s : State) × TablesOfState (view keeper).rows base s
   pub unspent : stale ≡ false → copy.spent ≡ false
-  pub copies : stale ≡ false → is_up keeper → IsCopy (rows keeper) limits copy
-  pub why : stale ≡ true → (copy.spent ≡ true) ⊎ (0 < failed keeper)
+  pub copies : stale ≡ false → (view keeper).is_up → IsCopy (view keeper).rows limits copy
+  pub why : stale ≡ true → (copy.spent ≡ true) ⊎ (0 < (view keeper).failures)
 
 -- The faults of every call of an office. While the storage is up, a fault is OutOfMemory or Store.
 -- Store leaves the copy stale, and is counted as a failure of the storage unless the count is at
 -- its maximum. Any other fault leaves the count unchanged.
-pub record FaultBehaviour {K T : Type 0} (rows : K → Raw) (is_up : K → Type 0) (failed : K → ℕ)
+pub record FaultBehaviour {K T : Type 0} (view : K → StorageView)
     (old new : OfficeView K) (result : Result T Fault) : Type 0 where
   pub limits : new.limits ≡ old.limits
-  pub was : is_up new.keeper → is_up old.keeper
-  pub later : failed old.keeper ≤ failed new.keeper
-  pub count : OnOk result (failed new.keeper ≡ failed old.keeper)
-  pub store : IfErr result (λ f. f ≡ faults.Store → (failed old.keeper < failed new.keeper)
-      ⊎ (failed old.keeper ≡ max_failures))
-  pub other_faults : IfErr result (λ f. f ≢ faults.Store → failed new.keeper ≡ failed old.keeper)
+  pub was : (view new.keeper).is_up → (view old.keeper).is_up
+  pub later : (view old.keeper).failures ≤ (view new.keeper).failures
+  pub count : OnOk result ((view new.keeper).failures ≡ (view old.keeper).failures)
+  pub store : IfErr result (λ f. f ≡ faults.Store → ((view old.keeper).failures < (view new.keeper).failures)
+      ⊎ ((view old.keeper).failures ≡ max_failures))
+  pub other_faults : IfErr result (λ f. f ≢ faults.Store → (view new.keeper).failures ≡ (view old.keeper).failures)
   pub stale : IfErr result (λ f. f ≡ faults.Store → new.stale ≡ true)
-  pub fault : is_up new.keeper → IfErr result (λ f. (f ≡ faults.OutOfMemory) ⊎ (f ≡ faults.Store))
+  pub fault : (view new.keeper).is_up → IfErr result (λ f. (f ≡ faults.OutOfMemory) ⊎ (f ≡ faults.Store))
 
 -- The tables are unchanged, if the storage is still up.
-abbrev pub SameTables : {K : Type 0} → (K → Raw) → (K → Type 0) → OfficeView K → OfficeView K → Type 0
-SameTables rows is_up old new = is_up new.keeper → rows new.keeper ≡ rows old.keeper
+abbrev pub SameTables : {K : Type 0} → (K → StorageView) → OfficeView K → OfficeView K → Type 0
+SameTables view old new = (view new.keeper).is_up → (view new.keeper).rows ≡ (view old.keeper).rows
 
 -- The answer is a refusal, or the number that a posting with the same key has already.
 abbrev pub ChangesNothing : Answer → Type 0
@@ -99,14 +100,14 @@ pub record TablesAfterRun (limits : Limits) (old : Raw) (commands : List Command
   pub in_order : IsConsistentState base state_after
 
 -- The answer and the tables are those of a step of the machine, or a fault leaves the tables unchanged.
-abbrev pub PerformResult : {K : Type 0} → (K → Raw) → (K → Type 0) → OfficeView K → Command → Result Answer Fault
+abbrev pub PerformResult : {K : Type 0} → (K → StorageView) → OfficeView K → Command → Result Answer Fault
     → OfficeView K → Type 0
-PerformResult rows is_up old command (Ok answer) new =
-    is_up new.keeper → TablesAfterStep old.limits (rows old.keeper) command answer (rows new.keeper)
-PerformResult rows is_up old command (Err fault) new = SameTables rows is_up old new
+PerformResult view old command (Ok answer) new =
+    (view new.keeper).is_up → TablesAfterStep old.limits (view old.keeper).rows command answer (view new.keeper).rows
+PerformResult view old command (Err fault) new = SameTables view old new
 
 -- A run that a fault stopped: it has performed and answered a proper prefix of the requests.
-pub record PartialRun {K : Type 0} (rows : K → Raw) (is_up : K → Type 0) (old : OfficeView K)
+pub record PartialRun {K : Type 0} (view : K → StorageView) (old : OfficeView K)
     (commands : List Command) (before after : List Answer) (new : OfficeView K) : Type 0 where
   pub commands_done : List Command
   pub commands_left : List Command
@@ -115,35 +116,39 @@ pub record PartialRun {K : Type 0} (rows : K → Raw) (is_up : K → Type 0) (ol
   pub some : 0 < length commands_left
   pub each : length answers ≡ length commands_done
   pub kept : after ≡ before ++ answers
-  pub goes_on : is_up new.keeper → TablesAfterRun old.limits (rows old.keeper) commands_done answers (rows new.keeper)
-  pub same : is_up new.keeper → AllByRecursion ChangesNothing answers → rows new.keeper ≡ rows old.keeper
+  pub goes_on : (view new.keeper).is_up → TablesAfterRun old.limits (view old.keeper).rows commands_done answers
+      (view new.keeper).rows
+  pub same : (view new.keeper).is_up → AllByRecursion ChangesNothing answers → (view new.keeper).rows
+      ≡ (view old.keeper).rows
 
 -- A run that performed and answered every request.
-pub record CompleteRun {K : Type 0} (rows : K → Raw) (is_up : K → Type 0) (old : OfficeView K)
+pub record CompleteRun {K : Type 0} (view : K → StorageView) (old : OfficeView K)
     (commands : List Command) (before after : List Answer) (new : OfficeView K) : Type 0 where
   pub answers : List Answer
   pub each : length answers ≡ length commands
   pub kept : after ≡ before ++ answers
-  pub goes_on : is_up new.keeper → TablesAfterRun old.limits (rows old.keeper) commands answers (rows new.keeper)
-  pub same : is_up new.keeper → AllByRecursion ChangesNothing answers → rows new.keeper ≡ rows old.keeper
+  pub goes_on : (view new.keeper).is_up → TablesAfterRun old.limits (view old.keeper).rows commands answers
+      (view new.keeper).rows
+  pub same : (view new.keeper).is_up → AllByRecursion ChangesNothing answers → (view new.keeper).rows
+      ≡ (view old.keeper).rows
 
 -- The answers and the tables are those of a run of the machine, over all requests, or over a proper prefix before a
 -- fault.
-abbrev pub RunResult : {K : Type 0} → (K → Raw) → (K → Type 0) → OfficeView K → List Command → List Answer
+abbrev pub RunResult : {K : Type 0} → (K → StorageView) → OfficeView K → List Command → List Answer
     → List Answer → Result (Unit {0}) Fault → OfficeView K → Type 0
-RunResult rows is_up old commands before after (Ok done) new = CompleteRun rows is_up old commands before after new
-RunResult rows is_up old commands before after (Err fault) new = PartialRun rows is_up old commands before after new
+RunResult view old commands before after (Ok done) new = CompleteRun view old commands before after new
+RunResult view old commands before after (Err fault) new = PartialRun view old commands before after new
 
 -- The core is usable, and holds the state that the tables encode.
-pub record IsCurrentCopy {K : Type 0} (rows : K → Raw) (is_up : K → Type 0) (new : OfficeView K)
+pub record IsCurrentCopy {K : Type 0} (view : K → StorageView) (new : OfficeView K)
     (copy : core.CoreView) : Type 0 where
   pub unspent : copy.spent ≡ false
-  pub copies : is_up new.keeper → IsCopy (rows new.keeper) new.limits copy
+  pub copies : (view new.keeper).is_up → IsCopy (view new.keeper).rows new.limits copy
 
 -- The core returned holds the state of the tables, which are unchanged.
-pub record ReadyResult {K : Type 0} (rows : K → Raw) (is_up : K → Type 0) (failed : K → ℕ)
+pub record ReadyResult {K : Type 0} (view : K → StorageView)
     (old : OfficeView K) (result : Result (Bor core.CoreView) Fault) (new : OfficeView K) : Type 0 where
-  pub fault_behaviour : FaultBehaviour rows is_up failed old new result
-  pub same : SameTables rows is_up old new
+  pub fault_behaviour : FaultBehaviour view old new result
+  pub same : SameTables view old new
   pub fresh : OnOk result (new.stale ≡ false)
-  pub shown : IfOk result (λ copy. IsCurrentCopy rows is_up new copy.now)
+  pub shown : IfOk result (λ copy. IsCurrentCopy view new copy.now)

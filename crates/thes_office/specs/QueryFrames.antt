@@ -10,27 +10,19 @@ use Rattle.thes_tables.specs.Cells.{Raw}
 use Rattle.thes_tables.specs.declared.rows.PostingRow.{PostingRow}
 use Rattle.thes_core.specs.Facts.{AreFacts, IsRowOfKey, posting_row_at, assigned_posting_numbers}
 use Rattle.thes_core.specs.declared.facts.Facts.{Facts}
-use Rattle.thes_store.specs.Causes.{HasCause, max_failures}
+use Rattle.thes_store.specs.Causes.{max_failures}
+use Rattle.thes_store.specs.Storage.{StorageView}
 use Rattle.thes_office.specs.TablesOfState.{TablesOfState}
-
--- The effect of every query: the tables are unchanged, and the count of failures agrees with the
--- result.
-pub record QueryFrame {K T : Type 0} (rows : K → Raw) (is_up : K → Type 0) (failed : K → ℕ) (old new : K)
-    (result : Result T Fault) : Type 0 where
-  pub same : is_up new → rows new ≡ rows old
-  pub was : is_up new → is_up old
-  pub cause : HasCause (failed old) (failed new) result
 
 -- The effect of a load: the tables are unchanged, and a Store fault is counted as a failure of the
 -- storage, unless the count is at its maximum; any other fault leaves the count unchanged.
-pub record LoadFrame {K T : Type 0} (rows : K → Raw) (is_up : K → Type 0) (failed : K → ℕ)
-    (old new : K) (result : Result T Fault) : Type 0 where
-  pub same : is_up new → rows new ≡ rows old
-  pub was : is_up new → is_up old
-  pub later : failed old ≤ failed new
-  pub count : OnOk result (failed new ≡ failed old)
-  pub store : IfErr result (λ f. f ≡ faults.Store → (failed old < failed new) ⊎ (failed old ≡ max_failures))
-  pub other_faults : IfErr result (λ f. f ≢ faults.Store → failed new ≡ failed old)
+pub record LoadFrame {T : Type 0} (old new : StorageView) (result : Result T Fault) : Type 0 where
+  pub same : new.is_up → new.rows ≡ old.rows
+  pub was : new.is_up → old.is_up
+  pub later : old.failures ≤ new.failures
+  pub count : OnOk result (new.failures ≡ old.failures)
+  pub store : IfErr result (λ f. f ≡ faults.Store → (old.failures < new.failures) ⊎ (old.failures ≡ max_failures))
+  pub other_faults : IfErr result (λ f. f ≢ faults.Store → new.failures ≡ old.failures)
 
 -- The property holds in every state that the rows encode.
 abbrev pub InStateOfTables : Raw → (State → Type 0) → Type 0

@@ -1,6 +1,7 @@
 //! Queries of the storage for the facts about postings on which the check of a request depends.
 ghost use Rattle.std.specs.Prelude.{◌≡◌, [], None, IfOk};
-ghost use Rattle.thes_office.specs.QueryFrames.{QueryFrame, FactsInTables, KeyInTables, RowInTables, RowsInTables, AssignedInTables};
+ghost use Rattle.thes_store.specs.Storage.{QueryFrame};
+ghost use Rattle.thes_office.specs.QueryFrames.{FactsInTables, KeyInTables, RowInTables, RowsInTables, AssignedInTables};
 
 use crate::numbers::Numbers;
 use std::alloc::Global;
@@ -16,9 +17,9 @@ use thes_tables::rows::PostingRow;
 /// needs the posting with its key. A withdrawal or a split needs the postings that it names, and a
 /// merge the numbers of the postings that it moves. Any other request needs none.
 pub fn facts_of<K: Keeper>(alloc: Global, keeper: &mut K, command: &Command) -> Result<Facts, Fault>
-    ensures in_tables { IfOk result (λ facts. K.is_up keeper.new
-        → FactsInTables (K.rows keeper.old) command.now facts) }
-    ensures asks { QueryFrame K.rows K.is_up K.failed keeper.old keeper.new result }
+    ensures in_tables { IfOk result (λ facts. (K.view keeper.new).is_up
+        → FactsInTables (K.view keeper.old).rows command.now facts) }
+    ensures asks { QueryFrame (K.view keeper.old) (K.view keeper.new) result }
 {
     match command {
         Command::Post(key, _, _) => {
@@ -64,9 +65,9 @@ fn named_facts(alloc: Global, named_postings: Vec<Option<PostingRow>>) -> Facts
 
 // Looks up the row of the posting with this key.
 fn posting_of_key<K: Keeper>(keeper: &mut K, key: &Key) -> Result<Option<PostingRow>, Fault>
-    ensures in_tables { IfOk result (λ found. K.is_up keeper.new
-        → KeyInTables (K.rows keeper.old) key.now found) }
-    ensures asks { QueryFrame K.rows K.is_up K.failed keeper.old keeper.new result }
+    ensures in_tables { IfOk result (λ found. (K.view keeper.new).is_up
+        → KeyInTables (K.view keeper.old).rows key.now found) }
+    ensures asks { QueryFrame (K.view keeper.old) (K.view keeper.new) result }
 {
     keeper.find(key)
 }
@@ -76,9 +77,9 @@ fn posting_of_number<K: Keeper>(
     keeper: &mut K,
     posting: PostNo,
 ) -> Result<Option<PostingRow>, Fault>
-    ensures in_tables { IfOk result (λ row. K.is_up keeper.new
-        → RowInTables (K.rows keeper.old) posting row) }
-    ensures asks { QueryFrame K.rows K.is_up K.failed keeper.old keeper.new result }
+    ensures in_tables { IfOk result (λ row. (K.view keeper.new).is_up
+        → RowInTables (K.view keeper.old).rows posting row) }
+    ensures asks { QueryFrame (K.view keeper.old) (K.view keeper.new) result }
 {
     match keeper.posting(posting) {
         Ok(Some(told)) => {
@@ -97,9 +98,9 @@ fn postings_of_numbers<K: Keeper>(
     keeper: &mut K,
     postings: &[PostNo],
 ) -> Result<Vec<Option<PostingRow>>, Fault>
-    ensures in_tables { IfOk result (λ rows. K.is_up keeper.new
-        → RowsInTables (K.rows keeper.old) postings.now rows.items) }
-    ensures asks { QueryFrame K.rows K.is_up K.failed keeper.old keeper.new result }
+    ensures in_tables { IfOk result (λ rows. (K.view keeper.new).is_up
+        → RowsInTables (K.view keeper.old).rows postings.now rows.items) }
+    ensures asks { QueryFrame (K.view keeper.old) (K.view keeper.new) result }
 {
     let mut rows = Vec::new(alloc);
     for posting in postings {
@@ -117,9 +118,9 @@ fn numbers_assigned_to<K: Keeper>(
     keeper: &mut K,
     concept: ResNo,
 ) -> Result<Vec<PostNo>, Fault>
-    ensures in_tables { IfOk result (λ numbers. K.is_up keeper.new
-        → AssignedInTables (K.rows keeper.old) concept numbers.items) }
-    ensures asks { QueryFrame K.rows K.is_up K.failed keeper.old keeper.new result }
+    ensures in_tables { IfOk result (λ numbers. (K.view keeper.new).is_up
+        → AssignedInTables (K.view keeper.old).rows concept numbers.items) }
+    ensures asks { QueryFrame (K.view keeper.old) (K.view keeper.new) result }
 {
     let mut numbers = Numbers::new(alloc);
     match keeper.standing(concept, &mut numbers) {

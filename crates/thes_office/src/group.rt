@@ -4,15 +4,11 @@ ghost use Rattle.std.specs.Prelude.{◌≡◌, ◌⊎◌, ◌≤◌, ◌<◌, �
 ghost use Rattle.std.specs.Prelude.{IsTrue, IfOk, OnOk, OnErr, take, length};
 ghost use Rattle.thes_base.specs.declared.request.Answer.{Answer};
 ghost use Rattle.thes_base.specs.State.{State};
-ghost use Rattle.thes_tables.specs.Cells.{cells_of_tables};
-ghost use Rattle.thes_tables.specs.Rows.{DeltaFits, tables_after_delta};
-ghost use Rattle.thes_tables.specs.Tables.{Tables};
 ghost use Rattle.thes_core.specs.CoreView.{IsViewOf};
-ghost use Rattle.thes_store.specs.Causes.{HasCause};
+ghost use Rattle.thes_store.specs.Storage.{CommitFrame, DeltaFitsStorage, QueryFrame, RawAfterChanges};
 ghost use Rattle.thes_office.specs.Groups.{GroupDecided, HasFactsOf, IsDecided, IsGroup, IsNewPost};
 ghost use Rattle.thes_office.specs.Groups.{IsPostOf, TablesAfterGroup};
 ghost use Rattle.thes_office.specs.Office.{IsCopy};
-ghost use Rattle.thes_office.specs.QueryFrames.{QueryFrame};
 
 use crate::facts::facts_of;
 use std::alloc::{AllocError, Global};
@@ -105,12 +101,13 @@ fn decide_next<K: Keeper>(
     requires { core.old.spent ≡ false }
     ensures decides { OnOk result ((answer : Answer)
         × (decided.new.answers.items ≡ decided.old.answers.items ++ answer ∷ [])
-        × (K.is_up keeper.new → (s : State) → IsViewOf core.old s
-        → HasFactsOf (K.rows keeper.old) command.now s → IsDecided core.old.setting s command.now
+        × ((K.view keeper.new).is_up → (s : State) → IsViewOf core.old s
+        → HasFactsOf (K.view keeper.old).rows command.now s
+        → IsDecided core.old.setting s command.now
         answer decided.old.delta decided.new.delta core.new)) }
     ensures usable { OnOk result ((core.new.spent ≡ false)
         × (core.new.setting ≡ core.old.setting)) }
-    ensures asks { QueryFrame K.rows K.is_up K.failed keeper.old keeper.new result }
+    ensures asks { QueryFrame (K.view keeper.old) (K.view keeper.new) result }
 {
     let facts = match facts_of(alloc, keeper, command) {
         Ok(facts) => facts,
@@ -138,16 +135,16 @@ fn decide_group<K: Keeper>(
     group: &[Command],
 ) -> Result<Decided, Fault>
     requires unspent { core.old.spent ≡ false }
-    requires copies { K.is_up keeper.old
-        → IsCopy (K.rows keeper.old) core.old.setting.limits core.old }
+    requires copies { (K.view keeper.old).is_up
+        → IsCopy (K.view keeper.old).rows core.old.setting.limits core.old }
     requires group { IsGroup group.now }
-    ensures decides { IfOk result (λ decided. K.is_up keeper.new
-        → GroupDecided (K.rows keeper.old) core.old.setting group.now decided.answers.items
+    ensures decides { IfOk result (λ decided. (K.view keeper.new).is_up
+        → GroupDecided (K.view keeper.old).rows core.old.setting group.now decided.answers.items
         decided.delta core.new) }
     ensures each { IfOk result (λ decided. length decided.answers.items ≡ length group.now) }
     ensures usable { OnOk result ((core.new.spent ≡ false)
         × (core.new.setting ≡ core.old.setting)) }
-    ensures asks { QueryFrame K.rows K.is_up K.failed keeper.old keeper.new result }
+    ensures asks { QueryFrame (K.view keeper.old) (K.view keeper.new) result }
 {
     let mut decided = Decided {
         answers: Vec::new(alloc),
@@ -164,14 +161,10 @@ fn decide_group<K: Keeper>(
 
 // Commits changes, if there are any.
 fn commit_changes<K: Keeper>(keeper: &mut K, delta: Delta) -> Result<(), Fault>
-    requires { K.is_up keeper.old → (t : Tables) → K.rows keeper.old ≡ cells_of_tables t
-        → DeltaFits delta t }
-    ensures ok { OnOk result (K.is_up keeper.new → (t : Tables)
-        → K.rows keeper.old ≡ cells_of_tables t
-        → K.rows keeper.new ≡ cells_of_tables (tables_after_delta delta t)) }
-    ensures err { OnErr result (K.is_up keeper.new → K.rows keeper.new ≡ K.rows keeper.old) }
-    ensures was { K.is_up keeper.new → K.is_up keeper.old }
-    ensures cause { HasCause (K.failed keeper.old) (K.failed keeper.new) result }
+    requires { DeltaFitsStorage delta (K.view keeper.old) }
+    ensures ok { OnOk result ((K.view keeper.new).is_up
+        → RawAfterChanges delta (K.view keeper.old).rows (K.view keeper.new).rows) }
+    ensures keeps { CommitFrame (K.view keeper.old) (K.view keeper.new) result }
 {
     if delta.as_slice().is_empty() {
         return Ok(());
@@ -189,20 +182,18 @@ pub fn perform_group<K: Keeper>(
     group: &[Command],
 ) -> Result<Vec<Answer>, Fault>
     requires unspent { core.old.spent ≡ false }
-    requires copies { K.is_up keeper.old
-        → IsCopy (K.rows keeper.old) core.old.setting.limits core.old }
+    requires copies { (K.view keeper.old).is_up
+        → IsCopy (K.view keeper.old).rows core.old.setting.limits core.old }
     requires group { IsGroup group.now }
     ensures performed { let limits = core.old.setting.limits in IfOk result (λ answers.
-        K.is_up keeper.new → TablesAfterGroup limits (K.rows keeper.old) group.now answers.items
-        (K.rows keeper.new)) }
+        (K.view keeper.new).is_up → TablesAfterGroup limits (K.view keeper.old).rows group.now
+        answers.items (K.view keeper.new).rows) }
     ensures each { IfOk result (λ answers. length answers.items ≡ length group.now) }
     ensures unspent { OnOk result (core.new.spent ≡ false) }
-    ensures copies { OnOk result (K.is_up keeper.new
-        → IsCopy (K.rows keeper.new) core.old.setting.limits core.new) }
+    ensures copies { OnOk result ((K.view keeper.new).is_up
+        → IsCopy (K.view keeper.new).rows core.old.setting.limits core.new) }
     ensures spent { OnErr result (core.new.spent ≡ true) }
-    ensures same { OnErr result (K.is_up keeper.new → K.rows keeper.new ≡ K.rows keeper.old) }
-    ensures was { K.is_up keeper.new → K.is_up keeper.old }
-    ensures cause { HasCause (K.failed keeper.old) (K.failed keeper.new) result }
+    ensures keeps { CommitFrame (K.view keeper.old) (K.view keeper.new) result }
 {
     match decide_group(alloc, keeper, core, group) {
         Ok(Decided { answers, delta }) => {

@@ -16,16 +16,16 @@ use thes_store::keeper::Keeper;
 /// on the rows of the tables.
 pub fn load<K: Keeper>(alloc: Global, keeper: &mut K, limits: Limits) -> Result<Core, Fault>
     ensures unspent { IfOk result (λ core. core.spent ≡ false) }
-    ensures copies { IfOk result (λ core. K.is_up keeper.new
-        → IsCopy (K.rows keeper.old) limits core) }
-    ensures verdict { IfErr result (λ fault. K.is_up keeper.new
+    ensures copies { IfOk result (λ core. (K.view keeper.new).is_up
+        → IsCopy (K.view keeper.old).rows limits core) }
+    ensures verdict { IfErr result (λ fault. (K.view keeper.new).is_up
         → (fault ≡ Fault.OutOfMemory) ⊎ (fault ≡ Fault.Store)
-        ⊎ HasVerdict (K.rows keeper.old) (Err fault)) }
+        ⊎ HasVerdict (K.view keeper.old).rows (Err fault)) }
     ensures found { IfOk result (λ core. K.is_open keeper.new
         → IsCopyOfFound (K.finds keeper.old) limits core) }
     ensures refused { IfErr result (λ fault. K.is_open keeper.new
         → IsFaultOfFound (K.finds keeper.old) fault) }
-    ensures reads { LoadFrame K.rows K.is_up K.failed keeper.old keeper.new result }
+    ensures reads { LoadFrame (K.view keeper.old) (K.view keeper.new) result }
 {
     let mut loader = Loader::new(alloc, limits);
     match keeper.load(&mut loader) {

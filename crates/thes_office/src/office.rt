@@ -43,7 +43,7 @@ impl<K: Keeper> Model for Office<K> {
     ghost view = { λ a. record { keeper = a.keeper; limits = a.limits; stale = a.stale } };
 
     ghost invariant = { λ a.
-        IsConsistent K.rows K.is_up K.failed a.keeper a.core a.limits a.stale };
+        IsConsistent K.view a.keeper a.core a.limits a.stale };
 }
 
 impl<K: Keeper> Office<K> {
@@ -58,20 +58,24 @@ impl<K: Keeper> Office<K> {
     pub fn start(alloc: Global, mut keeper: K, limits: Limits) -> Result<Office<K>, (Fault, K)>
         ensures limits { IfOk result (λ o. o.limits ≡ limits) }
         ensures fresh { IfOk result (λ o. o.stale ≡ false) }
-        ensures same { IfOk result (λ o. K.is_up o.keeper → K.rows o.keeper ≡ K.rows keeper) }
-        ensures back { IfErr result (λ e. K.is_up e.1 → K.rows e.1 ≡ K.rows keeper) }
-        ensures shows { IfOk result (λ o. K.is_up o.keeper
-            → (base : List ℕ) × (s : State) × TablesOfState (K.rows o.keeper) base s) }
-        ensures verdict { IfErr result (λ e. K.is_up e.1
+        ensures same { IfOk result (λ o. (K.view o.keeper).is_up
+            → (K.view o.keeper).rows ≡ (K.view keeper).rows) }
+        ensures back { IfErr result (λ e. (K.view e.1).is_up
+            → (K.view e.1).rows ≡ (K.view keeper).rows) }
+        ensures shows { IfOk result (λ o. (K.view o.keeper).is_up
+            → (base : List ℕ) × (s : State) × TablesOfState (K.view o.keeper).rows base s) }
+        ensures verdict { IfErr result (λ e. (K.view e.1).is_up
             → (e.0 ≡ Fault.OutOfMemory) ⊎ (e.0 ≡ Fault.Store)
-            ⊎ HasVerdict (K.rows keeper) (Err e.0)) }
+            ⊎ HasVerdict (K.view keeper).rows (Err e.0)) }
         ensures found { MatchResult result
             (λ o. K.is_open o.keeper → FindsLegalState (K.finds keeper))
             (λ e. K.is_open e.1 → IsFaultOfFound (K.finds keeper) e.0) }
-        ensures store { IfErr result (λ e. e.0 ≡ Fault.Store → (K.failed keeper < K.failed e.1)
-            ⊎ (K.failed keeper ≡ max_failures)) }
-        ensures counts { MatchResult result (λ o. K.failed o.keeper ≡ K.failed keeper)
-            (λ e. e.0 ≢ Fault.Store → K.failed e.1 ≡ K.failed keeper) }
+        ensures store { IfErr result (λ e. e.0 ≡ Fault.Store
+            → ((K.view keeper).failures < (K.view e.1).failures)
+            ⊎ ((K.view keeper).failures ≡ max_failures)) }
+        ensures counts { MatchResult result
+            (λ o. (K.view o.keeper).failures ≡ (K.view keeper).failures)
+            (λ e. e.0 ≢ Fault.Store → (K.view e.1).failures ≡ (K.view keeper).failures) }
     {
         match load(alloc, &mut keeper, limits) {
             Ok(core) => Ok(Office {
@@ -89,8 +93,8 @@ impl<K: Keeper> Office<K> {
     /// tables are consistent either way.
     pub fn is_stale(&self) -> bool
         ensures value { result ≡ self.now.stale }
-        ensures shows { K.is_up self.now.keeper
-            → (base : List ℕ) × (s : State) × TablesOfState (K.rows self.now.keeper) base s
+        ensures shows { (K.view self.now.keeper).is_up
+            → (base : List ℕ) × (s : State) × TablesOfState (K.view self.now.keeper).rows base s
             × IsConsistentState base s }
     {
         self.stale
@@ -112,8 +116,8 @@ impl<K: Keeper> Office<K> {
 
     // Reloads the copy from the tables if it is stale; after a fault it is still stale.
     pub(crate) fn refresh(&mut self) -> Result<(), Fault>
-        ensures fault_behaviour { FaultBehaviour K.rows K.is_up K.failed self.old self.new result }
-        ensures same { SameTables K.rows K.is_up self.old self.new }
+        ensures fault_behaviour { FaultBehaviour K.view self.old self.new result }
+        ensures same { SameTables K.view self.old self.new }
         ensures fresh { OnOk result (self.new.stale ≡ false) }
     {
         if !self.stale {
@@ -130,11 +134,11 @@ impl<K: Keeper> Office<K> {
     // Reloads the copy if it is stale, and queries the storage for the facts about postings that the
     // check of a request needs. A `Store` fault makes the copy stale.
     fn gather_facts(&mut self, command: &Command) -> Result<Facts, Fault>
-        ensures fault_behaviour { FaultBehaviour K.rows K.is_up K.failed self.old self.new result }
-        ensures same { SameTables K.rows K.is_up self.old self.new }
+        ensures fault_behaviour { FaultBehaviour K.view self.old self.new result }
+        ensures same { SameTables K.view self.old self.new }
         ensures fresh { OnOk result (self.new.stale ≡ false) }
-        ensures in_tables { IfOk result (λ facts. K.is_up self.new.keeper
-            → FactsInTables (K.rows self.new.keeper) command.now facts) }
+        ensures in_tables { IfOk result (λ facts. (K.view self.new.keeper).is_up
+            → FactsInTables (K.view self.new.keeper).rows command.now facts) }
     {
         self.refresh()?;
         match facts_of(self.alloc, &mut self.keeper, command) {
@@ -150,8 +154,8 @@ impl<K: Keeper> Office<K> {
     /// fault the tables are unchanged. A committed request is always answered, even if memory for
     /// the copy runs out, which makes the copy stale.
     pub fn perform(&mut self, command: &Command) -> Result<Answer, Fault>
-        ensures fault_behaviour { FaultBehaviour K.rows K.is_up K.failed self.old self.new result }
-        ensures performed { PerformResult K.rows K.is_up self.old command.now result self.new }
+        ensures fault_behaviour { FaultBehaviour K.view self.old self.new result }
+        ensures performed { PerformResult K.view self.old command.now result self.new }
     {
         let facts = self.gather_facts(command)?;
         match self.core.decide(command, &facts)? {
@@ -173,8 +177,8 @@ impl<K: Keeper> Office<K> {
 
     // Performs one request, and appends its answer.
     fn run_one(&mut self, command: &Command, answers: &mut Vec<Answer>) -> Result<(), Fault>
-        ensures fault_behaviour { FaultBehaviour K.rows K.is_up K.failed self.old self.new result }
-        ensures ran { GroupResult K.rows K.is_up self.old (command.now ∷ [])
+        ensures fault_behaviour { FaultBehaviour K.view self.old self.new result }
+        ensures ran { GroupResult K.view self.old (command.now ∷ [])
             answers.old.items answers.new.items result self.new }
     {
         if answers.try_reserve(1).is_err() {
@@ -192,8 +196,8 @@ impl<K: Keeper> Office<K> {
     fn run_group(&mut self, group: &[Command], answers: &mut Vec<Answer>) -> Result<(), Fault>
         requires fresh { self.old.stale ≡ false }
         requires group { IsGroup group.now }
-        ensures fault_behaviour { FaultBehaviour K.rows K.is_up K.failed self.old self.new result }
-        ensures ran { GroupResult K.rows K.is_up self.old group.now
+        ensures fault_behaviour { FaultBehaviour K.view self.old self.new result }
+        ensures ran { GroupResult K.view self.old group.now
             answers.old.items answers.new.items result self.new }
     {
         if answers.try_reserve(group.len()).is_err() {
@@ -215,8 +219,8 @@ impl<K: Keeper> Office<K> {
     // answers.
     fn run_front(&mut self, front: &[Command], answers: &mut Vec<Answer>) -> Result<(), Fault>
         requires { IsGroup front.now ⊎ (length front.now ≡ 1) }
-        ensures fault_behaviour { FaultBehaviour K.rows K.is_up K.failed self.old self.new result }
-        ensures ran { GroupResult K.rows K.is_up self.old front.now
+        ensures fault_behaviour { FaultBehaviour K.view self.old self.new result }
+        ensures ran { GroupResult K.view self.old front.now
             answers.old.items answers.new.items result self.new }
     {
         if front.len() == 1 {
@@ -233,8 +237,8 @@ impl<K: Keeper> Office<K> {
     /// to which its moves lead from its first concept. The counts of live concepts add up to the
     /// number of such postings. The triples meet the conditions of SKOS.
     pub fn run(&mut self, commands: &[Command], answers: &mut Vec<Answer>) -> Result<(), Fault>
-        ensures fault_behaviour { FaultBehaviour K.rows K.is_up K.failed self.old self.new result }
-        ensures ran { RunResult K.rows K.is_up self.old commands.now
+        ensures fault_behaviour { FaultBehaviour K.view self.old self.new result }
+        ensures ran { RunResult K.view self.old commands.now
             answers.old.items answers.new.items result self.new }
     {
         // No effect; states the invariant of the office for the proof.
@@ -256,7 +260,7 @@ impl<K: Keeper> Office<K> {
         ensures* after { sem 𝓛
             (follows_so (the_row K.row K.Keeper) (the_row K.row K.Keeper) self.entry.ghost_name none
             (λ _ _. ⊤)
-            (λ n. ReadyResult K.rows K.is_up K.failed self.old result n)) }
+            (λ n. ReadyResult K.view self.old result n)) }
     {
         self.refresh()?;
         Ok(&self.core)

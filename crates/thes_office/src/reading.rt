@@ -4,7 +4,8 @@ ghost use Rattle.thes_base.specs.Resources.{IsConcept};
 ghost use Rattle.thes_base.specs.RuleParts.{unless_resource};
 ghost use Rattle.thes_base.specs.RefusalRules.{accepted};
 ghost use Rattle.thes_base.specs.Views.{totals_of};
-ghost use Rattle.thes_office.specs.QueryFrames.{QueryFrame, InStateOfTables, HistoryInTables};
+ghost use Rattle.thes_store.specs.Storage.{QueryFrame};
+ghost use Rattle.thes_office.specs.QueryFrames.{InStateOfTables, HistoryInTables};
 ghost use Rattle.thes_office.specs.AssignedPostings.{AssignedPostingsResult};
 ghost use Rattle.thes_office.specs.Office.{FaultBehaviour, IsCopy, SameTables};
 
@@ -19,9 +20,9 @@ use thes_store::sink::PostingSink;
 // Returns the history of the posting with this number, from its row and its moves in the tables;
 // None if no posting has the number.
 fn history_at<K: Keeper>(keeper: &mut K, number: PostNo) -> Result<Option<History>, Fault>
-    ensures in_tables { IfOk result (λ told. K.is_up keeper.new
-        → HistoryInTables (K.rows keeper.old) number told) }
-    ensures asks { QueryFrame K.rows K.is_up K.failed keeper.old keeper.new result }
+    ensures in_tables { IfOk result (λ told. (K.view keeper.new).is_up
+        → HistoryInTables (K.view keeper.old).rows number told) }
+    ensures asks { QueryFrame (K.view keeper.old) (K.view keeper.new) result }
 {
     match keeper.posting(number) {
         Ok(Some(told)) => {
@@ -62,11 +63,11 @@ fn list<K: Keeper, S: PostingSink>(
     sink: &mut S,
 ) -> Result<Option<Refusal>, Fault>
     requires unspent { core.now.spent ≡ false }
-    requires copies { K.is_up keeper.old
-        → IsCopy (K.rows keeper.old) core.now.setting.limits core.now }
-    ensures lists { K.is_up keeper.new
-        → AssignedPostingsResult S.gives (K.rows keeper.old) concept sink.old result sink.new }
-    ensures asks { QueryFrame K.rows K.is_up K.failed keeper.old keeper.new result }
+    requires copies { (K.view keeper.old).is_up
+        → IsCopy (K.view keeper.old).rows core.now.setting.limits core.now }
+    ensures lists { (K.view keeper.new).is_up
+        → AssignedPostingsResult S.gives (K.view keeper.old).rows concept sink.old result sink.new }
+    ensures asks { QueryFrame (K.view keeper.old) (K.view keeper.new) result }
 {
     if let Some(refusal) = check_concept(core, concept) {
         return Ok(Some(refusal));
@@ -81,10 +82,10 @@ impl<K: Keeper> Office<K> {
     /// Returns the numbers of postings accepted, withdrawn, and accepted but not withdrawn, from
     /// the counts of the copy.
     pub fn totals(&mut self) -> Result<Totals, Fault>
-        ensures fault_behaviour { FaultBehaviour K.rows K.is_up K.failed self.old self.new result }
-        ensures same { SameTables K.rows K.is_up self.old self.new }
-        ensures in_tables { IfOk result (λ totals. K.is_up self.new.keeper
-            → InStateOfTables (K.rows self.new.keeper) (λ s. totals ≡ totals_of s.histories)) }
+        ensures fault_behaviour { FaultBehaviour K.view self.old self.new result }
+        ensures same { SameTables K.view self.old self.new }
+        ensures in_tables { IfOk result (λ totals. (K.view self.new.keeper).is_up
+            → InStateOfTables (K.view self.new.keeper).rows (λ s. totals ≡ totals_of s.histories)) }
     {
         if let Err(fault) = self.refresh() {
             return Err(fault);
@@ -95,10 +96,10 @@ impl<K: Keeper> Office<K> {
     /// Looks up the history of a posting in the tables: first concept, moves and withdrawal; None
     /// if no posting has the number.
     pub fn posting(&mut self, number: PostNo) -> Result<Option<History>, Fault>
-        ensures fault_behaviour { FaultBehaviour K.rows K.is_up K.failed self.old self.new result }
-        ensures same { SameTables K.rows K.is_up self.old self.new }
-        ensures in_tables { IfOk result (λ told. K.is_up self.new.keeper
-            → HistoryInTables (K.rows self.new.keeper) number told) }
+        ensures fault_behaviour { FaultBehaviour K.view self.old self.new result }
+        ensures same { SameTables K.view self.old self.new }
+        ensures in_tables { IfOk result (λ told. (K.view self.new.keeper).is_up
+            → HistoryInTables (K.view self.new.keeper).rows number told) }
     {
         self.refresh()?;
         match history_at(&mut self.keeper, number) {
@@ -118,10 +119,10 @@ impl<K: Keeper> Office<K> {
         concept: ResNo,
         sink: &mut S,
     ) -> Result<Option<Refusal>, Fault>
-        ensures fault_behaviour { FaultBehaviour K.rows K.is_up K.failed self.old self.new result }
-        ensures same { SameTables K.rows K.is_up self.old self.new }
-        ensures lists { K.is_up self.new.keeper
-            → AssignedPostingsResult S.gives (K.rows self.new.keeper) concept sink.old result
+        ensures fault_behaviour { FaultBehaviour K.view self.old self.new result }
+        ensures same { SameTables K.view self.old self.new }
+        ensures lists { (K.view self.new.keeper).is_up
+            → AssignedPostingsResult S.gives (K.view self.new.keeper).rows concept sink.old result
             sink.new }
     {
         if let Err(fault) = self.refresh() {

@@ -35,7 +35,8 @@ use Rattle.thes_sql.specs.Reads.{tree_of, places_of, IsReadable, LeavesTables}
 use Rattle.thes_sql.proofs.KeyedRowLemmas.{is_table}
 use Rattle.thes_sqlite.specs.KeeperView.{raw_in, raw_of_keeper, KeeperView, IsKeeperUp, IsUp, HasCommittedTables}
 use Rattle.thes_sqlite.specs.KeeperView.{IsStore}
-use Rattle.thes_sqlite.specs.KeeperView.{IsKeeperState, RawAfterChanges, LeavesEither, LeavesAfter}
+use Rattle.thes_store.specs.Storage.{RawAfterChanges}
+use Rattle.thes_sqlite.specs.KeeperView.{IsKeeperState, LeavesEither, LeavesAfter}
 use Rattle.thes_sqlite.specs.ValueCells.{cell_of}
 use Rattle.thes_sqlite.proofs.ValueLemmas.{text_cell}
 

@@ -10,12 +10,13 @@ use Rattle.thes_base.specs.declared.fault.Table.{Table}
 use Rattle.thes_base.specs.declared.fault.Table.TheVariants as table
 use Rattle.thes_tables.specs.declared.cells.Cell.{Cell}
 use Rattle.thes_sql.specs.Reads.{IsReadable, LeavesTables}
-use Rattle.thes_store.specs.Causes.{HasCause}
 use Rattle.thes_store.specs.Sinks.{SinkAcceptsAll, SinkAcceptsPrefix, SinkOutcome, sink_rows_of_table}
+use Rattle.thes_store.specs.Storage.{KeepsStorage, QueryFrame}
 use Rattle.thes_store.specs.Loading.{raw_rows_of, sink_rows_of_tables}
 use Rattle.thes_store.proofs.SinkLemmas.{tables_append, part_accepted, part_refused}
+use Rattle.thes_store.proofs.StorageLemmas.{kept_after, query_after}
 use Rattle.thes_sqlite.specs.KeeperView.{KeeperView, raw_in, raw_table, raw_of_keeper, IsUp, IsKeeperUp, IsStore}
-use Rattle.thes_sqlite.specs.KeeperView.{IsKeeperState}
+use Rattle.thes_sqlite.specs.KeeperView.{IsKeeperState, storage_view}
 use Rattle.thes_sqlite.proofs.KeeperLemmas.{before_read, readable_of}
 
 pub raw_at : (p : Table) (db : Trees) → raw_rows_of p (raw_in db) ≡ raw_table p db
@@ -46,11 +47,9 @@ table_yielded g first start old new same kept leaves gives p before after r yiel
 pub record LoadProgress {S R : Type 0} (g : Ghosts S) (gives : R → Table × Option (List Cell)
     → Result (Unit {0}) Fault → R → Type 0)
     (names : List Table) (start now : KeeperView S) (before after : R) : Type 0 where
-  pub was : IsKeeperUp g now → IsKeeperUp g start
-  pub same : IsKeeperUp g now → raw_of_keeper g now ≡ raw_of_keeper g start
+  pub keeps : KeepsStorage (storage_view g start) (storage_view g now)
   pub sink_accepts : IsKeeperUp g now → SinkAcceptsAll gives before (sink_rows_of_tables (raw_of_keeper g start) names)
       after
-  pub failures : now.failures ≡ start.failures
   pub first : now.first ≡ start.first
 
 module _ {S R : Type 0} (g : Ghosts S) (gives : R → Table × Option (List Cell) → Result (Unit {0}) Fault → R → Type 0)
@@ -59,23 +58,21 @@ module _ {S R : Type 0} (g : Ghosts S) (gives : R → Table × Option (List Cell
     (p : LoadProgress g gives (take i names) start mid before between)
     (yields : IsKeeperUp g new → SinkOutcome gives between
     (sink_rows_of_table name (raw_table name (state g mid.conn).now.trees)) r after)
-    (same : IsKeeperUp g new → raw_of_keeper g new ≡ raw_of_keeper g mid) (was : IsKeeperUp g new → IsKeeperUp g mid)
-    (cause : HasCause mid.failures new.failures r) (known : new.first ≡ mid.first) where
+    (asks : QueryFrame (storage_view g mid) (storage_view g new) r) (known : new.first ≡ mid.first) where
   one : IsKeeperUp g new → SinkOutcome gives between (sink_rows_of_tables (raw_of_keeper g start) (name ∷ [])) r after
   one up = subst (λ l. SinkOutcome gives between l r after)
       (ap (sink_rows_of_table name) (sym (raw_at name (state g mid.conn).now.trees)
-      ∙ ap (raw_rows_of name) (p.same (was up)))
+      ∙ ap (raw_rows_of name) (p.keeps.same (asks.was up)))
       ∙ sym (append-nil _)) (yields up)
 
   pub load_progress_next : (done : Unit {0}) → r ≡ Ok done → LoadProgress g gives (take (i + 1) names) start new
       before after
   load_progress_next done ok = record {
-    was = λ up. p.was (was up);
-    same = λ up. same up ∙ p.same (was up);
+    keeps = kept_after (storage_view g start) (storage_view g mid) (storage_view g new) p.keeps done
+        (subst (QueryFrame (storage_view g mid) (storage_view g new)) ok asks);
     sink_accepts = λ up. part_accepted gives (sink_rows_of_tables (raw_of_keeper g start))
         (tables_append (raw_of_keeper g start)) names i
-        name before between after r done lt is (p.sink_accepts (was up)) ok (one up);
-    failures = subst (λ q. HasCause mid.failures new.failures q) ok cause ∙ p.failures;
+        name before between after r done lt is (p.sink_accepts (asks.was up)) ok (one up);
     first = known ∙ p.first;
   }
 
@@ -83,14 +80,11 @@ module _ {S R : Type 0} (g : Ghosts S) (gives : R → Table × Option (List Cell
   pub load_progress_fault : (fault : Fault) → r ≡ Err fault
       → (IsKeeperUp g new → SinkAcceptsPrefix gives fault before (sink_rows_of_tables (raw_of_keeper g start) names)
       after)
-      × (IsKeeperUp g new → raw_of_keeper g new ≡ raw_of_keeper g start) × (IsKeeperUp g new → IsKeeperUp g start)
-      × HasCause {T = Unit {0}} start.failures new.failures (Err fault)
+      × QueryFrame {T = Unit {0}} (storage_view g start) (storage_view g new) (Err fault)
   load_progress_fault fault err = (
     λ up. part_refused gives (sink_rows_of_tables (raw_of_keeper g start)) (tables_append (raw_of_keeper g start))
         names i name
-        fault before between after r lt is (p.sink_accepts (was up)) err (one up),
-    λ up. same up ∙ p.same (was up),
-    λ up. p.was (was up),
-    subst (λ n. HasCause {T = Unit {0}} n new.failures (Err fault)) p.failures
-        (subst (λ q. HasCause mid.failures new.failures q) err cause),
+        fault before between after r lt is (p.sink_accepts (asks.was up)) err (one up),
+    query_after (storage_view g start) (storage_view g mid) (storage_view g new) p.keeps (Err fault)
+        (subst (QueryFrame (storage_view g mid) (storage_view g new)) err asks),
   )

@@ -11,6 +11,7 @@ use Rattle.thes_tables.specs.declared.change.Change.{Change}
 use Rattle.thes_tables.specs.Tables.{Tables}
 use Rattle.thes_tables.specs.Rows.{tables_after_delta}
 use Rattle.thes_tables.specs.Cells.{Raw, RawTable, cells_of_tables}
+use Rattle.thes_store.specs.Storage.{StorageView}
 use Rattle.thes_sql.specs.StoredRows.{Keeps, Hold}
 use Rattle.thes_sql.specs.Reads.{rows_in_trees}
 use Rattle.thes_sqlite.specs.ValueCells.{cell_of}
@@ -75,10 +76,9 @@ raw_of_keeper g k = raw_in (state g k.conn).now.trees
 abbrev pub IsKeeperUp : {S : Type 0} → Ghosts S → KeeperView S → Type 0
 IsKeeperUp g k = IsStore (state g k.first) × IsUp (state g k.conn)
 
--- The new rows encode the tables after the changes, if the old rows encode tables.
-abbrev pub RawAfterChanges : List Change → Raw → Raw → Type 0
-RawAfterChanges changes old new = (t : Tables) → old ≡ cells_of_tables t → new
-    ≡ cells_of_tables (tables_after_delta changes t)
+-- The storage as any storage is seen.
+abbrev pub storage_view : {S : Type 0} → Ghosts S → KeeperView S → StorageView
+storage_view g k = record { rows = raw_of_keeper g k; is_up = IsKeeperUp g k; failures = k.failures }
 
 -- A crash leaves the tables without the changes, or those with all changes.
 abbrev pub LeavesEither : List Change → State → State → Type 0

@@ -5,6 +5,7 @@ use Rattle.sqlite.specs.Effect.{Database}
 use Rattle.sqlite.specs.Held.{Held, state}
 use Rattle.sqlite_trees.specs.declared.store.Store.{Ghosts}
 use Rattle.thes_tables.specs.Cells.{Raw}
+use Rattle.thes_store.specs.Storage.{StorageView}
 use Rattle.thes_sqlite.specs.FoundRows.{FindsTables, IsKeeperOpen}
 use Rattle.thes_sqlite.specs.KeeperView.{KeeperView, keeper_view_code, raw_of_keeper, IsKeeperUp}
 
@@ -85,8 +86,6 @@ pub record LeavesFirst {S : Type 0} (g : Ghosts S) (old new : ReopeningView S) :
   pub was : IsStillOpen g new → IsStillOpen g old
   pub same : IsStillOpen g new → database_of_first g new.first ≡ database_of_first g old.first
 
--- A call leaves the rows unchanged: if the first connection serves its tables afterwards, it did before, and they have
--- the same rows.
-pub record KeepsRows {S : Type 0} (g : Ghosts S) (old new : ReopeningView S) : Type 0 where
-  pub was : IsKeeperStillUp g new → IsKeeperStillUp g old
-  pub same : IsKeeperStillUp g new → rows_still g new ≡ rows_still g old
+-- The storage as any storage is seen, while the first connection is open.
+abbrev pub storage_still : {S : Type 0} → Ghosts S → ReopeningView S → StorageView
+storage_still g v = record { rows = rows_still g v; is_up = IsKeeperStillUp g v; failures = v.failures }

@@ -1,18 +1,17 @@
 //! Storage of the tables in a database.
-ghost use Rattle.std.specs.Prelude.{◌≡◌, ◌⊎◌, ◌<◌, false, OnOk, OnErr, IfOk, IfErr};
+ghost use Rattle.std.specs.Prelude.{◌≡◌, ◌⊎◌, false, OnOk, IfOk, IfErr};
 ghost use Rattle.thes_tables.specs.Tables.{Tables, empty_tables};
-ghost use Rattle.thes_tables.specs.Rows.{DeltaFits};
 ghost use Rattle.thes_tables.specs.Cells.{cells_of_tables};
 ghost use Rattle.thes_sql.specs.Schema.{empty_schema};
 ghost use Rattle.thes_sql.specs.TransactionEffects.{IsEmpty};
 ghost use Rattle.thes_base.specs.declared.fault.Table.{Table};
-ghost use Rattle.thes_store.specs.Causes.{HasCause};
 ghost use Rattle.thes_store.specs.FoundLoads.{PassesFound};
 ghost use Rattle.thes_store.specs.Sinks.{SinkOutcome, sink_rows_of_table, sink_rows};
 ghost use Rattle.thes_store.specs.Reading.{IsPostingOfKey, IsPostingOfNumber, assigned_posting_rows};
 ghost use Rattle.thes_store.specs.Loading.{sink_rows_of_tables};
-ghost use Rattle.thes_sqlite.specs.KeeperView.{IsUp, IsStore, IsKeeperUp, RawAfterChanges, LeavesEither, LeavesAfter};
-ghost use Rattle.thes_sqlite.specs.KeeperView.{raw_table, raw_of_keeper};
+ghost use Rattle.thes_store.specs.Storage.{CommitFrame, DeltaFitsStorage, KeepsStorage, QueryFrame, RawAfterChanges};
+ghost use Rattle.thes_sqlite.specs.KeeperView.{IsUp, IsStore, IsKeeperUp, LeavesEither, LeavesAfter};
+ghost use Rattle.thes_sqlite.specs.KeeperView.{raw_table, raw_of_keeper, storage_view};
 ghost use Rattle.thes_sqlite.specs.MigrationEffects.{Migrates, HasCountedCause, ServesMigrated, LeavesUnwritten};
 ghost use Rattle.thes_sqlite.specs.FoundRows.{IsKeeperOpen, FindsInKeeper, PassesTable, PassesNamed};
 ghost use Rattle.thes_sql.specs.Reads.{LeavesTables};
@@ -137,10 +136,8 @@ impl<S: Alter> SqlKeeper<S> {
 
     /// Queries the database to check whether a failure has shut it.
     pub(crate) fn is_shut(&mut self) -> bool
-        ensures same { IsKeeperUp S.Store self.new
-            → raw_of_keeper S.Store self.new ≡ raw_of_keeper S.Store self.old }
-        ensures was { IsKeeperUp S.Store self.new → IsKeeperUp S.Store self.old }
-        ensures failures { self.new.failures ≡ self.old.failures }
+        ensures keeps { KeepsStorage (storage_view S.Store self.old)
+            (storage_view S.Store self.new) }
         ensures first { self.new.first ≡ self.old.first }
         ensures leaves { LeavesUnwritten S.Store self.old.conn self.new.conn }
     {
@@ -152,16 +149,12 @@ impl<S: Alter> SqlKeeper<S> {
     /// Applies all changes, or none of them and returns a fault, even if a crash interrupts the
     /// call.
     pub fn commit_changes(&mut self, changes: &[Change]) -> Result<(), Fault>
-        requires { IsKeeperUp S.Store self.old
-            → (t : Tables) → raw_of_keeper S.Store self.old ≡ cells_of_tables t
-            → DeltaFits changes.now t }
+        requires { DeltaFitsStorage changes.now (storage_view S.Store self.old) }
         ensures ok { OnOk result (IsKeeperUp S.Store self.new
             → RawAfterChanges changes.now
             (raw_of_keeper S.Store self.old) (raw_of_keeper S.Store self.new)) }
-        ensures err { OnErr result (IsKeeperUp S.Store self.new
-            → raw_of_keeper S.Store self.new ≡ raw_of_keeper S.Store self.old) }
-        ensures was { IsKeeperUp S.Store self.new → IsKeeperUp S.Store self.old }
-        ensures cause { HasCause self.old.failures self.new.failures result }
+        ensures keeps { CommitFrame (storage_view S.Store self.old) (storage_view S.Store self.new)
+            result }
         ensures first { self.new.first ≡ self.old.first }
 
         // Whatever the result, a crash leaves the tables without the changes or with all of them;
@@ -182,10 +175,8 @@ impl<S: Alter> SqlKeeper<S> {
         ensures yields { IsKeeperUp S.Store self.new → SinkOutcome R.gives sink.old
             (sink_rows_of_table name (raw_table name (state S.Store self.old.conn).now.trees))
             result sink.new }
-        ensures same { IsKeeperUp S.Store self.new
-            → raw_of_keeper S.Store self.new ≡ raw_of_keeper S.Store self.old }
-        ensures was { IsKeeperUp S.Store self.new → IsKeeperUp S.Store self.old }
-        ensures cause { HasCause self.old.failures self.new.failures result }
+        ensures asks { QueryFrame (storage_view S.Store self.old) (storage_view S.Store self.new)
+            result }
         ensures first { self.new.first ≡ self.old.first }
         ensures passes { OnOk result (IsUp (state S.Store self.new.conn)
             → PassesTable R.gives name (state S.Store self.old.conn).now sink.old sink.new) }
@@ -202,10 +193,8 @@ impl<S: Alter> SqlKeeper<S> {
         ensures yields { IsKeeperUp S.Store self.new → SinkOutcome R.gives sink.old
             (sink_rows_of_tables (raw_of_keeper S.Store self.old) names.now)
             result sink.new }
-        ensures same { IsKeeperUp S.Store self.new
-            → raw_of_keeper S.Store self.new ≡ raw_of_keeper S.Store self.old }
-        ensures was { IsKeeperUp S.Store self.new → IsKeeperUp S.Store self.old }
-        ensures cause { HasCause self.old.failures self.new.failures result }
+        ensures asks { QueryFrame (storage_view S.Store self.old) (storage_view S.Store self.new)
+            result }
         ensures first { self.new.first ≡ self.old.first }
         ensures passes { OnOk result (IsUp (state S.Store self.new.conn)
             → (state S.Store self.old.conn).now ≡ (state S.Store self.old.conn).committed
@@ -222,18 +211,14 @@ impl<S: Alter> SqlKeeper<S> {
 }
 
 impl<S: Alter> Keeper for SqlKeeper<S> {
-    ghost use Rattle.thes_sqlite.specs.KeeperView.{raw_of_keeper, IsKeeperUp};
     ghost use Rattle.thes_sqlite.specs.FoundRows.{IsKeeperOpen, FindsInKeeper};
+    ghost use Rattle.thes_sqlite.specs.KeeperView.{storage_view};
 
-    ghost rows = { λ k. raw_of_keeper S.Store k };
-
-    ghost is_up = { λ k. IsKeeperUp S.Store k };
+    ghost view = { λ k. storage_view S.Store k };
 
     ghost is_open = { λ k. IsKeeperOpen S.Store k };
 
     ghost finds = { λ k. FindsInKeeper S.Store k };
-
-    ghost failed = { λ k. k.failures };
 
     fn failures(&self) -> u64 {
         self.failures
@@ -243,10 +228,8 @@ impl<S: Alter> Keeper for SqlKeeper<S> {
         ensures yields { IsKeeperUp S.Store self.new
             → SinkOutcome R.gives sink.old
             (sink_rows (raw_of_keeper S.Store self.old)) result sink.new }
-        ensures same { IsKeeperUp S.Store self.new
-            → raw_of_keeper S.Store self.new ≡ raw_of_keeper S.Store self.old }
-        ensures was { IsKeeperUp S.Store self.new → IsKeeperUp S.Store self.old }
-        ensures cause { HasCause self.old.failures self.new.failures result }
+        ensures asks { QueryFrame (storage_view S.Store self.old) (storage_view S.Store self.new)
+            result }
         ensures first { self.new.first ≡ self.old.first }
 
         // Whatever the database holds, a load leaves it unchanged, and passes the rows that the
@@ -261,16 +244,12 @@ impl<S: Alter> Keeper for SqlKeeper<S> {
     }
 
     fn commit(&mut self, delta: Delta) -> Result<(), Fault>
-        requires fits { IsKeeperUp S.Store self.old
-            → (t : Tables) → raw_of_keeper S.Store self.old ≡ cells_of_tables t
-            → DeltaFits delta t }
+        requires fits { DeltaFitsStorage delta (storage_view S.Store self.old) }
         ensures ok { OnOk result (IsKeeperUp S.Store self.new
             → RawAfterChanges delta
             (raw_of_keeper S.Store self.old) (raw_of_keeper S.Store self.new)) }
-        ensures err { OnErr result (IsKeeperUp S.Store self.new
-            → raw_of_keeper S.Store self.new ≡ raw_of_keeper S.Store self.old) }
-        ensures was { IsKeeperUp S.Store self.new → IsKeeperUp S.Store self.old }
-        ensures cause { HasCause self.old.failures self.new.failures result }
+        ensures keeps { CommitFrame (storage_view S.Store self.old) (storage_view S.Store self.new)
+            result }
         ensures first { self.new.first ≡ self.old.first }
 
         // Whatever the result, a crash leaves the tables without the changes or with all of them;
@@ -287,10 +266,8 @@ impl<S: Alter> Keeper for SqlKeeper<S> {
         ensures ok { IfOk result (λ found. IsKeeperUp S.Store self.new → (t : Tables)
             → raw_of_keeper S.Store self.old ≡ cells_of_tables t
             → IsPostingOfKey key.now t.posting found) }
-        ensures same { IsKeeperUp S.Store self.new
-            → raw_of_keeper S.Store self.new ≡ raw_of_keeper S.Store self.old }
-        ensures was { IsKeeperUp S.Store self.new → IsKeeperUp S.Store self.old }
-        ensures cause { HasCause self.old.failures self.new.failures result }
+        ensures asks { QueryFrame (storage_view S.Store self.old) (storage_view S.Store self.new)
+            result }
         ensures first { self.new.first ≡ self.old.first }
     {
         match find_posting(self.alloc, &mut self.conn, key) {
@@ -302,10 +279,8 @@ impl<S: Alter> Keeper for SqlKeeper<S> {
     fn posting(&mut self, number: PostNo) -> Result<Option<Posting>, Fault>
         ensures ok { IfOk result (λ told. IsKeeperUp S.Store self.new → (t : Tables)
             → raw_of_keeper S.Store self.old ≡ cells_of_tables t → IsPostingOfNumber number t told) }
-        ensures same { IsKeeperUp S.Store self.new
-            → raw_of_keeper S.Store self.new ≡ raw_of_keeper S.Store self.old }
-        ensures was { IsKeeperUp S.Store self.new → IsKeeperUp S.Store self.old }
-        ensures cause { HasCause self.old.failures self.new.failures result }
+        ensures asks { QueryFrame (storage_view S.Store self.old) (storage_view S.Store self.new)
+            result }
         ensures first { self.new.first ≡ self.old.first }
     {
         match find_with_moves(self.alloc, &mut self.conn, number) {
@@ -319,10 +294,8 @@ impl<S: Alter> Keeper for SqlKeeper<S> {
             → (t : Tables) → raw_of_keeper S.Store self.old ≡ cells_of_tables t
             → SinkOutcome P.gives sink.old (assigned_posting_rows concept t.posting) result
             sink.new }
-        ensures same { IsKeeperUp S.Store self.new
-            → raw_of_keeper S.Store self.new ≡ raw_of_keeper S.Store self.old }
-        ensures was { IsKeeperUp S.Store self.new → IsKeeperUp S.Store self.old }
-        ensures cause { HasCause self.old.failures self.new.failures result }
+        ensures asks { QueryFrame (storage_view S.Store self.old) (storage_view S.Store self.new)
+            result }
         ensures first { self.new.first ≡ self.old.first }
     {
         match yield_postings(self.alloc, &mut self.conn, concept, sink) {

@@ -1,15 +1,14 @@
 //! Storage in a database that is opened again after a failure of its disk has shut it.
 ghost use Rattle.std.specs.Prelude.{◌≡◌, false, None, Some, IfOk, IfErr, IfSome, OnOk, OnErr, IsTrue};
 ghost use Rattle.thes_tables.specs.Tables.{Tables};
-ghost use Rattle.thes_tables.specs.Rows.{DeltaFits};
 ghost use Rattle.thes_tables.specs.Cells.{cells_of_tables};
 ghost use Rattle.thes_store.specs.Causes.{IsCounted};
 ghost use Rattle.thes_store.specs.FoundLoads.{PassesFound};
 ghost use Rattle.thes_store.specs.Sinks.{SinkOutcome, sink_rows};
 ghost use Rattle.thes_store.specs.Reading.{IsPostingOfKey, IsPostingOfNumber, assigned_posting_rows};
 ghost use Rattle.thes_sqlite.specs.Faults.{IsKeeperFault};
-ghost use Rattle.thes_sqlite.specs.KeeperView.{RawAfterChanges};
-ghost use Rattle.thes_sqlite.specs.Reopening.{IsKeeperStillUp, rows_still, KeepsRows, keeper_of_connection};
+ghost use Rattle.thes_store.specs.Storage.{DeltaFitsStorage, KeepsStorage, RawAfterChanges};
+ghost use Rattle.thes_sqlite.specs.Reopening.{IsKeeperStillUp, rows_still, storage_still, keeper_of_connection};
 ghost use Rattle.thes_sqlite.specs.Reopening.{IsStillOpen, FindsStill, LeavesFirst};
 
 use crate::faults::{count_fault, fault_of};
@@ -210,10 +209,10 @@ impl<S: Alter + Drop, O: Reopen<Connection<S>>> ReopeningKeeper<S, O> {
     // Removes the connection if a failure has shut it. Returns whether there is no connection now,
     // and the one removed.
     fn take_shut(&mut self) -> (bool, Option<Connection<S>>)
-        ensures keeps { KeepsRows S.Store self.old self.new }
+        ensures keeps { KeepsStorage (storage_still S.Store self.old)
+            (storage_still S.Store self.new) }
         ensures leaves { LeavesFirst S.Store self.old self.new }
         ensures gone { IsTrue result.0 → self.new.first ≡ None }
-        ensures failures { self.new.failures ≡ self.old.failures }
     {
         if let Some(keeper) = &mut self.first {
             if !keeper.is_shut() {
@@ -234,10 +233,10 @@ impl<S: Alter + Drop, O: Reopen<Connection<S>>> ReopeningKeeper<S, O> {
     // Opens the database again if a failure has shut it, and returns whether it was shut. If it
     // can't be opened, there is no connection afterwards.
     fn reopen_if_shut(&mut self) -> bool
-        ensures keeps { KeepsRows S.Store self.old self.new }
+        ensures keeps { KeepsStorage (storage_still S.Store self.old)
+            (storage_still S.Store self.new) }
         ensures leaves { LeavesFirst S.Store self.old self.new }
         ensures gone { IsTrue result → self.new.first ≡ None }
-        ensures failures { self.new.failures ≡ self.old.failures }
     {
         let (is_gone, lost) = self.take_shut();
         if !is_gone {
@@ -253,9 +252,9 @@ impl<S: Alter + Drop, O: Reopen<Connection<S>>> ReopeningKeeper<S, O> {
     // opens again. Returns false if the database isn't shut; returns false and sets `is_in_doubt`
     // if the changes can't be checked.
     fn shows_changes(&mut self, changes: &[Change]) -> bool
-        ensures keeps { KeepsRows S.Store self.old self.new }
+        ensures keeps { KeepsStorage (storage_still S.Store self.old)
+            (storage_still S.Store self.new) }
         ensures gone { IsTrue result → self.new.first ≡ None }
-        ensures failures { self.new.failures ≡ self.old.failures }
     {
         if !self.reopen_if_shut() {
             return false;
@@ -278,8 +277,8 @@ impl<S: Alter + Drop, O: Reopen<Connection<S>>> ReopeningKeeper<S, O> {
         ensures yields { IsKeeperStillUp S.Store self.new
             → SinkOutcome R.gives sink.old (sink_rows (rows_still S.Store self.old)) result
             sink.new }
-        ensures keeps { KeepsRows S.Store self.old self.new }
-        ensures failures { self.new.failures ≡ self.old.failures }
+        ensures keeps { KeepsStorage (storage_still S.Store self.old)
+            (storage_still S.Store self.new) }
         ensures kind { IfErr result IsKeeperFault }
         ensures found { PassesFound (IsStillOpen S.Store) (FindsStill S.Store) R.gives
             self.old self.new sink.old result sink.new }
@@ -296,9 +295,7 @@ impl<S: Alter + Drop, O: Reopen<Connection<S>>> ReopeningKeeper<S, O> {
     // Applies changes atomically. The fault is `Store`, and nothing changes, if the file of the
     // database was moved away or no database is open.
     fn commit_now(&mut self, changes: &[Change]) -> Result<(), Fault>
-        requires { IsKeeperStillUp S.Store self.old
-            → (t : Tables) → rows_still S.Store self.old ≡ cells_of_tables t
-            → DeltaFits changes.now t }
+        requires { DeltaFitsStorage changes.now (storage_still S.Store self.old) }
         ensures ok { OnOk result (IsKeeperStillUp S.Store self.new
             → RawAfterChanges changes.now (rows_still S.Store self.old)
             (rows_still S.Store self.new)) }
@@ -325,8 +322,8 @@ impl<S: Alter + Drop, O: Reopen<Connection<S>>> ReopeningKeeper<S, O> {
         ensures ok { IfOk result (λ found. IsKeeperStillUp S.Store self.new → (t : Tables)
             → rows_still S.Store self.old ≡ cells_of_tables t
             → IsPostingOfKey key.now t.posting found) }
-        ensures keeps { KeepsRows S.Store self.old self.new }
-        ensures failures { self.new.failures ≡ self.old.failures }
+        ensures keeps { KeepsStorage (storage_still S.Store self.old)
+            (storage_still S.Store self.new) }
         ensures kind { IfErr result IsKeeperFault }
     {
         if let Some(keeper) = &mut self.first {
@@ -342,8 +339,8 @@ impl<S: Alter + Drop, O: Reopen<Connection<S>>> ReopeningKeeper<S, O> {
     fn posting_now(&mut self, number: PostNo) -> Result<Option<Posting>, Fault>
         ensures ok { IfOk result (λ told. IsKeeperStillUp S.Store self.new → (t : Tables)
             → rows_still S.Store self.old ≡ cells_of_tables t → IsPostingOfNumber number t told) }
-        ensures keeps { KeepsRows S.Store self.old self.new }
-        ensures failures { self.new.failures ≡ self.old.failures }
+        ensures keeps { KeepsStorage (storage_still S.Store self.old)
+            (storage_still S.Store self.new) }
         ensures kind { IfErr result IsKeeperFault }
     {
         if let Some(keeper) = &mut self.first {
@@ -361,8 +358,8 @@ impl<S: Alter + Drop, O: Reopen<Connection<S>>> ReopeningKeeper<S, O> {
             → rows_still S.Store self.old ≡ cells_of_tables t
             → SinkOutcome P.gives sink.old (assigned_posting_rows concept t.posting) result
             sink.new }
-        ensures keeps { KeepsRows S.Store self.old self.new }
-        ensures failures { self.new.failures ≡ self.old.failures }
+        ensures keeps { KeepsStorage (storage_still S.Store self.old)
+            (storage_still S.Store self.new) }
         ensures kind { IfErr result IsKeeperFault }
     {
         if let Some(keeper) = &mut self.first {
@@ -376,17 +373,13 @@ impl<S: Alter + Drop, O: Reopen<Connection<S>>> ReopeningKeeper<S, O> {
 }
 
 impl<S: Alter + Drop, O: Reopen<Connection<S>>> Keeper for ReopeningKeeper<S, O> {
-    ghost use Rattle.thes_sqlite.specs.Reopening.{rows_still, IsKeeperStillUp, IsStillOpen, FindsStill};
+    ghost use Rattle.thes_sqlite.specs.Reopening.{storage_still, IsStillOpen, FindsStill};
 
-    ghost rows = { λ k. rows_still S.Store k };
-
-    ghost is_up = { λ k. IsKeeperStillUp S.Store k };
+    ghost view = { λ k. storage_still S.Store k };
 
     ghost is_open = { λ k. IsStillOpen S.Store k };
 
     ghost finds = { λ k. FindsStill S.Store k };
-
-    ghost failed = { λ k. k.failures };
 
     fn failures(&self) -> u64 {
         self.failures

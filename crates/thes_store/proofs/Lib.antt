@@ -6,6 +6,7 @@ pub mod FoundLemmas
 pub mod IndexLookUpLemmas
 pub mod BulkMoveLemmas
 pub mod SlotLemmas
+pub mod StorageLemmas
 pub mod AddedRowLemmas
 pub mod RoomLemmas
 pub mod KeyIndexLemmas

@@ -12,3 +12,4 @@ pub mod Reading
 pub mod Room
 pub mod SameRows
 pub mod Slots
+pub mod Storage

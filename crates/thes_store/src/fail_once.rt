@@ -56,15 +56,12 @@ impl Keeper for FailOnce {
     ghost use Rattle.std.specs.Prelude.{◌≡◌};
     ghost use Rattle.thes_tables.specs.Cells.{cells_of_tables};
 
-    ghost rows = { λ k. cells_of_tables k.keeper };
-
-    ghost is_up = { λ k. Unit {0} };
+    ghost view = { λ k.
+        record { rows = cells_of_tables k.keeper; is_up = Unit {0}; failures = k.failures } };
 
     ghost is_open = { λ k. Unit {0} };
 
     ghost finds = { λ k raw. raw ≡ cells_of_tables k.keeper };
-
-    ghost failed = { λ k. k.failures };
 
     fn failures(&self) -> u64 {
         self.failures

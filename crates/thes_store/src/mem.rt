@@ -184,15 +184,11 @@ impl Keeper for MemKeeper {
     ghost use Rattle.std.specs.Prelude.{◌≡◌};
     ghost use Rattle.thes_tables.specs.Cells.{cells_of_tables};
 
-    ghost rows = { λ k. cells_of_tables k };
-
-    ghost is_up = { λ k. Unit {0} };
+    ghost view = { λ k. record { rows = cells_of_tables k; is_up = Unit {0}; failures = 0 } };
 
     ghost is_open = { λ k. Unit {0} };
 
     ghost finds = { λ k raw. raw ≡ cells_of_tables k };
-
-    ghost failed = { λ k. 0 };
 
     fn failures(&self) -> u64 {
         0

@@ -59,11 +59,7 @@ impl<K: Keeper, P: Progress + Copy> ReportingKeeper<K, P> {
 
 /// Each call is passed to the inner storage.
 impl<K: Keeper, P: Progress + Copy> Keeper for ReportingKeeper<K, P> {
-    ghost rows = { K.rows };
-
-    ghost is_up = { K.is_up };
-
-    ghost failed = { K.failed };
+    ghost view = { K.view };
 
     fn failures(&self) -> u64 {
         self.keeper.failures()

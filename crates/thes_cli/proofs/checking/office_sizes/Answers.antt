@@ -3,6 +3,6 @@ use Rattle.thes_cli.proofs.checking.office_sizes.Goals as goal
 
 pub returns : goal.returns
 returns g c =
-    sizes_found g.K.Keeper.rows g.K.Keeper.is_up g.K.Keeper.failed c.args.office.now c.ready.follows.lender-at-none
+    sizes_found g.K.Keeper.view c.args.office.now c.ready.follows.lender-at-none
     c.ready.result c.in_ok-core.core c.core_sizes.result
     c.ready.follows.holds-at-none c.in_ok-core.was c.core_sizes.ensures

@@ -5,7 +5,7 @@ use Rattle.thes_cli.proofs.displaying.write_display.Goals as goal
 
 pub returns : goal.returns
 returns g c =
-    display_written g.K.Keeper.rows g.K.Keeper.is_up g.K.Keeper.failed g.W.Write.contents c.args.output.now
+    display_written g.K.Keeper.view g.W.Write.contents c.args.output.now
     c.write_core_display.new.output c.args.display c.args.scheme c.args.tag.now
     c.args.office.now c.ready.follows.lender-at-none c.ready.result c.in_ok-core.core c.write_core_display.result
     c.ready.follows.holds-at-none c.in_ok-core.was c.write_core_display.ensures.shown
@@ -14,7 +14,7 @@ returns g c =
 pub returns-in_err-core : goal.returns-in_err-core
 returns-in_err-core g c =
     let stop : c.from_residual.result ≡ Err (pipe.Fault c.in_err-core.field-0.0) = search rules in
-    display_unready g.K.Keeper.rows g.K.Keeper.is_up g.K.Keeper.failed g.W.Write.contents c.args.output.now
+    display_unready g.K.Keeper.view g.W.Write.contents c.args.output.now
     c.args.output.now c.args.display c.args.scheme c.args.tag.now
     c.args.office.now c.ready.follows.lender-at-none c.ready.result c.in_err-core.field-0.0 c.from_residual.result
     c.ready.follows.holds-at-none c.in_err-core.was stop refl

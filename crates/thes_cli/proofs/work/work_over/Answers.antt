@@ -14,16 +14,16 @@ returns-in-Script g c =
       errors = c.report_script_end-status.new.errors;
     } in
     let script =
-    script_answered g.K.Keeper.rows g.K.Keeper.is_up g.K.Keeper.failed g.R.Read.remaining g.W.Write.contents
+    script_answered g.K.Keeper.view g.R.Read.remaining g.W.Write.contents
     g.E.Write.contents c.new-handler.result old c.report_script_end-status.result c.office_script-ended.new.handler new
     c.office_script-ended.result c.office_script-ended.ensures.completed c.office_script-ended.ensures.stopped
     c.office_script-ended.ensures.reached c.office_script-ended.ensures.calls
     (c.report_script_end-status.ensures.fault, c.report_script_end-status.ensures.status)
     in
     rw c.in-Script.is
-    (subst (λ (k : OfficeView _). AnswersScript g.K.Keeper.rows g.K.Keeper.is_up g.K.Keeper.failed g.R.Read.remaining
+    (subst (λ (k : OfficeView _). AnswersScript g.K.Keeper.view g.R.Read.remaining
     g.W.Write.contents g.E.Write.contents k old c.report_script_end-status.result c.into_office.result new)
     c.new-handler.ensures
-    (subst (λ (k : OfficeView _). AnswersScript g.K.Keeper.rows g.K.Keeper.is_up g.K.Keeper.failed g.R.Read.remaining
+    (subst (λ (k : OfficeView _). AnswersScript g.K.Keeper.view g.R.Read.remaining
     g.W.Write.contents g.E.Write.contents c.new-handler.result old c.report_script_end-status.result k new)
     (sym c.into_office.ensures) script))

@@ -16,18 +16,18 @@ returns-in_err-write_report-clause-imports g c =
     let e = c.in_err-write_report.ensures.err in
     let reads = c.in-Ok.ensures.rows in
     let same : c.from_residual.result ≡ Err c.in_err-write_report.field-0.0 = search rules in
-    subst (ImportsBytes g.W.Write.contents g.K.Keeper.rows g.K.Keeper.is_up g.K.Keeper.failed c.args.writer.now
+    subst (ImportsBytes g.W.Write.contents g.K.Keeper.view c.args.writer.now
     c.write_report.new.writer c.args.office.now c.args.office.now c.args.file.now) (sym same)
     (inr (
       [],
       e.0 ∙ c.in-Ok-new.ensures.counts,
-      stopped_by_writer g.W.Write.contents g.K.Keeper.rows g.K.Keeper.is_up g.K.Keeper.failed c.args.writer.now
+      stopped_by_writer g.W.Write.contents g.K.Keeper.view c.args.writer.now
           c.write_report.new.writer c.args.office.now c.args.office.now c.args.file.now [] reads.0 (Ok tt) _ tt
           (record {
             rows = [];
             is_file = reads.1.file;
-            performs = performs_nothing g.K.Keeper.rows g.K.Keeper.is_up c.args.office.now c.is_stale.ensures.shows;
-            fault_behaviour = no_faults g.W.Write.contents g.K.Keeper.rows g.K.Keeper.is_up g.K.Keeper.failed
+            performs = performs_nothing g.K.Keeper.view c.args.office.now c.is_stale.ensures.shows;
+            fault_behaviour = no_faults g.W.Write.contents g.K.Keeper.view
                 c.args.office.now;
           }) e.1.1
           (heading_cut g.W.Write.contents c.args.writer.now c.write_report.new.writer
@@ -39,7 +39,7 @@ pub loop-reader-init : goal.loop-reader-init
 loop-reader-init g c =
     let reads = c.in-Ok.ensures.rows in
     record {
-      so_far = importing_none g.K.Keeper.rows g.K.Keeper.is_up g.K.Keeper.failed c.args.office.now c.args.file.now
+      so_far = importing_none g.K.Keeper.view c.args.office.now c.args.file.now
           reads.0 c.in-Ok.reader c.write_report.new.report.counts c.is_stale.ensures.shows reads.1
           (c.write_report.ensures.counts ∙ c.in-Ok-new.ensures.counts);
       cleared = c.in_ok-write_report.ensures.cleared;
@@ -52,7 +52,7 @@ loop-reader-init g c =
 
 pub import_block-done-requires-clause-fits : goal.import_block-done-requires-clause-fits
 import_block-done-requires-clause-fits g c =
-    counts_fit g.K.Keeper.rows g.K.Keeper.is_up g.K.Keeper.failed c.args.office.now c.loop-reader.office
+    counts_fit g.K.Keeper.view c.args.office.now c.loop-reader.office
     c.args.file.now c.loop-reader.reader c.loop-reader.report.counts c.loop-reader.invariant.so_far
 
 pub returns-in_err-write_report-2-clause-imports : goal.returns-in_err-write_report-2-clause-imports
@@ -60,10 +60,10 @@ returns-in_err-write_report-2-clause-imports g c =
     let i = c.loop-reader.invariant in
     let e = c.in_err-write_report-2.ensures.err in
     let same : c.from_residual-in_err-write_report-2.result ≡ Err c.in_err-write_report-2.field-0.0 = search rules in
-    subst (ImportsBytes g.W.Write.contents g.K.Keeper.rows g.K.Keeper.is_up g.K.Keeper.failed c.args.writer.now
+    subst (ImportsBytes g.W.Write.contents g.K.Keeper.view c.args.writer.now
     c.write_report-in-loop-reader.new.writer c.args.office.now c.import_block-done.new.office c.args.file.now)
     (sym same)
-    (inr (stopped_in_block g.W.Write.contents g.K.Keeper.rows g.K.Keeper.is_up g.K.Keeper.failed c.args.writer.now
+    (inr (stopped_in_block g.W.Write.contents g.K.Keeper.view c.args.writer.now
     c.loop-reader.writer c.write_report-in-loop-reader.new.writer c.args.office.now c.loop-reader.office
     c.import_block-done.new.office c.args.file.now c.loop-reader.reader c.import_block-done.new.reader
     c.loop-reader.report c.import_block-done.new.report c.import_block-done.result c.in_err-write_report-2.field-0.0
@@ -74,7 +74,7 @@ pub returns-in-Err-clause-imports : goal.returns-in-Err-clause-imports
 returns-in-Err-clause-imports g c =
     let i = c.loop-reader.invariant in
     let stop = c.in-Err.ensures.imports in
-    let halt = halted_in g.K.Keeper.rows g.K.Keeper.is_up g.K.Keeper.failed c.args.office.now c.loop-reader.office
+    let halt = halted_in g.K.Keeper.view c.args.office.now c.loop-reader.office
     c.import_block-done.new.office c.args.file.now c.loop-reader.reader c.loop-reader.report
     c.import_block-done.new.report c.in-Err.fault i.so_far c.in-Err.ensures.fault_behaviour stop in
     let adds = stop.reports i.so_far.outcomes i.so_far.counts in
@@ -91,7 +91,7 @@ returns-in-Err-clause-imports g c =
           rows = halt.first;
           is_file = halt.is_file;
           performs = halt.performs;
-          fault_behaviour = faults_of_last g.W.Write.contents g.K.Keeper.rows g.K.Keeper.is_up g.K.Keeper.failed
+          fault_behaviour = faults_of_last g.W.Write.contents g.K.Keeper.view
               c.args.office.now c.loop-reader.office c.import_block-done.new.office _ i.so_far.limits i.so_far.was
               i.so_far.count c.in-Err.ensures.fault_behaviour;
         };
@@ -108,7 +108,7 @@ pub loop-reader-preserved : goal.loop-reader-preserved
 loop-reader-preserved g c =
     let i = c.loop-reader.invariant in
     let block = c.in_default-done.ensures.imports in
-    let more = importing_more g.K.Keeper.rows g.K.Keeper.is_up g.K.Keeper.failed c.args.office.now c.loop-reader.office
+    let more = importing_more g.K.Keeper.view c.args.office.now c.loop-reader.office
     c.import_block-done.new.office c.args.file.now c.loop-reader.reader c.import_block-done.new.reader
     c.loop-reader.report c.import_block-done.new.report i.so_far c.in_default-done.ensures.fault_behaviour block in
     let adds = block.reports i.so_far.outcomes i.so_far.counts in
@@ -138,7 +138,7 @@ loop-reader-preserved g c =
 pub returns-clause-imports : goal.returns-clause-imports
 returns-clause-imports g c =
     let i = c.loop-reader.invariant in
-    let file = all_read g.K.Keeper.rows g.K.Keeper.is_up g.K.Keeper.failed c.args.office.now c.loop-reader.office
+    let file = all_read g.K.Keeper.view c.args.office.now c.loop-reader.office
     c.args.file.now c.loop-reader.reader c.loop-reader.report.counts i.so_far c.loop-reader-test.false in
     record {
       outcomes = i.so_far.outcomes;
@@ -146,9 +146,9 @@ returns-clause-imports g c =
         rows = i.so_far.first;
         is_file = subst (IsPostingFile c.args.file.now) (sym (append-nil i.so_far.first)) file;
         performs = i.so_far.performs;
-        fault_behaviour = faults_of_last g.W.Write.contents g.K.Keeper.rows g.K.Keeper.is_up g.K.Keeper.failed
+        fault_behaviour = faults_of_last g.W.Write.contents g.K.Keeper.view
             c.args.office.now c.loop-reader.office c.loop-reader.office _ i.so_far.limits i.so_far.was i.so_far.count
-            (no_faults g.W.Write.contents g.K.Keeper.rows g.K.Keeper.is_up g.K.Keeper.failed c.loop-reader.office);
+            (no_faults g.W.Write.contents g.K.Keeper.view c.loop-reader.office);
       };
       counts_are = i.so_far.counts;
       writes = record { appends_text = i.appends_text; not_failed = i.fresh.0 };

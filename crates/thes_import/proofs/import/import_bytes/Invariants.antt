@@ -7,7 +7,7 @@ use Rattle.thes_import.proofs.import.import_bytes.Given as goal
 
 abbrev pub invariant-loop-reader : goal.invariant-loop-reader
 invariant-loop-reader g l = record {
-  so_far : ImportInvariant g.K.Keeper.rows g.K.Keeper.is_up g.K.Keeper.failed l.fn.office l.office l.fn.file l.reader
+  so_far : ImportInvariant g.K.Keeper.view l.fn.office l.office l.fn.file l.reader
       l.report.counts;
   cleared : l.report.text.items ≡ [];
   appends_text : Appends (written_bytes g.W.Write.contents l.fn.writer) (written_bytes g.W.Write.contents l.writer)

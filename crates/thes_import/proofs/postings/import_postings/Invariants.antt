@@ -5,7 +5,7 @@ use Rattle.thes_import.proofs.postings.import_postings.Given as goal
 
 abbrev pub invariant-loop-reader : goal.invariant-loop-reader
 invariant-loop-reader g l = record {
-  so_far : ImportInvariant g.K.Keeper.rows g.K.Keeper.is_up g.K.Keeper.failed l.fn.office l.office l.fn.file l.reader
+  so_far : ImportInvariant g.K.Keeper.view l.fn.office l.office l.fn.file l.reader
       l.report.counts;
   text : l.report.text.items ≡ outcomes_text so_far.outcomes;
 }

@@ -11,8 +11,8 @@ loop-posting-preserved g c =
     let more = take_more ps c.loop-posting.posting-index n (omega arith)
     ∙ ap (λ (x : ℕ). take c.loop-posting.posting-index ps ++ x ∷ []) (sym c.posting-item.is) in
     let pushed : c.push.new.self.items ≡ c.loop-posting.rows.items ++ c.in-Ok.row ∷ [] = search rules in
-    rows_read_more g.K.Keeper.rows g.K.Keeper.is_up g.K.Keeper.failed c.args.keeper.now c.loop-posting.keeper
-    c.posting_of_number.new.keeper (take c.loop-posting.posting-index ps)
+    rows_read_more (g.K.Keeper.view c.args.keeper.now) (g.K.Keeper.view c.loop-posting.keeper)
+    (g.K.Keeper.view c.posting_of_number.new.keeper) (take c.loop-posting.posting-index ps)
     (take (c.loop-posting.posting-index + 1) ps) c.loop-posting.rows.items c.push.new.self.items n c.in-Ok.row
     c.loop-posting.invariant c.in-Ok.ensures.asks c.in-Ok.ensures.in_tables more pushed
 

@@ -4,5 +4,5 @@ use Rattle.thes_office.proofs.facts.postings_of_numbers.Given as goal
 
 abbrev pub invariant-loop-posting : goal.invariant-loop-posting
 invariant-loop-posting g l =
-    RowsReadSoFar g.K.Keeper.rows g.K.Keeper.is_up g.K.Keeper.failed l.fn.keeper l.keeper
+    RowsReadSoFar (g.K.Keeper.view l.fn.keeper) (g.K.Keeper.view l.keeper)
     (take l.posting-index l.postings) l.rows.items

@@ -8,7 +8,7 @@ use Rattle.thes_office.proofs.keeper_load.load.Goals as goal
 
 pub returns-in-Ok-finish-clause-copies : goal.returns-in-Ok-finish-clause-copies
 returns-in-Ok-finish-clause-copies g c up =
-    let raw = g.K.Keeper.rows c.args.keeper.now in
+    let raw = (g.K.Keeper.view c.args.keeper.now).rows in
     let knows = loader_reads_all c.args.limits raw c.new-loader.result c.load.new.sink c.new-loader.ensures
     (c.in-Ok.ensures.yields up) in
     loaded_copies raw c.args.limits c.in-Ok-finish.core (c.in-Ok-finish.ensures.limits ∙ knows.1)
@@ -16,7 +16,7 @@ returns-in-Ok-finish-clause-copies g c up =
 
 pub returns-in-Err-finish-clause-verdict : goal.returns-in-Err-finish-clause-verdict
 returns-in-Err-finish-clause-verdict g c up =
-    let raw = g.K.Keeper.rows c.args.keeper.now in
+    let raw = (g.K.Keeper.view c.args.keeper.now).rows in
     let knows = loader_reads_all c.args.limits raw c.new-loader.result c.load.new.sink c.new-loader.ensures
     (c.in-Ok.ensures.yields up) in
     let told : (c.in-Err-finish.fault ≡ faults.OutOfMemory) ⊎ HasVerdict raw (Err c.in-Err-finish.fault) =

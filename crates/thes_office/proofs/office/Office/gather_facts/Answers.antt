@@ -7,14 +7,14 @@ use Rattle.thes_office.proofs.office.Office.gather_facts.Goals as goal
 
 pub invariant_of-self : goal.invariant_of-self
 invariant_of-self g c =
-    consistent_after_query g.K.Keeper.rows g.K.Keeper.is_up g.K.Keeper.failed c.self.inside.keeper
+    consistent_after_query g.K.Keeper.view c.self.inside.keeper
     c.facts_of.new.keeper c.self.inside.core c.self.inside.limits c.self.inside.stale c.self.inside.stale
     c.self.invariant (never_falls _ _ _ c.facts_of.ensures.asks.cause) (λ e. inl e) (λ e. e)
     c.facts_of.ensures.asks.was c.facts_of.ensures.asks.same
 
 pub invariant_of-self-in-Err : goal.invariant_of-self-in-Err
 invariant_of-self-in-Err g c =
-    consistent_after_query g.K.Keeper.rows g.K.Keeper.is_up g.K.Keeper.failed c.self.inside.keeper
+    consistent_after_query g.K.Keeper.view c.self.inside.keeper
     c.facts_of.new.keeper c.self.inside.core c.self.inside.limits c.self.inside.stale c.eq-self-inside.result
     c.self.invariant (never_falls _ _ _ c.facts_of.ensures.asks.cause)
     (λ e. let is : c.in-Err.fault ≡ faults.Store = search rules in
@@ -23,5 +23,5 @@ invariant_of-self-in-Err g c =
 
 pub returns-in-Ok-clause-in_tables : goal.returns-in-Ok-clause-in_tables
 returns-in-Ok-clause-in_tables g c up base s x =
-    c.in-Ok.ensures.in_tables up base s (same_tables_same_state (g.K.Keeper.rows c.facts_of.new.keeper)
-    (g.K.Keeper.rows c.self.inside.keeper) base s (sym (c.facts_of.ensures.asks.same up)) x)
+    c.in-Ok.ensures.in_tables up base s (same_tables_same_state (g.K.Keeper.view c.facts_of.new.keeper).rows
+    (g.K.Keeper.view c.self.inside.keeper).rows base s (sym (c.facts_of.ensures.asks.same up)) x)

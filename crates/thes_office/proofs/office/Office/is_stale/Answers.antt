@@ -8,6 +8,6 @@ use Rattle.thes_office.proofs.office.Office.is_stale.Goals as goal
 
 pub returns-clause-shows : goal.returns-clause-shows
 returns-clause-shows g c =
-    subst (λ (d : OfficeView _). g.K.Keeper.is_up d.keeper → (base : List ℕ) × (s : State)
-    × TablesOfState (g.K.Keeper.rows d.keeper) base s × IsConsistentState base s) c.self.view_is
+    subst (λ (d : OfficeView _). (g.K.Keeper.view d.keeper).is_up → (base : List ℕ) × (s : State)
+    × TablesOfState (g.K.Keeper.view d.keeper).rows base s × IsConsistentState base s) c.self.view_is
     (λ up. let x = c.self.invariant.shows up in (x.0, x.1, x.2, legal_is_consistent x.0 x.1 x.2.legal))

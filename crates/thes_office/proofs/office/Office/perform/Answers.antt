@@ -9,7 +9,7 @@ use Rattle.thes_office.proofs.office.Office.perform.Goals as goal
 
 pub returns-in-Settled-clause-performed : goal.returns-in-Settled-clause-performed
 returns-in-Settled-clause-performed g c =
-    performed_when_settled g.K.Keeper.rows g.K.Keeper.is_up g.K.Keeper.failed c.self.inside.keeper c.self.inside.core
+    performed_when_settled g.K.Keeper.view c.self.inside.keeper c.self.inside.core
     c.self.inside.limits c.self.inside.stale c.gather_facts.new.self c.self.invariant c.self.view_is
     c.in_ok-facts.ensures.fresh c.args.command.now c.in_ok-facts.facts c.in_ok-facts.ensures.in_tables _
     c.in_ok-answer.ensures.ok
@@ -18,7 +18,7 @@ returns-in-Settled-clause-performed g c =
 
 pub commit-requires : goal.commit-requires
 commit-requires g c = record {
-  fits = accepted_fits g.K.Keeper.rows g.K.Keeper.is_up g.K.Keeper.failed c.self.inside.keeper c.self.inside.core
+  fits = accepted_fits g.K.Keeper.view c.self.inside.keeper c.self.inside.core
       c.self.inside.limits c.self.inside.stale c.gather_facts.new.self c.self.invariant c.self.view_is
       c.in_ok-facts.ensures.fresh c.args.command.now c.in_ok-facts.facts c.in_ok-facts.ensures.in_tables _
       c.in_ok-answer.ensures.ok
@@ -27,13 +27,13 @@ commit-requires g c = record {
 
 pub invariant_of-self : goal.invariant_of-self
 invariant_of-self g c =
-    consistent_after_query g.K.Keeper.rows g.K.Keeper.is_up g.K.Keeper.failed c.self.inside.keeper c.commit.new.self
+    consistent_after_query g.K.Keeper.view c.self.inside.keeper c.commit.new.self
     c.self.inside.core c.self.inside.limits c.self.inside.stale c.eq-self-inside.result c.self.invariant
-    (never_falls _ _ _ c.commit.ensures.cause)
+    (never_falls _ _ _ c.commit.ensures.keeps.cause)
     (λ e. let is : c.in-Err.fault ≡ faults.Store = search rules in
-    inr (has_failed _ _ _ c.in-Err.ensures.cause is))
-    (λ e. ap (λ (d : OfficeView _). d.stale) c.self.view_is ∙ c.in_ok-facts.ensures.fresh) c.commit.ensures.was
-    c.in-Err.ensures.err
+    inr (has_failed _ _ _ c.in-Err.ensures.keeps.cause is))
+    (λ e. ap (λ (d : OfficeView _). d.stale) c.self.view_is ∙ c.in_ok-facts.ensures.fresh) c.commit.ensures.keeps.was
+    c.in-Err.ensures.keeps.same
 
 pub apply-requires-clause-may : goal.apply-requires-clause-may
 apply-requires-clause-may g c = subst (VerdictMayApply c.self.inside.core c.args.command.now) c.in-Accepted.is
@@ -41,20 +41,20 @@ apply-requires-clause-may g c = subst (VerdictMayApply c.self.inside.core c.args
 
 pub invariant_of-self-in-Accepted : goal.invariant_of-self-in-Accepted
 invariant_of-self-in-Accepted g c =
-    consistent_when_accepted g.K.Keeper.rows g.K.Keeper.is_up g.K.Keeper.failed c.self.inside.keeper c.self.inside.core
+    consistent_when_accepted g.K.Keeper.view c.self.inside.keeper c.self.inside.core
     c.self.inside.limits c.self.inside.stale c.gather_facts.new.self c.self.invariant c.self.view_is
     c.in_ok-facts.ensures.fresh c.args.command.now c.in_ok-facts.facts c.in_ok-facts.ensures.in_tables _
     c.in_ok-answer.ensures.ok
     c.in-Accepted.answer c.in-Accepted.delta c.in-Accepted.is c.commit.new.self c.learn_forms.ensures
-    c.commit.ensures.was c.in_default.ensures.ok c.apply.new.self c.apply.result c.is_spent-self-inside.result
+    c.commit.ensures.keeps.was c.in_default.ensures.ok c.apply.new.self c.apply.result c.is_spent-self-inside.result
     c.is_spent-self-inside.ensures.value c.apply.ensures.made c.apply.ensures.ok c.apply.ensures.err
 
 pub returns-clause-performed : goal.returns-clause-performed
 returns-clause-performed g c =
-    performed_when_accepted g.K.Keeper.rows g.K.Keeper.is_up g.K.Keeper.failed c.self.inside.keeper c.self.inside.core
+    performed_when_accepted g.K.Keeper.view c.self.inside.keeper c.self.inside.core
     c.self.inside.limits c.self.inside.stale c.gather_facts.new.self c.self.invariant c.self.view_is
     c.in_ok-facts.ensures.fresh c.args.command.now c.in_ok-facts.facts c.in_ok-facts.ensures.in_tables _
     c.in_ok-answer.ensures.ok
     c.in-Accepted.answer c.in-Accepted.delta c.in-Accepted.is c.commit.new.self c.learn_forms.ensures
-    c.commit.ensures.was c.in_default.ensures.ok c.args.self.now c.is_spent-self-inside.result
+    c.commit.ensures.keeps.was c.in_default.ensures.ok c.args.self.now c.is_spent-self-inside.result
     c.in_ok-facts.ensures.fault_behaviour.limits c.in_ok-facts.ensures.same

@@ -10,24 +10,24 @@ use Rattle.thes_office.proofs.office.Office.postings.Goals as goal
 
 pub returns-in-Err-clause-lists : goal.returns-in-Err-clause-lists
 returns-in-Err-clause-lists g c up base s x =
-    takes_none g.S.PostingSink.gives (g.K.Keeper.rows c.refresh.new.self.keeper) c.args.concept c.args.sink.now
+    takes_none g.S.PostingSink.gives (g.K.Keeper.view c.refresh.new.self.keeper).rows c.args.concept c.args.sink.now
     c.args.sink.now c.in-Err.fault (rows_assigned_to s c.args.concept)
 
 pub list-requires-clause-copies : goal.list-requires-clause-copies
 list-requires-clause-copies g c up =
-    copies_own (g.K.Keeper.rows c.self.inside.keeper) c.self.inside.limits c.self.inside.core
+    copies_own (g.K.Keeper.view c.self.inside.keeper).rows c.self.inside.limits c.self.inside.core
     (c.self.invariant.copies (ap (λ (d : OfficeView _). d.stale) c.self.view_is ∙ c.in_default.ensures.fresh) up)
 
 pub invariant_of-self : goal.invariant_of-self
 invariant_of-self g c =
-    consistent_after_query g.K.Keeper.rows g.K.Keeper.is_up g.K.Keeper.failed c.self.inside.keeper c.list.new.keeper
+    consistent_after_query g.K.Keeper.view c.self.inside.keeper c.list.new.keeper
     c.self.inside.core c.self.inside.limits c.self.inside.stale c.self.inside.stale
     c.self.invariant (never_falls _ _ _ c.list.ensures.asks.cause) (λ e. inl e) (λ e. e) c.list.ensures.asks.was
     c.list.ensures.asks.same
 
 pub invariant_of-self-in-Err-list : goal.invariant_of-self-in-Err-list
 invariant_of-self-in-Err-list g c =
-    consistent_after_query g.K.Keeper.rows g.K.Keeper.is_up g.K.Keeper.failed c.self.inside.keeper c.list.new.keeper
+    consistent_after_query g.K.Keeper.view c.self.inside.keeper c.list.new.keeper
     c.self.inside.core c.self.inside.limits c.self.inside.stale c.eq-self-inside.result
     c.self.invariant (never_falls _ _ _ c.list.ensures.asks.cause)
     (λ e. let is : c.in-Err-list.fault ≡ faults.Store = search rules in
@@ -37,5 +37,5 @@ invariant_of-self-in-Err-list g c =
 
 pub returns-in-Err-list-clause-lists : goal.returns-in-Err-list-clause-lists
 returns-in-Err-list-clause-lists g c up base s x =
-    c.in-Err-list.ensures.lists up base s (same_tables_same_state (g.K.Keeper.rows c.list.new.keeper)
-    (g.K.Keeper.rows c.self.inside.keeper) base s (sym (c.list.ensures.asks.same up)) x)
+    c.in-Err-list.ensures.lists up base s (same_tables_same_state (g.K.Keeper.view c.list.new.keeper).rows
+    (g.K.Keeper.view c.self.inside.keeper).rows base s (sym (c.list.ensures.asks.same up)) x)

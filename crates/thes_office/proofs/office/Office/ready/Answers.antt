@@ -7,7 +7,7 @@ returns g c = (
   (
     refl,
     λ office. tt,
-    ready_core g.K.Keeper.rows g.K.Keeper.is_up g.K.Keeper.failed c.args.self.now c.self.inside.keeper
+    ready_core g.K.Keeper.view c.args.self.now c.self.inside.keeper
         c.self.inside.core c.self.inside.limits c.self.inside.stale c.refresh.new.self _ c.self.invariant
         c.self.view_is
         c.in_ok-refresh.ensures.fault_behaviour c.in_ok-refresh.ensures.same c.in_ok-refresh.ensures.fresh refl,

@@ -4,18 +4,18 @@ use Rattle.thes_office.proofs.office.Office.refresh.Goals as goal
 
 pub invariant_of-self : goal.invariant_of-self
 invariant_of-self g c =
-    consistent_after_query g.K.Keeper.rows g.K.Keeper.is_up g.K.Keeper.failed c.self.inside.keeper c.load.new.keeper
+    consistent_after_query g.K.Keeper.view c.self.inside.keeper c.load.new.keeper
     c.self.inside.core c.self.inside.limits c.self.inside.stale c.self.inside.stale c.self.invariant
     c.load.ensures.reads.later (λ e. inl e) (λ e. e) c.load.ensures.reads.was c.load.ensures.reads.same
 
 pub returns-in-Err-clause-fault_behaviour : goal.returns-in-Err-clause-fault_behaviour
 returns-in-Err-clause-fault_behaviour g c =
-    behaviour_of_load_fault g.K.Keeper.rows g.K.Keeper.is_up g.K.Keeper.failed c.self.inside.keeper c.load.new.keeper
+    behaviour_of_load_fault g.K.Keeper.view c.self.inside.keeper c.load.new.keeper
     c.self.inside.core c.self.inside.limits c.self.inside.stale c.in-Err.fault c.args.self.now
     c.in-Err.ensures.reads c.in-Err.ensures.verdict c.self.invariant (search rules) c.self.view_is
 
 pub invariant_of-self-2 : goal.invariant_of-self-2
 invariant_of-self-2 g c =
-    consistent_after_load g.K.Keeper.rows g.K.Keeper.is_up g.K.Keeper.failed c.self.inside.keeper c.load.new.keeper
+    consistent_after_load g.K.Keeper.view c.self.inside.keeper c.load.new.keeper
     c.in-Ok.core c.self.inside.limits c.self.invariant.few
     c.in-Ok.ensures.unspent c.in-Ok.ensures.copies c.in-Ok.ensures.reads.same

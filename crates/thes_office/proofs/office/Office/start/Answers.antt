@@ -5,7 +5,7 @@ use Rattle.thes_office.proofs.office.Office.start.Goals as goal
 
 pub invariant_of-result : goal.invariant_of-result
 invariant_of-result g c =
-    consistent_after_load g.K.Keeper.rows g.K.Keeper.is_up g.K.Keeper.failed c.args.keeper c.load.new.keeper
+    consistent_after_load g.K.Keeper.view c.args.keeper c.load.new.keeper
     c.in-Ok.core c.args.limits
     record {
       resources = omega arith;
@@ -19,7 +19,7 @@ invariant_of-result g c =
 
 pub returns-in-Ok-clause-shows : goal.returns-in-Ok-clause-shows
 returns-in-Ok-clause-shows g c up =
-    let here = copies_over (g.K.Keeper.rows c.args.keeper) (g.K.Keeper.rows c.load.new.keeper) c.args.limits
+    let here = copies_over (g.K.Keeper.view c.args.keeper).rows (g.K.Keeper.view c.load.new.keeper).rows c.args.limits
     c.in-Ok.core (c.in-Ok.ensures.reads.same up) (c.in-Ok.ensures.copies up) in
     (c.in-Ok.core.setting.base, here.state, here.shows)
 

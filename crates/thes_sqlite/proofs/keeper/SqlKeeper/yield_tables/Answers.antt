@@ -14,7 +14,11 @@ use Rattle.thes_sqlite.proofs.keeper.SqlKeeper.yield_tables.Goals as goal
 
 pub loop-name-init : goal.loop-name-init
 loop-name-init g c = (
-  record { was = λ up. up; same = λ up. refl; sink_accepts = λ up. refl; failures = refl; first = refl },
+  record {
+    keeps = record { same = λ up. refl; was = λ up. up; count = refl };
+    sink_accepts = λ up. refl;
+    first = refl;
+  },
   found_begun g.R.RowSink.gives g.S.Store c.args.self.now.conn c.args.sink.now,
 )
 
@@ -25,9 +29,7 @@ loop-name-preserved g c =
           c.loop-name.self
           c.yield_table.new.self c.args.sink.now c.loop-name.sink c.yield_table.new.sink c.yield_table.result
           c.loop-name-test.true
-          (search rules) c.loop-name.invariant.0 c.yield_table.ensures.yields c.yield_table.ensures.same
-          c.yield_table.ensures.was
-          c.yield_table.ensures.cause c.yield_table.ensures.first c.in_default.field-0 c.in_default.is,
+          (search rules) c.loop-name.invariant.0 c.yield_table.ensures.yields c.yield_table.ensures.asks c.yield_table.ensures.first c.in_default.field-0 c.in_default.is,
       found_next g.R.RowSink.gives g.S.Store c.args.names.now c.loop-name.name-index name c.args.self.now.conn
           c.loop-name.self.conn c.yield_table.new.self.conn c.args.sink.now c.loop-name.sink c.yield_table.new.sink
           c.loop-name-test.true (search rules) c.loop-name.invariant.1 c.yield_table.ensures.leaves
@@ -41,30 +43,23 @@ returns-in-Err-clause-yields g c =
     c.loop-name.self
     c.yield_table.new.self c.args.sink.now c.loop-name.sink c.yield_table.new.sink c.yield_table.result
     c.loop-name-test.true
-    (search rules) c.loop-name.invariant.0 c.yield_table.ensures.yields c.yield_table.ensures.same
-    c.yield_table.ensures.was
-    c.yield_table.ensures.cause c.yield_table.ensures.first c.in-Err.fault c.in-Err.is).0
+    (search rules) c.loop-name.invariant.0 c.yield_table.ensures.yields c.yield_table.ensures.asks c.yield_table.ensures.first c.in-Err.fault c.in-Err.is).0
 
-pub returns-in-Err-clause-same : goal.returns-in-Err-clause-same
-returns-in-Err-clause-same g c = λ up.
-    c.yield_table.ensures.same up ∙ c.loop-name.invariant.0.same (c.yield_table.ensures.was up)
-
-pub returns-in-Err-clause-was : goal.returns-in-Err-clause-was
-returns-in-Err-clause-was g c = λ up. c.loop-name.invariant.0.was (c.yield_table.ensures.was up)
-
-pub returns-in-Err-clause-cause : goal.returns-in-Err-clause-cause
-returns-in-Err-clause-cause g c =
+pub returns-in-Err-clause-asks : goal.returns-in-Err-clause-asks
+returns-in-Err-clause-asks g c =
     let name = get_or c.args.names.now c.loop-name.name-index table.Meta in
     (load_progress_fault g.S.Store g.R.RowSink.gives c.args.names.now c.loop-name.name-index name c.args.self.now
     c.loop-name.self
     c.yield_table.new.self c.args.sink.now c.loop-name.sink c.yield_table.new.sink c.yield_table.result
     c.loop-name-test.true
-    (search rules) c.loop-name.invariant.0 c.yield_table.ensures.yields c.yield_table.ensures.same
-    c.yield_table.ensures.was
-    c.yield_table.ensures.cause c.yield_table.ensures.first c.in-Err.fault c.in-Err.is).3
+    (search rules) c.loop-name.invariant.0 c.yield_table.ensures.yields c.yield_table.ensures.asks c.yield_table.ensures.first c.in-Err.fault c.in-Err.is).1
 
 pub returns-in-Err-clause-first : goal.returns-in-Err-clause-first
 returns-in-Err-clause-first g c = c.yield_table.ensures.first ∙ c.loop-name.invariant.0.first
+
+pub returns-clause-asks : goal.returns-clause-asks
+returns-clause-asks g c = let keeps = c.loop-name.invariant.0.keeps in
+    record { same = keeps.same; was = keeps.was; cause = keeps.count }
 
 pub returns-clause-first : goal.returns-clause-first
 returns-clause-first g c = c.loop-name.invariant.0.first

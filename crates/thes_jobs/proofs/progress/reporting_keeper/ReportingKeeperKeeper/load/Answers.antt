@@ -6,4 +6,4 @@ use Rattle.thes_jobs.proofs.progress.reporting_keeper.ReportingKeeperKeeper.load
 pub returns-clause-yields : goal.returns-clause-yields
 returns-clause-yields g c = λ up.
     hands_lent g.S.RowSink.gives _ _ _ c.load-result.result c.load-result.new.sink _
-    (ap (λ k. sink_rows (g.K.Keeper.rows k)) c.self.view_is) (c.load-result.ensures.yields up) (search rules)
+    (ap (λ k. sink_rows (g.K.Keeper.view k).rows) c.self.view_is) (c.load-result.ensures.yields up) (search rules)
