@@ -5,13 +5,11 @@ use Rattle.thes_base.specs.declared.fault.Fault.{Fault}
 use Rattle.thes_base.specs.declared.request.Answer.{Answer}
 use Rattle.thes_base.specs.declared.request.Command.{Command}
 use Rattle.thes_base.specs.Headline.{IsConsistentState}
-use Rattle.thes_base.specs.Machine.{Run}
-use Rattle.thes_base.specs.Refusals.{Setting}
 use Rattle.thes_base.specs.State.{State}
-use Rattle.thes_tables.specs.Cells.{Raw}
-use Rattle.thes_office.specs.Office.{FaultBehaviour, TablesAfterRun, OfficeView, setting}
+use Rattle.thes_store.specs.Storage.{StorageView}
+use Rattle.thes_office.specs.Office.{FaultBehaviour, TablesAfterRun, OfficeView}
 use Rattle.thes_office.specs.TablesOfState.{TablesOfState}
-use Rattle.thes_office.proofs.StateTableLemmas.{state_is_unique}
+use Rattle.thes_office.proofs.OfficeViewLemmas.{run_of_more}
 use Rattle.thes_requests.specs.declared.request.Query.{Query}
 use Rattle.thes_import.specs.Imports as importer
 use Rattle.thes_import.specs.declared.postings.ImportHalt.{ImportHalt}
@@ -34,71 +32,45 @@ use Rattle.thes_service.specs.OfficeRequests.{IsReachedByRun, OfficePerforms, Of
 use Rattle.thes_service.specs.Service.{OfficeDisplays, OfficeExports, OfficeImports}
 use Rattle.thes_service.proofs.ScriptRunLemmas.{led_kept, led_same, led_start, led_step}
 
-run_on : (s : Setting) (commands : List Command) (answers : List Answer) (more : List Command) (further : List Answer)
-    (a b c : State) → Run s a commands answers b → Run s b more further c → Run s a (commands ++ more)
-    (answers ++ further) c
-run_on s [] [] more further a b c run rest = subst (λ (x : State). Run s x more further c) run rest
-run_on s [] (x ∷ answers) more further a b c run rest = absurd run
-run_on s (x ∷ commands) [] more further a b c run rest = absurd run
-run_on s (x ∷ commands) (y ∷ answers) more further a b c run rest =
-    (run.0, run.1, run_on s commands answers more further run.0 b c run.2 rest)
-
--- Two consecutive runs over the tables are one run.
-goes_on_over : (limits : Limits) (first mid last : Raw) (commands : List Command) (answers : List Answer)
-    (more : List Command) (further : List Answer) → TablesAfterRun limits first commands answers mid
-    → TablesAfterRun limits mid more further last → TablesAfterRun limits first (commands ++ more)
-    (answers ++ further) last
-goes_on_over limits first mid last commands answers more further x y =
-    let one = state_is_unique mid y.base x.base y.state_before x.state_after y.tables_before x.shows in record {
-      base = x.base;
-      state_before = x.state_before;
-      state_after = y.state_after;
-      tables_before = x.tables_before;
-      run = run_on (setting x.base limits) commands answers more further x.state_before x.state_after y.state_after
-          x.run
-          (subst (λ (p : List ℕ × State). Run (setting p.0 limits) p.1 more further y.state_after)
-          (λ i. (one.0 i, one.1 i)) y.run);
-      shows = subst (λ (b : List ℕ). TablesOfState last b y.state_after) one.0 y.shows;
-      in_order = subst (λ (b : List ℕ). IsConsistentState b y.state_after) one.0 y.in_order;
-    }
-
-module _ {K : Type 0} (rows : K → Raw) (is_up : K → Type 0) (failed : K → ℕ) where
+module _ {K : Type 0} (view : K → StorageView) where
   abbrev IsReached : OfficeView K → OfficeView K → Type 0
-  IsReached old new = IsReachedByRun rows is_up failed old new
+  IsReached old new = IsReachedByRun view old new
 
   -- The behaviour of an office as a service.
   abbrev Office : ServiceEffects (OfficeView K)
-  Office = effects (OfficePerforms rows is_up failed) (OfficeShows rows is_up failed)
-      (OfficeImports rows is_up failed) (OfficeExports rows is_up failed) (OfficeDisplays rows is_up failed)
+  Office = effects (OfficePerforms view) (OfficeShows view)
+      (OfficeImports view) (OfficeExports view) (OfficeDisplays view)
 
   -- A run of several requests extends the run before it.
   led_run : {T : Type 0} (old mid new : OfficeView K) (result : Result T Fault) (commands : List Command)
-      (answers : List Answer) → IsReached old mid → FaultBehaviour rows is_up failed mid new result
-      → (is_up new.keeper → TablesAfterRun mid.limits (rows mid.keeper) commands answers (rows new.keeper))
+      (answers : List Answer) → IsReached old mid → FaultBehaviour view mid new result
+      → ((view new.keeper).is_up → TablesAfterRun mid.limits (view mid.keeper).rows commands answers
+      (view new.keeper).rows)
       → IsReached old new
   led_run old mid new result commands answers reached fault_behaviour run = record {
     limits = fault_behaviour.limits ∙ reached.limits;
     was = λ up. reached.was (fault_behaviour.was up);
     later = omega (arith, reached.later, fault_behaviour.later);
     goes_on = λ up. let x = reached.goes_on (fault_behaviour.was up) in
-        let more = subst (λ (l : Limits). TablesAfterRun l (rows mid.keeper) commands answers (rows new.keeper))
+        let more = subst (λ (l : Limits). TablesAfterRun l (view mid.keeper).rows commands answers
+        (view new.keeper).rows)
         reached.limits (run up) in (
           x.0 ++ commands,
           x.1 ++ answers,
-          goes_on_over old.limits (rows old.keeper) (rows mid.keeper)
-              (rows new.keeper) x.0 x.1 commands answers x.2 more,
+          run_of_more old.limits (view old.keeper).rows (view mid.keeper).rows
+              (view new.keeper).rows x.0 x.1 commands answers x.2 more,
         );
   }
 
   import_reached : {T : Type 0} (old mid new : OfficeView K) (result : Result T Fault) (file : List ℕ)
-      (is : Result performed.FileImport ImportHalt) → FaultBehaviour rows is_up failed mid new result
-      → importer.Imports rows is_up mid file is new → IsReached old mid → IsReached old new
+      (is : Result performed.FileImport ImportHalt) → FaultBehaviour view mid new result
+      → importer.Imports view mid file is new → IsReached old mid → IsReached old new
   import_reached old mid new result file (Ok (done.Rows report)) fault_behaviour x reached = let all = x.2 in
       led_run old mid new result _ _ reached fault_behaviour (λ up. let ran = all.performs up in ran.goes_on)
-  import_reached old mid new result file (Ok done.Malformed) fault_behaviour x reached = led_kept rows is_up failed old
+  import_reached old mid new result file (Ok done.Malformed) fault_behaviour x reached = led_kept view old
       mid new
       reached x.1
-  import_reached old mid new result file (Err halted) fault_behaviour (inl x) reached = led_kept rows is_up failed old
+  import_reached old mid new result file (Err halted) fault_behaviour (inl x) reached = led_kept view old
       mid new
       reached x.2
   import_reached old mid new result file (Err halted) fault_behaviour (inr x) reached = let some = x.2 in let all =
@@ -106,39 +78,39 @@ module _ {K : Type 0} (rows : K → Raw) (is_up : K → Type 0) (failed : K → 
       (λ up. let ran = all.performs up in ran.goes_on)
 
   request_reached : (old mid new : OfficeView K) (command : Command) (answer : Result Answer Fault)
-      → OfficePerforms rows is_up failed mid command answer new → IsReached old mid → IsReached old new
-  request_reached old mid new command (Ok answer) x reached = led_step rows is_up failed old mid new command answer
+      → OfficePerforms view mid command answer new → IsReached old mid → IsReached old new
+  request_reached old mid new command (Ok answer) x reached = led_step view old mid new command answer
       reached x.fault_behaviour x.performed
-  request_reached old mid new command (Err fault) x reached = led_same rows is_up failed old mid new _ reached
+  request_reached old mid new command (Err fault) x reached = led_same view old mid new _ reached
       x.fault_behaviour
       x.performed
 
   performs : (old mid new : OfficeView K) (r : Response) (body : List ℕ) → CommandEffect Office mid r new body
       → IsReached old mid → IsReached old new
   performs old mid new r body (inl x) reached = request_reached old mid new x.0 x.1 x.3 reached
-  performs old mid new r body (inr (inl x)) reached = led_kept rows is_up failed old mid new reached x.2.1
-  performs old mid new r body (inr (inr x)) reached = led_kept rows is_up failed old mid new reached x.2.1
+  performs old mid new r body (inr (inl x)) reached = led_kept view old mid new reached x.2.1
+  performs old mid new r body (inr (inr x)) reached = led_kept view old mid new reached x.2.1
 
   shows : (old mid new : OfficeView K) (r : Response) (query : Query) → ShowsView Office mid r new query
       → IsReached old mid → IsReached old new
-  shows old mid new r query x reached = let shown = x.1 in led_same rows is_up failed old mid new x.0 reached
+  shows old mid new r query x reached = let shown = x.1 in led_same view old mid new x.0 reached
       shown.fault_behaviour shown.same
 
   shows_number : (old mid new : OfficeView K) (r : Response) (query : ℕ → Query) (text : List ℕ)
       → NumberQueryEffect Office mid r new query text → IsReached old mid → IsReached old new
-  shows_number old mid new r query text (inl x) reached = led_kept rows is_up failed old mid new reached x.1.1
+  shows_number old mid new r query text (inl x) reached = led_kept view old mid new reached x.1.1
   shows_number old mid new r query text (inr x) reached = shows old mid new r (query x.0) x.3 reached
 
   displays_in : (old mid new : OfficeView K) (r : Response) (which : Display) (scheme : ℕ) (lang : List ℕ)
       → DisplayEffect Office mid r new which scheme lang → IsReached old mid → IsReached old new
-  displays_in old mid new r which scheme lang (inl x) reached = led_kept rows is_up failed old mid new reached x.1.1
+  displays_in old mid new r which scheme lang (inl x) reached = led_kept view old mid new reached x.1.1
   displays_in old mid new r which scheme lang (inr x) reached = let shown = x.2 in
-      led_same rows is_up failed old mid new x.1 reached shown.fault_behaviour shown.same
+      led_same view old mid new x.1 reached shown.fault_behaviour shown.same
 
   displays : (old mid new : OfficeView K) (r : Response) (which : Display) (asked : Option DisplayQuery)
       → DisplayQueryEffect Office mid r new which asked → IsReached old mid → IsReached old new
-  displays old mid new r which None x reached = led_kept rows is_up failed old mid new reached x.1
-  displays old mid new r which (Some asked) (inl x) reached = led_kept rows is_up failed old mid new reached x.1.1
+  displays old mid new r which None x reached = led_kept view old mid new reached x.1
+  displays old mid new r which (Some asked) (inl x) reached = led_kept view old mid new reached x.1.1
   displays old mid new r which (Some asked) (inr x) reached = displays_in old mid new r which x.0 asked.lang x.3 reached
 
   does : (old mid new : OfficeView K) (r : Response) (p : Endpoint) (number query body : List ℕ)
@@ -151,7 +123,7 @@ module _ {K : Type 0} (rows : K → Raw) (is_up : K → Type 0) (failed : K → 
   does old mid new r endpoint.Postings number query body x reached = shows_number old mid new r _ number x reached
   does old mid new r endpoint.Posting number query body x reached = shows_number old mid new r _ number x reached
   does old mid new r endpoint.Export number query body x reached = let export = x.1 in
-      led_same rows is_up failed old mid new x.0 reached export.fault_behaviour export.same
+      led_same view old mid new x.0 reached export.fault_behaviour export.same
   does old mid new r endpoint.Alphabetical number query body x reached = displays old mid new r display.Alphabetical
       (display_query_of query) x reached
   does old mid new r endpoint.Hierarchical number query body x reached = displays old mid new r display.Hierarchical
@@ -160,24 +132,24 @@ module _ {K : Type 0} (rows : K → Raw) (is_up : K → Type 0) (failed : K → 
   head_answered : (old mid new : OfficeView K) (r : Response) (wants : Result HeadRequest Problem) (rest : List ℕ)
       → AnswersHead Office mid r new wants rest → IsReached old mid → IsReached old new
   head_answered old mid new r (Ok w) rest x reached = does old mid new r w.endpoint w.number w.query _ x.1 reached
-  head_answered old mid new r (Err problem) rest x reached = led_kept rows is_up failed old mid new reached x.1
+  head_answered old mid new r (Err problem) rest x reached = led_kept view old mid new reached x.1
 
   exchange_reached : (old mid new : OfficeView K) (r : Response) (bytes : List ℕ) → Answers Office mid r new bytes
       → IsReached old mid → IsReached old new
-  exchange_reached old mid new r bytes (inl x) reached = led_kept rows is_up failed old mid new reached x.1.1
+  exchange_reached old mid new r bytes (inl x) reached = led_kept view old mid new reached x.1.1
   exchange_reached old mid new r bytes (inr (inl x)) reached =
       head_answered old mid new r (head_request_of (parts_of x.0)) x.1 x.3 reached
-  exchange_reached old mid new r bytes (inr (inr x)) reached = led_kept rows is_up failed old mid new reached x.1
+  exchange_reached old mid new r bytes (inr (inr x)) reached = led_kept view old mid new reached x.1
 
   all_answered : (old new : OfficeView K) (exchanges : List Exchange) → AreAnswered Office old exchanges new
       → IsReached old old → IsReached old new
-  all_answered old new [] same reached = led_kept rows is_up failed old old new reached same
+  all_answered old new [] same reached = led_kept view old old new reached same
   all_answered old new (e ∷ before) x reached = exchange_reached old x.0 new e.response e.bytes x.2
       (all_answered old x.0 before x.1 reached)
 
   -- Any number of connections leads the office through a run of the machine.
-  pub connections_lead : (most : ℕ) (old new : OfficeView K) → (is_up old.keeper → (base : List ℕ) × (s : State)
-      × TablesOfState (rows old.keeper) base s × IsConsistentState base s) → LeadsBy Office most old new
+  pub connections_lead : (most : ℕ) (old new : OfficeView K) → ((view old.keeper).is_up → (base : List ℕ) × (s : State)
+      × TablesOfState (view old.keeper).rows base s × IsConsistentState base s) → LeadsBy Office most old new
       → IsReached old new
   connections_lead most old new shows leads = all_answered old new leads.exchanges leads.answered
-      (led_start rows is_up failed old shows)
+      (led_start view old shows)

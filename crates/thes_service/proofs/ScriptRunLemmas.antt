@@ -10,6 +10,7 @@ use Rattle.thes_base.specs.declared.request.Command.{Command}
 use Rattle.thes_base.specs.Headline.{IsConsistentState}
 use Rattle.thes_base.specs.State.{State}
 use Rattle.thes_tables.specs.Cells.{Raw}
+use Rattle.thes_store.specs.Storage.{StorageView}
 use Rattle.thes_office.specs.Office.{FaultBehaviour, TablesAfterRun, OfficeView, SameTables, TablesAfterStep}
 use Rattle.thes_office.specs.TablesOfState.{TablesOfState}
 use Rattle.thes_office.proofs.OfficeViewLemmas.{run_of_one_more, empty_run}
@@ -22,55 +23,57 @@ use Rattle.thes_requests.specs.declared.serve.LineOutcome.TheVariants.{Skipped, 
 use Rattle.thes_requests.specs.Script.{StepLine, RunLines, Session, Completes, Stops}
 use Rattle.thes_service.specs.OfficeRequests.{IsReachedByRun, OfficeServes, is_always_open}
 
-module _ {K : Type 0} (rows : K → Raw) (is_up : K → Type 0) (failed : K → ℕ) where
+module _ {K : Type 0} (view : K → StorageView) where
   -- Before the first line, the run is empty.
-  pub led_start : (office : OfficeView K) → (is_up office.keeper → (base : List ℕ) × (s : State)
-      × TablesOfState (rows office.keeper) base s × IsConsistentState base s) → IsReachedByRun rows is_up failed
+  pub led_start : (office : OfficeView K) → ((view office.keeper).is_up → (base : List ℕ) × (s : State)
+      × TablesOfState (view office.keeper).rows base s × IsConsistentState base s) → IsReachedByRun view
       office office
   led_start office shows = record {
     limits = refl;
     was = λ up. up;
     later = omega arith;
-    goes_on = λ up. let x = shows up in ([], [], empty_run office.limits (rows office.keeper) x.0 x.1 x.2 x.3);
+    goes_on = λ up. let x = shows up in ([], [], empty_run office.limits (view office.keeper).rows x.0 x.1 x.2 x.3);
   }
 
   -- A call that leaves the tables unchanged leaves the run unchanged.
-  pub led_same : {T : Type 0} (old mid new : OfficeView K) (result : Result T Fault) → IsReachedByRun rows is_up
-      failed old mid → FaultBehaviour rows is_up failed mid new result → SameTables rows is_up mid new
-      → IsReachedByRun rows is_up failed old new
+  pub led_same : {T : Type 0} (old mid new : OfficeView K) (result : Result T Fault) → IsReachedByRun view old mid
+      → FaultBehaviour view mid new result → SameTables view mid new
+      → IsReachedByRun view old new
   led_same old mid new result reached step_reached same = record {
     limits = step_reached.limits ∙ reached.limits;
     was = λ up. reached.was (step_reached.was up);
     later = omega (arith, reached.later, step_reached.later);
     goes_on = λ up. let x = reached.goes_on (step_reached.was up) in
-        (x.0, x.1, subst (λ (r : Raw). TablesAfterRun old.limits (rows old.keeper) x.0 x.1 r) (sym (same up)) x.2);
+        (x.0, x.1, subst (λ (r : Raw). TablesAfterRun old.limits (view old.keeper).rows x.0 x.1 r) (sym (same up)) x.2);
   }
 
   -- A request that is answered extends the run by one step.
-  pub led_step : (old mid new : OfficeView K) (command : Command) (answer : Answer) → IsReachedByRun rows is_up failed
-      old mid → FaultBehaviour rows is_up failed mid new (let x : Result Answer Fault = Ok answer in x)
-      → (is_up new.keeper → TablesAfterStep mid.limits (rows mid.keeper) command answer (rows new.keeper))
-      → IsReachedByRun rows is_up failed old new
+  pub led_step : (old mid new : OfficeView K) (command : Command) (answer : Answer) → IsReachedByRun view
+      old mid → FaultBehaviour view mid new (let x : Result Answer Fault = Ok answer in x)
+      → ((view new.keeper).is_up → TablesAfterStep mid.limits (view mid.keeper).rows command answer
+      (view new.keeper).rows)
+      → IsReachedByRun view old new
   led_step old mid new command answer reached step_reached steps = record {
     limits = step_reached.limits ∙ reached.limits;
     was = λ up. reached.was (step_reached.was up);
     later = omega (arith, reached.later, step_reached.later);
     goes_on = λ up. let x = reached.goes_on (step_reached.was up) in
-        let step = subst (λ (l : Limits). TablesAfterStep l (rows mid.keeper) command answer (rows new.keeper))
+        let step = subst (λ (l : Limits). TablesAfterStep l (view mid.keeper).rows command answer
+        (view new.keeper).rows)
         reached.limits (steps up) in (
           x.0 ++ command ∷ [],
           x.1 ++ answer ∷ [],
-          run_of_one_more old.limits (rows old.keeper) (rows mid.keeper)
-              (rows new.keeper) x.0 x.1 command answer x.2 step,
+          run_of_one_more old.limits (view old.keeper).rows (view mid.keeper).rows
+              (view new.keeper).rows x.0 x.1 command answer x.2 step,
         );
   }
 
-  pub led_kept : (old mid new : OfficeView K) → IsReachedByRun rows is_up failed old mid → new ≡ mid
-      → IsReachedByRun rows is_up failed old new
-  led_kept old mid new reached same = subst (IsReachedByRun rows is_up failed old) (sym same) reached
+  pub led_kept : (old mid new : OfficeView K) → IsReachedByRun view old mid → new ≡ mid
+      → IsReachedByRun view old new
+  led_kept old mid new reached same = subst (IsReachedByRun view old) (sym same) reached
 
-  line_reached : (line : List ℕ) (o : LineAnswer) (old mid new : OfficeView K) → OfficeServes rows is_up failed mid
-      line o new → IsReachedByRun rows is_up failed old mid → IsReachedByRun rows is_up failed old new
+  line_reached : (line : List ℕ) (o : LineAnswer) (old mid new : OfficeView K) → OfficeServes view mid
+      line o new → IsReachedByRun view old mid → IsReachedByRun view old new
   line_reached line (Reply (reply.Answer a)) old mid new (inl p) reached = led_step old mid new p.0 a reached
       p.2.fault_behaviour
       p.2.performed
@@ -86,15 +89,15 @@ module _ {K : Type 0} (rows : K → Raw) (is_up : K → Type 0) (failed : K → 
   line_reached line (View text) old mid new p reached = led_same old mid new _ reached p.2.fault_behaviour p.2.same
 
   step_reached : (line : List ℕ) (f : LineOutcome) (old mid new : OfficeView K)
-      → StepLine (OfficeServes rows is_up failed) mid line f new → IsReachedByRun rows is_up failed old mid
-      → IsReachedByRun rows is_up failed old new
+      → StepLine (OfficeServes view) mid line f new → IsReachedByRun view old mid
+      → IsReachedByRun view old new
   step_reached line Skipped old mid new p reached = led_kept old mid new reached p.1
   step_reached line Unheld old mid new p reached = led_kept old mid new reached p
   step_reached line (Answered o) old mid new p reached = line_reached line o old mid new p.1 reached
 
   reached : (lines : List (List ℕ)) (line_outcomes : List LineOutcome) (old mid new : OfficeView K)
-      → RunLines (OfficeServes rows is_up failed) mid lines line_outcomes new → IsReachedByRun rows is_up failed old
-      mid → IsReachedByRun rows is_up failed old new
+      → RunLines (OfficeServes view) mid lines line_outcomes new → IsReachedByRun view old
+      mid → IsReachedByRun view old new
   reached [] [] old mid new r so_far = led_kept old mid new so_far r
   reached [] (f ∷ line_outcomes) old mid new r so_far = absurd r
   reached (line ∷ more) [] old mid new r so_far = absurd r
@@ -104,11 +107,12 @@ module _ {K : Type 0} (rows : K → Raw) (is_up : K → Type 0) (failed : K → 
   -- A script is a run of the machine, whether or not a fault stopped it.
   pub script_leads : {R W : Type 0} (remaining : R → Option (List ℕ)) (contents : W → Option (List ℕ))
       (result : Result ScriptEnd PipeFault) (old new : Session R W (OfficeView K))
-      → (is_up old.handler.keeper → (base : List ℕ) × (s : State) × TablesOfState (rows old.handler.keeper) base s
+      → ((view old.handler.keeper).is_up → (base : List ℕ) × (s : State)
+      × TablesOfState (view old.handler.keeper).rows base s
       × IsConsistentState base s)
-      → IfOk result (Completes remaining contents (OfficeServes rows is_up failed) is_always_open old new)
-      → IfErr result (Stops remaining contents (OfficeServes rows is_up failed) is_always_open old new)
-      → IsReachedByRun rows is_up failed old.handler new.handler
+      → IfOk result (Completes remaining contents (OfficeServes view) is_always_open old new)
+      → IfErr result (Stops remaining contents (OfficeServes view) is_always_open old new)
+      → IsReachedByRun view old.handler new.handler
   script_leads remaining contents (Ok ended) old new shows f g = let l = f.lines in
       reached _ f.line_outcomes old.handler old.handler new.handler l.run (led_start old.handler shows)
   script_leads remaining contents (Err fault) old new shows f g = let l = g.lines in

@@ -16,6 +16,7 @@ use Rattle.thes_tables.specs.declared.rows.PostingRow.{PostingRow}
 use Rattle.thes_core.specs.CoreView as core
 use Rattle.thes_core.specs.CoreView.{IsViewOf}
 use Rattle.thes_store.specs.Sinks.{SinkAcceptsAll}
+use Rattle.thes_store.specs.Storage.{StorageView}
 use Rattle.thes_office.specs.QueryFrames.{InStateOfTables}
 use Rattle.thes_office.specs.AssignedPostings.{AssignedPostingsResult, rows_assigned_to}
 use Rattle.thes_office.specs.Office.{FaultBehaviour, IsCopy, OfficeView, ReadyResult}
@@ -93,10 +94,10 @@ refusal_viewed raw concept old new told refusal some lists =
     let so = subst (λ (o : Option Refusal). AssignedPostingsResult ListsRow raw concept old (Ok o) new) some lists in
     so.1
 
-module _ {K : Type 0} (rows : K → Raw) (is_up : K → Type 0) (failed : K → ℕ) where
+module _ {K : Type 0} (view : K → StorageView) where
   -- A call without a fault has the same effects, whatever value it returns.
-  pub goes_on_to : {A B : Type 0} (old new : OfficeView K) (a : A) (b : B) → FaultBehaviour rows is_up failed old new
-      (let x : Result A Fault = Ok a in x) → FaultBehaviour rows is_up failed old new (let x : Result B Fault =
+  pub goes_on_to : {A B : Type 0} (old new : OfficeView K) (a : A) (b : B) → FaultBehaviour view old new
+      (let x : Result A Fault = Ok a in x) → FaultBehaviour view old new (let x : Result B Fault =
       Ok b in x)
   goes_on_to old new a b fault_behaviour = record {
     limits = fault_behaviour.limits;
@@ -111,29 +112,29 @@ module _ {K : Type 0} (rows : K → Raw) (is_up : K → Type 0) (failed : K → 
 
   -- The view of a concept from the core of an office is a view of the state that the tables encode.
   pub concept_ready : (old new : OfficeView K) (result : Result (Bor core.CoreView) Fault) (copy : Bor core.CoreView)
-      (n : ℕ) (told : QueryAnswer) → ReadyResult rows is_up failed old result new → result ≡ Ok copy
-      → ((s : State) → IsViewOf copy.now s → IsQueryAnswer s (asked.Concept n) (Ok told)) → OfficeShows rows is_up
-      failed old (asked.Concept n) (Ok told) new
+      (n : ℕ) (told : QueryAnswer) → ReadyResult view old result new → result ≡ Ok copy
+      → ((s : State) → IsViewOf copy.now s → IsQueryAnswer s (asked.Concept n) (Ok told))
+      → OfficeShows view old (asked.Concept n) (Ok told) new
   concept_ready old new result copy n told ready is so =
-      let here = subst (λ (r : Result (Bor core.CoreView) Fault). ReadyResult rows is_up failed old r new) is ready in
+      let here = subst (λ (r : Result (Bor core.CoreView) Fault). ReadyResult view old r new) is ready in
       record {
         fault_behaviour = goes_on_to old new copy told here.fault_behaviour;
         same = here.same;
-        viewed = λ up. holds_in_encoded_states (rows new.keeper) new.limits copy.now
+        viewed = λ up. holds_in_encoded_states (view new.keeper).rows new.limits copy.now
             (λ s. IsQueryAnswer s (asked.Concept n) (Ok told)) (here.shown.copies up) so;
       }
 
   -- A result that is right for each state that the core holds is right for the state that the tables encode.
   pub told_ready : {A : Type 0} (IsSo : List ℕ → State → A → Type 0) (old new : OfficeView K)
-      (result : Result (Bor core.CoreView) Fault) (copy : Bor core.CoreView) (told : A) → ReadyResult rows is_up
-      failed old result new → result ≡ Ok copy
+      (result : Result (Bor core.CoreView) Fault) (copy : Bor core.CoreView) (told : A)
+      → ReadyResult view old result new → result ≡ Ok copy
       → ((s : State) → IsViewOf copy.now s → IsLegalState copy.now.setting.base s → IsSo copy.now.setting.base s told)
-      → HoldsOfState rows is_up failed IsSo old (Ok told) new
+      → HoldsOfState view IsSo old (Ok told) new
   told_ready IsSo old new result copy told ready is so =
-      let here = subst (λ (r : Result (Bor core.CoreView) Fault). ReadyResult rows is_up failed old r new) is ready in
+      let here = subst (λ (r : Result (Bor core.CoreView) Fault). ReadyResult view old r new) is ready in
       record {
         fault_behaviour = goes_on_to old new copy told here.fault_behaviour;
         same = here.same;
-        told = λ up. held_based (rows new.keeper) new.limits copy.now (λ base s. IsSo base s told)
+        told = λ up. held_based (view new.keeper).rows new.limits copy.now (λ base s. IsSo base s told)
             (here.shown.copies up) so;
       }

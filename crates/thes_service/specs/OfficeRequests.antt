@@ -1,9 +1,9 @@
 -- The effect of requests, queries and scripts on an office.
-use Rattle.std.specs.Prelude.{◌≡◌, ◌≤◌, ℕ, Bool, true, List, Result, Ok, IfOk}
+use Rattle.std.specs.Prelude.{◌≡◌, ◌≤◌, Bool, true, List, Result, Ok, IfOk}
 use Rattle.thes_base.specs.declared.fault.Fault.{Fault}
 use Rattle.thes_base.specs.declared.request.Answer.{Answer}
 use Rattle.thes_base.specs.declared.request.Command.{Command}
-use Rattle.thes_tables.specs.Cells.{Raw}
+use Rattle.thes_store.specs.Storage.{StorageView}
 use Rattle.thes_office.specs.QueryFrames.{InStateOfTables}
 use Rattle.thes_office.specs.Office.{FaultBehaviour, TablesAfterRun, OfficeView, PerformResult, SameTables}
 use Rattle.thes_requests.specs.declared.handler.QueryAnswer.{QueryAnswer}
@@ -15,22 +15,22 @@ use Rattle.thes_requests.specs.Serving.{LineBehaviour, Serves}
 abbrev pub is_always_open : {K : Type 0} → OfficeView K → Bool
 is_always_open office = true
 
-module _ {K : Type 0} (rows : K → Raw) (is_up : K → Type 0) (failed : K → ℕ) where
+module _ {K : Type 0} (view : K → StorageView) where
   -- A command is performed by a step of the machine, whose next state the tables encode; a fault
   -- leaves them unchanged.
   pub record OfficePerforms (old : OfficeView K) (command : Command) (result : Result Answer Fault)
       (new : OfficeView K) : Type 0 where
-    pub fault_behaviour : FaultBehaviour rows is_up failed old new result
-    pub performed : PerformResult rows is_up old command result new
+    pub fault_behaviour : FaultBehaviour view old new result
+    pub performed : PerformResult view old command result new
 
   -- A query is answered with the line of its view, or with the refusal of its number, in the state
   -- that the tables encode; the tables are unchanged.
   pub record OfficeShows (old : OfficeView K) (query : Query) (result : Result QueryAnswer Fault)
       (new : OfficeView K) : Type 0 where
-    pub fault_behaviour : FaultBehaviour rows is_up failed old new result
-    pub same : SameTables rows is_up old new
-    pub viewed : IfOk result (λ v. is_up new.keeper →
-        InStateOfTables (rows new.keeper) (λ s. IsQueryAnswer s query (Ok v)))
+    pub fault_behaviour : FaultBehaviour view old new result
+    pub same : SameTables view old new
+    pub viewed : IfOk result (λ v. (view new.keeper).is_up →
+        InStateOfTables (view new.keeper).rows (λ s. IsQueryAnswer s query (Ok v)))
 
   -- A line is answered by a step of the machine, or by a view of the state; the answer may also be
   -- a form fault or a fault.
@@ -42,7 +42,7 @@ module _ {K : Type 0} (rows : K → Raw) (is_up : K → Type 0) (failed : K → 
   -- the counts add up, and the triples meet the conditions of SKOS.
   pub record IsReachedByRun (old new : OfficeView K) : Type 0 where
     pub limits : new.limits ≡ old.limits
-    pub was : is_up new.keeper → is_up old.keeper
-    pub later : failed old.keeper ≤ failed new.keeper
-    pub goes_on : is_up new.keeper → (commands : List Command) × (answers : List Answer)
-        × TablesAfterRun old.limits (rows old.keeper) commands answers (rows new.keeper)
+    pub was : (view new.keeper).is_up → (view old.keeper).is_up
+    pub later : (view old.keeper).failures ≤ (view new.keeper).failures
+    pub goes_on : (view new.keeper).is_up → (commands : List Command) × (answers : List Answer)
+        × TablesAfterRun old.limits (view old.keeper).rows commands answers (view new.keeper).rows

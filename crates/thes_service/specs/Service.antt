@@ -3,7 +3,7 @@ use Rattle.std.specs.Prelude.{◌≡◌, ℕ, List, Result, Ok, Err, IfOk}
 use Rattle.thes_base.specs.declared.fault.Fault.{Fault}
 use Rattle.thes_base.specs.Resources.{IsScheme}
 use Rattle.thes_base.specs.State.{State}
-use Rattle.thes_tables.specs.Cells.{Raw}
+use Rattle.thes_store.specs.Storage.{StorageView}
 use Rattle.thes_display.specs.Alphabetical.{IsAlphabetical}
 use Rattle.thes_display.specs.Hierarchical.{IsHierarchicalDisplay}
 use Rattle.thes_display.specs.DisplayWrites.{IsSchemeRefusal}
@@ -42,14 +42,14 @@ import_answer (Ok (ends.Rows report)) = Ok (imported.Outcomes report.text.items)
 import_answer (Ok ends.Malformed) = Ok imported.Malformed
 import_answer (Err halted) = Err halted.fault
 
-module _ {K : Type 0} (rows : K → Raw) (is_up : K → Type 0) (failed : K → ℕ) where
+module _ {K : Type 0} (view : K → StorageView) where
   -- The result has the property `IsSo` for the base and the state that the tables encode, and the tables are unchanged.
   pub record HoldsOfState {A : Type 0} (IsSo : List ℕ → State → A → Type 0) (old : OfficeView K)
       (result : Result A Fault) (new : OfficeView K) : Type 0 where
-    pub fault_behaviour : FaultBehaviour rows is_up failed old new result
-    pub same : SameTables rows is_up old new
-    pub told : IfOk result (λ a. is_up new.keeper →
-        (base : List ℕ) (s : State) → TablesOfState (rows new.keeper) base s → IsSo base s a)
+    pub fault_behaviour : FaultBehaviour view old new result
+    pub same : SameTables view old new
+    pub told : IfOk result (λ a. (view new.keeper).is_up →
+        (base : List ℕ) (s : State) → TablesOfState (view new.keeper).rows base s → IsSo base s a)
 
   -- The export of the state that the tables encode.
   abbrev pub OfficeExports : OfficeView K → Result (List ℕ) Fault → OfficeView K → Type 0
@@ -64,7 +64,7 @@ module _ {K : Type 0} (rows : K → Raw) (is_up : K → Type 0) (failed : K → 
   -- their outcomes. If a fault halted the run, the answer is that fault alone.
   pub record OfficeImports (old : OfficeView K) (file : List ℕ) (result : Result ImportAnswer Fault)
       (new : OfficeView K) : Type 0 where
-    pub fault_behaviour : FaultBehaviour rows is_up failed old new result
+    pub fault_behaviour : FaultBehaviour view old new result
     pub done : Result performed.FileImport ImportHalt
-    pub imports : importer.Imports rows is_up old file done new
+    pub imports : importer.Imports view old file done new
     pub told : result ≡ import_answer done

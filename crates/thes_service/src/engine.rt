@@ -75,9 +75,9 @@ impl<K: Keeper> OfficeHandler<K> {
 impl<K: Keeper> RequestHandler for OfficeHandler<K> {
     ghost use Rattle.thes_service.specs.OfficeRequests.{OfficePerforms, OfficeShows, is_always_open};
 
-    ghost performs = { OfficePerforms K.rows K.is_up K.failed };
+    ghost performs = { OfficePerforms K.view };
 
-    ghost shows = { OfficeShows K.rows K.is_up K.failed };
+    ghost shows = { OfficeShows K.view };
 
     ghost is_open = { is_always_open };
 
@@ -113,11 +113,11 @@ fn page_of(report: Report) -> Page
 impl<K: Keeper> Service for OfficeHandler<K> {
     ghost use Rattle.thes_service.specs.Service.{OfficeDisplays, OfficeExports, OfficeImports};
 
-    ghost imports = { OfficeImports K.rows K.is_up K.failed };
+    ghost imports = { OfficeImports K.view };
 
-    ghost exports = { OfficeExports K.rows K.is_up K.failed };
+    ghost exports = { OfficeExports K.view };
 
-    ghost displays = { OfficeDisplays K.rows K.is_up K.failed };
+    ghost displays = { OfficeDisplays K.view };
 
     fn import(&mut self, alloc: Global, file: &[u8]) -> Result<ImportAnswer, Fault> {
         match import_postings(alloc, file, &mut self.office) {
@@ -162,13 +162,13 @@ pub fn office_script<K: Keeper, R: Read, W: Write>(
 ) -> Result<ScriptEnd, PipeFault>
     requires reader { IsFresh reader.old }
     requires writer { IsFresh writer.old }
-    ensures completed { let serves = OfficeServes K.rows K.is_up K.failed in
+    ensures completed { let serves = OfficeServes K.view in
         IfOk result (Completes R.remaining W.contents serves is_always_open
         (session reader.old writer.old handler.old) (session reader.new writer.new handler.new)) }
-    ensures stopped { let serves = OfficeServes K.rows K.is_up K.failed in
+    ensures stopped { let serves = OfficeServes K.view in
         IfErr result (Stops R.remaining W.contents serves is_always_open
         (session reader.old writer.old handler.old) (session reader.new writer.new handler.new)) }
-    ensures reached { IsReachedByRun K.rows K.is_up K.failed handler.old handler.new }
+    ensures reached { IsReachedByRun K.view handler.old handler.new }
     ensures calls { KeepsSharedCallLimit reader.old reader.new writer.old writer.new }
 {
     // No effect; states for the proof that the tables encode a state.
@@ -190,11 +190,11 @@ pub fn office_serve<N: Net + Clock, K: Keeper>(
     count: u32,
     handler: &mut OfficeHandler<K>,
 ) -> io::Result<()>
-    ensures served { LeadsBy (effects (OfficePerforms K.rows K.is_up K.failed)
-        (OfficeShows K.rows K.is_up K.failed) (OfficeImports K.rows K.is_up K.failed)
-        (OfficeExports K.rows K.is_up K.failed) (OfficeDisplays K.rows K.is_up K.failed)) count
+    ensures served { LeadsBy (effects (OfficePerforms K.view)
+        (OfficeShows K.view) (OfficeImports K.view)
+        (OfficeExports K.view) (OfficeDisplays K.view)) count
         handler.old handler.new }
-    ensures reached { IsReachedByRun K.rows K.is_up K.failed handler.old handler.new }
+    ensures reached { IsReachedByRun K.view handler.old handler.new }
 {
     // No effect; states for the proof that the tables encode a state.
     let _ = handler.office.is_stale();

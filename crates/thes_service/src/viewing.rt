@@ -23,7 +23,7 @@ pub(crate) fn view_totals<K: Keeper>(
     office: &mut Office<K>,
     alloc: Global,
 ) -> Result<QueryAnswer, Fault>
-    ensures { OfficeShows K.rows K.is_up K.failed office.old Query.Totals result office.new }
+    ensures { OfficeShows K.view office.old Query.Totals result office.new }
 {
     match office.totals() {
         Ok(totals) => Ok(query_answer(alloc, &View::Totals(totals))?),
@@ -47,7 +47,7 @@ pub(crate) fn view_concept<K: Keeper>(
     alloc: Global,
     number: ResNo,
 ) -> Result<QueryAnswer, Fault>
-    ensures { OfficeShows K.rows K.is_up K.failed office.old
+    ensures { OfficeShows K.view office.old
         (Query.Concept number) result office.new }
 {
     let core = office.ready()?;
@@ -60,7 +60,7 @@ pub(crate) fn view_postings<K: Keeper>(
     alloc: Global,
     concept: ResNo,
 ) -> Result<QueryAnswer, Fault>
-    ensures { OfficeShows K.rows K.is_up K.failed office.old
+    ensures { OfficeShows K.view office.old
         (Query.Postings concept) result office.new }
 {
     let mut rows = PostingLister::new(alloc);
@@ -77,7 +77,7 @@ pub(crate) fn view_posting<K: Keeper>(
     alloc: Global,
     number: PostNo,
 ) -> Result<QueryAnswer, Fault>
-    ensures { OfficeShows K.rows K.is_up K.failed office.old
+    ensures { OfficeShows K.view office.old
         (Query.Posting number) result office.new }
 {
     match office.posting(number) {

@@ -9,11 +9,11 @@ use Rattle.thes_service.proofs.engine.office_script.Goals as goal
 
 pub returns-clause-reached : goal.returns-clause-reached
 returns-clause-reached g c =
-    script_leads g.K.Keeper.rows g.K.Keeper.is_up g.K.Keeper.failed g.R.Read.remaining g.W.Write.contents
+    script_leads g.K.Keeper.view g.R.Read.remaining g.W.Write.contents
     c.script.result
     (session c.args.reader.now c.args.writer.now c.args.handler.now) (session c.script.new.reader c.script.new.writer
     c.script.new.handler)
-    (subst (λ (d : OfficeView _). g.K.Keeper.is_up d.keeper → (base : List ℕ) × (s : State)
-    × TablesOfState (g.K.Keeper.rows d.keeper) base s × IsConsistentState base s) c.handler.view_is
+    (subst (λ (d : OfficeView _). (g.K.Keeper.view d.keeper).is_up → (base : List ℕ) × (s : State)
+    × TablesOfState (g.K.Keeper.view d.keeper).rows base s × IsConsistentState base s) c.handler.view_is
     c.is_stale.ensures.shows)
     c.script.ensures.completed c.script.ensures.stopped

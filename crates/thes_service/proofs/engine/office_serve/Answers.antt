@@ -8,9 +8,9 @@ use Rattle.thes_service.proofs.engine.office_serve.Goals as goal
 
 pub returns-clause-reached : goal.returns-clause-reached
 returns-clause-reached g c =
-    connections_lead g.K.Keeper.rows g.K.Keeper.is_up g.K.Keeper.failed c.args.count c.args.handler.now
+    connections_lead g.K.Keeper.view c.args.count c.args.handler.now
     c.serve.new.service
-    (subst (λ (d : OfficeView _). g.K.Keeper.is_up d.keeper → (base : List ℕ) × (s : State)
-    × TablesOfState (g.K.Keeper.rows d.keeper) base s × IsConsistentState base s) c.handler.view_is
+    (subst (λ (d : OfficeView _). (g.K.Keeper.view d.keeper).is_up → (base : List ℕ) × (s : State)
+    × TablesOfState (g.K.Keeper.view d.keeper).rows base s × IsConsistentState base s) c.handler.view_is
     c.is_stale.ensures.shows)
     c.serve.ensures.leads

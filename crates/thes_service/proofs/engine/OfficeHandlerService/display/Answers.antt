@@ -5,7 +5,7 @@ use Rattle.thes_service.proofs.engine.OfficeHandlerService.display.Goals as goal
 
 pub returns : goal.returns
 returns g c =
-    rw (sym c.self.view_is) (told_ready g.K.Keeper.rows g.K.Keeper.is_up g.K.Keeper.failed (λ base. IsDisplayed c.args.display c.args.scheme
+    rw (sym c.self.view_is) (told_ready g.K.Keeper.view (λ base. IsDisplayed c.args.display c.args.scheme
     c.args.tag.now) c.self.inside.office c.ready.follows.lender-at-none c.ready.result c.in_ok-core.core
     c.in_ok-display_of_core.field-0
     c.ready.follows.holds-at-none c.in_ok-core.was (λ s holds legal. c.in_ok-display_of_core.ensures s holds))

@@ -6,7 +6,7 @@ use Rattle.thes_service.proofs.engine.OfficeHandlerService.export.Goals as goal
 
 pub returns : goal.returns
 returns g c =
-    rw (sym c.self.view_is, c.new.ensures) (told_ready g.K.Keeper.rows g.K.Keeper.is_up g.K.Keeper.failed IsExportRead c.self.inside.office
+    rw (sym c.self.view_is, c.new.ensures) (told_ready g.K.Keeper.view IsExportRead c.self.inside.office
     c.ready.follows.lender-at-none c.ready.result c.in_ok-core.core c.in_ok-triples.triples.items
     c.ready.follows.holds-at-none c.in_ok-core.was
     (λ s holds legal. let export = c.in_ok-triples.ensures s holds in
