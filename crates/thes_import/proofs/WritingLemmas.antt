@@ -108,6 +108,7 @@ module _ {W : Type 0} (contents : W → Option (List ℕ)) where
       later = omega (arith, count, fb.later);
       count = fb.count ∙ count;
       store = tt;
+      other_faults = tt;
       stale = tt;
       fault = λ up. tt;
     }
@@ -117,6 +118,7 @@ module _ {W : Type 0} (contents : W → Option (List ℕ)) where
       later = omega (arith, count, fb.later);
       count = tt;
       store = λ e. go (fb.store e);
+      other_faults = λ other. fb.other_faults other ∙ count;
       stale = fb.stale;
       fault = fb.fault;
     }
@@ -135,6 +137,7 @@ module _ {W : Type 0} (contents : W → Option (List ℕ)) where
       later = omega arith;
       count = refl;
       store = tt;
+      other_faults = tt;
       stale = tt;
       fault = λ up. tt;
     }
