@@ -67,11 +67,16 @@ impl Faltering {
 }
 
 impl Keeper for Faltering {
+    ghost use Rattle.std.specs.Prelude.{◌≡◌};
     ghost use Rattle.thes_tables.specs.Cells.{cells_of_tables};
 
     ghost rows = { λ k. cells_of_tables k.keeper };
 
     ghost is_up = { λ k. Unit {0} };
+
+    ghost is_open = { λ k. Unit {0} };
+
+    ghost finds = { λ k raw. raw ≡ cells_of_tables k.keeper };
 
     ghost failed = { λ k. k.failures };
 

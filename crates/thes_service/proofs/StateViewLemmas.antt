@@ -102,9 +102,9 @@ module _ {K : Type 0} (rows : K → Raw) (is_up : K → Type 0) (failed : K → 
     limits = fault_behaviour.limits;
     was = fault_behaviour.was;
     later = fault_behaviour.later;
-    count =
-        fault_behaviour.count;
+    count = fault_behaviour.count;
     store = tt;
+    other_faults = tt;
     stale = tt;
     fault = λ up. tt;
   }

@@ -63,6 +63,10 @@ impl<K: Keeper, P: Progress + Copy> Keeper for ReportingKeeper<K, P> {
 
     ghost is_up = { K.is_up };
 
+    ghost is_open = { K.is_open };
+
+    ghost finds = { K.finds };
+
     ghost failed = { K.failed };
 
     fn failures(&self) -> u64 {
