@@ -67,10 +67,15 @@ impl Faltering {
 }
 
 impl Keeper for Faltering {
+    ghost use Rattle.std.specs.Prelude.{◌≡◌};
     ghost use Rattle.thes_tables.specs.Cells.{cells_of_tables};
 
     ghost view = { λ k.
         record { rows = cells_of_tables k.keeper; is_up = Unit {0}; failures = k.failures } };
+
+    ghost is_open = { λ k. Unit {0} };
+
+    ghost finds = { λ k raw. raw ≡ cells_of_tables k.keeper };
 
     fn failures(&self) -> u64 {
         self.failures

@@ -78,8 +78,8 @@ module _ {K : Type 0} (view : K → StorageView) where
     was = fault_behaviour.was;
     later = fault_behaviour.later;
     count = tt;
-    store =
-        fault_behaviour.store;
+    store = fault_behaviour.store;
+    other_faults = fault_behaviour.other_faults;
     stale = fault_behaviour.stale;
     fault = fault_behaviour.fault;
   }

@@ -1,10 +1,12 @@
 -- Proves that the inner sink receives all rows that a counting sink receives.
-use Rattle.std.proofs.Common.{◌≡◌, ◌∙◌, List, [], ◌∷◌, Ok, Err, sym, ap, subst, inl, inr}
-use Rattle.std.specs.Prelude.{Option, Result}
+use Rattle.std.proofs.Common.{◌≡◌, ◌∙◌, List, [], ◌∷◌, Ok, Err, refl, sym, ap, subst, inl, inr}
+use Rattle.std.specs.Prelude.{OnOk, Option, Result}
 use Rattle.thes_base.specs.declared.fault.Fault.{Fault}
 use Rattle.thes_base.specs.declared.fault.Table.{Table}
 use Rattle.thes_tables.specs.declared.cells.Cell.{Cell}
-use Rattle.thes_store.specs.Sinks.{SinkAcceptsAll, SinkAcceptsPrefix, SinkOutcome}
+use Rattle.thes_tables.specs.Cells.{Raw}
+use Rattle.thes_store.specs.FoundLoads.{PassesFound}
+use Rattle.thes_store.specs.Sinks.{SinkAcceptsAll, SinkAcceptsPrefix, SinkOutcome, sink_rows}
 use Rattle.thes_jobs.specs.Passing.{Passes}
 use Rattle.thes_jobs.specs.declared.progress.counting_sink.CountingSink.{CountingSink}
 
@@ -49,3 +51,22 @@ module _ {S P : Type 0} (gives : S → Table × Option (List Cell) → Result (U
       let behind = hands_behind old xs result new h in
       subst (λ zs. SinkOutcome gives old.sink.now zs result x) same
       (subst (λ (s : S). SinkOutcome gives old.sink.now xs result s) (sym (e (sym behind.0))) behind.1)
+
+  -- A load that passes its rows to a counting sink passes them to the inner sink.
+  pub found_lent : {K : Type 0} {is_open : K → Type 0} {finds : K → Raw → Type 0} (inside old new : K)
+      (before : CountingSink S P) (result : Result (Unit {0}) Fault) (after : CountingSink S P) (x : S) → inside ≡ old
+      → PassesFound is_open finds (Passes gives) inside new before result after
+      → (before.sink.ghost_name ≡ after.sink.ghost_name → x ≡ after.sink.now)
+      → PassesFound is_open finds gives old new before.sink.now result x
+  found_lent {K} {is_open} {finds} inside old new before result after x same h e =
+      subst (λ (k : K). PassesFound is_open finds gives k new before.sink.now result x) same
+      record { was = h.was; stays = h.stays; passes = passes_lent result h.passes }
+    where
+      passes_lent : (r : Result (Unit {0}) Fault) → OnOk r (is_open new → (raw : Raw) × finds inside raw
+          × SinkAcceptsAll (Passes gives) before (sink_rows raw) after)
+          → OnOk r (is_open new → (raw : Raw) × finds inside raw
+          × SinkAcceptsAll gives before.sink.now (sink_rows raw) x)
+      passes_lent (Ok done) passes = λ up.
+          let h = passes up in
+          (h.0, h.1, hands_lent before (sink_rows h.0) (sink_rows h.0) (Ok done) after x refl h.2 e)
+      passes_lent (Err fault) passes = tt

@@ -103,9 +103,9 @@ module _ {K : Type 0} (view : K → StorageView) where
     limits = fault_behaviour.limits;
     was = fault_behaviour.was;
     later = fault_behaviour.later;
-    count =
-        fault_behaviour.count;
+    count = fault_behaviour.count;
     store = tt;
+    other_faults = tt;
     stale = tt;
     fault = λ up. tt;
   }

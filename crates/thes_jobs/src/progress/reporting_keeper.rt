@@ -61,6 +61,10 @@ impl<K: Keeper, P: Progress + Copy> ReportingKeeper<K, P> {
 impl<K: Keeper, P: Progress + Copy> Keeper for ReportingKeeper<K, P> {
     ghost view = { K.view };
 
+    ghost is_open = { K.is_open };
+
+    ghost finds = { K.finds };
+
     fn failures(&self) -> u64 {
         self.keeper.failures()
     }
