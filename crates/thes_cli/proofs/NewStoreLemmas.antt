@@ -22,7 +22,7 @@ use Rattle.thes_cli.specs.Checking.{no_sizes, sizes_of}
 use Rattle.thes_command_line.specs.Printing.{Prints, fault_line}
 use Rattle.thes_cli.specs.Opening.{IsUnopened}
 use Rattle.thes_cli.specs.declared.streams.Streams.{Streams}
-use Rattle.thes_cli.specs.Work.{WorksOverKeeper, WorksInMemory}
+use Rattle.thes_cli.specs.Work.{WorksOverKeeper, WorksInMemory, storage_in_memory}
 use Rattle.thes_jobs.specs.declared.work.Work.{Work}
 
 no_link : (l : Link) → Holds set.empty l → ⊥
@@ -71,7 +71,7 @@ no_failure (inr full) = omega (arith, full)
 
 only_memory : (base : List ℕ) (fault : Fault) (tables_after : Tables)
     → TablesOfState (cells_of_tables (empty_tables base)) base empty_state
-    → IsUnopened cells_of_tables (λ k. Unit {0}) (λ k. 0) (empty_tables base) fault tables_after → fault
+    → IsUnopened storage_in_memory (empty_tables base) fault tables_after → fault
     ≡ faults.OutOfMemory
 only_memory base fault tables_after shows un = elim (un.verdict tt) [
   | inl memory ↦ memory
@@ -85,7 +85,7 @@ module _ {F R W E : Type 0} (given : F → Option (List ℕ)) (remaining : R →
   -- Work over a new storage in memory is work over the empty state, or memory ran out.
   pub works_in_memory : {L : Type 0} (task : Work F L) (base : List ℕ) (limits : Limits) (old : Streams R W E)
       (status : ℕ) (tables_after : Tables) (new : Streams R W E) → IsBase base
-      → WorksOverKeeper cells_of_tables (λ k. Unit {0}) (λ k. 0) given remaining out err task None limits
+      → WorksOverKeeper storage_in_memory given remaining out err task None limits
       (empty_tables base) old status tables_after new
       → WorksInMemory given remaining out err task base limits old status new
   works_in_memory task base limits old status tables_after new form (inl opens) =

@@ -23,6 +23,10 @@ use Rattle.thes_command_line.specs.declared.trouble.StoreTrouble.TheVariants.{Un
 use Rattle.thes_jobs.specs.declared.work.Work.{Work}
 use Rattle.thes_jobs.specs.declared.work.Work.TheVariants.{Script, Check, Export, Display, Import, Serve}
 
+-- Storage in memory as any storage is seen: it always works, and never fails.
+abbrev pub storage_in_memory : Tables → StorageView
+storage_in_memory t = record { rows = cells_of_tables t; is_up = Unit {0}; failures = 0 }
+
 module _ {K F R W E : Type 0} (view : K → StorageView)
     (given : F → Option (List ℕ)) (remaining : R → Option (List ℕ)) (out : W → Option (List ℕ))
     (err : E → Option (List ℕ)) where
@@ -92,6 +96,6 @@ module _ {F R W E : Type 0} (given : F → Option (List ℕ)) (remaining : R →
     pub nothing : sizes_of empty_state ≡ no_sizes
     pub tables_after : Tables
     pub works :
-        WorksOpened cells_of_tables (λ k. Unit {0}) (λ k. 0) given remaining out err work limits
+        WorksOpened storage_in_memory given remaining out err work limits
         (empty_tables base) old status tables_after new
         ⊎ ReportsNoMemory old status new

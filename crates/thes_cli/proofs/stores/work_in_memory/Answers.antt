@@ -1,8 +1,7 @@
 use Rattle.std.proofs.Common.{◌∙◌, None, inl, inr, refl, subst}
 use Rattle.thes_base.specs.Forms.{IsBase}
-use Rattle.thes_tables.specs.Cells.{cells_of_tables}
 use Rattle.thes_tables.specs.Tables.{Tables}
-use Rattle.thes_cli.specs.Work.{WorksOverKeeper}
+use Rattle.thes_cli.specs.Work.{WorksOverKeeper, storage_in_memory}
 use Rattle.thes_cli.proofs.NewStoreLemmas.{works_in_memory}
 use Rattle.thes_cli.proofs.stores.work_in_memory.Goals as goal
 
@@ -13,7 +12,7 @@ returns-in-Ok g c =
     c.work_over-status.result.1.keeper c.work_over-status.new.streams
     (subst IsBase c.as_str.ensures.text c.as_str.ensures.form)
     (subst (λ (t : Tables).
-    WorksOverKeeper cells_of_tables (λ k. Unit {0}) (λ k. 0) g.F.Read.remaining g.R.Read.remaining g.W.Write.contents
+    WorksOverKeeper storage_in_memory g.F.Read.remaining g.R.Read.remaining g.W.Write.contents
     g.E.Write.contents c.args.job.work None c.args.job.limits t c.args.streams.now c.work_over-status.result.0
     c.work_over-status.result.1.keeper c.work_over-status.new.streams) (c.new-keeper.ensures ∙ c.new.ensures)
     (inl record {
@@ -35,7 +34,7 @@ returns-in-Err g c =
     c.args.job.base c.args.job.limits c.args.streams.now c.report_fault.result c.in-Err.keeper new
     (subst IsBase c.as_str.ensures.text c.as_str.ensures.form)
     (subst (λ (t : Tables).
-    WorksOverKeeper cells_of_tables (λ k. Unit {0}) (λ k. 0) g.F.Read.remaining g.R.Read.remaining g.W.Write.contents
+    WorksOverKeeper storage_in_memory g.F.Read.remaining g.R.Read.remaining g.W.Write.contents
     g.E.Write.contents c.args.job.work None c.args.job.limits t c.args.streams.now c.report_fault.result
     c.in-Err.keeper new) (c.new-keeper.ensures ∙ c.new.ensures)
     (inr record {
