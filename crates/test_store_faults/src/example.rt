@@ -95,6 +95,32 @@ fn lines_answered(answers: &str) -> usize {
     count
 }
 
+// The greatest number of rows that an import commits in one transaction.
+const GROUP_LIMIT: usize = 128;
+
+// Returns the text before the first comma: the key, if the line is a row without quotation marks.
+fn key_of(line: &str) -> &str {
+    match line.split_once(',') {
+        Some((key, _)) => key,
+        None => line,
+    }
+}
+
+// Returns the number of lines of a posting file, after the first `told`, that are committed
+// together: up to a line whose key an earlier one of them has. A row that isn't a posting is in no
+// group, so it must have a key of its own.
+fn lines_of_group(postings: &str, told: usize) -> usize {
+    let mut count = 0;
+    for line in postings.lines().skip(told).take(GROUP_LIMIT) {
+        let mut earlier = postings.lines().skip(told).take(count);
+        if earlier.any(|other| key_of(other) == key_of(line)) {
+            break;
+        }
+        count = count.saturating_add(1);
+    }
+    count
+}
+
 /// A prefix of an example.
 #[derive(Drop)]
 pub struct ExamplePrefix {
@@ -111,16 +137,16 @@ impl ExamplePrefix {
         }
     }
 
-    /// Appends the requests whose answers aren't faults, and `more` requests after the last of
-    /// these.
+    /// Appends the requests whose answers aren't faults, and, `with_next`, the request after the
+    /// last of these.
     pub fn add_requests(
         &mut self,
         requests: &str,
         answers: &str,
-        more: usize,
+        with_next: bool,
     ) -> Result<(), AllocError> {
         let end = lines_answered(answers);
-        let last = end.saturating_add(more);
+        let last = end.saturating_add(usize::from(with_next));
         let mut answers = answers.lines();
         for (place, request) in requests.lines().enumerate() {
             let is_answered = answers.next().is_some_and(is_answer);
@@ -131,20 +157,20 @@ impl ExamplePrefix {
         Ok(())
     }
 
-    /// Appends the lines of a posting file that the import answered, and `more` lines after them.
-    /// If the import answered none, appends none, since the import of the first line, the heading,
-    /// makes no call.
+    /// Appends the lines of a posting file that the import answered, and, `with_next`, the group
+    /// after them. If the import answered none, appends none, since the import of the first line,
+    /// the heading, makes no call.
     pub fn add_postings(
         &mut self,
         postings: &str,
         rows: &str,
-        more: usize,
+        with_next: bool,
     ) -> Result<(), AllocError> {
         let told = rows.lines().count();
-        let lines = if told == 0 {
-            0
+        let lines = if with_next && told > 0 {
+            told.saturating_add(lines_of_group(postings, told))
         } else {
-            told.saturating_add(more)
+            told
         };
         for line in postings.split_inclusive('\n').take(lines) {
             self.postings.push_str(line)?;

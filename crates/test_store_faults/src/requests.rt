@@ -95,44 +95,44 @@ impl<'a> Requests<'a> {
     }
 
     // Performs the confirmed requests without failures, and then all of these again with the next
-    // one, which may have been performed.
+    // one, or the next group of rows, which may have been performed.
     fn report_prefixes(
         &self,
         alloc: Global,
         run_report: &RunReport,
         wanted: &mut Wanted,
     ) -> Result<(), TrialStop> {
-        self.report_prefix(alloc, run_report, 0, &mut wanted.after_answers)?;
-        self.report_prefix(
-            alloc,
-            run_report,
-            usize::from(run_report.failed),
-            &mut wanted.more,
-        )
+        self.report_prefix(alloc, run_report, false, &mut wanted.after_answers)?;
+        self.report_prefix(alloc, run_report, run_report.failed, &mut wanted.more)
     }
 
-    // Performs the prefix of the example that this report confirms, and `more` requests or rows after it.
+    // Performs the prefix of the example that this report confirms, and, `with_next`, the request or
+    // the group of rows after it.
     fn report_prefix(
         &self,
         alloc: Global,
         run_report: &RunReport,
-        more: usize,
+        with_next: bool,
         wanted: &mut RunReport,
     ) -> Result<(), TrialStop> {
         let mut prefix = ExamplePrefix::new(alloc);
-        self.fill(run_report, more, &mut prefix)?;
+        self.fill(run_report, with_next, &mut prefix)?;
         report_wanted(alloc, prefix.example(), wanted)
     }
 
-    // Collects the prefix of the example that a report confirms.
+    // Collects the prefix of the example that a report confirms, and, `with_next`, what comes next.
     fn fill(
         &self,
         run_report: &RunReport,
-        more: usize,
+        with_next: bool,
         prefix: &mut ExamplePrefix,
     ) -> Result<(), TrialStop> {
-        prefix.add_requests(self.example.requests, run_report.answers.as_str(), more)?;
-        prefix.add_postings(self.example.postings, run_report.rows.as_str(), more)?;
+        prefix.add_requests(
+            self.example.requests,
+            run_report.answers.as_str(),
+            with_next,
+        )?;
+        prefix.add_postings(self.example.postings, run_report.rows.as_str(), with_next)?;
         Ok(())
     }
 }
@@ -187,8 +187,8 @@ impl<'a> Job for Run<'a> {
     }
 }
 
-// The expected reports: after the confirmed requests, and after one more, which may have been performed without being
-// confirmed.
+// The expected reports: after the confirmed requests, and after one more request or group of rows, which may have been
+// performed without being confirmed.
 #[derive(Drop)]
 struct Wanted {
     after_answers: RunReport,

@@ -456,8 +456,8 @@ fn posting_line(alloc: Global, history: &History) -> Result<Vec<u8>, AllocError>
     value_line(alloc, &posting_value(alloc, history)?)
 }
 
-// Returns the line of JSON for a view or a refusal.
-pub(crate) fn view_line(alloc: Global, view: &View) -> Result<Vec<u8>, AllocError>
+/// Returns the line of JSON for a view or a refusal, with its line feed.
+pub fn view_line(alloc: Global, view: &View) -> Result<Vec<u8>, AllocError>
     ensures { IfOk result (λ text. text.items ≡ view_text view.now) }
 {
     match view {

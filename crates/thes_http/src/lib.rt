@@ -2,6 +2,7 @@
 //! writes the response.
 #![tactic(auto)]
 
+pub mod accepting;
 mod act;
 mod deadline;
 mod head_text;

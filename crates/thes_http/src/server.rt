@@ -1,15 +1,16 @@
 //! Serves connections, one after another.
 ghost use Rattle.std.specs.Prelude.{◌≡◌, true, OnOk};
-ghost use Rattle.thes_http.specs.Server.{LeadsBy};
+ghost use Rattle.thes_http.specs.Server.{IsServedBy, LeadsBy, is_wait};
 ghost use Rattle.thes_http.specs.Serving.{effects};
 
+use crate::accepting::Accepting;
 use crate::deadline::TimedStream;
 use crate::serve::{ConnectionEnd, serve_routed};
 use crate::service::Service;
 use std::alloc::Global;
 use std::io;
 use std::io::{ErrorKind, Read, Write};
-use std::net::{Net, OpenListener, OpenStream, Shutdown};
+use std::net::{Net, OpenStream, Shutdown};
 use std::rt::Clock;
 use std::time::{Duration, Instant};
 use thes_base::pipe::Pipe;
@@ -51,22 +52,55 @@ fn drain_input<C: Clock, T: Read + OpenStream + Drop>(clock: &C, mut stream: T) 
         match stream.read(&mut buffer) {
             Ok(0) => return,
             Ok(_) => {}
-            Err(error) if waits < WAITS && has_waited(&error) => waits += 1,
+            Err(error) if waits < WAITS && has_waited(error.kind()) => waits += 1,
             Err(_) => return,
         }
     }
 }
 
 // Returns whether a read timed out or was interrupted, so that it may be repeated.
-fn has_waited(error: &io::Error) -> bool {
+fn has_waited(kind: ErrorKind) -> bool
+    ensures { result ≡ is_wait kind }
+{
     matches!(
-        error.kind(),
+        kind,
         ErrorKind::WouldBlock | ErrorKind::TimedOut | ErrorKind::Interrupted
     )
 }
 
-// Serves one connection, or closes it if its stream can't be cloned. Reads and writes fail once the
-// client exceeds its time.
+/// A connection that was served: its outcome, and its two ends.
+#[derive(Drop)]
+pub(crate) struct ServedStream<T> {
+    end: ConnectionEnd,
+    input: T,
+    output: T,
+}
+
+// Reads a request from one end of a connection, performs it, and writes the response to the other end. Reads and
+// writes fail once the client exceeds its time.
+fn serve_ends<C: Clock, T: Read + Write + OpenStream + Drop, S: Service>(
+    alloc: Global,
+    routes: &Routes,
+    clock: &C,
+    input: T,
+    output: T,
+    service: &mut S,
+) -> ServedStream<T>
+    requires { S.is_open service.old ≡ true }
+    ensures { let d = effects S.performs S.shows S.imports S.exports S.displays in
+        IsServedBy T.remaining T.contents d input output service.old result service.new }
+{
+    let mut reader = Pipe::new(TimedStream::new(input, clock));
+    let mut writer = Pipe::new(TimedStream::new(output, clock));
+    let end = serve_routed(alloc, Some(routes), &mut reader, &mut writer, service);
+    ServedStream {
+        end,
+        input: reader.into_device().into_stream(),
+        output: writer.into_device().into_stream(),
+    }
+}
+
+// Serves one connection, or closes it if its stream can't be cloned.
 fn serve_stream<C: Clock, T: Read + Write + OpenStream + Drop, S: Service>(
     alloc: Global,
     routes: &Routes,
@@ -81,27 +115,22 @@ fn serve_stream<C: Clock, T: Read + Write + OpenStream + Drop, S: Service>(
     let Ok(input) = stream.try_clone() else {
         return;
     };
-    let mut reader = Pipe::new(TimedStream::new(input, clock));
-    let mut writer = Pipe::new(TimedStream::new(stream, clock));
-    match serve_routed(alloc, Some(routes), &mut reader, &mut writer, service) {
-        ConnectionEnd::Answered(_) => drain_input(clock, reader.into_device().into_stream()),
-        ConnectionEnd::WriteFault | ConnectionEnd::Cut | ConnectionEnd::ReadFault => {}
+    let served = serve_ends(alloc, routes, clock, input, stream, service);
+    if is_answered(served.end) {
+        drain_input(clock, served.input);
     }
 }
 
-// Accepts the next connection, or returns `None` if its client closed it before.
-fn next_stream<N: Net>(
-    listener: &N::Listener,
-) -> io::Result<Option<<N::Listener as OpenListener>::Stream>> {
-    match listener.accept() {
-        Ok((stream, _)) => Ok(Some(stream)),
-        Err(error) if error.kind() == ErrorKind::ConnectionAborted => Ok(None),
-        Err(error) => Err(error),
+// Returns whether the response was written completely.
+fn is_answered(end: ConnectionEnd) -> bool {
+    match end {
+        ConnectionEnd::Answered(_) => true,
+        ConnectionEnd::WriteFault | ConnectionEnd::Cut | ConnectionEnd::ReadFault => false,
     }
 }
 
-/// Serves `count` connections, one after another; one that its client closed before it was accepted
-/// counts as well. A client has 30 seconds to send its request and 30 to read the response, by the
+/// Takes `count` connections from the listener and serves them, one after another; one that its client closed before it
+/// was accepted counts as well. A client has 30 seconds to send its request and 30 to read the response, by the
 /// clock, and one more second for each 100,000 bytes.
 ///
 /// A client that closes its connection early loses only its own response. An error is that of
@@ -111,11 +140,13 @@ fn next_stream<N: Net>(
 pub fn serve<N: Net + Clock, S: Service>(
     alloc: Global,
     clock: &N,
-    listener: &N::Listener,
+    connections: &mut Accepting<'_, N::Listener>,
     count: u32,
     service: &mut S,
 ) -> io::Result<()>
-    requires { S.is_open service.old ≡ true }
+    requires fresh { connections.old ≡ 0 }
+    requires open { S.is_open service.old ≡ true }
+    ensures all { OnOk result (connections.new ≡ count) }
     ensures leads { LeadsBy (effects S.performs S.shows S.imports S.exports S.displays) count
         service.old service.new }
     ensures open { OnOk result (S.is_open service.new ≡ true) }
@@ -124,7 +155,7 @@ pub fn serve<N: Net + Clock, S: Service>(
         return Err(io::Error::from(ErrorKind::OutOfMemory));
     };
     for _ in 0..count {
-        let Some(stream) = next_stream::<N>(listener)? else {
+        let Some(stream) = connections.accept()? else {
             continue;
         };
         serve_stream(alloc, &routes, clock, stream, service);

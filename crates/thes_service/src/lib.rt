@@ -14,3 +14,4 @@ mod viewing;
 pub use office_handler::OfficeHandler;
 pub use script::office_script;
 pub use server::office_serve;
+pub use viewing::view_query;

@@ -9,6 +9,7 @@ use std::alloc::Global;
 use std::io;
 use std::net::Net;
 use std::rt::Clock;
+use thes_http::accepting::Accepting;
 use thes_http::server::serve;
 use thes_store::keeper::Keeper;
 
@@ -34,5 +35,6 @@ pub fn office_serve<N: Net + Clock, K: Keeper>(
 {
     // No effect; states for the proof that the tables encode a state.
     let _ = handler.office.is_stale();
-    serve::<N, OfficeHandler<K>>(alloc, clock, listener, count, handler)
+    let mut connections = Accepting::new(listener);
+    serve::<N, OfficeHandler<K>>(alloc, clock, &mut connections, count, handler)
 }

@@ -81,7 +81,7 @@ fn view_posting<K: Keeper>(
 }
 
 /// Returns the line of the view that answers a query, or the refusal of its number.
-pub(crate) fn view_query<K: Keeper>(
+pub fn view_query<K: Keeper>(
     office: &mut Office<K>,
     alloc: Global,
     query: &Query,

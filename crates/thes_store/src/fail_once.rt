@@ -1,6 +1,7 @@
 //! Storage for tests, of which one call fails.
 ghost use Rattle.std.specs.Prelude.{◌≡◌};
 ghost use Rattle.thes_base.specs.declared.fault.Fault.{Fault};
+ghost use Rattle.thes_store.specs.declared.fail_once.Next.{Next};
 ghost use Rattle.thes_store.specs.Causes.{IsCounted};
 
 use crate::keeper::{Keeper, Posting};
@@ -42,6 +43,7 @@ impl FailOnce {
     fn fail(&mut self) -> Fault
         ensures fault { result ≡ Fault.Store }
         ensures same { self.new.keeper ≡ self.old.keeper }
+        ensures once { self.new.next ≡ Next.Nothing }
         ensures counted { IsCounted self.old.failures self.new.failures result }
     {
         self.next = Next::Nothing;

@@ -1,10 +1,10 @@
 pub mod OwnLabelLemmas
 mod LabelTableLemmas
 mod AnswerLemmas
-mod NameLemmas
 mod ConceptListLemmas
 mod IriLemmas
 mod LabelCheckLemmas
+mod NameLemmas
 mod ConsistencyLemmas
 mod MergedRowLemmas
 mod ForwardingLemmas

@@ -10,7 +10,6 @@ use Rattle.std.specs.Cmp.{nat_cmp_total, both_ways, tied_itself, Equal-is}
 use Rattle.std.specs.List.{list_any, AllByRecursion}
 use Rattle.std.specs.List.Sorted.{IsStrictlySortedBy}
 use Rattle.std.proofs.lemmas.Map.Lookups.{exact_unsigned}
-use Rattle.std.specs.BTreeMap.{BTreeMap, IsOrdered}
 use Rattle.std.specs.FinSet as set
 use Rattle.std.proofs.lemmas.Bool.{or_cases, or_left, or_right, true≢false, and_from, cases_Bool, not-true, and_parts}
 use Rattle.std.proofs.Math.Bool.{and-false, and-or_distrib_left, or-false, or_assoc, or_comm}
@@ -24,9 +23,9 @@ use Rattle.thes_base.proofs.CopiedLabelLemmas.{name_of, name_taken}
 use Rattle.thes_base.proofs.SetMemberLemmas.{or_swap}
 use Rattle.thes_vocab.specs.OwnLabels.{data_cmp, own_label, has_own, AreLabelsOf}
 use Rattle.thes_vocab.specs.CopiedLabels.{lacks_name, lacks_own_name, merged_label, copies_label}
-use Rattle.thes_vocab.specs.LabelRows.{IsRowOfOwner, labels_in, owner_row, IsMergedRow}
+use Rattle.thes_vocab.specs.LabelRows.{LabelRows, IsRowOfOwner, labels_in, owner_row, IsMergedRow, IsRowWritten}
 use Rattle.thes_vocab.proofs.OwnLabelLemmas.{data_total, label_data_of_tie, tie_of_label_data, less_not_equal}
-use Rattle.thes_vocab.proofs.LabelTableLemmas.{data_of, owned_tie, has_label, IsRowWritten, row_after}
+use Rattle.thes_vocab.proofs.LabelTableLemmas.{data_of, owned_tie, has_label, row_after}
 
 any_more : {A : Type 0} (p : A → Bool) (xs : List A) (i : ℕ) (x : A) → i < length xs → x ≡ get_or xs i x
     → list_any p (take (suc i) xs) ≡ (list_any p (take i xs) || p x)
@@ -358,33 +357,32 @@ module _ (labels : Labels) (source target : ℕ) (s13 : S13 labels) where
       ∙ sym (union_contains labels source target own are.each q)))
 
 -- The set of labels after the target's row is replaced by the merged one is the union with the copies.
-pub union_rows : (old new : BTreeMap ℕ (List LabelData)) (source target : ℕ) (row : List LabelData)
-    → IsOrdered nat_cmp old → IsOrdered nat_cmp new → IsRowWritten old new target row → IsMergedRow old source target
-    row → labels_in new.entries ≡ set.union (labels_in old.entries)
-    (copied_labels source target (labels_in old.entries))
-union_rows old new source target row o n written merged = set.same_set labels_total labels_exact _ _ (λ q.
-    has_label new n q ∙ ap (λ r. has_own r (data_of q)) (row_after old new target row written q.owner)
+pub union_rows : (old new : LabelRows) (source target : ℕ) (row : List LabelData) → IsRowWritten old new target row
+    → IsMergedRow old source target row
+    → labels_in new ≡ set.union (labels_in old) (copied_labels source target (labels_in old))
+union_rows old new source target row written merged = set.same_set labels_total labels_exact _ _ (λ q.
+    has_label new q ∙ ap (λ r. has_own r (data_of q)) (row_after old new target row written q.owner)
     ∙ at q (eq_by_cmp nat_cmp q.owner target) refl
-    ∙ sym (union_contains (labels_in old.entries) source target (owner_row old source) (owns source) q))
+    ∙ sym (union_contains (labels_in old) source target (owner_row old source) (owns source) q))
   where
-    owns : (n : ℕ) → IsRowOfOwner (labels_in old.entries) n (owner_row old n)
-    owns n l = sym (has_label old o (owned_label n l))
+    owns : (n : ℕ) → IsRowOfOwner (labels_in old) n (owner_row old n)
+    owns n l = sym (has_label old (owned_label n l))
 
     at : (q : Label) (b : Bool) → eq_by_cmp nat_cmp q.owner target ≡ b
         → has_own (cond b row (owner_row old q.owner)) (data_of q)
-        ≡ (set.contains (labels_in old.entries) q ||
-        (eq_by_cmp nat_cmp q.owner target && list_any (λ d. lacks_name (labels_in old.entries) target d &&
+        ≡ (set.contains (labels_in old) q ||
+        (eq_by_cmp nat_cmp q.owner target && list_any (λ d. lacks_name (labels_in old) target d &&
         eq_by_cmp data_cmp (data_of q) (merged_label d)) (owner_row old source)))
     at q true tie =
         let here = exact_unsigned q.owner target ((Equal-is (nat_cmp q.owner target)).0 tie) in
         merged (data_of q)
-        ∙ (λ i. (ap (λ k. has_own (owner_row old k) (data_of q)) (sym here) ∙ sym (has_label old o q)) i || gives_is
-        (labels_in old.entries) target (owner_row old target) (owns target) (owner_row old source) (data_of q) i)
-        ∙ ap (λ b. set.contains (labels_in old.entries) q ||
-        (b && list_any (λ d. lacks_name (labels_in old.entries) target d && eq_by_cmp data_cmp (data_of q)
+        ∙ (λ i. (ap (λ k. has_own (owner_row old k) (data_of q)) (sym here) ∙ sym (has_label old q)) i || gives_is
+        (labels_in old) target (owner_row old target) (owns target) (owner_row old source) (data_of q) i)
+        ∙ ap (λ b. set.contains (labels_in old) q ||
+        (b && list_any (λ d. lacks_name (labels_in old) target d && eq_by_cmp data_cmp (data_of q)
         (merged_label d)) (owner_row old source))) (sym tie)
     at q false apart =
-        sym (has_label old o q) ∙ sym (or-false (set.contains (labels_in old.entries) q))
-        ∙ ap (λ b. set.contains (labels_in old.entries) q ||
-        (b && list_any (λ d. lacks_name (labels_in old.entries) target d && eq_by_cmp data_cmp (data_of q)
+        sym (has_label old q) ∙ sym (or-false (set.contains (labels_in old) q))
+        ∙ ap (λ b. set.contains (labels_in old) q ||
+        (b && list_any (λ d. lacks_name (labels_in old) target d && eq_by_cmp data_cmp (data_of q)
         (merged_label d)) (owner_row old source))) (sym apart)

@@ -1,5 +1,6 @@
 // The labels of one owner, as a sorted row.
-ghost use Rattle.std.specs.Prelude.{◌≡◌, ◌↔◌, ◌&&◌, ◌||◌, IsTrue, ℕ, List, [], IfOk, OnOk, OnErr, false, true, not, MatchOption};
+ghost use Rattle.std.specs.Prelude.{◌≡◌, ◌↔◌, ◌&&◌, ◌||◌, ◌≤◌, IsTrue, ℕ, List, [], IfOk, OnOk, OnErr, length, false, true, not, MatchOption};
+ghost use Rattle.std.specs.List.{insert};
 ghost use Rattle.std.specs.List.Sorted.{IsStrictlySortedBy};
 ghost use Rattle.std.specs.Ordering.{eq_by_cmp};
 ghost use Rattle.thes_base.specs.Data.{LabelData};
@@ -109,7 +110,7 @@ impl OwnerRow {
         match search_label(self.labels.as_slice(), &label) {
             Ok(_) => Ok(false),
             Err(place) => {
-                self.labels.insert(place, label)?;
+                insert_at(&mut self.labels, place, label)?;
                 Ok(true)
             }
         }
@@ -141,6 +142,20 @@ impl OwnerRow {
         };
         second.kind() == LabelKind::Pref
     }
+}
+
+// Inserts a label at an index. The first label gets room for itself alone, since many owners have
+// no other.
+fn insert_at(labels: &mut Vec<Label>, place: usize, label: Label) -> Result<(), AllocError>
+    requires { place ≤ length labels.old.items }
+    ensures ok { OnOk result (labels.new.items ≡ insert labels.old.items place label) }
+    ensures err { OnErr result (labels.new.items ≡ labels.old.items) }
+{
+    if labels.capacity() == 0 {
+        labels.reserve_exact(1)?;
+    }
+    labels.insert(place, label)?;
+    Ok(())
 }
 
 // Returns a copy of the target's row, with the lexical labels of the source that the target lacks,

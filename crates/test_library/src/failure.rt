@@ -1,0 +1,38 @@
+//! The reason why a scene stopped.
+use std::alloc::AllocError;
+use thesaurus::{Fault, PipeFault, ReadStop};
+
+/// The reason why a scene stopped before its end.
+#[derive(Clone, Copy, Debug, PartialEq, Eq)]
+pub enum Failure {
+    /// A text lacks its form, or memory ran out while it was read.
+    Text(ReadStop),
+    /// A call returned a fault.
+    Fault(Fault),
+    /// An engine returned a fault.
+    Pipe(PipeFault),
+}
+
+impl From<AllocError> for Failure {
+    fn from(_: AllocError) -> Failure {
+        Failure::Fault(Fault::OutOfMemory)
+    }
+}
+
+impl From<ReadStop> for Failure {
+    fn from(stop: ReadStop) -> Failure {
+        Failure::Text(stop)
+    }
+}
+
+impl From<Fault> for Failure {
+    fn from(fault: Fault) -> Failure {
+        Failure::Fault(fault)
+    }
+}
+
+impl From<PipeFault> for Failure {
+    fn from(fault: PipeFault) -> Failure {
+        Failure::Pipe(fault)
+    }
+}
