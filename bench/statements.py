@@ -33,7 +33,7 @@ def post_all(base, posts, concepts):
 
 
 def merge(base, source, target, postings, moves):
-    """Moves these postings, which are all at a concept, to another one, in one transaction; so many moves were made before."""
+    """Moves these postings, which are all at a concept, to another one, in one transaction, after this number of moves."""
     base.execute("BEGIN")
     base.execute(MOVE_ALL, (source, target))
     for move, posting in enumerate(postings, moves + 1):

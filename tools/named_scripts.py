@@ -4,25 +4,27 @@ from __future__ import annotations
 import contextlib
 import fcntl
 import hashlib
-import json
 import os
 from collections import defaultdict, deque
-from collections.abc import Iterator
-from dataclasses import dataclass, field
+from collections.abc import Set
+from dataclasses import dataclass
 from pathlib import Path
 
-from thesaurus_tools import REFUSED, ToolError, to_json
+from thesaurus_tools import REFUSED, ToolError, parse_json, to_json
 
 # What a request makes that has a name: a resource or a posting.
 MAKES = {"scheme": "resource", "concept": "resource", "collection": "resource", "outside": "resource", "split": "resource", "post": "posting"}
 RESOURCE_MEMBERS = {"scheme", "owner", "a", "b", "concept", "source", "target"}
+POSTING_MEMBERS = {"posting", "postings"}
+NUMBERED_MEMBERS = RESOURCE_MEMBERS | POSTING_MEMBERS | {"number"}
+NO_NAMES = frozenset()
 # What records of a journal begin with.
 RECORD_SIGNS = (b"#", b">", b"=", b"!")
 # The most bytes of a line.
 LONGEST = 1_048_000
 
 
-@dataclass
+@dataclass(slots=True)
 class Line:
     """A request of the script."""
 
@@ -32,23 +34,31 @@ class Line:
     name: str
     digest: str
     kind: str
-    greatest: int  # the greatest number of a resource in it; 0 if it has none
-    uses: set[str] = field(default_factory=set)
-    members: set[str] = field(default_factory=set)  # those that have the names it uses
+    greatest: int = 0  # the greatest number of a resource in it; 0 if it has none
+    uses: Set[str] = NO_NAMES
+    members: Set[str] = NO_NAMES  # those that have the names it uses
     entry: int | None = None  # that of an earlier run, which sent the line and didn't see its answer
 
 
 # --- The script ---
 
 
-def names_in(request: dict) -> Iterator[tuple[str, str, str]]:
-    """Yields each name that a request uses, with its member, and with what must have it: a resource or a posting."""
-    for member, value in request.items():
-        is_posting = member in ("posting", "postings") or member == "number" and request.get("get") == "posting"
-        if is_posting or member in RESOURCE_MEMBERS or member == "number":
-            for it in value if isinstance(value, list) else [value]:
-                if isinstance(it, str) and it.startswith("$"):
-                    yield member, it[1:], "posting" if is_posting else "resource"
+def note_numbers(line: Line, kinds: dict[str, str]) -> None:
+    """Notes the greatest number of a resource in a line, and the names that it uses. Raises ValueError for a name that nothing has, or another
+    kind of thing."""
+    for member, value in line.request.items():
+        if member in NUMBERED_MEMBERS:
+            if type(value) is int:
+                line.greatest = max(line.greatest, value if member in RESOURCE_MEMBERS else 0)
+                continue
+            is_posting = member in POSTING_MEMBERS or member == "number" and line.request.get("get") == "posting"
+            names = [it[1:] for it in (value if isinstance(value, list) else [value]) if isinstance(it, str) and it.startswith("$")]
+            for used in names:
+                kind = "posting" if is_posting else "resource"
+                if kinds.get(used) != kind:
+                    raise ValueError(f"${used} is a {kinds[used]}'s name, where a {kind}'s is needed" if used in kinds else f"no line before this one makes ${used}")
+            if names:
+                line.uses, line.members = line.uses.union(names), line.members | {member}
 
 
 def parse_line(number: int, data: bytes, kinds: dict[str, str]) -> Line:
@@ -59,18 +69,12 @@ def parse_line(number: int, data: bytes, kinds: dict[str, str]) -> Line:
         text = data.decode("utf-8").strip()
     except UnicodeDecodeError:
         raise ValueError("no UTF-8") from None
-    request = json.loads(text)
+    request = parse_json(text)
     if not isinstance(request, dict):
         raise ValueError("no JSON object")
     name = request.pop("as", "")
-    greatest = max((it for member, it in request.items() if member in RESOURCE_MEMBERS and isinstance(it, int)), default=0)
-    digest = hashlib.sha256(text.encode()).hexdigest()[:16]
-    line = Line(number, text, request, name, digest, str(request.get("do")), greatest)
-    for member, used, kind in names_in(request):
-        if kinds.get(used) != kind:
-            raise ValueError(f"${used} is a {kinds[used]}'s name, where a {kind}'s is needed" if used in kinds else f"no line before this one makes ${used}")
-        line.uses.add(used)
-        line.members.add(member)
+    line = Line(number, text, request, name, hashlib.sha256(text.encode()).hexdigest()[:16], str(request.get("do")))
+    note_numbers(line, kinds)
     if name != "":
         if not isinstance(name, str) or line.kind not in MAKES:
             raise ValueError('"as" needs a text, and a request that makes something')
@@ -96,15 +100,20 @@ def parse_script(data: bytes, file: str) -> list[Line]:
 
 def resolve(line: Line, numbers: dict[str, int]) -> dict:
     """Returns the request of a line with numbers in place of names."""
+    if not line.members:
+        return line.request
     number = lambda it: numbers[it[1:]] if isinstance(it, str) and it.startswith("$") else it
-    of = lambda member, value: [number(it) for it in value] if member == "postings" else number(value)
-    return {**line.request, **{it: of(it, line.request[it]) for it in line.members}} if line.members else line.request
+    request = line.request.copy()
+    for member in line.members:
+        value = request[member]
+        request[member] = [number(it) for it in value] if isinstance(value, list) else numbers[value[1:]]
+    return request
 
 
 # --- The journal ---
 
 
-@dataclass
+@dataclass(slots=True)
 class Entry:
     """A line that was sent, as the journal has it."""
 
@@ -154,7 +163,7 @@ class Journal:
             line, *replaced = map(int, rest.split())
             self.add(first, line, *replaced)
         elif sign == "=":
-            self.settle(int(first), json.loads(rest))
+            self.settle(int(first), parse_json(rest))
         elif sign == "!":
             self.entries[int(first)].is_closed = True
         else:
@@ -207,7 +216,7 @@ def match(lines: list[Line], journal: Journal, path: Path | None) -> list[tuple[
         if entry.answer is not None or not entry.is_closed:
             known[entry.digest].append(number)
     for line in lines:
-        if known[line.digest]:
+        if known.get(line.digest):
             number = known[line.digest].popleft()
             if journal.entries[number].answer is None:
                 line.entry = number

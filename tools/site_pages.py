@@ -14,10 +14,13 @@ from typing import NamedTuple
 from thesaurus_export import Resource, Thesaurus, fold, sort_key
 
 FILES = Path(__file__).resolve().parent.parent / "share" / "site"
+NAMES = ("prefLabel", "altLabel", "hiddenLabel")
+# The tags of labels in no language, or in several or unknown ones, such as codes: the search finds them in each language.
+OF_NO_LANGUAGE = ("zxx", "mul", "und", "mis")
 MAPPINGS = ("exactMatch", "closeMatch", "broadMatch", "narrowMatch", "relatedMatch")
 FROM_RIGHT = ("ar", "fa", "he", "ur", "yi")
 SCRIPT = '<script src="../site.js" defer></script>\n'
-# The first page lists so many terms without a step to a letter; the tree shows so many steps down, as browsers nest 512 elements.
+# The most terms that the first page lists without a step to a letter; the most steps down in the tree, as browsers nest 512 elements.
 FEW_TERMS, MOST_DEEP = 500, 100
 
 
@@ -235,8 +238,9 @@ class Edition:
             use = [", ".join(self.names[it.iri][0] for it in entry.use)] if entry.use else []
             terms.append((entry.key, [entry.text, entry.page, *use]))
         for it in self.concepts:
+            hidden = it.texts("hiddenLabel", self.lang) + [text for tag in OF_NO_LANGUAGE if tag != self.lang for kind in NAMES for text in it.texts(kind, tag)]
             if it.is_live:
-                terms += [(sort_key(text), [text, it.page, self.names[it.iri][0], 1]) for text in it.texts("hiddenLabel", self.lang)]
+                terms += [(sort_key(text), [text, it.page, self.names[it.iri][0], 1]) for text in hidden]
         found = json.dumps([term for _, term in sorted(terms)], ensure_ascii=False, separators=(",", ":"))
         (self.out / "terms.js").write_text(f"window.TERMS={found};\n", encoding="utf-8")
 
@@ -285,7 +289,7 @@ class Edition:
         self.write("tree", "tree", self.words["tree"], main, twin="tree", head=SCRIPT)
 
     def branch(self, it: Resource, above: Resource | None, depth: int) -> str:
-        """A concept with those below it. One with several broader terms stands in full below the first of them."""
+        """A concept with those below it. One with several broader terms is shown in full below the first of them."""
         types = self.thesaurus.types.get((it.iri, above.iri), "") if above else ""
         label = self.link(it) + "".join(f" <small>{self.words[letter]}</small>" for letter in types)
         if above and self.broader(it)[0] is not above:

@@ -1,6 +1,9 @@
-"""Reads the definitions in crates/*/specs and the contracts in crates/*/src, for tools/list-definitions and tests/sources/definitions."""
+"""Reads the definitions in crates/*/specs and the contracts in crates/*/src, for the tools that make lists of them and for
+tests/sources/definitions."""
+import argparse
 import functools
 import re
+import sys
 from pathlib import Path
 from typing import NamedTuple
 
@@ -11,6 +14,14 @@ WORD = re.compile(r"[^\s(){}\[\],;:≡≢→←×⊎λ¬|&.!?+*/<>=]+(?:\.[^\s()
 FUNCTION = re.compile(r"( *)(pub(?:\([^)]*\))? )?(?:const )?fn (\w+)")
 CLAUSE = re.compile(r" *(?:ensures|requires|decreases)\b")
 OWNER = re.compile(r"(?:pub )?(?:impl|trait)\b")
+
+
+def arguments(more=None):
+    """The arguments of a tool that makes a list, whose description is its help: --write, and further options, each with what it does."""
+    parser = argparse.ArgumentParser(description=sys.modules["__main__"].__doc__, formatter_class=argparse.RawDescriptionHelpFormatter)
+    for name, text in {"--write": "write what is made to the page", **(more or {})}.items():
+        parser.add_argument(name, action="store_true", help=text)
+    return parser.parse_args()
 
 
 class Place(NamedTuple):

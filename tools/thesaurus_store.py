@@ -140,11 +140,11 @@ class Store:
         return [it for it in self.each_move() if it.posting == number]
 
     def count_postings(self) -> dict[int, int]:
-        """Returns how many postings stand at each concept that has any."""
+        """Returns the number of postings at each concept that has any."""
         return Counter(it.place for it in self.each_posting() if not it.is_withdrawn)
 
     def totals(self) -> dict[str, int]:
-        """Returns how many postings were accepted, stand and are withdrawn."""
+        """Returns the numbers of postings that were accepted, that are at a concept, and that are withdrawn."""
         withdrawn = Counter(it.is_withdrawn for it in self.each_posting())
         return {"accepted": sum(withdrawn.values()), "standing": withdrawn[False], "withdrawn": withdrawn[True]}
 
@@ -319,7 +319,7 @@ def number_of(iri: str, base: str) -> int | None:
 
 
 class ExportStore(Store):
-    """The vocabulary of an export. It tells neither types of links nor numbers of outside concepts, and has no postings."""
+    """The vocabulary of an export. It has neither types of links nor numbers of outside concepts, and has no postings."""
 
     has_types = has_plain = False
 

@@ -21,7 +21,7 @@ use Rattle.thes_office.specs.TablesOfState.{TablesOfState}
 use Rattle.thes_cli.specs.Checking.{no_sizes, sizes_of}
 use Rattle.thes_command_line.specs.Printing.{Prints, fault_line}
 use Rattle.thes_cli.specs.Opening.{IsUnopened}
-use Rattle.thes_cli.specs.Streams.{Streams}
+use Rattle.thes_cli.specs.declared.streams.Streams.{Streams}
 use Rattle.thes_cli.specs.Work.{WorksOverKeeper, WorksInMemory}
 use Rattle.thes_cli.specs.declared.work.Work.{Work}
 

@@ -9,7 +9,7 @@ use Rattle.thes_requests.specs.Script.{session, Completes, Stops}
 use Rattle.thes_requests.specs.declared.script.ScriptEnd.{ScriptEnd}
 use Rattle.thes_service.specs.OfficeRequests.{OfficeServes, is_always_open, IsReachedByRun}
 use Rattle.thes_cli.specs.Scripting.{AnswersScript, ReportsScriptEnd}
-use Rattle.thes_cli.specs.Streams.{Streams}
+use Rattle.thes_cli.specs.declared.streams.Streams.{Streams}
 
 module _ {K R W E : Type 0} (rows : K → Raw) (is_up : K → Type 0) (failed : K → ℕ) (remaining : R → Option (List ℕ))
     (out : W → Option (List ℕ)) (err : E → Option (List ℕ)) where

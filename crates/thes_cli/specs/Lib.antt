@@ -12,3 +12,4 @@ pub mod Migrating
 pub mod Work
 pub mod Stores
 pub mod Passing
+pub mod Starting

@@ -1,20 +1,12 @@
 -- The command `migrate`: the migration of a store from version 1 to version 2.
-use Rattle.std.specs.Prelude.{◌≡◌, ◌⊎◌, ℕ, List, codes, Option, Result, Ok, Err}
-use Rattle.sqlite.specs.Held.{Held, state}
-use Rattle.sqlite.specs.State.{HasCleanDisk}
-use Rattle.sqlite.specs.declared.error.Error.{Error}
+use Rattle.std.specs.Prelude.{◌≡◌, ℕ, List, codes, Option, Result, Ok, Err}
+use Rattle.sqlite.specs.Held.{Held}
 use Rattle.sqlite_trees.specs.declared.store.Store.{Ghosts}
 use Rattle.thes_base.specs.declared.fault.Fault.{Fault}
 use Rattle.thes_base.specs.declared.pipe.Pipe.{Pipe}
-use Rattle.thes_tables.specs.Tables.{empty_tables}
-use Rattle.thes_sql.specs.TransactionEffects.{IsEmpty}
-use Rattle.thes_sql.specs.Schema.{empty_schema}
-use Rattle.thes_sql.specs.StoredRows.{Keeps}
-use Rattle.thes_sqlite.specs.KeeperView.{IsUp}
-use Rattle.thes_sqlite.specs.MigrationEffects.{IsUnwritten, Migrates}
+use Rattle.thes_sqlite.specs.MigrationEffects.{Migrates}
 use Rattle.thes_command_line.specs.Printing.{Prints, PrintsText, file_fault_lines}
 use Rattle.thes_command_line.specs.declared.trouble.StoreTrouble.TheVariants.{Unwritable}
-use Rattle.thes_cli.specs.Trouble.{ReportsUnmade}
 
 -- The line of a store's version after a migration.
 abbrev pub version_line : List ℕ
@@ -39,22 +31,3 @@ module _ {W E : Type 0} (out : W → Option (List ℕ)) (err : E → Option (Lis
       pub result : Result ℕ Fault
       pub migrates : Migrates store conn back result
       pub reports : ReportsMigration file result status
-
-    -- The tables of a new store were made in an empty database, and the version is printed.
-    pub record MakesVersion (base : List ℕ) (conn : Held S) (status : ℕ) (back : Held S) : Type 0 where
-      pub tables : HasCleanDisk (state store back) → IsEmpty empty_schema (state store conn).now
-          → Keeps (state store back).committed (empty_tables base) × Keeps (state store back).now (empty_tables base)
-      pub reports : PrintsText out err output output' errors errors' version_line status
-
-    -- The tables couldn't be made, and the fault is printed; if the database is up, it is
-    -- unchanged.
-    pub record ReportsUnmadeTables (file : List ℕ) (conn : Held S) (status : ℕ) (back : Held S) : Type 0 where
-      pub error : Error
-      pub leaves : IsUp (state store back) → IsUnwritten (state store conn) (state store back)
-      pub silent : output' ≡ output
-      pub reports : ReportsUnmade err file error errors errors' status
-
-    -- The command `migrate` over an empty database: a store of version 2 is made, or the fault is printed.
-    abbrev pub MakesDatabase : List ℕ → List ℕ → Held S → ℕ → Held S → Type 0
-    MakesDatabase file base conn status back =
-        MakesVersion base conn status back ⊎ ReportsUnmadeTables file conn status back

@@ -10,7 +10,7 @@ use Rattle.thes_requests.specs.declared.script.ScriptEnd.{ScriptEnd}
 use Rattle.thes_service.specs.OfficeRequests.{OfficeServes, is_always_open, IsReachedByRun}
 use Rattle.thes_command_line.specs.Printing.{Prints, fault_line}
 use Rattle.thes_cli.specs.Ending.{last_fault, status_of}
-use Rattle.thes_cli.specs.Streams.{Streams}
+use Rattle.thes_cli.specs.declared.streams.Streams.{Streams}
 
 -- The end of a script: its fault, if there was one, is printed, and the status is that of the
 -- script.

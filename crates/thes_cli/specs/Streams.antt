@@ -1,12 +1,9 @@
--- The standard streams of the program, as contracts see them.
-use Rattle.thes_base.specs.declared.pipe.Pipe.{Pipe}
+-- The standard streams of the program, as its commands find them.
+use Rattle.thes_base.specs.Pipe.{IsFresh}
+use Rattle.thes_cli.specs.declared.streams.Streams.{Streams}
 
--- The standard input, output and error of the program.
-pub record Streams (R W E : Type 0) : Type 0 where
-  pub input : Pipe R
-  pub output : Pipe W
-  pub errors : Pipe E
-
--- The standard streams as one record.
-abbrev pub streams : {R W E : Type 0} → Pipe R → Pipe W → Pipe E → Streams R W E
-streams input output errors = record { input = input; output = output; errors = errors }
+-- No stream has failed or ended, and none was denied a call.
+pub record AreFresh {R W E : Type 0} (streams : Streams R W E) : Type 0 where
+  pub input : IsFresh streams.input
+  pub output : IsFresh streams.output
+  pub errors : IsFresh streams.errors

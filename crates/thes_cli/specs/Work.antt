@@ -1,5 +1,6 @@
 -- The effect of each task on a store, and the report of a store that can't be opened.
-use Rattle.std.specs.Prelude.{◌≡◌, ◌⊎◌, ℕ, List, Option}
+use Rattle.std.specs.Prelude.{◌≡◌, ◌⊎◌, ℕ, Bool, List, Option, Result, Ok, Err}
+use Rattle.std.specs.declared.io.Error.{Error}
 use Rattle.thes_base.specs.State.{empty_state}
 use Rattle.thes_base.specs.declared.data.Limits.{Limits}
 use Rattle.thes_base.specs.declared.fault.Fault.{Fault}
@@ -17,10 +18,12 @@ use Rattle.thes_cli.specs.Importing.{ImportsStore}
 use Rattle.thes_cli.specs.Opening.{IsOpened, IsUnopened}
 use Rattle.thes_cli.specs.Scripting.{AnswersScript}
 use Rattle.thes_cli.specs.Serving.{ServesStore}
-use Rattle.thes_cli.specs.Streams.{Streams}
+use Rattle.thes_cli.specs.declared.streams.Streams.{Streams}
 use Rattle.thes_command_line.specs.declared.arguments.ServeOptions.{ServeOptions}
 use Rattle.thes_command_line.specs.declared.arguments.Task.{Task}
 use Rattle.thes_command_line.specs.declared.arguments.Task.TheVariants as tasks
+use Rattle.thes_command_line.specs.declared.printing.OpenFailure.{OpenFailure}
+use Rattle.thes_command_line.specs.declared.printing.OpenFailure.TheVariants.{File}
 use Rattle.thes_command_line.specs.declared.trouble.StoreTrouble.TheVariants.{Unreadable}
 use Rattle.thes_http.specs.declared.service.Display.TheVariants as displays
 use Rattle.thes_cli.specs.declared.work.PlannedWork.{PlannedWork}
@@ -39,9 +42,17 @@ planned_work (tasks.Import file) = planned.Import file
 planned_work (tasks.Serve options) = planned.Serve options
 planned_work tasks.Migrate = planned.Migrate
 
--- The work of serving a socket with these options.
-abbrev pub serve_work : {F L : Type 0} → L → ServeOptions → Work F L
-serve_work listener options = Serve (record { listener = listener; port = options.port; count = options.count })
+-- The work of importing a posting file, or that the file couldn't be opened; the Boolean says whether to print the counts
+-- of its rows.
+abbrev pub import_work : {F L : Type 0} → Result F Error → Bool → Result (Work F L) OpenFailure
+import_work (Ok file) prints_it = Ok (Import file prints_it)
+import_work (Err error) prints_it = Err File
+
+-- The work of serving a socket with these options, or that it couldn't be opened.
+abbrev pub serve_work : {F L : Type 0} → Result L OpenFailure → ServeOptions → Result (Work F L) OpenFailure
+serve_work (Ok listener) options =
+    Ok (Serve (record { listener = listener; port = options.port; count = options.count }))
+serve_work (Err unopened) options = Err unopened
 
 module _ {K F R W E : Type 0} (rows : K → Raw) (is_up : K → Type 0) (failed : K → ℕ)
     (given : F → Option (List ℕ)) (remaining : R → Option (List ℕ)) (out : W → Option (List ℕ))

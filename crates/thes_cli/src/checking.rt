@@ -4,7 +4,6 @@ ghost use Rattle.thes_base.specs.Pipe.{IsFresh};
 ghost use Rattle.thes_base.specs.State.{State};
 ghost use Rattle.thes_core.specs.CoreView.{IsViewOf};
 ghost use Rattle.thes_cli.specs.Checking.{sizes_of, ChecksStore, FindsSizes, ReportsSizes};
-ghost use Rattle.thes_cli.specs.Streams.{streams};
 
 use crate::ending::sizes_line;
 use std::alloc::Global;

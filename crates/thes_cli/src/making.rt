@@ -1,7 +1,5 @@
 //! The mark of a store that is being made: an empty file, made before the database and removed once
 //! the database has its tables. It shows a later run that making the store was cut short.
-use crate::progress::Progress;
-use crate::screen::Screen;
 use std::fs;
 use std::fs::File;
 use thes_base::fault::Fault;
@@ -41,28 +39,5 @@ impl<'r> MakingMark<'r> {
         if self.is_there() {
             let _ = fs::remove_file(self.rt, self.path.as_str());
         }
-    }
-}
-
-/// A listener that removes the mark of a store once the store is made, and passes each report on to
-/// a screen.
-#[derive(Clone, Copy)]
-pub struct MarkRemover<'m, 'r> {
-    pub mark: &'m MakingMark<'r>,
-    pub screen: Option<Screen<'r, HostRuntime>>,
-}
-
-impl Progress for MarkRemover<'_, '_> {
-    fn report_new_store(&mut self, file: &str) {
-        self.mark.remove();
-        self.screen.report_new_store(file);
-    }
-
-    fn report_rows(&mut self, rows: u64) {
-        self.screen.report_rows(rows);
-    }
-
-    fn report_lookups(&mut self, postings: u64) {
-        self.screen.report_lookups(postings);
     }
 }

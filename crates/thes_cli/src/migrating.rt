@@ -1,19 +1,15 @@
-//! The command `migrate`: migrates a store, or makes a new one, and prints its version.
+//! The command `migrate`: migrates a store, and prints its version.
 ghost use Rattle.std.specs.Prelude.{◌≡◌, false};
 ghost use Rattle.thes_base.specs.Pipe.{IsFresh};
-ghost use Rattle.thes_cli.specs.Migrating.{MakesDatabase, MigratesDatabase, version_line};
+ghost use Rattle.thes_cli.specs.Migrating.{MigratesDatabase, version_line};
 ghost use Rattle.thes_command_line.specs.Printing.{PrintsText};
 
-use crate::progress::Progress;
-use crate::trouble::report_unmade;
 use sqlite::{Alter, Connection};
 use std::alloc::Global;
 use std::io::Write;
 use thes_base::pipe::Pipe;
-use thes_command_line::arguments::StoreSetting;
 use thes_command_line::printing::{print_out, report_in_file};
 use thes_command_line::trouble::StoreTrouble;
-use thes_sql::create::create_tables;
 use thes_sqlite::keeper::SqlKeeper;
 
 /// Prints the line of version 2, and returns the exit status: 0, or 3 if it can't be written.
@@ -50,30 +46,5 @@ pub fn migrate_in_database<S: Alter, W: Write, E: Write>(
             report_in_file(errors, file, StoreTrouble::Unwritable, fault),
             conn,
         ),
-    }
-}
-
-/// Makes a new store in a database without tables, prints the version or the fault, and returns the
-/// exit status with the connection.
-pub fn make_in_new_database<S: Alter, P: Progress + Copy, W: Write, E: Write>(
-    mut progress: P,
-    file: &str,
-    mut conn: Connection<S>,
-    setting: &StoreSetting,
-    output: &mut Pipe<W>,
-    errors: &mut Pipe<E>,
-) -> (u8, Connection<S>)
-    requires idle { conn.in_transaction ≡ false }
-    requires output { IsFresh output.old }
-    requires errors { IsFresh errors.old }
-    ensures { MakesDatabase W.contents E.contents output.old output.new errors.old errors.new
-        S.Store file.now setting.now.base conn result.0 result.1 }
-{
-    match create_tables(&mut conn, &setting.base) {
-        Ok(_) => {
-            progress.report_new_store(file);
-            (print_version(output, errors), conn)
-        }
-        Err(error) => (report_unmade(errors, file, error), conn),
     }
 }

@@ -4,9 +4,6 @@ pub mod reporting_keeper;
 
 /// A listener for progress. Its calls don't affect the work.
 pub trait Progress {
-    /// Reports that a new store was made in this file.
-    fn report_new_store(&mut self, file: &str);
-
     /// Reports the number of rows of the tables read so far, during a load.
     fn report_rows(&mut self, rows: u64);
 
@@ -16,12 +13,6 @@ pub trait Progress {
 
 /// The reports are ignored if there is no listener.
 impl<P: Progress> Progress for Option<P> {
-    fn report_new_store(&mut self, file: &str) {
-        if let Some(progress) = self {
-            progress.report_new_store(file);
-        }
-    }
-
     fn report_rows(&mut self, rows: u64) {
         if let Some(progress) = self {
             progress.report_rows(rows);

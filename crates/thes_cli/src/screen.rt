@@ -42,6 +42,12 @@ impl<'a, R: Clock + Eprint> Screen<'a, R> {
         }
     }
 
+    /// Reports that a new store was made in this file.
+    pub fn report_new_store(&self, file: &str) {
+        // A line that can't be printed is dropped.
+        let _ = eprintln!(self.rt; "thesaurus: new store {file}");
+    }
+
     // Returns whether a second has passed since the last line, and restarts the second if so; false
     // if the clock fails.
     fn takes_turn(&mut self) -> bool {
@@ -56,11 +62,6 @@ impl<'a, R: Clock + Eprint> Screen<'a, R> {
 }
 
 impl<R: Clock + Eprint> Progress for Screen<'_, R> {
-    fn report_new_store(&mut self, file: &str) {
-        // A line that can't be printed is dropped.
-        let _ = eprintln!(self.rt; "thesaurus: new store {file}");
-    }
-
     fn report_rows(&mut self, rows: u64) {
         if rows % STRIDE == 0 && self.takes_turn() {
             let _ = eprintln!(self.rt; "thesaurus: {rows} rows read");

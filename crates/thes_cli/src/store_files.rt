@@ -36,21 +36,22 @@ pub fn has_long_name(rt: &HostRuntime, file: &str) -> Result<bool, Fault> {
 /// The names of a store's two files, the database and its log, with the identities of the files
 /// that are open.
 #[derive(Drop)]
-pub struct StoreFiles<'r, 'f> {
+pub struct StoreFiles<'r> {
     rt: &'r HostRuntime,
-    file: &'f str,
+    file: String,
     log: String,
     open: (Option<(u64, u64)>, Option<(u64, u64)>),
 }
 
-impl<'r, 'f> StoreFiles<'r, 'f> {
+impl<'r> StoreFiles<'r> {
     /// Records the identities of the store's files, which are those that the connection has opened.
     /// `Store` means that the file's full path isn't found.
-    pub fn new(rt: &'r HostRuntime, file: &'f str) -> Result<StoreFiles<'r, 'f>, Fault> {
+    pub fn new(rt: &'r HostRuntime, file: &str) -> Result<StoreFiles<'r>, Fault> {
         let Ok(path) = fs::canonicalize(rt, file) else {
             return Err(Fault::Store);
         };
         let log = format!(in rt.alloc(); "{}-wal", path.as_str())?;
+        let file = String::from_str(rt.alloc(), file)?;
         let mut files = StoreFiles {
             rt,
             file,
@@ -64,13 +65,13 @@ impl<'r, 'f> StoreFiles<'r, 'f> {
     // Returns the identities of the files that have the two names now.
     fn named_files(&self) -> (Option<(u64, u64)>, Option<(u64, u64)>) {
         (
-            identity_of(self.rt, self.file),
+            identity_of(self.rt, self.file.as_str()),
             identity_of(self.rt, self.log.as_str()),
         )
     }
 }
 
-impl Reopen<Connection<FileStore<sqlite::File>>> for StoreFiles<'_, '_> {
+impl Reopen<Connection<FileStore<sqlite::File>>> for StoreFiles<'_> {
     fn is_in_place(&mut self) -> bool {
         self.open.0.is_some() && self.open == self.named_files()
     }
@@ -85,6 +86,6 @@ impl Reopen<Connection<FileStore<sqlite::File>>> for StoreFiles<'_, '_> {
         if !self.is_in_place() {
             return Err(Error::SqliteFailure(ErrorCode::CannotOpen));
         }
-        Connection::open(self.rt, self.file)
+        Connection::open(self.rt, self.file.as_str())
     }
 }

@@ -1,31 +1,27 @@
 //! The tasks of the program, performed over a store.
-ghost use Rattle.std.specs.Prelude.{◌≡◌, is_some, option_copied};
-ghost use Rattle.thes_base.specs.Pipe.{IsFresh};
-ghost use Rattle.thes_cli.specs.Streams.{streams};
+ghost use Rattle.std.specs.Prelude.{◌≡◌, is_some};
+ghost use Rattle.thes_cli.specs.Streams.{AreFresh};
 ghost use Rattle.thes_cli.specs.Work as work;
-ghost use Rattle.thes_cli.specs.Work.{DoesWork, WorksOverKeeper, WorksInMemory};
+ghost use Rattle.thes_cli.specs.Work.{DoesWork};
 
 use crate::checking::check_store;
 use crate::displaying::display_store;
+use crate::ending::report_script_end;
 use crate::exporting::export_store;
 use crate::importing::import_file;
-use crate::progress::Progress;
-use crate::progress::reporting_keeper::ReportingKeeper;
-use crate::scripting::answer_script;
 use crate::serving::{Listening, serve_store};
+use crate::streams::Streams;
 use std::alloc::Global;
+use std::io;
 use std::io::{Read, Write};
 use std::net::Net;
 use std::rt::Clock;
-use thes_base::data::Limits;
-use thes_base::pipe::Pipe;
-use thes_command_line::arguments::{DisplayOptions, ServeOptions, StoreSetting, Task};
-use thes_command_line::printing::report_fault_at;
-use thes_command_line::trouble::StoreTrouble;
+use thes_command_line::arguments::{DisplayOptions, ServeOptions, Task};
+use thes_command_line::printing::OpenFailure;
 use thes_http::service::Display;
 use thes_office::Office;
+use thes_service::{OfficeHandler, office_script};
 use thes_store::keeper::Keeper;
-use thes_store::mem::MemKeeper;
 
 /// The work of a task, with its file or socket open if it has one.
 #[derive(Drop)]
@@ -77,131 +73,85 @@ pub fn planned_work<F, L>(task: Task) -> PlannedWork<F, L>
     }
 }
 
-/// Returns the work of importing a posting file. The counts of its rows are printed if there is a
-/// listener for progress.
-pub fn import_work<F, L, P>(file: F, progress: &Option<P>) -> Work<F, L>
-    ensures { result ≡ Work.Import file (is_some progress.now) }
+/// Returns the work of importing a posting file, or that it couldn't be opened. The counts of its
+/// rows are printed if there is a listener for progress.
+pub fn import_work<F, L, P>(
+    opened: io::Result<F>,
+    progress: &Option<P>,
+) -> Result<Work<F, L>, OpenFailure>
+    ensures { result ≡ work.import_work opened (is_some progress.now) }
 {
-    Work::Import(file, progress.is_some())
+    match opened {
+        Ok(file) => Ok(Work::Import(file, progress.is_some())),
+        Err(_) => Err(OpenFailure::File),
+    }
 }
 
-/// Returns the work of serving a socket with these options.
-pub fn serve_work<F, L>(listener: L, options: ServeOptions) -> Work<F, L>
-    ensures { result ≡ work.serve_work listener options }
+/// Returns the work of serving a socket with these options, or that it couldn't be opened.
+pub fn serve_work<F, L>(
+    opened: Result<L, OpenFailure>,
+    options: ServeOptions,
+) -> Result<Work<F, L>, OpenFailure>
+    ensures { result ≡ work.serve_work opened options }
 {
-    Work::Serve(Listening {
-        listener,
-        port: options.port,
-        count: options.count,
-    })
+    match opened {
+        Ok(listener) => Ok(Work::Serve(Listening {
+            listener,
+            port: options.port,
+            count: options.count,
+        })),
+        Err(unopened) => Err(unopened),
+    }
 }
 
-// Performs work over an office, and returns the exit status with the office.
-fn do_work<N: Net + Clock, K: Keeper, F: Read + Drop, R: Read, W: Write, E: Write>(
+/// Works over an office, and returns the exit status with the office.
+pub fn work_over<N: Net + Clock, K: Keeper, F: Read + Drop, R: Read, W: Write, E: Write>(
     alloc: Global,
     clock: &N,
-    task: Work<F, N::Listener>,
+    work: Work<F, N::Listener>,
     mut office: Office<K>,
-    input: &mut Pipe<R>,
-    output: &mut Pipe<W>,
-    errors: &mut Pipe<E>,
+    streams: &mut Streams<R, W, E>,
 ) -> (u8, Office<K>)
-    requires input { IsFresh input.old }
-    requires output { IsFresh output.old }
-    requires errors { IsFresh errors.old }
-    ensures { DoesWork K.rows K.is_up K.failed F.remaining R.remaining W.contents E.contents task
-        office (streams input.old output.old errors.old)
-        result.0 result.1 (streams input.new output.new errors.new) }
+    requires { AreFresh streams.old }
+    ensures { DoesWork K.rows K.is_up K.failed F.remaining R.remaining W.contents E.contents work
+        office streams.old result.0 result.1 streams.new }
 {
-    let status = match task {
-        Work::Script => return answer_script(alloc, office, input, output, errors),
-        Work::Serve(listening) => {
-            return serve_store::<N, K, W, E>(alloc, clock, &listening, office, output, errors);
+    let status = match work {
+        Work::Script => {
+            let mut handler = OfficeHandler::new(office);
+            let ended = office_script(alloc, &mut streams.input, &mut streams.output, &mut handler);
+            let status = report_script_end(&mut streams.errors, &ended);
+            return (status, handler.into_office());
         }
-        Work::Check => check_store(alloc, &mut office, output, errors),
-        Work::Export => export_store(alloc, &mut office, output, errors),
+        Work::Serve(listening) => {
+            return serve_store::<N, K, W, E>(
+                alloc,
+                clock,
+                &listening,
+                office,
+                &mut streams.output,
+                &mut streams.errors,
+            );
+        }
+        Work::Check => check_store(alloc, &mut office, &mut streams.output, &mut streams.errors),
+        Work::Export => export_store(alloc, &mut office, &mut streams.output, &mut streams.errors),
         Work::Display(display, DisplayOptions { scheme, lang }) => display_store(
             alloc,
             &mut office,
             display,
             scheme,
             &lang,
-            output,
-            errors,
+            &mut streams.output,
+            &mut streams.errors,
         ),
-        Work::Import(file, prints_it) => {
-            import_file(alloc, file, prints_it, &mut office, output, errors)
-        }
+        Work::Import(file, prints_it) => import_file(
+            alloc,
+            file,
+            prints_it,
+            &mut office,
+            &mut streams.output,
+            &mut streams.errors,
+        ),
     };
     (status, office)
-}
-
-/// Opens an office over the storage with these limits, works over it, and returns the exit status
-/// with the storage. The fault of a store that can't be opened is printed, after the name of its
-/// file if it has one.
-pub fn work_over<N: Net + Clock, K: Keeper, F: Read + Drop, R: Read, W: Write, E: Write>(
-    alloc: Global,
-    clock: &N,
-    task: Work<F, N::Listener>,
-    file: Option<&str>,
-    limits: Limits,
-    keeper: K,
-    input: &mut Pipe<R>,
-    output: &mut Pipe<W>,
-    errors: &mut Pipe<E>,
-) -> (u8, K)
-    requires input { IsFresh input.old }
-    requires output { IsFresh output.old }
-    requires errors { IsFresh errors.old }
-    ensures { WorksOverKeeper K.rows K.is_up K.failed F.remaining R.remaining W.contents E.contents
-        task (option_copied file.entry) limits keeper (streams input.old output.old errors.old)
-        result.0 result.1 (streams input.new output.new errors.new) }
-{
-    match Office::start(alloc, keeper, limits) {
-        Ok(office) => {
-            let (status, office) = do_work::<N, K, F, R, W, E>(
-                alloc, clock, task, office, input, output, errors,
-            );
-            (status, office.into_keeper())
-        }
-        Err((fault, keeper)) => (
-            report_fault_at(errors, file, StoreTrouble::Unreadable, fault),
-            keeper,
-        ),
-    }
-}
-
-/// Works over a new store in memory with this base and these limits, and returns the exit status.
-pub fn work_in_memory<
-    N: Net + Clock,
-    P: Progress + Copy,
-    F: Read + Drop,
-    R: Read,
-    W: Write,
-    E: Write,
->(
-    alloc: Global,
-    clock: &N,
-    task: Work<F, N::Listener>,
-    progress: P,
-    setting: StoreSetting,
-    input: &mut Pipe<R>,
-    output: &mut Pipe<W>,
-    errors: &mut Pipe<E>,
-) -> u8
-    requires input { IsFresh input.old }
-    requires output { IsFresh output.old }
-    requires errors { IsFresh errors.old }
-    ensures { WorksInMemory F.remaining R.remaining W.contents E.contents task setting.base
-        setting.limits
-        (streams input.old output.old errors.old) result (streams input.new output.new errors.new) }
-{
-    let StoreSetting { base, limits } = setting;
-    // No effect; states for the proof that the base has its form.
-    let _ = base.as_str();
-    let keeper = ReportingKeeper::new(MemKeeper::new(alloc, base), progress);
-    let (status, _) = work_over::<N, ReportingKeeper<MemKeeper, P>, F, R, W, E>(
-        alloc, clock, task, None, limits, keeper, input, output, errors,
-    );
-    status
 }

@@ -3,3 +3,4 @@ pub mod Printing
 pub mod EarlyExit
 pub mod Commands
 pub mod CommandLine
+pub mod StartFailure

@@ -1,6 +1,6 @@
 -- Defines whether a task makes a store or uses the one in its file, and the reasons why a store
 -- can't be used.
-use Rattle.std.specs.Prelude.{◌≡◌, ◌≢◌, ◌==◌, ◌&&◌, nat_le, ℕ, Bool, if◌then◌else◌, Option, Some, None, Result, Ok, Err}
+use Rattle.std.specs.Prelude.{◌≡◌, ◌≢◌, ◌==◌, ◌&&◌, nat_le, ℕ, Bool, true, false, if◌then◌else◌, Option, Some, None, Result, Ok, Err}
 use Rattle.std.specs.Prelude.{codes}
 use Rattle.std.specs.Fs.{IsFile, file_type, metadata_len}
 use Rattle.std.specs.IoError.{error_kind}
@@ -17,6 +17,8 @@ use Rattle.thes_command_line.specs.declared.opening.FileState.{FileState}
 use Rattle.thes_command_line.specs.declared.opening.FileState.TheVariants as found
 use Rattle.thes_command_line.specs.declared.opening.Opening.{Opening}
 use Rattle.thes_command_line.specs.declared.opening.Opening.TheVariants.{New, Existing}
+use Rattle.thes_command_line.specs.declared.opening.Preparation.{Preparation}
+use Rattle.thes_command_line.specs.declared.opening.Preparation.TheVariants.{MakeTables, RemoveMark, Nothing}
 use Rattle.thes_command_line.specs.declared.trouble.StoreTrouble.{StoreTrouble}
 use Rattle.thes_command_line.specs.declared.trouble.StoreTrouble.TheVariants as troubles
 
@@ -57,14 +59,40 @@ opening_of task (found.Bytes n) is_marked =
     if n == 0 then new_store task troubles.NotDatabase else opening_of_file task n is_marked
 opening_of task found.Other is_marked = Ok Existing
 
--- The reason why a file couldn't be opened as a store, from the error of opening the file or, for a new store, of
--- reading its folder.
-abbrev pub trouble_of_access : Opening → FileState → Option ErrorKind → StoreTrouble
-trouble_of_access opening found (Some NotFound) = troubles.NoFile
-trouble_of_access New found _ = troubles.Unwritable
-trouble_of_access Existing found (Some kind) = troubles.Unreadable
-trouble_of_access Existing found.Other None = troubles.NotDatabase
-trouble_of_access Existing _ None = troubles.Unwritable
+-- Whether a task imports a posting file.
+abbrev pub is_import : Task → Bool
+is_import (tasks.Import file) = true
+is_import _ = false
+
+-- What to do with the database of a store once it is open: a blank one that was opened for a new store gets its tables;
+-- else the mark of an unfinished store is removed, but by a check.
+abbrev pub preparation_of : Opening → Bool → Bool → Preparation
+preparation_of New true is_check = MakeTables
+preparation_of New false is_check = if is_check then Nothing else RemoveMark
+preparation_of Existing is_blank is_check = if is_check then Nothing else RemoveMark
+
+-- The mark of an unfinished store is void if no database was made, unless another program has the file open.
+abbrev pub is_mark_void : StoreTrouble → FileState → Bool
+is_mark_void troubles.InUse left = false
+is_mark_void _ found.Absent = true
+is_mark_void _ (found.Bytes n) = n == 0
+is_mark_void _ found.Other = false
+
+-- The reason why a file couldn't be opened as a store: a second name of the file, or else what follows from the error of
+-- opening the file or, for a new store, of reading its folder.
+abbrev pub trouble_of_access : Opening → FileState → Bool → Option ErrorKind → StoreTrouble
+trouble_of_access opening found true error = troubles.Linked
+trouble_of_access opening found false (Some NotFound) = troubles.NoFile
+trouble_of_access New found false _ = troubles.Unwritable
+trouble_of_access Existing found false (Some kind) = troubles.Unreadable
+trouble_of_access Existing found.Other false None = troubles.NotDatabase
+trouble_of_access Existing _ false None = troubles.Unwritable
+
+-- The trouble and the fault of a file for which the names next to it are too long, or couldn't be checked.
+abbrev pub name_trouble : Result Bool Fault → Option (StoreTrouble × Fault)
+name_trouble (Ok true) = Some (troubles.LongName, Store)
+name_trouble (Ok false) = None
+name_trouble (Err fault) = Some (troubles.Unreadable, fault)
 
 -- The reason to print with a fault: the given one for Store, and None for any other.
 abbrev pub trouble_of_fault : Fault → StoreTrouble → Option StoreTrouble

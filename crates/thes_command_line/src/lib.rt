@@ -7,4 +7,5 @@ mod commands;
 pub mod early_exit;
 pub mod opening;
 pub mod printing;
+pub mod start_failure;
 pub mod trouble;

@@ -1,6 +1,6 @@
 //! Decides whether a task makes a store or uses the one in its file.
-ghost use Rattle.std.specs.Prelude.{◌≡◌};
-ghost use Rattle.thes_command_line.specs.Opening as opening;
+ghost use Rattle.std.specs.Prelude.{◌≡◌, ◌↔◌, IsTrue};
+ghost use Rattle.thes_command_line.specs.Opening as choices;
 ghost use Rattle.thes_command_line.specs.Opening.{IsFileState};
 
 use crate::arguments::Task;
@@ -32,6 +32,17 @@ pub enum Opening {
     Existing,
 }
 
+/// What to do with the database of a store once it is open.
+#[derive(Clone, Copy, Debug, PartialEq, Eq)]
+pub enum Preparation {
+    /// Make the tables of a new store, and remove the mark of an unfinished one.
+    MakeTables,
+    /// Remove the mark of an unfinished store, since the database has tables.
+    RemoveMark,
+    /// Change nothing.
+    Nothing,
+}
+
 /// Returns the state of a file from its metadata. Only the error NotFound means that there is no
 /// file.
 pub fn file_state(found: &io::Result<Metadata>) -> FileState
@@ -57,7 +68,7 @@ pub fn folder_of(file: &str) -> &str {
 
 // Returns `New`, except for a check, which makes no store and fails with this trouble.
 fn new_store(task: &Task, trouble: StoreTrouble) -> Result<Opening, StoreTrouble>
-    ensures { result ≡ opening.new_store task.now trouble }
+    ensures { result ≡ choices.new_store task.now trouble }
 {
     match task {
         Task::Check => Err(trouble),
@@ -68,7 +79,7 @@ fn new_store(task: &Task, trouble: StoreTrouble) -> Result<Opening, StoreTrouble
 // Returns whether making the store in a file was cut short: the file is marked as that of an
 // unfinished store, and is no larger than a database without tables.
 fn is_unfinished(size: u64, is_marked: bool) -> bool
-    ensures { result ≡ opening.is_unfinished size is_marked }
+    ensures { result ≡ choices.is_unfinished size is_marked }
 {
     is_marked && size <= BLANK_SIZE
 }
@@ -77,7 +88,7 @@ fn is_unfinished(size: u64, is_marked: bool) -> bool
 /// file of one byte, which SQLite takes for an empty database, unless the file is marked as that of
 /// an unfinished store.
 pub fn opening_of(task: &Task, found: FileState, is_marked: bool) -> Result<Opening, StoreTrouble>
-    ensures { result ≡ opening.opening_of task.now found is_marked }
+    ensures { result ≡ choices.opening_of task.now found is_marked }
 {
     match (task, found) {
         (_, FileState::Absent) => new_store(task, StoreTrouble::NoFile),
@@ -87,5 +98,43 @@ pub fn opening_of(task: &Task, found: FileState, is_marked: bool) -> Result<Open
         (_, FileState::Bytes(size)) if is_unfinished(size, is_marked) => Ok(Opening::New),
         (_, FileState::Bytes(1)) => Err(StoreTrouble::NotDatabase),
         (_, FileState::Bytes(_) | FileState::Other) => Ok(Opening::Existing),
+    }
+}
+
+/// Returns whether a task only checks the store.
+pub fn is_check(task: &Task) -> bool
+    ensures { IsTrue result ↔ (task.now ≡ Task.Check) }
+{
+    matches!(task, Task::Check)
+}
+
+/// Returns whether a task imports a posting file.
+pub fn is_import(task: &Task) -> bool
+    ensures { result ≡ choices.is_import task.now }
+{
+    matches!(task, Task::Import(_))
+}
+
+/// Returns what to do with the database of a store once it is open. `is_blank` says that it has no
+/// tables. Tables are made only in a database that was opened for a new store.
+pub fn preparation_of(opening: Opening, is_blank: bool, is_check: bool) -> Preparation
+    ensures { result ≡ choices.preparation_of opening is_blank is_check }
+{
+    match opening {
+        Opening::New if is_blank => Preparation::MakeTables,
+        Opening::New | Opening::Existing if is_check => Preparation::Nothing,
+        Opening::New | Opening::Existing => Preparation::RemoveMark,
+    }
+}
+
+/// Returns whether the mark of an unfinished store is removed again, after its database couldn't be
+/// opened: if no database was made, unless another program, whose mark it is, has the file open.
+pub fn is_mark_void(trouble: StoreTrouble, left: FileState) -> bool
+    ensures { result ≡ choices.is_mark_void trouble left }
+{
+    match (trouble, left) {
+        (StoreTrouble::InUse, _) => false,
+        (_, FileState::Absent | FileState::Bytes(0)) => true,
+        (_, FileState::Bytes(_) | FileState::Other) => false,
     }
 }

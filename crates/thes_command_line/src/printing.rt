@@ -1,5 +1,5 @@
 //! Prints texts and the lines of faults and refusals, and returns the exit statuses that follow.
-ghost use Rattle.std.specs.Prelude.{◌≡◌, ◌++◌, option_copied};
+ghost use Rattle.std.specs.Prelude.{◌≡◌, ◌++◌};
 ghost use Rattle.thes_base.specs.Pipe.{IsFresh};
 ghost use Rattle.thes_command_line.specs.Opening as opening;
 ghost use Rattle.thes_command_line.specs.Printing as lines;
@@ -214,23 +214,4 @@ pub fn report_in_file<E: Write>(
     let trouble = trouble_of_fault(fault, trouble);
     let _ = print_file(errors, file, trouble) && print(errors, line.as_str().as_bytes());
     3
-}
-
-/// Prints the fault of a store, after the line of its file if it is in one, and returns the exit
-/// status 3.
-pub fn report_fault_at<E: Write>(
-    errors: &mut Pipe<E>,
-    file: Option<&str>,
-    trouble: StoreTrouble,
-    fault: Fault,
-) -> u8
-    requires { IsFresh errors.old }
-    ensures reports { Prints E.contents errors.old errors.new
-        (lines.fault_lines (option_copied file.entry) trouble fault) }
-    ensures status { result ≡ 3 }
-{
-    match file {
-        Some(file) => report_in_file(errors, file, trouble, fault),
-        None => report_fault(errors, PipeFault::Fault(fault)),
-    }
 }

@@ -1,9 +1,11 @@
 //! The reasons why a store can't be used, as far as the system reports them.
 ghost use Rattle.std.specs.Prelude.{◌≡◌};
+ghost use Rattle.thes_command_line.specs.Opening as choices;
 ghost use Rattle.thes_command_line.specs.Opening.{trouble_of_access, words_of};
 
 use crate::opening::{FileState, Opening};
 use std::io::ErrorKind;
+use thes_base::fault::Fault;
 
 /// The reason for a Store fault of the store in a file.
 #[derive(Clone, Copy, Debug, PartialEq, Eq)]
@@ -49,14 +51,34 @@ impl StoreTrouble {
 
 /// Returns the reason why a file couldn't be opened as a store. `error` is that of opening the file
 /// for reading or, if the store is to be made, of reading its folder.
-pub fn refused_access(opening: Opening, found: FileState, error: Option<ErrorKind>) -> StoreTrouble
-    ensures { result ≡ trouble_of_access opening found error }
+pub fn refused_access(
+    opening: Opening,
+    found: FileState,
+    is_linked: bool,
+    error: Option<ErrorKind>,
+) -> StoreTrouble
+    ensures { result ≡ trouble_of_access opening found is_linked error }
 {
+    if is_linked {
+        return StoreTrouble::Linked;
+    }
     match (opening, found, error) {
         (_, _, Some(ErrorKind::NotFound)) => StoreTrouble::NoFile,
         (Opening::New, _, _) => StoreTrouble::Unwritable,
         (Opening::Existing, _, Some(_)) => StoreTrouble::Unreadable,
         (Opening::Existing, FileState::Other, None) => StoreTrouble::NotDatabase,
         (Opening::Existing, _, None) => StoreTrouble::Unwritable,
+    }
+}
+
+/// Returns the reason and the fault if the names of the files next to a store's file are too long
+/// for the system, or couldn't be checked.
+pub fn name_trouble(has_long_name: Result<bool, Fault>) -> Option<(StoreTrouble, Fault)>
+    ensures { result ≡ choices.name_trouble has_long_name }
+{
+    match has_long_name {
+        Ok(true) => Some((StoreTrouble::LongName, Fault::Store)),
+        Ok(false) => None,
+        Err(fault) => Some((StoreTrouble::Unreadable, fault)),
     }
 }

@@ -1,6 +1,6 @@
 -- Applying an accepted request to the parts of a thesaurus gives the machine's next state, its answer, and the counts
 -- of its postings.
-use Rattle.std.proofs.Common.{◌≡◌, ◌≢◌, ◌<◌, ◌^◌, ◌+◌, ℕ, length, List, [], ◌∷◌, ◌++◌, refl, sym, ap, ◌∙◌, subst, inr}
+use Rattle.std.proofs.Common.{◌≡◌, ◌≢◌, ◌<◌, ◌^◌, ◌+◌, ℕ, length, List, [], ◌∷◌, ◌++◌, refl, sym, ap, ◌∙◌, subst}
 use Rattle.std.proofs.Common.{arith, rules, zero, suc, ◌≤◌, Bool, true, false, length-append}
 use Rattle.std.specs.Prelude.{None, Some, Result, Ok, Err, OnOk, count_by}
 use Rattle.std.specs.Ordering.{nat_cmp}
@@ -8,21 +8,18 @@ use Rattle.std.specs.FinSet as set
 use Rattle.thes_base.specs.declared.data.NewResource.{NewResource}
 use Rattle.thes_base.specs.declared.data.NewResource.TheVariants.{Scheme, Concept, Collection, Outside}
 use Rattle.thes_base.specs.declared.data.History.{History}
-use Rattle.thes_base.specs.declared.fault.Fault.{Fault}
-use Rattle.thes_base.specs.declared.request.Answer.{Answer}
-use Rattle.thes_base.specs.declared.request.Answer.TheVariants as reply
 use Rattle.thes_base.specs.declared.request.Command.{Command}
 use Rattle.thes_base.specs.declared.request.Command.TheVariants as request
 use Rattle.thes_base.specs.RefusalRules.{accepted}
 use Rattle.thes_base.specs.Resources.{IsConcept, scheme_of, replacements, is_outside}
 use Rattle.thes_base.specs.Postings.{is_assigned_to, assigned_count, move_count}
 use Rattle.thes_base.specs.State.{State, empty_state}
-use Rattle.thes_base.specs.Changes.{histories_after_split, histories_after_post, new_history, scheme_resource}
+use Rattle.thes_base.specs.Changes.{histories_after_split, new_history, scheme_resource}
 use Rattle.thes_base.specs.Changes.{collection_resource, concept_resource, state_after_split, is_listed, next_number}
 use Rattle.thes_base.specs.Headline.{IsConsistentState}
 use Rattle.thes_base.specs.Legal.{IsLegalState}
 use Rattle.thes_base.specs.Texts.{CommandHasForms}
-use Rattle.thes_base.specs.Machine.{Step, next_state, answer_of}
+use Rattle.thes_base.specs.Machine.{next_state}
 use Rattle.thes_base.specs.Refusals.{Setting, IsSetting}
 use Rattle.thes_base.specs.RuleParts.{unless_unique, unless_split_postings}
 use Rattle.thes_base.proofs.ForwardingLemmas.{count_posted}
@@ -39,7 +36,7 @@ use Rattle.thes_post.specs.PostingCounts.{PostingCounts, ArePostingCounts, Count
 use Rattle.thes_post.proofs.PostingCountLemmas.{AllAssigned, all_assigned, both_fit, fewer_than, sums_moved, sums_none}
 use Rattle.thes_core.specs.declared.thesaurus.Thesaurus.{Thesaurus}
 use Rattle.thes_core.specs.CoreView.{CoreView, IsViewOf, with_histories, without_postings}
-use Rattle.thes_core.specs.CoreDecisions.{IsAccepted, ApplyResult, CoreStepResult}
+use Rattle.thes_core.specs.CoreDecisions.{IsAccepted, MayApply}
 use Rattle.thes_core.specs.declared.facts.Facts.{Facts}
 use Rattle.thes_core.specs.Facts.{AreFacts}
 use Rattle.thes_core.specs.Requests.{PartsAccept, AreMatching, PartsOfState, CountsAfter, MayChange, PartsAfter}
@@ -47,7 +44,7 @@ use Rattle.thes_core.specs.Requests.{creation_request, is_foreign}
 use Rattle.thes_core.specs.PartsView.{parts_state, setting_of, parts_view, AreLegal}
 use Rattle.thes_core.proofs.FactLemmas.{listed_stand}
 use Rattle.thes_core.proofs.RequestCheckLemmas.{name_allowed}
-use Rattle.thes_core.proofs.NextStateLemmas.{next_sound, next_legal, step_of_accepted}
+use Rattle.thes_core.proofs.NextStateLemmas.{next_sound, next_legal}
 use Rattle.thes_core.proofs.OutsideLemmas.{knows_pushed, knows_marked}
 
 -- If the new vocabulary and graph are those of a state, and limits and base are unchanged, the new parts are those of
@@ -91,32 +88,12 @@ kept_after old new s fit legal made = record {
 -- The next state of a request that may be applied is legal without its postings.
 bare_legal : (t : Thesaurus) (command : Command) → CommandHasForms command → MayChange t command
     → IsLegalState t.vocab.base (without_postings (next_state command (parts_state t [])))
-bare_legal t (request.Scheme tag text) forms (kept, ok) = next_legal (setting_of t) kept.fit (parts_state t [])
-    (request.Scheme tag text) forms kept.legal ok
-bare_legal t (request.Concept scheme tag text) forms (kept, ok) =
-    next_legal (setting_of t) kept.fit (parts_state t []) (request.Concept scheme tag text) forms kept.legal ok
-bare_legal t (request.Collection scheme tag text) forms (kept, ok) =
-    next_legal (setting_of t) kept.fit (parts_state t []) (request.Collection scheme tag text) forms kept.legal ok
-bare_legal t (request.Outside iri) forms (kept, ok) = next_legal (setting_of t) kept.fit (parts_state t [])
-    (request.Outside iri) forms kept.legal ok
-bare_legal t (request.AddLabel owner l) forms (kept, ok) = next_legal (setting_of t) kept.fit (parts_state t [])
-    (request.AddLabel owner l) forms kept.legal ok
-bare_legal t (request.DropLabel owner l) forms (kept, ok) = next_legal (setting_of t) kept.fit (parts_state t [])
-    (request.DropLabel owner l) forms kept.legal ok
-bare_legal t (request.Relabel owner tag text keep) forms (kept, ok) =
-    next_legal (setting_of t) kept.fit (parts_state t []) (request.Relabel owner tag text keep) forms kept.legal ok
-bare_legal t (request.Link kind a b) forms (kept, ok) = next_legal (setting_of t) kept.fit (parts_state t [])
-    (request.Link kind a b) forms kept.legal ok
-bare_legal t (request.Unlink kind a b) forms (kept, ok) = next_legal (setting_of t) kept.fit (parts_state t [])
-    (request.Unlink kind a b) forms kept.legal ok
-bare_legal t (request.Deprecate concept) forms (kept, ok) = next_legal (setting_of t) kept.fit (parts_state t [])
-    (request.Deprecate concept) forms kept.legal ok
-bare_legal t (request.Merge source target) forms (kept, ok) = next_legal (setting_of t) kept.fit (parts_state t [])
-    (request.Merge source target) forms kept.legal ok
 bare_legal t (request.Split source tag text postings) forms (kept, ok) =
     next_legal (setting_of t) kept.fit (parts_state t []) (request.Split source tag text []) forms kept.legal ok
 bare_legal t (request.Post key rec concept) forms (kept, ok) = kept.legal
 bare_legal t (request.Withdraw posting) forms (kept, ok) = kept.legal
+bare_legal t command forms (kept, ok) =
+    next_legal (setting_of t) kept.fit (parts_state t []) command forms kept.legal ok
 
 -- The next state, except for its postings, doesn't depend on the postings of the state.
 next_parts : (t : Thesaurus) (hs : List History) (command : Command)
@@ -124,20 +101,8 @@ next_parts : (t : Thesaurus) (hs : List History) (command : Command)
       histories =
           (next_state command (parts_state t hs)).histories;
     } ≡ next_state command (parts_state t hs)
-next_parts t hs (request.Scheme tag text) = refl
-next_parts t hs (request.Concept scheme tag text) = refl
-next_parts t hs (request.Collection scheme tag text) = refl
-next_parts t hs (request.Outside iri) = refl
-next_parts t hs (request.AddLabel owner l) = refl
-next_parts t hs (request.DropLabel owner l) = refl
-next_parts t hs (request.Relabel owner tag text keep) = refl
-next_parts t hs (request.Link kind a b) = refl
-next_parts t hs (request.Unlink kind a b) = refl
-next_parts t hs (request.Deprecate concept) = refl
-next_parts t hs (request.Merge source target) = refl
-next_parts t hs (request.Split source tag text postings) = refl
-next_parts t hs (request.Post key rec concept) = refl
 next_parts t hs (request.Withdraw posting) = refl
+next_parts t hs _ = refl
 
 -- If the new parts are those of the next state without postings, they are those of the next state for any histories.
 pub remade_for : (old new : Thesaurus) (hs : List History) (command : Command) → PartsAfter command old new
@@ -188,17 +153,12 @@ post_more t hs key rec concept ok =
     let count = length-append hs (new_history key rec concept (replacements t.vocab.resources concept) hs ∷ []) in
     omega (arith, few, count)
 
-pub post_answer : (key rec : List ℕ) (concept : ℕ) (way : List ℕ) (hs : List History)
-    → length (histories_after_post key rec concept way hs) ≡ length hs + 1
-post_answer key rec concept way hs = length-append hs (new_history key rec concept way hs ∷ [])
-
--- The effect of a posting on the parts doesn't depend on its key and its record.
-pub remade_post : {E : Type 0} (r : Result Answer E) (t new : Thesaurus) (command : Command) (key rec : List ℕ)
-    (concept : ℕ) → command ≡ request.Post key rec concept
-    → OnOk r ((k m : List ℕ) → PartsAfter (request.Post k m concept) t new) → OnOk r (PartsAfter command t new)
-remade_post (Ok answer) t new command key rec concept is made = subst (λ (k : Command). PartsAfter k t new) (sym is)
-    (made key rec)
-remade_post (Err fault) t new command key rec concept is made = tt
+-- What holds after a posting with any key and record holds after this one.
+pub remade_post : {A E : Type 0} (r : Result A E) (P : Command → Type 0) (command : Command) (key rec : List ℕ)
+    (concept : ℕ) → command ≡ request.Post key rec concept → OnOk r ((k m : List ℕ) → P (request.Post k m concept))
+    → OnOk r (P command)
+remade_post (Ok x) P command key rec concept is made = subst P (sym is) (made key rec)
+remade_post (Err fault) P command key rec concept is made = tt
 
 -- The parts after a resource is created are those of the machine's next state.
 module _ (t : Thesaurus) (kept : AreLegal t []) where
@@ -219,24 +179,14 @@ module _ (t : Thesaurus) (kept : AreLegal t []) where
   made_outside (Outside iri) v g n e is number marked =
       parts_become_state is (marked ∙ ap (λ (k : ℕ). record t.graph { outside = set.insert t.graph.outside k })
       number) refl refl refl (knows_marked t kept.outside)
-  made_outside (Scheme tag text) v g n e is number marked = absurd (cc)
-  made_outside (Concept scheme tag text) v g n e is number marked = absurd (cc)
-  made_outside (Collection scheme tag text) v g n e is number marked = absurd (cc)
+  made_outside _ v g n e is number marked = absurd (cc)
 
--- The answer to a request for a new resource is its number, and the counts of postings are unchanged.
-pub made_counts : (t changed : Thesaurus) (hs : List History) (new : NewResource) {n : ℕ} → n
-    ≡ length t.vocab.resources + 1 → ArePostingCounts hs changed.book → CountsAfter (creation_request new) hs t
-    changed (reply.Number n)
-made_counts t changed hs (Scheme tag text) is are = record { answer_is = ap reply.Number is; posting_counts = are }
-made_counts t changed hs (Concept scheme tag text) is are = record {
-  answer_is = ap reply.Number is;
-  posting_counts = are;
-}
-made_counts t changed hs (Collection scheme tag text) is are = record {
-  answer_is = ap reply.Number is;
-  posting_counts = are;
-}
-made_counts t changed hs (Outside iri) is are = record { answer_is = ap reply.Number is; posting_counts = are }
+-- A new resource leaves the histories unchanged.
+pub made_counts : (t : Thesaurus) (hs : List History) (new : NewResource) → {book : PostingCounts}
+    → ArePostingCounts hs book
+    → ArePostingCounts (next_state (creation_request new) (parts_state t hs)).histories book
+made_counts t hs (Outside iri) are = are
+made_counts t hs _ are = are
 
 -- Assumes an accepted split, and gathers its facts, the new counts and the new state.
 module _ (t : Thesaurus) (hs : List History) (source : ℕ) (tag text : List ℕ) (postings : List ℕ)
@@ -314,6 +264,12 @@ pub held_unspent : (t : Thesaurus) (spent : Bool) (k : CoreView) → parts_view 
     → parts_view t false ≡ k
 held_unspent t spent k is unspent = ap (parts_view t) (sym (ap (λ (x : CoreView). x.spent) is ∙ unspent)) ∙ is
 
+-- A request that may be applied to a usable core may change its parts.
+pub parts_may_change : (t : Thesaurus) (spent : Bool) (k : CoreView) (command : Command) → parts_view t spent ≡ k
+    → k.spent ≡ false → (spent ≡ false → AreLegal t []) → MayApply k command → MayChange t command
+parts_may_change t spent k command is unspent fit may =
+    (fit (ap (λ (x : CoreView). x.spent) is ∙ unspent), subst (λ (x : CoreView). MayApply x command) (sym (held_unspent t spent k is unspent)) may)
+
 -- A core is a view of a state exactly when its parts are those of the state and count its histories.
 module _ (t : Thesaurus) (spent : Bool) (k : CoreView) (is : parts_view t spent ≡ k) (s : State) where
   pub held_state : IsViewOf k s → parts_state t s.histories ≡ s
@@ -326,11 +282,19 @@ module _ (t : Thesaurus) (spent : Bool) (k : CoreView) (is : parts_view t spent 
   held_sums holds = subst (ArePostingCounts s.histories) (ap (λ (x : CoreView). x.posting_counts) (sym is))
       holds.posting_counts
 
+  pub in_view : IsViewOf k s → (P : Setting → State → Type 0) → P (setting_of t) (parts_state t s.histories)
+      → P k.setting s
+  in_view holds P p = subst (λ (x : Setting × State). P x.0 x.1) (λ i. (held_setting i, held_state holds i)) p
+
+  pub from_view : IsViewOf k s → (P : Setting → State → Type 0) → P k.setting s
+      → P (setting_of t) (parts_state t s.histories)
+  from_view holds P p = subst (λ (x : Setting × State). P x.0 x.1)
+      (λ i. (sym held_setting i, sym (held_state holds) i)) p
+
   pub held_kept : AreLegal t [] → IsViewOf k s → AreLegal t s.histories
   held_kept fit holds = record {
     fit = fit.fit;
-    legal = subst (λ (p : List ℕ × State). IsLegalState p.0 p.1)
-        (λ i. (ap (λ (x : CoreView). x.setting.base) (sym is) i, sym (held_state holds) i)) holds.legal;
+    legal = from_view holds (λ q x. IsLegalState q.base x) holds.legal;
     outside = fit.outside;
   }
 
@@ -349,8 +313,7 @@ module _ (t : Thesaurus) (spent : Bool) (k : CoreView) (is : parts_view t spent 
   pub held_allows : PartsAccept t s.histories command
   held_allows = record {
     kept = held_kept t spent k is s fit holds;
-    accepts = subst (λ (p : Setting × State). IsAccepted p.0 p.1 command)
-        (λ i. (sym (held_setting t spent k is s) i, sym (held_state t spent k is s holds) i)) accepts;
+    accepts = from_view t spent k is s holds (λ q x. IsAccepted q x command) accepts;
   }
 
   pub held_meant : (facts : Facts) → AreFacts command s.histories facts → AreMatching t command facts s.histories
@@ -360,8 +323,8 @@ module _ (t : Thesaurus) (spent : Bool) (k : CoreView) (is : parts_view t spent 
     are_facts = are;
   }
 
-  module _ (new : Thesaurus) (answer : Answer) (forms : CommandHasForms command) (made : PartsAfter command t new)
-      (counts : CountsAfter command s.histories t new answer) where
+  module _ (new : Thesaurus) (forms : CommandHasForms command) (made : PartsAfter command t new)
+      (counts : CountsAfter command s.histories t new) where
     abbrev next : State
     next = next_state command (parts_state t s.histories)
 
@@ -373,40 +336,15 @@ module _ (t : Thesaurus) (spent : Bool) (k : CoreView) (is : parts_view t spent 
         (next_legal (setting_of t) held_allows.kept.fit (parts_state t s.histories) command forms
         held_allows.kept.legal held_allows.accepts) made_next
 
-    pub makes_new : ApplyResult k (next_state command s) (answer_of command s) (Ok answer) (parts_view new false)
-    makes_new =
-        let same = held_state t spent k is s holds in (
-          counts.answer_is ∙ ap (answer_of command) same,
-          subst (IsViewOf (parts_view new false)) (ap (next_state command) same)
-              (held_of new false next made_next.state kept_new counts.posting_counts),
-          refl,
-          made_next.setting ∙ held_setting t spent k is s,
-        )
+    pub makes_new : IsViewOf (parts_view new false) (next_state command s)
+    makes_new = subst (IsViewOf (parts_view new false)) (ap (next_state command) (held_state t spent k is s holds))
+        (held_of new false next made_next.state kept_new counts)
 
 -- After a request that may be applied, the parts satisfy their invariant.
 pub fit_new : (t new : Thesaurus) (command : Command) → CommandHasForms command → MayChange t command
     → PartsAfter command t new → AreLegal new []
 fit_new t new command forms may made = kept_after t new (without_postings (next_state command (parts_state t [])))
     may.0.fit (bare_legal t command forms may) made
-
--- Applying an accepted request is a step of the machine.
-pub step_performs : (old new : CoreView) (s : State) (command : Command) (result : Result Answer Fault)
-    → IsAccepted old.setting s command → ApplyResult old (next_state command s) (answer_of command s) result new
-    → CoreStepResult old s command result new
-step_performs old new s command (Ok answer) accepts makes = (
-  next_state command s,
-  subst (λ (a : Answer). Step old.setting s command a (next_state command s)) (sym makes.0)
-      (step_of_accepted old.setting s command accepts),
-  makes.1,
-  makes.2,
-  makes.3,
-)
-step_performs old new s command (Err fault) accepts makes = (makes.0, inr makes.1)
-
-pub consistent_after_step : (k : CoreView) (result : Result Answer Fault)
-    → OnOk result ((s : State) → IsViewOf k s → IsConsistentState k.setting.base s)
-consistent_after_step k (Ok answer) = held_in_order k
-consistent_after_step k (Err fault) = tt
 
 none_outside : (n : ℕ) → is_outside [] n ≡ false
 none_outside zero = refl

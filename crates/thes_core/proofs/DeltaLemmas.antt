@@ -1,9 +1,10 @@
 -- The changes of rows that each request makes lead to the machine's next state.
-use Rattle.std.proofs.Common.{◌≡◌, ◌≢◌, ◌<◌, ℕ, zero, suc, ◌+◌, length, List, [], ◌∷◌, ◌++◌, refl, sym, ap, ◌∙◌}
+use Rattle.std.proofs.Common.{◌≡◌, ◌≢◌, ℕ, suc, ◌+◌, length, List, [], ◌∷◌, ◌++◌, refl, sym, ap, ◌∙◌}
 use Rattle.std.proofs.Common.{subst, arith, map, take, false, inl, inr, Contains}
 use Rattle.std.specs.Prelude.{Some, None, Result, IfOk, AllPairs, slice_get}
 use Rattle.std.specs.List.Sorted.{IsPermutation, IsNonDecreasing}
-use Rattle.std.proofs.lemmas.List.{append-nil}
+use Rattle.std.proofs.lemmas.List.{append-nil, take_more, take_all}
+use Rattle.std.proofs.lemmas.Option.{slice_get_within, get_or_from_slice_get, slice_get_cases}
 use Rattle.std.proofs.lemmas.Result.{IfOk-weaker}
 use Rattle.thes_base.specs.declared.data.History.{History}
 use Rattle.thes_base.specs.declared.data.Link.{Link}
@@ -36,18 +37,19 @@ use Rattle.thes_core.specs.PartsView.{parts_state, setting_of}
 use Rattle.thes_core.proofs.ApplyLemmas.{all_listed, listed_row, split_apart}
 use Rattle.thes_core.proofs.RequestMoveLemmas.{moves_passing, listed_sorted, places_of_moves}
 
--- Assumes that two requests are equal, so that the changes of one are those of the other.
-module _ {E : Type 0} (t : Thesaurus) (facts : Facts) (command shown : Command) (is : command ≡ shown)
-    (r : Result (List Change) E) where
-  abbrev LeadsBy : Command → Type 0
-  LeadsBy k = IfOk r (λ delta. (hs : List History) → AreMatching t k facts hs → AreChangesBetween t.vocab.base delta
-      (parts_state t hs) (next_state k (parts_state t hs)))
+-- The changes in the result lead from the parts to the request's next state, for all histories that match.
+abbrev ResultLeads : {E : Type 0} → Thesaurus → Facts → Result (List Change) E → Command → Type 0
+ResultLeads t facts r command = IfOk r (λ delta. (hs : List History) → AreMatching t command facts hs
+    → AreChangesBetween t.vocab.base delta (parts_state t hs) (next_state command (parts_state t hs)))
 
-  pub leads_at : LeadsBy shown → LeadsBy command
-  leads_at lead = subst LeadsBy (sym is) lead
+-- If two requests are equal, the changes of one lead to the next state of the other.
+module _ (t : Thesaurus) (facts : Facts) {command shown : Command} (is : command ≡ shown) {E : Type 0}
+    (r : Result (List Change) E) where
+  pub leads_at : ResultLeads t facts r shown → ResultLeads t facts r command
+  leads_at lead = subst (ResultLeads t facts r) (sym is) lead
 
   pub by_law_at : IfOk r (λ delta. (hs : List History) → PartsAccept t hs shown → ArePostingCounts hs t.book → delta
-      ≡ changes_of shown (parts_state t hs)) → LeadsBy command
+      ≡ changes_of shown (parts_state t hs)) → ResultLeads t facts r command
   by_law_at are = leads_at (IfOk-weaker r _ _ (λ delta same hs meant.
       let ok = meant.allows in
       subst (λ d. AreChangesBetween t.vocab.base d (parts_state t hs) (next_state shown (parts_state t hs)))
@@ -126,21 +128,13 @@ in_contains {A} (y ∷ xs) x (inl same) = let Q : A → Type 0 = Contains (y ∷
 in_contains (y ∷ xs) x (inr later) = Contains-later y xs x (in_contains xs x later)
 
 -- The prefix up to and including the item at index `i` ends with that item.
-pub take_got : {A : Type 0} (xs : List A) (i : ℕ) (x : A) → slice_get xs i ≡ Some x → (i < length xs)
-    × (take (i + 1) xs ≡ take i xs ++ x ∷ [])
-take_got [] i x e = absurd (cc)
-take_got (y ∷ xs) zero x e = (omega arith, (let same : y ≡ x = cc in ap (λ z. z ∷ []) same))
-take_got {A} (y ∷ xs) (suc i) x e = let r = take_got xs i x e in (
-  (let l = r.0 in omega arith),
-  ap (λ (k : ℕ). take k (y ∷ xs)) (let q : suc i + 1 ≡ suc (i + 1) = omega arith in
-      q) ∙ ap (λ (l : List A). y ∷ l) r.1,
-)
+pub take_got : {A : Type 0} (xs : List A) (i : ℕ) (x : A) → slice_get xs i ≡ Some x → take (i + 1) xs ≡ take i xs
+    ++ x ∷ []
+take_got {A} xs i x e = take_more xs i x (slice_get_within xs i x e)
+    ∙ ap (λ (y : A). take i xs ++ y ∷ []) (get_or_from_slice_get xs i x x e)
 
 pub take_none : {A : Type 0} (xs : List A) (i : ℕ) → slice_get xs i ≡ None → take i xs ≡ xs
-take_none [] zero e = refl
-take_none [] (suc i) e = refl
-take_none (y ∷ xs) zero e = absurd (cc)
-take_none {A} (y ∷ xs) (suc i) e = ap (λ (l : List A). y ∷ l) (take_none xs i e)
+take_none xs i e = elim (slice_get_cases xs i).1 [ inl (x, _, at, _) ↦ absurd (cc) | inr past ↦ take_all i xs past.0 ]
 
 pub once_apart : {A : Type 0} (xs : List A) → AllPairs (λ x y. x ≢ y) xs → AreDistinct xs
 once_apart [] apart = tt

@@ -1,14 +1,12 @@
 -- The labels of one kind, filtered from an owner's sorted list, are all of that kind, sorted by language and text.
-use Rattle.std.proofs.Common.{◌≡◌, ◌∙◌, refl, sym, ap, subst, ℕ, suc, List, [], ◌∷◌, map, filter, true, false, cond}
-use Rattle.std.proofs.Common.{◌==◌, ◌⊎◌, inl, inr, ⊎_elim, eqb-true, true≢false, arith}
+use Rattle.std.proofs.Common.{◌≡◌, ◌∙◌, refl, sym, ap, subst, ℕ, List, [], ◌∷◌, map, filter, true, false, cond}
+use Rattle.std.proofs.Common.{◌==◌, eqb-true}
 use Rattle.std.specs.declared.cmp.Ordering.TheVariants.{Less, Equal}
 use Rattle.std.specs.Ordering.{nat_cmp, ordering_then, eq_by_cmp}
 use Rattle.std.specs.Cmp.{nat_cmp_total, tied_itself, Equal-is}
 use Rattle.std.specs.Cmp.Lexicographic.{slice_cmp}
-use Rattle.std.specs.List.{AllByRecursion, Contains}
+use Rattle.std.specs.List.{AllByRecursion}
 use Rattle.std.specs.List.Sorted.{IsStrictlySortedBy}
-use Rattle.std.proofs.lemmas.List.Elements.{All-from_recursion, All-contains}
-use Rattle.std.proofs.lemmas.Bool.{or_cases, or_left, or_right}
 use Rattle.std.proofs.lemmas.Simd.{map-map}
 use Rattle.thes_base.specs.declared.data.LabelKind.{LabelKind}
 use Rattle.thes_base.specs.declared.data.LabelKind.TheVariants.{Pref, Alt, Hidden, Scope}
@@ -18,10 +16,13 @@ use Rattle.thes_base.specs.Listing.{IsListing}
 use Rattle.thes_base.specs.Machine.{owned_label}
 use Rattle.thes_base.specs.Views.{TaggedText, tagged_text_cmp}
 use Rattle.thes_base.proofs.LabelSetLemmas.{labels_total, same_kind}
+use Rattle.thes_base.proofs.ListMemberLemmas.{Contains-map, Contains-filter, Contains-from_map, Contains-from_filter}
 use Rattle.thes_base.proofs.SetMemberLemmas.{then_assoc}
-use Rattle.thes_vocab.specs.OwnLabels.{AreLabelsOf, data_cmp, has_own, own_label}
-use Rattle.thes_vocab.proofs.OwnLabelLemmas.{data_exact}
+use Rattle.thes_vocab.specs.OwnLabels.{AreLabelsOf, data_cmp, own_label}
+use Rattle.thes_vocab.proofs.OwnLabelLemmas.{data_exact, data_total}
+use Rattle.thes_tables.proofs.RowSetLemmas.{any_in, in_any}
 use Rattle.thes_core.specs.LabelLists.{tagged_text, is_of_kind}
+use Rattle.thes_core.proofs.DeltaLemmas.{contains_in, in_contains}
 
 -- The order of labels is by kind, and then by language and text.
 as_owned : (x y : LabelData) → data_cmp x y ≡ ordering_then (nat_cmp (label_kind_no x.kind) (label_kind_no y.kind))
@@ -74,59 +75,22 @@ module _ (kind : LabelKind) where
         | false ↦ λ e. shown_rising xs s.1
       ] refl
 
-  -- Each label of the filtered list is the owner's, of the kind.
-  shown_is_owned : (P : TaggedText → Type 0) (xs : List LabelData) → ((l : LabelData) → has_own xs l ≡ true → l.kind
-      ≡ kind → P (tagged_text l)) → AllByRecursion P (labels_shown xs)
-  shown_is_owned P [] f = tt
-  shown_is_owned P (x ∷ xs) f =
-      let more = shown_is_owned P xs (λ l e k. f l (or_right (eq_by_cmp data_cmp l x) (has_own xs l) e) k) in
-      elim (is_of_kind kind x) as (λ t. is_of_kind kind x ≡ t
-      → AllByRecursion P
-      (map tagged_text (cond t (x ∷ filter (is_of_kind kind) xs) (filter (is_of_kind kind) xs)))) [
-        | true ↦ λ e. (
-          f x (or_left (eq_by_cmp data_cmp x x) (has_own xs x) (data_itself x))
-              (same_kind x.kind kind (eqb-true _ _ e)),
-          more,
-        )
-        | false ↦ λ e. more
-      ] refl
-
-  -- Each of the owner's labels of the kind is in the filtered list.
-  found_at : (l x : LabelData) (xs : List LabelData) → is_of_kind kind l ≡ true → (eq_by_cmp data_cmp l x ≡ true)
-      ⊎ Contains (labels_shown xs) (tagged_text l) → Contains (labels_shown (x ∷ xs)) (tagged_text l)
-  found_at l x xs k (inl e) =
-      let same : l ≡ x = data_exact l x ((Equal-is (data_cmp l x)).0 e) in
-      elim (is_of_kind kind x) as (λ t. is_of_kind kind x ≡ t
-      → Contains (map tagged_text (cond t (x ∷ filter (is_of_kind kind) xs) (filter (is_of_kind kind) xs)))
-      (tagged_text l)) [
-        | true ↦ λ q. (0, omega arith, ap tagged_text (sym same))
-        | false ↦ λ q. absurd (true≢false (sym k ∙ ap (is_of_kind kind) same ∙ q))
-      ] refl
-  found_at l x xs k (inr c) =
-      elim (is_of_kind kind x) as
-      (λ t. Contains (map tagged_text (cond t (x ∷ filter (is_of_kind kind) xs) (filter (is_of_kind kind) xs)))
-      (tagged_text l)) [
-        | true ↦ (suc c.0, omega (arith, c.1), c.2)
-        | false ↦ c
-      ]
-
-  owned_at_place : (xs : List LabelData) (l : LabelData) → is_of_kind kind l ≡ true → has_own xs l ≡ true
-      → Contains (labels_shown xs) (tagged_text l)
-  owned_at_place [] l k e = absurd (true≢false (sym e))
-  owned_at_place (x ∷ xs) l k e =
-      found_at l x xs k (⊎_elim (λ f. inl f) (λ f. inr (owned_at_place xs l k f))
-      (or_cases (eq_by_cmp data_cmp l x) (has_own xs l) e))
-
   -- The filtered list is a listing of the owner's labels of the kind.
   owned_is_shown : (labels : Labels) (owner : ℕ) (own : List LabelData) → AreLabelsOf labels owner own
       → IsListing tagged_text_cmp (λ t. HasLabel labels owner kind t.tag t.text) (labels_shown own)
   owned_is_shown labels owner own a = record {
     rises = shown_rising own a.ordered;
-    sound = λ t c. All-contains (λ q. HasLabel labels owner kind q.tag q.text) (labels_shown own) t
-        (All-from_recursion _ (labels_shown own) (shown_is_owned (λ q. HasLabel labels owner kind q.tag q.text) own
-        (λ l e k. subst (λ j. HasLabel labels owner j l.tag l.text) k (sym (a.each l) ∙ e)))) c;
-    complete = λ t h. owned_at_place own (own_label kind t.tag t.text) (kind_itself kind)
-        (a.each (own_label kind t.tag t.text) ∙ h);
+    sound = λ t c.
+        let (l, shown, is) = Contains-from_map tagged_text (filter (is_of_kind kind) own) t c in
+        let found = Contains-from_filter (is_of_kind kind) own l shown in
+        let held = sym (a.each l) ∙ any_in data_total data_exact l own (contains_in own l found.0) in
+        subst (λ (p : LabelKind × TaggedText). HasLabel labels owner p.0 p.1.tag p.1.text)
+        (λ i. (same_kind l.kind kind (eqb-true _ _ found.1) i, is i)) held;
+    complete = λ t h.
+        let l = own_label kind t.tag t.text in
+        let held = in_contains own l (in_any data_total data_exact l own (a.each l ∙ h)) in
+        Contains-map tagged_text (filter (is_of_kind kind) own) l
+        (Contains-filter (is_of_kind kind) own l held (kind_itself kind));
   }
 
   pub listed_by : {X : Type 0} (see : X → LabelData) (labels : Labels) (owner : ℕ) (own : List LabelData)

@@ -6,7 +6,6 @@ pub mod OutsideLemmas
 pub mod ApplyLemmas
 pub mod LabelListLemmas
 pub mod RequestMoveLemmas
-pub mod DistinctLinkLemmas
 pub mod DeltaLemmas
 pub mod MergeLinkLemmas
 pub mod CopiedRowLemmas

@@ -1,7 +1,8 @@
 -- The changes of rows that a merge makes lead to the machine's next state.
 use Rattle.std.proofs.Common.{◌≡◌, ◌≢◌, ℕ, ◌+◌, List, [], ◌∷◌, ◌++◌, sym, ap, ◌∙◌, subst, Bool, map, append_assoc}
 use Rattle.std.proofs.Common.{length}
-use Rattle.std.specs.Prelude.{Some, filter}
+use Rattle.std.specs.Prelude.{filter}
+use Rattle.std.specs.List.{filter_map}
 use Rattle.std.proofs.lemmas.List.{length-map}
 use Rattle.std.proofs.lemmas.List.Sums.{length-filter}
 use Rattle.std.specs.FinSet as set
@@ -21,7 +22,7 @@ use Rattle.thes_tables.specs.declared.change.Change.{Change}
 use Rattle.thes_tables.specs.declared.change.Change.TheVariants as change
 use Rattle.thes_tables.specs.Changes.{add_link, drop_link, new_moves}
 use Rattle.thes_tables.specs.ChangeLaw.{AreChangesBetween}
-use Rattle.thes_tables.specs.Tables.{IsIn, IsUnsortedListing}
+use Rattle.thes_tables.specs.Tables.{IsUnsortedListing}
 use Rattle.thes_tables.proofs.ChangeLawLemmas.{leads_merge}
 use Rattle.thes_tables.proofs.RowSetLemmas.{absent_by, turn_into_by}
 use Rattle.thes_core.specs.declared.thesaurus.Thesaurus.{Thesaurus}
@@ -31,6 +32,8 @@ use Rattle.thes_core.specs.Requests.{PartsAccept}
 use Rattle.thes_core.specs.PartsView.{parts_state}
 use Rattle.thes_core.proofs.ApplyLemmas.{merge_apart}
 use Rattle.thes_core.proofs.RequestCheckLemmas.{outside_same}
+use Rattle.thes_base.proofs.RefusalRuleLemmas.{passed_unless}
+use Rattle.thes_core.proofs.OutsideLemmas.{concept_inside}
 use Rattle.thes_core.proofs.MergeLinkLemmas.{merge_goes, merge_comes}
 use Rattle.thes_core.proofs.RequestMoveLemmas.{moves_passing}
 use Rattle.thes_core.proofs.CopiedRowLemmas.{taken_absent, taken_same}
@@ -44,9 +47,6 @@ regroup {A} x y a b c d =
 
 module _ (t : Thesaurus) (hs : List History) (source target : ℕ) (ok : PartsAccept t hs (request.Merge source target))
     (gone : List Link) (row : IsRow t.graph.links source gone)
-    (come : List Link)
-    (joined : IsUnsortedListing (λ (q : Link). (l : Link) × IsIn l gone
-    × (link_added_by_merge t.graph source target l ≡ Some q)) come)
     (own : List LabelData) (are : AreLabelsOf t.vocab.labels source own) where
   ends_differ : source ≢ target
   ends_differ = merge_apart t hs source target ok
@@ -58,6 +58,15 @@ module _ (t : Thesaurus) (hs : List History) (source target : ℕ) (ok : PartsAc
   normal l held = subst (λ (f : ℕ → Bool). normal_form f l ≡ l) (sym (outside_same t hs ok.kept))
       (ok.kept.legal.links.each l held).ordered
 
+  inside : set.contains t.graph.outside source ≡ set.contains t.graph.outside target
+  inside =
+      let kinds = (passed_unless (passed_unless ok.accepts.row).1).0 in
+      ok.kept.outside source ∙ concept_inside t.vocab.resources source kinds.0
+      ∙ sym (ok.kept.outside target ∙ concept_inside t.vocab.resources target kinds.1)
+
+  abbrev come : List Link
+  come = filter_map (link_added_by_merge t.graph source target) gone
+
   abbrev links_after_contract : (ℕ → Bool) → Links
   links_after_contract f = links_after_merge f source target t.graph.links
 
@@ -66,14 +75,14 @@ module _ (t : Thesaurus) (hs : List History) (source target : ℕ) (ok : PartsAc
   links_removed =
       subst (λ (f : ℕ → Bool). IsUnsortedListing (λ q. Holds t.graph.links q × (Holds (links_after_contract f) q → ⊥))
       gone) (outside_same t hs ok.kept)
-      (merge_goes t.graph source target ends_differ two normal gone row)
+      (merge_goes t.graph source target ends_differ two normal inside gone row)
 
   links_inserted : IsUnsortedListing (λ q. Holds (links_after_contract (is_outside t.vocab.resources)) q
       × (Holds t.graph.links q → ⊥)) come
   links_inserted =
       subst (λ (f : ℕ → Bool). IsUnsortedListing (λ q. Holds (links_after_contract f) q × (Holds t.graph.links q → ⊥))
       come) (outside_same t hs ok.kept)
-      (merge_comes t.graph source target ends_differ two normal gone row come joined)
+      (merge_comes t.graph source target ends_differ two normal inside gone row)
 
   abbrev first : ℕ
   first = move_count hs + 1

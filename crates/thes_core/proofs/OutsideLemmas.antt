@@ -8,6 +8,9 @@ use Rattle.std.specs.FinSet as set
 use Rattle.std.proofs.lemmas.Map.Lookups.{exact_unsigned}
 use Rattle.thes_base.specs.declared.data.Resource.{Resource}
 use Rattle.thes_base.specs.Resources.{entry_at, set_entry_at, IsOutside, is_outside, is_outside_kind}
+use Rattle.thes_base.specs.Resources.{IsConcept, is_concept_kind}
+use Rattle.thes_base.specs.declared.data.ResourceKind.{ResourceKind}
+use Rattle.thes_base.specs.declared.data.ResourceKind.TheVariants.{Outside}
 use Rattle.thes_base.specs.Changes.{resources_after_death, resource_after_death, outside_resource}
 use Rattle.thes_base.proofs.NumberedLemmas.{push_new}
 use Rattle.thes_base.proofs.ResourceLemmas.{marked_dead_at, passes_push, passes_pop, passes_dead, passes_before}
@@ -28,6 +31,14 @@ test_passed rs n e = go (entry_at rs n) refl
     go : (o : Option Resource) → entry_at rs n ≡ o → IsOutside rs n
     go None none = absurd (let bad = sym (ap test_of none) ∙ e in cc)
     go (Some r) at = (r, at, sym (ap test_of at) ∙ e)
+
+-- A concept isn't an outside concept.
+pub concept_inside : (rs : List Resource) (n : ℕ) → IsConcept rs n → is_outside rs n ≡ false
+concept_inside rs n (r, at, concept) = ap test_of at ∙ go r.kind concept
+  where
+    go : (kind : ResourceKind) → is_concept_kind kind ≡ true → is_outside_kind kind ≡ false
+    go Outside e = absurd (cc)
+    go _ e = refl
 
 same_outside : (rs ss : List Resource) (n : ℕ) → (IsOutside rs n → IsOutside ss n) → (IsOutside ss n → IsOutside rs n)
     → is_outside rs n ≡ is_outside ss n

@@ -120,12 +120,6 @@ module _ (t : Thesaurus) (hs : List History) (kept : AreLegal t hs) where
   pub outside_same : set.contains t.graph.outside ≡ is_outside t.vocab.resources
   outside_same i n = kept.outside n i
 
-  -- A link is held in the graph's normal form exactly when it is held in the state's.
-  pub held_as : (l : Link) (held : Bool) → held ≡ set.contains t.graph.links
-      (normal_form (set.contains t.graph.outside) l) → held ≡ set.contains t.graph.links
-      (normal_form (is_outside t.vocab.resources) l)
-  held_as l held is = subst (λ (f : ℕ → Bool). held ≡ set.contains t.graph.links (normal_form f l)) outside_same is
-
   -- The graph's check of a new link is the machine's.
   pub held_row : (l : Link) (answer : Option Refusal) → checks_of_add t.graph.links
       (normal_form (set.contains t.graph.outside) l) answer → unless_linkable (is_outside t.vocab.resources)
@@ -178,18 +172,18 @@ module _ (t : Thesaurus) (hs : List History) (kept : AreLegal t hs) where
     name_allowed unique =
         inr ((is_scheme.0, is_scheme.1), inr (is_scheme, subst (λ (o : Option ℕ). unique_in o None) is unique))
 
--- Assumes that two requests are equal, so that the refusal of one is that of the other.
-module _ (t : Thesaurus) (facts : Facts) (command shown : Command) (is : command ≡ shown) where
-  pub judged_by : (answer : Option Refusal) → ((hs : List History) → AreLegal t hs → ArePostingCounts hs t.book
-      → AreFacts shown hs facts → RefusalByParts t hs shown answer)
-      → (hs : List History) → AreLegal t hs → ArePostingCounts hs t.book → AreFacts command hs facts
-      → RefusalByParts t hs command answer
-  judged_by answer says hs kept are told = subst (λ (k : Command). RefusalByParts t hs k answer) (sym is)
-      (says hs kept are (subst (λ (k : Command). AreFacts k hs facts) is told))
+-- If two requests are equal, the refusal of one is that of the other.
+pub judged_by : {t : Thesaurus} {facts : Facts} {command shown : Command} → command ≡ shown → (answer : Option Refusal)
+    → ((hs : List History) → AreLegal t hs → ArePostingCounts hs t.book → AreFacts shown hs facts
+    → RefusalByParts t hs shown answer)
+    → (hs : List History) → AreLegal t hs → ArePostingCounts hs t.book → AreFacts command hs facts
+    → RefusalByParts t hs command answer
+judged_by {t} {facts} is answer says hs kept are told = subst (λ (k : Command). RefusalByParts t hs k answer) (sym is)
+    (says hs kept are (subst (λ (k : Command). AreFacts k hs facts) is told))
 
-  pub may_by : (answer : Option Refusal) → IfNone answer (MayApply (parts_view t false) shown)
-      → IfNone answer (MayApply (parts_view t false) command)
-  may_by answer may = subst (λ (k : Command). IfNone answer (MayApply (parts_view t false) k)) (sym is) may
+pub may_by : (t : Thesaurus) {command shown : Command} → command ≡ shown → (answer : Option Refusal)
+    → IfNone answer (MayApply (parts_view t false) shown) → IfNone answer (MayApply (parts_view t false) command)
+may_by t is answer may = subst (λ (k : Command). IfNone answer (MayApply (parts_view t false) k)) (sym is) may
 
 -- A request with a new key that passes all checks is accepted.
 pub accepts_of_row : (t : Thesaurus) (command : Command) (answer : Option Refusal)

@@ -1,5 +1,5 @@
--- The decisions of a core on requests, and the results of applying requests.
-use Rattle.std.specs.Prelude.{◌≡◌, ◌⊎◌, List, [], Option, None, Some, Result, Ok, Err, true, false}
+-- The decisions of a core on requests, and the results of its steps.
+use Rattle.std.specs.Prelude.{◌≡◌, ◌⊎◌, List, [], None, Result, Ok, Err, true, false}
 use Rattle.thes_base.specs.declared.fault.Fault.{Fault}
 use Rattle.thes_base.specs.declared.fault.Fault.TheVariants.{OutOfMemory}
 use Rattle.thes_base.specs.declared.request.Command.{Command}
@@ -18,11 +18,6 @@ use Rattle.thes_core.specs.CoreView.{CoreView, IsViewOf, with_histories}
 pub record IsAccepted (setting : Setting) (s : State) (command : Command) : Type 0 where
   pub fresh : HasNewKey command s
   pub row : refusal_rule_of setting s (next_state command s) command None
-
--- The answer is that of a machine's step that leaves the state unchanged; without an answer, the request is accepted.
-abbrev pub SettledOrAccepted : Setting → State → Command → Option Answer → Type 0
-SettledOrAccepted setting s command (Some answer) = Step setting s command answer s
-SettledOrAccepted setting s command None = IsAccepted setting s command
 
 -- The request is accepted, the answer is the machine's, and the changes of rows lead to the machine's next state.
 pub record AcceptedVerdict (setting : Setting) (s : State) (command : Command) (answer : Answer)
@@ -54,13 +49,6 @@ MayApply core command = IsAcceptedWithoutPostings core.setting (with_histories [
 abbrev pub VerdictMayApply : CoreView → Command → Verdict → Type 0
 VerdictMayApply core command (Settled answer) = Unit {0}
 VerdictMayApply core command (Accepted answer changes) = MayApply core command
-
--- The result of applying a request: the answer, and a core that is a view of the state `s`; or OutOfMemory, and an
--- unusable core.
-abbrev pub ApplyResult : CoreView → State → Answer → Result Answer Fault → CoreView → Type 0
-ApplyResult old s answer (Ok given) new =
-    (given ≡ answer) × IsViewOf new s × (new.spent ≡ false) × (new.setting ≡ old.setting)
-ApplyResult old s answer (Err fault) new = (fault ≡ OutOfMemory) × (new.spent ≡ true)
 
 -- The result of a step: the machine's answer, and a core that is a view of the machine's next state; or OutOfMemory,
 -- and an unchanged or unusable core.

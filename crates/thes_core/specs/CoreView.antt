@@ -18,7 +18,7 @@ pub record CoreView : Type 0 where
   pub links : Links
   pub posting_counts : PostingCounts
   pub setting : Setting
-  -- Whether running out of memory has left the state half changed.
+  -- Whether the core is unusable: running out of memory has left the state half changed, or it was marked so.
   pub spent : Bool
 
 -- The state that has the core's parts and these histories.

@@ -1,5 +1,5 @@
 -- The parts of a thesaurus as a state and as contracts see them, with their invariant.
-use Rattle.std.specs.Prelude.{◌≡◌, Bool, List}
+use Rattle.std.specs.Prelude.{Bool, List}
 use Rattle.thes_base.specs.declared.data.History.{History}
 use Rattle.thes_base.specs.State.{State}
 use Rattle.thes_base.specs.Refusals.{Setting, IsSetting}

@@ -5,7 +5,6 @@ use Rattle.thes_base.specs.declared.data.History.{History}
 use Rattle.thes_base.specs.declared.data.Link.{Link}
 use Rattle.thes_base.specs.declared.data.NewResource.{NewResource}
 use Rattle.thes_base.specs.declared.data.NewResource.TheVariants.{Scheme, Concept, Collection, Outside}
-use Rattle.thes_base.specs.declared.request.Answer.{Answer}
 use Rattle.thes_base.specs.declared.request.Command.{Command}
 use Rattle.thes_base.specs.declared.request.Command.TheVariants as request
 use Rattle.thes_base.specs.declared.fault.Refusal.TheVariants.{LinkThere}
@@ -13,7 +12,7 @@ use Rattle.thes_base.specs.RefusalRules.{RefusalRule, refused_if, accepted}
 use Rattle.thes_base.specs.Links.{Links, Holds, normal_form}
 use Rattle.thes_base.specs.RuleParts.{unless_links_consistent}
 use Rattle.thes_base.specs.State.{State}
-use Rattle.thes_base.specs.Machine.{next_state, answer_of, refusal_rule_of}
+use Rattle.thes_base.specs.Machine.{next_state, refusal_rule_of}
 use Rattle.thes_graph.specs.GraphView.{MarksOutside}
 use Rattle.thes_post.specs.PostingCounts.{ArePostingCounts}
 use Rattle.thes_core.specs.declared.thesaurus.Thesaurus.{Thesaurus}
@@ -50,22 +49,22 @@ pub record PartsOfState (old : Thesaurus) (s : State) (new : Thesaurus) : Type 0
   pub setting : setting_of new ≡ setting_of old
   pub outside : MarksOutside new.vocab.resources new.graph
 
--- The answer is the machine's, and the new parts count the postings of the machine's next state.
-pub record CountsAfter (command : Command) (histories : List History) (old new : Thesaurus) (answer : Answer) : Type
-    0 where
-  pub answer_is : answer ≡ answer_of command (parts_state old histories)
-  pub posting_counts : ArePostingCounts (next_state command (parts_state old histories)).histories new.book
+-- The new parts count the postings of the machine's next state.
+abbrev pub CountsAfter : Command → List History → Thesaurus → Thesaurus → Type 0
+CountsAfter command histories old new =
+    ArePostingCounts (next_state command (parts_state old histories)).histories new.book
 
 -- The new parts have the resources, IRIs, labels and links of the machine's next state, and the base and limits of the
 -- old parts; their counts may be any.
 abbrev pub PartsAfter : Command → Thesaurus → Thesaurus → Type 0
 PartsAfter command old new = PartsOfState old (without_postings (next_state command (parts_state old []))) new
 
--- The answer and the new counts are the machine's, for all histories with which the request is accepted.
-abbrev pub CountsAfterAny : Command → Thesaurus → Thesaurus → Answer → Type 0
-CountsAfterAny command old new answer =
-    (histories : List History) → PartsAccept old histories command → ArePostingCounts histories old.book
-    → CountsAfter command histories old new answer
+-- The new parts are those of the machine's next state, and count its postings for all histories with which the request
+-- is accepted.
+pub record IsChangedBy (command : Command) (old new : Thesaurus) : Type 0 where
+  pub becomes : PartsAfter command old new
+  pub counts : (histories : List History) → PartsAccept old histories command → ArePostingCounts histories old.book
+      → CountsAfter command histories old new
 
 -- The histories match: the request is accepted with them, the parts count them, and the facts are theirs.
 pub record AreMatching (t : Thesaurus) (command : Command) (facts : Facts) (histories : List History) : Type 0 where

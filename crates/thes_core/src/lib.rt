@@ -16,6 +16,7 @@ mod parts;
 pub mod reading;
 mod room;
 mod thesaurus;
+mod unusable;
 mod verdict;
 
 pub use facts::Facts;

@@ -1,12 +1,12 @@
 //! The machine: the answer to each request and the state after it, with counts in place of the
 //! histories of postings.
-ghost use Rattle.std.specs.Prelude.{◌≡◌, false, true, IfOk, IfErr, IfNone, OnOk};
+ghost use Rattle.std.specs.Prelude.{◌≡◌, false, true, IfOk, IfErr, OnOk};
 ghost use Rattle.thes_base.specs.State.{State, empty_state};
 ghost use Rattle.thes_base.specs.Headline.{IsConsistentState};
-ghost use Rattle.thes_base.specs.Machine.{next_state, answer_of};
+ghost use Rattle.thes_base.specs.Machine.{next_state};
 ghost use Rattle.thes_core.specs.Facts.{AreFacts};
 ghost use Rattle.thes_core.specs.CoreView.{IsViewOf};
-ghost use Rattle.thes_core.specs.CoreDecisions.{IsAccepted, IsVerdict, ApplyResult, MayApply, CoreStepResult, VerdictMayApply, SettledOrAccepted};
+ghost use Rattle.thes_core.specs.CoreDecisions.{IsAccepted, IsVerdict, MayApply, CoreStepResult, VerdictMayApply};
 
 use crate::checking::known_answer;
 use crate::facts::Facts;
@@ -69,25 +69,6 @@ impl Core {
         }
     }
 
-    /// Returns the answer to a request that changes nothing: a refusal, or the answer to a repeated
-    /// key. None means that the request may be applied.
-    pub fn settled_answer(&self, command: &Command, facts: &Facts) -> Result<Option<Answer>, Fault>
-        requires { self.now.spent ≡ false }
-        ensures ok { IfOk result (λ answer. (s : State) → IsViewOf self.now s
-            → AreFacts command.now s.histories facts.now
-            → SettledOrAccepted self.now.setting s command.now answer) }
-        ensures may { IfOk result (λ answer. IfNone answer (MayApply self.now command.now)) }
-        ensures err { IfErr result (λ fault. fault ≡ Fault.OutOfMemory) }
-    {
-        if let Some(answer) = known_answer(command, facts) {
-            return Ok(Some(answer));
-        }
-        match self.thesaurus.check_request(command, facts)? {
-            Some(refusal) => Ok(Some(Answer::No(refusal))),
-            None => Ok(None),
-        }
-    }
-
     /// Decides a request without changing anything, and returns its answer and, if it is accepted,
     /// its changes of rows. The verdict is right if the facts are those of the postings.
     pub fn decide(&self, command: &Command, facts: &Facts) -> Result<Verdict, Fault>
@@ -100,22 +81,23 @@ impl Core {
         ensures in_order { (s : State) → IsViewOf self.now s
             → IsConsistentState self.now.setting.base s }
     {
-        match self.settled_answer(command, facts)? {
-            Some(answer) => Ok(Verdict::Settled(answer)),
+        if let Some(answer) = known_answer(command, facts) {
+            return Ok(Verdict::Settled(answer));
+        }
+        match self.thesaurus.check_request(command, facts)? {
+            Some(refusal) => Ok(Verdict::Settled(Answer::No(refusal))),
             None => Ok(self.thesaurus.accepted(command, facts)?),
         }
     }
 
-    /// Applies an accepted request, and returns its answer. If memory runs out, the core is
-    /// unusable (`is_spent`).
-    pub fn apply(&mut self, command: &Command, facts: &Facts) -> Result<Answer, Fault>
+    /// Applies an accepted request. If memory runs out, the core is unusable (`is_spent`).
+    pub fn apply(&mut self, command: &Command, facts: &Facts) -> Result<(), Fault>
         requires unspent { self.old.spent ≡ false }
         requires may { MayApply self.old command.now }
         ensures made { (s : State) → IsViewOf self.old s
             → AreFacts command.now s.histories facts.now
             → IsAccepted self.old.setting s command.now
-            → ApplyResult self.old (next_state command.now s)
-            (answer_of command.now s) result self.new }
+            → OnOk result (IsViewOf self.new (next_state command.now s)) }
         ensures ok { OnOk result ((self.new.spent ≡ false)
             × (self.new.setting ≡ self.old.setting)) }
         ensures err { IfErr result (λ fault. (fault ≡ Fault.OutOfMemory)
@@ -124,13 +106,9 @@ impl Core {
         // No effect; states the form of each text for the proof.
         command.learn_forms();
         self.spent = true;
-        match self.thesaurus.change(command, facts) {
-            Ok(answer) => {
-                self.spent = false;
-                Ok(answer)
-            }
-            Err(_) => Err(Fault::OutOfMemory),
-        }
+        self.thesaurus.change(command, facts)?;
+        self.spent = false;
+        Ok(())
     }
 
     /// Performs a request, and returns its answer. The state after it is consistent: each posting
@@ -145,9 +123,12 @@ impl Core {
         ensures in_order { OnOk result ((s : State) → IsViewOf self.new s
             → IsConsistentState self.new.setting.base s) }
     {
-        match self.settled_answer(command, facts)? {
-            Some(answer) => Ok(answer),
-            None => self.apply(command, facts),
+        match self.decide(command, facts)? {
+            Verdict::Settled(answer) => Ok(answer),
+            Verdict::Accepted(answer, _delta) => {
+                self.apply(command, facts)?;
+                Ok(answer)
+            }
         }
     }
 }

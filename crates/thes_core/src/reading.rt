@@ -36,10 +36,10 @@ pub struct Sizes {
 }
 
 impl Core {
-    /// Returns whether running out of memory has left the state half changed, so that the core is
-    /// unusable until it is loaded again. The state of a usable core is consistent: each posting
-    /// that isn't withdrawn is assigned to exactly one live concept, the counts add up, and the
-    /// triples meet the conditions of SKOS.
+    /// Returns whether the core is unusable until it is loaded again: running out of memory has left
+    /// its state half changed, or `mark_spent` was called. The state of a usable core is
+    /// consistent: each posting that isn't withdrawn is assigned to exactly one live concept, the
+    /// counts add up, and the triples meet the conditions of SKOS.
     pub fn is_spent(&self) -> bool
         ensures value { result ≡ self.now.spent }
         ensures in_order { result ≡ false → (s : State) → IsViewOf self.now s

@@ -1,5 +1,5 @@
--- Proves that the sorted lines about all resources are the export.
-use Rattle.std.proofs.Common.{◌≡◌, ◌⊎◌, ◌∙◌, sym, ap, refl, subst, inl, inr, ⊎_elim, ℕ, ◌+◌, ◌<◌, ◌≤◌, Bool, true}
+-- Proves that the sorted parts about all resources are the export.
+use Rattle.std.proofs.Common.{◌≡◌, ◌∙◌, sym, ap, refl, subst, inl, inr, ⊎_elim, ℕ, ◌+◌, ◌-◌, ◌<◌, ◌≤◌, Bool, true}
 use Rattle.std.proofs.Common.{false, List, [], ◌∷◌, ◌++◌, length, get_or, take, Contains, IsPermutation, IsSorted}
 use Rattle.std.proofs.Common.{nat_eq, arith, eqb, eqb-true}
 use borrow.Author.Tests.{eqb-false}
@@ -10,46 +10,79 @@ use Rattle.std.specs.Cmp.Lexicographic.{pointwise, bytes_decides, nat_list_cmp_t
 use Rattle.std.specs.Cmp.Lexicographic.{slice_cmp}
 use Rattle.std.proofs.lemmas.List.{append-nil, take_more}
 use Rattle.std.proofs.lemmas.List.Folds.{concat-append}
+use Rattle.std.proofs.lemmas.List.Elements.{Contains-append_left, Contains-append_right, Contains-append_cases}
 use Rattle.std.proofs.lemmas.List.Filters.{dedup_is}
 use Rattle.std.proofs.lemmas.List.Kept.{Contains-dedup, Contains-from_dedup, IsStrictlySortedBy-dedup}
 use Rattle.std.proofs.lemmas.List.Sorted.{Contains-permutation, IsPermutation-sym}
 use Rattle.std.specs.Ordering.{nat_cmp}
 use Rattle.thes_base.specs.Legal.{IsLegalState}
+use Rattle.std.proofs.lemmas.Option.{slice_get_cases}
+use Rattle.thes_base.specs.declared.data.Resource.{Resource}
 use Rattle.thes_base.specs.Listing.{IsListing}
+use Rattle.thes_base.specs.Resources.{Exists}
 use Rattle.thes_base.specs.State.{State}
-use Rattle.thes_base.specs.Triples.{Triple}
-use Rattle.thes_base.proofs.ListMemberLemmas.{Contains-none}
-use Rattle.thes_base.proofs.NumberedLemmas.{numbered_bound}
+use Rattle.thes_base.proofs.ListMemberLemmas.{Contains-none, Contains-head, Contains-cons_cases}
+use Rattle.thes_base.proofs.NumberedLemmas.{numbered_at, numbered_bound}
 use Rattle.thes_core.specs.CoreView.{CoreView, IsViewOf, with_histories}
 use Rattle.thes_export.specs.Export.{IsExport, IsTripleLine}
-use Rattle.thes_export.specs.Spelling.{line_of}
-use Rattle.thes_export.specs.Topics.{Adds, IsResourceTriple, IsLineOf, IsTripleUpTo}
-use Rattle.thes_export.proofs.LineAppendLemmas.{added_then, no_lines}
+use Rattle.thes_export.specs.Topics.{Adds, AreParts, IsPartOf, IsResourceTriple, IsLineOf}
+use Rattle.thes_export.proofs.HoldingLemmas.{still_up}
+use Rattle.thes_export.proofs.PartLemmas.{AreLinesOf, IsPart, lines_found}
 use Rattle.thes_export.proofs.ResourceTripleLemmas.{written_from, written_to}
 
-pub none_up : (core : CoreView) (xs : List (List ℕ)) → Adds (IsLineOf (IsTripleUpTo core 0)) xs xs
-none_up core xs = no_lines (IsTripleUpTo core 0) xs (λ t w. let least = w.1 in let most = w.2 in omega arith)
+-- Before the first resource there are no parts.
+pub parts_first : (core : CoreView) → AreParts core 0 []
+parts_first core = record {
+  sound = λ x c. absurd (Contains-none x c);
+  complete = λ n least most. absurd (omega arith);
+}
 
-pub one_up : (core : CoreView) (i : ℕ) (old mid new : List (List ℕ)) → Adds (IsLineOf (IsTripleUpTo core i)) old mid
-    → Adds (IsLineOf (IsResourceTriple core (i + 1))) mid new → Adds (IsLineOf (IsTripleUpTo core (i + 1))) old new
-one_up core i old mid new =
-    added_then (IsLineOf (IsTripleUpTo core i)) (IsLineOf (IsResourceTriple core (i + 1)))
-    (IsLineOf (IsTripleUpTo core (i + 1))) old mid new
-    (λ l w. let of = w.1 in split l w.0 of.0 of.1 of.2 of.3 w.2 (eqb of.0 (i + 1)) refl)
-    (λ l w. let of = w.1 in let most = of.2 in (w.0, (of.0, of.1, omega arith, of.3), w.2))
-    (λ l w. (w.0, (i + 1, omega arith, omega arith, w.1), w.2))
+-- The part about the next resource is appended.
+pub parts_next : (core : CoreView) (i : ℕ) (text : List ℕ) (old new : List (List ℕ)) → IsPartOf core (i + 1) text
+    → new ≡ old ++ text ∷ [] → AreParts core i old → AreParts core (i + 1) new
+parts_next core i text old new part e are = subst (AreParts core (i + 1)) (sym e) (record {
+  sound = λ x c. ⊎_elim
+      (λ was. let w = are.sound x was in (w.0, still_up (λ m. IsPartOf core m x) i w.0 w.1))
+      (λ last. (
+        i + 1,
+        (
+          omega arith,
+          omega arith,
+          ⊎_elim (λ same. subst (IsPartOf core (i + 1)) same part) (λ none. absurd (Contains-none x none))
+              (Contains-cons_cases text [] x last),
+        ),
+      ))
+      (Contains-append_cases old (text ∷ []) x c);
+  complete = λ n least most. go n least most (eqb n (i + 1)) refl;
+})
   where
-    split : (l : List ℕ) (t : Triple) (n : ℕ) → 1 ≤ n → n ≤ i + 1 → IsResourceTriple core n t → l ≡ line_of t
-        → (b : Bool) → eqb n (i + 1) ≡ b → IsLineOf (IsTripleUpTo core i) l ⊎ IsLineOf (IsResourceTriple core (i + 1)) l
-    split l t n least most about spelling true e = inr (
-      t,
-      subst (λ m. IsResourceTriple core m t) (eqb-true n (i + 1) e) about,
-      spelling,
+    go : (n : ℕ) → 1 ≤ n → n ≤ i + 1 → (b : Bool) → eqb n (i + 1) ≡ b
+        → (x : List ℕ) × Contains (old ++ text ∷ []) x × IsPartOf core n x
+    go n least most true e = (
+      text,
+      Contains-append_right old (text ∷ []) text (Contains-head text []),
+      subst (λ m. IsPartOf core m text) (sym (eqb-true n (i + 1) e)) part,
     )
-    split l t n least most about spelling false e = let other = eqb-false n (i + 1) e in
-        inl (t, (n, least, omega arith, about), spelling)
+    go n least most false e =
+        let other = eqb-false n (i + 1) e in
+        let w = are.complete n least (omega arith) in
+        (w.0, Contains-append_left old (text ∷ []) w.0 w.1, w.2)
 
--- Lines that are sorted without duplicates are a listing.
+-- Sorted lines about a resource are its part.
+pub part_is : (core : CoreView) (n : ℕ) (gathered lines : List (List ℕ)) (text : List ℕ)
+    → Adds (IsLineOf (IsResourceTriple core n)) [] gathered → IsListing (slice_cmp nat_cmp) (Contains gathered) lines
+    → text ≡ concat lines → IsPartOf core n text
+part_is core n gathered lines text added sorted e = (
+  lines,
+  record {
+    rises = sorted.rises;
+    sound = λ l c. ⊎_elim (λ none. absurd (Contains-none l none)) (λ is. is) ((added.each l).0 (sorted.sound l c));
+    complete = λ l is. sorted.complete l ((added.each l).1 (inr is));
+  },
+  e,
+)
+
+-- Parts that are sorted without duplicates are a listing.
 
 pub sorted_listing : (xs ys zs : List (List ℕ)) → IsPermutation xs ys → IsSorted (slice_cmp nat_cmp) ys
     → IsFiltered (DiffersFromLast (pointwise nat_eq)) [] ys zs → IsListing (slice_cmp nat_cmp) (Contains xs) zs
@@ -65,7 +98,7 @@ sorted_listing xs ys zs moved sorted filtered =
           (Contains-permutation xs ys l moved c));
     }
 
--- One more line is appended to the text.
+-- One more part is appended to the text.
 pub joined_more : (xs : List (List ℕ)) (i : ℕ) (x old new : List ℕ) → i < length xs → x ≡ get_or xs i x → old
     ≡ concat (take i xs) → new ≡ old ++ x → new ≡ concat (take (i + 1) xs)
 joined_more xs i x old new below at so_far more =
@@ -74,11 +107,18 @@ joined_more xs i x old new below at so_far more =
     more ∙ ap (λ t. t ++ x) so_far ∙ ap (λ t. concat (take i xs) ++ t) (sym (append-nil x))
     ∙ sym (concat-append (take i xs) (x ∷ [])) ∙ ap concat (sym taken)
 
--- If a core is a view of the state, the sorted lines about all its resources are the export.
+-- Each number up to the number of resources is that of a resource.
+exists_up : (xs : List Resource) (n : ℕ) → 1 ≤ n → n ≤ length xs → Exists xs n
+exists_up xs n least most = elim (slice_get_cases xs (n - 1)).1 [
+  | inl found ↦ (found.0, numbered_at xs n least ∙ found.2)
+  | inr past ↦ absurd (let beyond = past.0 in omega arith)
+]
 
-module _ (core : CoreView) (s : State) (holds : IsViewOf core s) (gathered lines : List (List ℕ))
-    (added : Adds (IsLineOf (IsTripleUpTo core (length core.resources))) [] gathered)
-    (sorted : IsListing (slice_cmp nat_cmp) (Contains gathered) lines) where
+-- If a core is a view of the state, the sorted parts about all its resources are the export.
+
+module _ (core : CoreView) (s : State) (holds : IsViewOf core s) (gathered parts : List (List ℕ))
+    (are : AreParts core (length core.resources) gathered)
+    (sorted : IsListing (slice_cmp nat_cmp) (Contains gathered) parts) where
   abbrev base : List ℕ
   base = core.setting.base
 
@@ -88,27 +128,35 @@ module _ (core : CoreView) (s : State) (holds : IsViewOf core s) (gathered lines
   legal : IsLegalState base k
   legal = subst (IsLegalState base) (sym holds.state) holds.legal
 
-  line_asserted : (l : List ℕ) → Contains gathered l → IsTripleLine base k l
-  line_asserted l c = ⊎_elim (λ none. absurd (Contains-none l none)) (λ w. let of = w.1 in
-      (w.0, written_to core s.histories legal of.0 w.0 of.3, w.2)) ((added.each l).0 c)
+  part_found : (x : List ℕ) → Contains parts x → IsPart core s.histories legal x
+  part_found x c =
+      let w = are.sound x (sorted.sound x c) in
+      let up = w.1 in
+      (w.0, exists_up core.resources w.0 up.0 up.1, up.2)
 
-  line_gathered : (l : List ℕ) → IsTripleLine base k l → Contains gathered l
-  line_gathered l is =
+  found : AreLinesOf core s.histories legal parts
+  found = lines_found core s.histories legal parts sorted.rises part_found
+
+  line_asserted : (l : List ℕ) → Contains found.lines l → IsTripleLine base k l
+  line_asserted l c =
+      let w = found.sound l c in
+      let of = w.2 in
+      let about = of.3 in
+      (about.0, written_to core s.histories legal of.0 about.0 about.1, about.2)
+
+  line_listed : (l : List ℕ) → IsTripleLine base k l → Contains found.lines l
+  line_listed l is =
       let w = written_from core s.histories legal is.0 is.1 in
       let there = w.1 in
       let b = numbered_bound core.resources w.0 there.0 there.1 in
-      (added.each l).1 (inr (is.0, (w.0, b.0, b.1, w.2), is.2))
+      let part = are.complete w.0 b.0 b.1 in
+      found.complete part.0 l w.0 there (sorted.complete part.0 part.1) part.2 (is.0, w.2, is.2)
 
-  pub export_is : (text : List ℕ) → text ≡ concat lines → IsExport base s text
+  pub export_is : (text : List ℕ) → text ≡ concat parts → IsExport base s text
   export_is text e =
       subst (λ z. IsExport base z text) holds.state
       (record {
-        lines = lines;
-        listed = record {
-          rises = sorted.rises;
-          sound = λ l c. line_asserted l (sorted.sound l c);
-          complete =
-              λ l is. sorted.complete l (line_gathered l is);
-        };
-        is = e;
+        lines = found.lines;
+        listed = record { rises = found.rises; sound = line_asserted; complete = line_listed };
+        is = e ∙ found.text_is;
       })

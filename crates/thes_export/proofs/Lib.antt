@@ -7,6 +7,8 @@ pub mod LegalTripleLemmas
 pub mod ExportLemmas
 pub mod LineLemmas
 pub mod LineAppendLemmas
+pub mod HoldingLemmas
 pub mod TopicLemmas
 pub mod ResourceTripleLemmas
+pub mod PartLemmas
 pub mod GatherLemmas

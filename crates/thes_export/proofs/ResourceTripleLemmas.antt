@@ -1,5 +1,5 @@
 -- Proves that the triples of a legal state are those written about its resources, topic by topic.
-use Rattle.std.proofs.Common.{◌≡◌, ◌⊎◌, ◌∙◌, sym, ap, refl, subst, inl, inr, ⊎_elim, ℕ, List, Option, None, Some}
+use Rattle.std.proofs.Common.{length, ◌≡◌, ◌⊎◌, ◌∙◌, sym, ap, refl, subst, inl, inr, ⊎_elim, ℕ, List, Option, None, Some}
 use Rattle.std.specs.Prelude.{option_and_then}
 use Rattle.thes_base.specs.declared.data.Resource.{Resource}
 use Rattle.thes_base.specs.declared.data.ResourceKind.{ResourceKind}
@@ -25,10 +25,14 @@ use Rattle.thes_base.specs.Triples.{HasLinkOfKind, HasLabelOfKind, IsTopOf}
 use Rattle.thes_base.specs.State.{State}
 use Rattle.thes_base.specs.Views.{HasLink, HasBroader}
 use Rattle.thes_core.specs.CoreView.{CoreView, with_histories}
+use Rattle.std.proofs.lemmas.Bool.{and_parts}
+use Rattle.std.proofs.lemmas.Option.{same_Some}
+use Rattle.thes_base.proofs.NumberedLemmas.{numbered_bound}
+use Rattle.thes_export.specs.Holdings.{IsTopIn, IsUpTo}
 use Rattle.thes_export.specs.declared.topic.Topic.{Topic}
-use Rattle.thes_export.specs.declared.topic.Topic.TheVariants.{Kind, Belonging, Top, Death, Replacement, Labels}
-use Rattle.thes_export.specs.declared.topic.Topic.TheVariants.{Broader, Narrower, Related, Mappings, Memberships}
-use Rattle.thes_export.specs.Topics.{IsTopicTriple, IsResourceTriple, IsOfClass, IsTopIn, MapsBy, label_property}
+use Rattle.thes_export.specs.declared.topic.Topic.TheVariants.{Kind, Belonging, Top, TopConcepts, Death, Replacement}
+use Rattle.thes_export.specs.declared.topic.Topic.TheVariants.{Labels, Broader, Narrower, Related, Mappings, Members}
+use Rattle.thes_export.specs.Topics.{IsTopicTriple, IsResourceTriple, IsOfClass, MapsBy, label_property}
 use Rattle.thes_export.specs.Topics.{node_triple, number_iri}
 
 module _ (core : CoreView) (hs : List History) (legal : IsLegalState core.setting.base (with_histories hs core)) where
@@ -102,6 +106,19 @@ module _ (core : CoreView) (hs : List History) (legal : IsLegalState core.settin
   live_found : (c m : ℕ) → IsTopOf k c m → Exists core.resources c
   live_found c m top = let live = top.live in (live.0, live.1)
 
+  -- A scheme that has a top concept exists.
+  scheme_found : (c m : ℕ) → IsTopOf k c m → Exists core.resources m
+  scheme_found c m top =
+      let live = top.live in
+      let own = (legal.resources.each c live.0 live.1).scheme (inl (and_parts _ _ live.2).0) in
+      let same : Some own.0 ≡ Some m = sym own.1 ∙ sym (ap (option_and_then (λ (r : Resource). r.scheme)) live.1)
+      ∙ top.within in
+      let is = own.2 in
+      subst (Exists core.resources) (same_Some _ _ same) (is.0, is.1)
+
+  counted : (Is : ℕ → Type 0) (n : ℕ) → Exists core.resources n → Is n → IsUpTo (length core.resources) Is n
+  counted Is n at is = let b = numbered_bound core.resources n at.0 at.1 in (b.0, b.1, is)
+
   label_written : (j : LabelKind) (x tag text : List ℕ) → HasLabelOfKind base k j x tag text
       → IsWritten (triple x (label_property j) (Literal tag text))
   label_written j x tag text (n, has, e) = topic_written n Labels _ (owner (legal.labels.owners _ has))
@@ -129,9 +146,10 @@ module _ (core : CoreView) (hs : List History) (legal : IsLegalState core.settin
       topic_written m Belonging _ (⊎_elim (concept_exists m) (collection_exists m) kinds)
       (n, of, nodes property.InScheme m n x y d e)
   node_written property.TopConceptOf x y (c, m, top, d, e) = topic_written c Top _ (live_found c m top)
-      (m, top_in c m top, inl (nodes property.TopConceptOf c m x y d e))
-  node_written property.HasTopConcept x y (m, c, top, d, e) = topic_written c Top _ (live_found c m top)
-      (m, top_in c m top, inr (nodes property.HasTopConcept m c x y d e))
+      (m, top_in c m top, nodes property.TopConceptOf c m x y d e)
+  node_written property.HasTopConcept x y (m, c, top, d, e) =
+      topic_written m TopConcepts _ (scheme_found c m top)
+      (c, counted (λ n. IsTopIn core n m) c (live_found c m top) (top_in c m top), nodes property.HasTopConcept m c x y d e)
   node_written property.IsReplacedBy x y (m, n, by, d, e) = topic_written m Replacement _ (by.0, by.1)
       (n, by, nodes property.IsReplacedBy m n x y d e)
   node_written property.Broader x y (m, n, l, d, e) = let has = broader_link m n l in
@@ -157,8 +175,9 @@ module _ (core : CoreView) (hs : List History) (legal : IsLegalState core.settin
   node_written property.NarrowMatch x y (m, n, l, d, e) = let has = kind_link kind.Narrow m n l in
       maps property.NarrowMatch m n x y (mapping_start kind.Narrow m n refl has) has d e
   node_written property.Member x y (m, n, l, d, e) = let has = kind_link kind.Member m n l in
-      topic_written n Memberships _ (concept_exists n (legal.links.each _ has).ends.1)
-      (m, has, nodes property.Member m n x y d e)
+      let ends = (legal.links.each _ has).ends in
+      topic_written m Members _ (collection_exists m ends.0)
+      (n, counted (HasLink core.links kind.Member m) n (concept_exists n ends.1) has, nodes property.Member m n x y d e)
   node_written _ x y content = absurd content
 
   class_written : (p : Property) (class : SkosClass) (x : List ℕ) → HasProperty base k x p (Class class)
@@ -271,8 +290,8 @@ module _ (core : CoreView) (hs : List History) (legal : IsLegalState core.settin
     refl,
     refl,
   )
-  said_of Top n t (m, top, inl e) = asserted_same t _ e (n, m, top_said n m top, refl, refl)
-  said_of Top n t (m, top, inr e) = asserted_same t _ e (m, n, top_said n m top, refl, refl)
+  said_of Top n t (m, top, e) = asserted_same t _ e (n, m, top_said n m top, refl, refl)
+  said_of TopConcepts n t (m, top, e) = asserted_same t _ e (n, m, top_said m n top.2, refl, refl)
   said_of Death n t (concept, dead, e) = asserted_same t _ e (n, (concept, dead), refl)
   said_of Replacement n t (m, by, e) = asserted_same t _ e (n, m, by, refl, refl)
   said_of Labels n t (l, has, e) = asserted_same t _ e (label_said l.kind n l.tag l.text has)
@@ -281,7 +300,7 @@ module _ (core : CoreView) (hs : List History) (legal : IsLegalState core.settin
   said_of Related n t (m, inl has, e) = asserted_same t _ e (n, m, inl (link_kind kind.Related n m has), refl, refl)
   said_of Related n t (m, inr has, e) = asserted_same t _ e (n, m, inr (link_kind kind.Related m n has), refl, refl)
   said_of Mappings n t (concept, (p, (m, by, e))) = asserted_same t _ e (map_said p n m concept by)
-  said_of Memberships n t (m, has, e) = asserted_same t _ e (m, n, link_kind kind.Member m n has, refl, refl)
+  said_of Members n t (m, has, e) = asserted_same t _ e (n, m, link_kind kind.Member n m has.2, refl, refl)
 
   pub written_to : (n : ℕ) (t : Triple) → IsResourceTriple core n t → IsAsserted base k t
   written_to n t (topic, is) = said_of topic n t is

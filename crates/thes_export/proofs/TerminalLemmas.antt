@@ -46,7 +46,7 @@ past_space text rest c x gap_before e never other = go gap_before.gap gap_before
 not_iri_byte : (b : ℕ) → list_any (λ c. c == b) (codes "<>\"{}|^`\\") ≡ true → ¬ IsIriByte b
 not_iri_byte b among of = let e = of.1 in absurd (cc)
 
-iri_not : (c b : ℕ) → IsIriByte c → c ≡ b → list_any (λ d. d == b) (codes "<>\"{}|^`\\") ≡ true → ⊥
+pub iri_not : (c b : ℕ) → IsIriByte c → c ≡ b → list_any (λ d. d == b) (codes "<>\"{}|^`\\") ≡ true → ⊥
 iri_not c b of same among = not_iri_byte b among (subst IsIriByte same of)
 
 -- Pieces that spell an IRI up to its closing bracket are exactly its bytes.

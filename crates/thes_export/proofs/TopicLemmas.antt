@@ -1,5 +1,5 @@
 -- Proves that the lines appended for a resource are those of its topics.
-use Rattle.std.proofs.Common.{◌≡◌, ◌⊎◌, ◌∙◌, sym, ap, refl, subst, inl, inr, ⊎_elim, ℕ, ◌==◌, Bool, true, false, ◌&&◌}
+use Rattle.std.proofs.Common.{◌≡◌, ◌⊎◌, ◌∙◌, sym, ap, refl, subst, inl, ⊎_elim, ℕ, ◌==◌, Bool, true, false, ◌&&◌}
 use Rattle.std.proofs.Common.{◌||◌, not, List, [], ◌∷◌, length, Contains, Option, None, Some, ◌≤◌, take, Result}
 use Rattle.std.proofs.Common.{arith, eqb-true, true≢false}
 use Rattle.std.specs.Prelude.{option_and_then, OnOk, nat_lt, if◌then◌else◌}
@@ -28,14 +28,14 @@ use Rattle.thes_vocab.proofs.OwnLabelLemmas.{data_exact}
 use Rattle.thes_core.specs.CoreView.{CoreView}
 use Rattle.thes_core.proofs.LabelListLemmas.{data_itself}
 use Rattle.thes_export.specs.declared.topic.Topic.{Topic}
-use Rattle.thes_export.specs.declared.topic.Topic.TheVariants.{Kind, Belonging, Top, Death, Replacement, Labels}
-use Rattle.thes_export.specs.declared.topic.Topic.TheVariants.{Broader, Narrower, Related, Mappings, Memberships}
+use Rattle.thes_export.specs.declared.topic.Topic.TheVariants.{Kind, Belonging, Top, TopConcepts, Death, Replacement}
+use Rattle.thes_export.specs.declared.topic.Topic.TheVariants.{Labels, Broader, Narrower, Related, Mappings, Members}
 use Rattle.thes_export.specs.Spelling.{line_of}
-use Rattle.thes_export.specs.Topics.{Adds, IsLineOf, IsNode, IsTopicTriple, IsResourceTriple, IsOfClass, IsTopIn}
-use Rattle.thes_export.specs.Topics.{IsTopScheme, IsMatch}
+use Rattle.thes_export.specs.Holdings.{IsTopIn, IsTopScheme, IsTopUpTo, IsMemberUpTo}
+use Rattle.thes_export.specs.Topics.{Adds, IsLineOf, IsNode, IsTopicTriple, IsResourceTriple, IsOfClass, IsMatch}
 use Rattle.thes_export.specs.Topics.{MapsOne, MapsBy, Nodes, class_in, class_triple, dead_triple, label_triple}
 use Rattle.thes_export.specs.Topics.{node_triple, topics}
-use Rattle.thes_export.proofs.LineAppendLemmas.{OfSome, added_then, all_taken, no_lines, one_triple, same_lines}
+use Rattle.thes_export.proofs.LineAppendLemmas.{OfSome, all_taken, no_lines, one_triple, same_lines}
 
 module _ (core : CoreView) (n : ℕ) (r : Resource) where
   same_resource : (q : Resource) → entry_at core.resources n ≡ Some r → entry_at core.resources n ≡ Some q → q ≡ r
@@ -161,20 +161,12 @@ module _ (core : CoreView) (n : ℕ) where
   same_top : (m k : ℕ) → IsTopIn core n m → IsTopIn core n k → k ≡ m
   same_top m k a b = let q : Some k ≡ Some m = sym b.1 ∙ a.1 in cc
 
-  pub top_lines : (m : ℕ) (old mid new : List (List ℕ)) → IsTopIn core n m
-      → Adds (IsLineOf (IsNode core n property.TopConceptOf m)) old mid
-      → Adds (IsLineOf (IsNode core m property.HasTopConcept n)) mid new
-      → Adds (IsLineOf (IsTopicTriple core Top n)) old new
-  top_lines m old mid new top =
-      added_then (IsLineOf (IsNode core n property.TopConceptOf m))
-      (IsLineOf (IsNode core m property.HasTopConcept n)) (IsLineOf (IsTopicTriple core Top n)) old mid new
-      (λ l w.
-      let of = w.1 in
-      let same = same_top m of.0 top of.1 in
-      ⊎_elim (λ e. inl (w.0, e ∙ ap (node_triple core n property.TopConceptOf) same, w.2))
-      (λ e. inr (w.0, e ∙ ap (λ k. node_triple core k property.HasTopConcept n) same, w.2)) of.2)
-      (λ l w. (w.0, (m, top, inl w.1), w.2))
-      (λ l w. (w.0, (m, top, inr w.1), w.2))
+  pub top_line : (m : ℕ) (old new : List (List ℕ)) → IsTopIn core n m
+      → Adds (IsLineOf (IsNode core n property.TopConceptOf m)) old new → Adds (IsLineOf (IsTopicTriple core Top n)) old new
+  top_line m old new top =
+      same_lines (IsNode core n property.TopConceptOf m) (IsTopicTriple core Top n) old new
+      (λ t e. (m, top, e))
+      (λ t w. w.2 ∙ ap (node_triple core n property.TopConceptOf) (same_top m w.0 top w.1))
 
   -- The lines of labels are those of their topic.
 
@@ -234,15 +226,17 @@ module _ (core : CoreView) (n : ℕ) where
   related_lines = listed_lines property.Related (λ m. HasLink core.links kind.Related n m
       ⊎ HasLink core.links kind.Related m n)
 
-  pub membership_lines : (ks xs : List ℕ) (i : ℕ) (old new : List (List ℕ)) → xs ≡ ks → length xs ≤ i
-      → IsListing nat_cmp (λ k. HasLink core.links kind.Member k n) ks
-      → Adds (IsLineOf (OfSome (λ (k : ℕ). IsNode core k property.Member n) (take i xs))) old new
-      → Adds (IsLineOf (IsTopicTriple core Memberships n)) old new
-  membership_lines ks xs i old new e all listed added =
-      same_lines (OfSome (λ (k : ℕ). IsNode core k property.Member n) xs) (IsTopicTriple core Memberships n) old new
-      (λ t w. (w.0, listed.sound w.0 (subst (λ ys. Contains ys w.0) e w.1), w.2))
-      (λ t w. (w.0, subst (λ ys. Contains ys w.0) (sym e) (listed.complete w.0 w.1), w.2))
-      (all_taken (λ (k : ℕ). IsNode core k property.Member n) xs i old new all added)
+  pub top_concept_lines : (ms xs : List ℕ) (old new : List (List ℕ)) → xs ≡ ms
+      → IsListing nat_cmp (IsTopUpTo core (length core.resources) n) ms
+      → Adds (IsLineOf (Nodes core property.HasTopConcept (Contains xs) n)) old new
+      → Adds (IsLineOf (IsTopicTriple core TopConcepts n)) old new
+  top_concept_lines = listed_lines property.HasTopConcept (IsTopUpTo core (length core.resources) n)
+
+  pub member_lines : (ms xs : List ℕ) (old new : List (List ℕ)) → xs ≡ ms
+      → IsListing nat_cmp (IsMemberUpTo core (length core.resources) n) ms
+      → Adds (IsLineOf (Nodes core property.Member (Contains xs) n)) old new
+      → Adds (IsLineOf (IsTopicTriple core Members n)) old new
+  member_lines = listed_lines property.Member (IsMemberUpTo core (length core.resources) n)
 
   -- The lines of mappings are those of their topic.
 
@@ -287,16 +281,17 @@ module _ (core : CoreView) (n : ℕ) where
   among_topics Kind = (0, omega arith, refl)
   among_topics Belonging = (1, omega arith, refl)
   among_topics Top = (2, omega arith, refl)
-  among_topics Death = (3, omega arith, refl)
-  among_topics Replacement = (4, omega arith, refl)
-  among_topics Labels = (5, omega arith, refl)
-  among_topics Broader = (6, omega arith, refl)
-  among_topics Narrower = (7, omega arith, refl)
-  among_topics Related = (8, omega arith, refl)
-  among_topics Mappings = (9, omega arith, refl)
-  among_topics Memberships = (10, omega arith, refl)
+  among_topics TopConcepts = (3, omega arith, refl)
+  among_topics Death = (4, omega arith, refl)
+  among_topics Replacement = (5, omega arith, refl)
+  among_topics Labels = (6, omega arith, refl)
+  among_topics Broader = (7, omega arith, refl)
+  among_topics Narrower = (8, omega arith, refl)
+  among_topics Related = (9, omega arith, refl)
+  among_topics Mappings = (10, omega arith, refl)
+  among_topics Members = (11, omega arith, refl)
 
-  pub all_topics : (xs : List Topic) (i : ℕ) (old new : List (List ℕ)) → xs ≡ topics → 11 ≤ i
+  pub all_topics : (xs : List Topic) (i : ℕ) (old new : List (List ℕ)) → xs ≡ topics → 12 ≤ i
       → Adds (IsLineOf (OfSome (λ (topic : Topic). IsTopicTriple core topic n) (take i xs))) old new
       → Adds (IsLineOf (IsResourceTriple core n)) old new
   all_topics xs i old new e all added =

@@ -3,3 +3,4 @@ pub mod Spelling
 pub mod Export
 pub mod Topics
 pub mod ExportWrites
+pub mod Holdings

@@ -1,6 +1,9 @@
 -- The triples that an export writes about each resource, topic by topic.
-use Rattle.std.specs.Prelude.{◌≡◌, ◌⊎◌, ◌↔◌, ◌∷◌, ◌≤◌, [], ℕ, List, Contains, Option, None, Some, true}
+use Rattle.std.specs.Prelude.{◌≡◌, ◌⊎◌, ◌↔◌, ◌∷◌, ◌≤◌, [], ℕ, List, length, Contains, Option, None, Some, true}
 use Rattle.std.specs.FinSet as set
+use Rattle.std.specs.List.{concat}
+use Rattle.std.specs.Ordering.{nat_cmp}
+use Rattle.std.specs.Cmp.Lexicographic.{slice_cmp}
 use Rattle.thes_base.specs.declared.data.LabelKind.{LabelKind}
 use Rattle.thes_base.specs.declared.data.LabelKind.TheVariants.{Pref, Alt, Hidden, Scope}
 use Rattle.thes_base.specs.declared.data.LinkKind.{LinkKind}
@@ -12,15 +15,17 @@ use Rattle.thes_base.specs.declared.triple.Property.TheVariants as property
 use Rattle.thes_base.specs.declared.triple.Class.{Class as SkosClass}
 use Rattle.thes_base.specs.declared.triple.Class.TheVariants.{Concept, ConceptScheme, Collection}
 use Rattle.thes_base.specs.Data.{LabelData}
+use Rattle.thes_base.specs.Listing.{IsListing}
 use Rattle.thes_base.specs.Machine.{owned_label}
-use Rattle.thes_base.specs.Resources.{IsScheme, IsConcept, IsCollection, IsLiveConcept, IsLive, IsReplacedBy, scheme_of}
+use Rattle.thes_base.specs.Resources.{IsScheme, IsConcept, IsCollection, IsLive, IsReplacedBy, scheme_of}
 use Rattle.thes_base.specs.Triples.{Triple, Node, Class, Literal, True, triple, iri_of}
 use Rattle.thes_base.specs.Views.{HasLink, HasBroader}
 use Rattle.thes_core.specs.CoreView.{CoreView}
 use Rattle.thes_export.specs.declared.line_source.LineSource.{LineSource}
 use Rattle.thes_export.specs.declared.topic.Topic.{Topic}
-use Rattle.thes_export.specs.declared.topic.Topic.TheVariants.{Kind, Belonging, Top, Death, Replacement, Labels}
-use Rattle.thes_export.specs.declared.topic.Topic.TheVariants.{Broader, Narrower, Related, Mappings, Memberships}
+use Rattle.thes_export.specs.declared.topic.Topic.TheVariants.{Kind, Belonging, Top, TopConcepts, Death, Replacement}
+use Rattle.thes_export.specs.declared.topic.Topic.TheVariants.{Labels, Broader, Narrower, Related, Mappings, Members}
+use Rattle.thes_export.specs.Holdings.{IsTopIn, IsTopUpTo, IsMemberUpTo, IsUpTo}
 use Rattle.thes_export.specs.Spelling.{line_of}
 
 -- The IRI of the resource with this number.
@@ -65,17 +70,6 @@ module _ (core : CoreView) where
   IsOfClass Concept n = IsConcept core.resources n
   IsOfClass Collection n = IsCollection core.resources n
 
-  -- Concept `n` is a top concept of the scheme `m`.
-  abbrev pub IsTopIn : ℕ → ℕ → Type 0
-  IsTopIn n m =
-      IsLiveConcept core.resources n × (scheme_of core.resources n ≡ Some m)
-      × ((b : ℕ) → HasBroader core.links n b → ⊥)
-
-  -- The option is the scheme of which `n` is a top concept, or None if there is none.
-  abbrev pub IsTopScheme : ℕ → Option ℕ → Type 0
-  IsTopScheme n None = (m : ℕ) → IsTopIn n m → ⊥
-  IsTopScheme n (Some m) = IsTopIn n m
-
   -- There is a link of this kind from `n` to `m`, and the triple is that from `n` to `m` with the
   -- property.
   abbrev pub IsMatch : LinkKind → ℕ → Property → ℕ → Triple → Type 0
@@ -103,9 +97,8 @@ module _ (core : CoreView) where
   abbrev pub IsTopicTriple : Topic → ℕ → Triple → Type 0
   IsTopicTriple Kind n t = (class : SkosClass) × IsOfClass class n × (t ≡ class_triple n class)
   IsTopicTriple Belonging n t = Nodes property.InScheme (λ m. scheme_of core.resources n ≡ Some m) n t
-  IsTopicTriple Top n t =
-      (m : ℕ) × IsTopIn n m
-      × (IsNode n property.TopConceptOf m t ⊎ IsNode m property.HasTopConcept n t)
+  IsTopicTriple Top n t = Nodes property.TopConceptOf (IsTopIn core n) n t
+  IsTopicTriple TopConcepts n t = Nodes property.HasTopConcept (IsTopUpTo core (length core.resources) n) n t
   IsTopicTriple Death n t = IsConcept core.resources n × (IsLive core.resources n → ⊥) × (t ≡ dead_triple n)
   IsTopicTriple Replacement n t = Nodes property.IsReplacedBy (IsReplacedBy core.resources n) n t
   IsTopicTriple Labels n t = (l : LabelData) × (set.contains core.labels (owned_label n l) ≡ true)
@@ -115,7 +108,7 @@ module _ (core : CoreView) where
   IsTopicTriple Related n t =
       Nodes property.Related (λ m. HasLink core.links kind.Related n m ⊎ HasLink core.links kind.Related m n) n t
   IsTopicTriple Mappings n t = IsConcept core.resources n × ((p : Property) × Nodes p (MapsBy p n) n t)
-  IsTopicTriple Memberships n t = (k : ℕ) × HasLink core.links kind.Member k n × IsNode k property.Member n t
+  IsTopicTriple Members n t = Nodes property.Member (IsMemberUpTo core (length core.resources) n) n t
 
   -- The triple is one that is written about `n` under any topic.
   abbrev pub IsResourceTriple : ℕ → Triple → Type 0
@@ -124,7 +117,8 @@ module _ (core : CoreView) where
 -- All topics, in the order in which their lines are collected, before they are sorted.
 abbrev pub topics : List Topic
 topics =
-    Kind ∷ Belonging ∷ Top ∷ Death ∷ Replacement ∷ Labels ∷ Broader ∷ Narrower ∷ Related ∷ Mappings ∷ Memberships ∷ []
+    Kind ∷ Belonging ∷ Top ∷ TopConcepts ∷ Death ∷ Replacement ∷ Labels ∷ Broader ∷ Narrower ∷ Related ∷ Mappings
+    ∷ Members ∷ []
 
 -- The line is that of a triple with the property `Is`.
 abbrev pub IsLineOf : (Triple → Type 0) → List ℕ → Type 0
@@ -141,9 +135,16 @@ class_in kinds.Concept = Some Concept
 class_in kinds.Collection = Some Collection
 class_in kinds.Outside = None
 
--- The triple is one that is written about a resource with a number from 1 to `most`.
-abbrev pub IsTripleUpTo : CoreView → ℕ → Triple → Type 0
-IsTripleUpTo core most t = (n : ℕ) × (1 ≤ n) × (n ≤ most) × IsResourceTriple core n t
+-- The text has exactly the lines about the resource `n`, in the order of their bytes, each once.
+abbrev pub IsPartOf : CoreView → ℕ → List ℕ → Type 0
+IsPartOf core n text =
+    (lines : List (List ℕ)) × IsListing (slice_cmp nat_cmp) (IsLineOf (IsResourceTriple core n)) lines
+    × (text ≡ concat lines)
+
+-- The texts are those of the resources with the numbers from 1 to `most`.
+pub record AreParts (core : CoreView) (most : ℕ) (texts : List (List ℕ)) : Type 0 where
+  pub sound : (text : List ℕ) → Contains texts text → (n : ℕ) × IsUpTo most (λ m. IsPartOf core m text) n
+  pub complete : (n : ℕ) → 1 ≤ n → n ≤ most → (text : List ℕ) × Contains texts text × IsPartOf core n text
 
 -- The new list has exactly the lines of the old one and those of this topic of the resource.
 abbrev pub AddsTopic : LineSource → Topic → List (List ℕ) → List (List ℕ) → Type 0

@@ -1,4 +1,4 @@
-//! Collects the lines of an export, and joins them into its text.
+//! Collects the lines of an export, resource by resource, and joins them into its text.
 ghost use Rattle.std.specs.Prelude.{◌≡◌, ◌+◌, ◌++◌, ◌<◌, [], Contains, false, IfOk, OnOk, length};
 ghost use Rattle.std.specs.List.{concat};
 ghost use Rattle.std.specs.Ordering.{nat_cmp};
@@ -7,9 +7,11 @@ ghost use Rattle.thes_base.specs.Listing.{IsListing};
 ghost use Rattle.thes_base.specs.State.{State};
 ghost use Rattle.thes_core.specs.CoreView.{IsViewOf};
 ghost use Rattle.thes_export.specs.Export.{IsExport};
-ghost use Rattle.thes_export.specs.Topics.{Adds, IsResourceTriple, IsLineOf, IsTripleUpTo};
+ghost use Rattle.thes_export.specs.Holdings.{AreHoldings};
+ghost use Rattle.thes_export.specs.Topics.{Adds, AreParts, IsPartOf, IsResourceTriple, IsLineOf};
 
-use crate::line::TripleLine;
+use crate::holdings::{Holdings, resource_count};
+use crate::line::ExportPart;
 use crate::line_source::LineSource;
 use crate::topic::push_about;
 use std::alloc::{AllocError, Global};
@@ -20,11 +22,13 @@ use thes_core::Core;
 fn push_at(
     alloc: Global,
     core: &Core,
-    lines: &mut Vec<TripleLine>,
+    holdings: &Holdings,
+    lines: &mut Vec<ExportPart>,
     i: usize,
 ) -> Result<(), AllocError>
     requires unspent { core.now.spent ≡ false }
     requires within { i < length core.now.resources }
+    requires held { AreHoldings core.now holdings.now }
     ensures { let is_about = IsResourceTriple core.now (i + 1) in
         OnOk result (Adds (IsLineOf is_about) lines.old.items lines.new.items) }
 {
@@ -35,69 +39,84 @@ fn push_at(
         core,
         n,
         resource: &resources[i],
+        holdings,
     };
     push_about(&about, lines)?;
     Ok(())
 }
 
-// Returns the number of resources of all kinds.
-fn resource_count(core: &Core) -> usize
-    requires { core.now.spent ≡ false }
-    ensures { result ≡ length core.now.resources }
-{
-    core.resources().len()
-}
-
-// Returns the lines about all resources, in no particular order and perhaps with duplicates.
-fn all_lines(alloc: Global, core: &Core) -> Result<Vec<TripleLine>, AllocError>
-    requires { core.now.spent ≡ false }
-    ensures { let is_told = IsTripleUpTo core.now (length core.now.resources) in
-        IfOk result (λ lines. Adds (IsLineOf is_told) [] lines.items) }
-{
-    let mut lines = Vec::new(alloc);
-    for i in 0..resource_count(core) {
-        push_at(alloc, core, &mut lines, i)?;
-    }
-    Ok(lines)
-}
-
-// Sorts lines by their bytes, and removes duplicates.
-fn sort_lines(lines: &mut Vec<TripleLine>) -> Result<(), AllocError>
+// Sorts parts by their bytes, and removes duplicates.
+fn sort_parts(parts: &mut Vec<ExportPart>) -> Result<(), AllocError>
     ensures { OnOk result
-        (IsListing (slice_cmp nat_cmp) (Contains lines.old.items) lines.new.items) }
+        (IsListing (slice_cmp nat_cmp) (Contains parts.old.items) parts.new.items) }
 {
-    lines.sort()?;
-    lines.dedup();
+    parts.sort()?;
+    parts.dedup();
     Ok(())
 }
 
-// Appends a line to the text of the export.
-fn push_text(text: &mut Vec<u8>, line: &TripleLine) -> Result<(), AllocError>
-    ensures { OnOk result (text.new.items ≡ text.old.items ++ line.now) }
+// Appends a part to a text.
+fn push_text(text: &mut Vec<u8>, part: &ExportPart) -> Result<(), AllocError>
+    ensures { OnOk result (text.new.items ≡ text.old.items ++ part.now) }
 {
-    text.extend_from_slice(line.as_bytes())?;
+    text.extend_from_slice(part.as_bytes())?;
     Ok(())
 }
 
-// Returns the concatenation of the lines, in order.
-fn join_lines(alloc: Global, lines: &[TripleLine]) -> Result<Vec<u8>, AllocError>
-    ensures { IfOk result (λ text. text.items ≡ concat lines.now) }
+// Returns the concatenation of the parts, in order.
+fn join_parts(alloc: Global, parts: &[ExportPart]) -> Result<Vec<u8>, AllocError>
+    ensures { IfOk result (λ text. text.items ≡ concat parts.now) }
 {
     let mut text = Vec::new(alloc);
-    for line in lines {
-        push_text(&mut text, line)?;
+    for part in parts {
+        push_text(&mut text, part)?;
     }
     Ok(text)
 }
 
+// Returns the lines about the resource with this index, counted from 0, sorted by their bytes, each once.
+fn part_at(
+    alloc: Global,
+    core: &Core,
+    holdings: &Holdings,
+    i: usize,
+) -> Result<ExportPart, AllocError>
+    requires unspent { core.now.spent ≡ false }
+    requires within { i < length core.now.resources }
+    requires held { AreHoldings core.now holdings.now }
+    ensures { IfOk result (IsPartOf core.now (i + 1)) }
+{
+    let mut lines = Vec::new(alloc);
+    push_at(alloc, core, holdings, &mut lines, i)?;
+    sort_parts(&mut lines)?;
+    let text = join_parts(alloc, lines.as_slice())?;
+    Ok(ExportPart::of_lines(text))
+}
+
+// Returns the parts about all resources, in the order of their numbers.
+fn all_parts(alloc: Global, core: &Core) -> Result<Vec<ExportPart>, AllocError>
+    requires { core.now.spent ≡ false }
+    ensures { let count = length core.now.resources in
+        IfOk result (λ parts. AreParts core.now count parts.items) }
+{
+    let holdings = Holdings::collect(alloc, core)?;
+    let mut parts = Vec::new(alloc);
+    for i in 0..resource_count(core) {
+        let part = part_at(alloc, core, &holdings, i)?;
+        parts.push(part)?;
+    }
+    Ok(parts)
+}
+
 /// Returns the export of the state that the core holds: the lines of its triples, sorted by their bytes, each once.
+/// Lines about one resource begin alike, so its lines are sorted by themselves, and then the parts.
 pub fn export_text(alloc: Global, core: &Core) -> Result<Vec<u8>, AllocError>
     requires { core.now.spent ≡ false }
     ensures { (s : State) → IsViewOf core.now s →
         IfOk result (λ text. IsExport core.now.setting.base s text.items) }
 {
-    let mut lines = all_lines(alloc, core)?;
-    sort_lines(&mut lines)?;
-    let text = join_lines(alloc, lines.as_slice())?;
+    let mut parts = all_parts(alloc, core)?;
+    sort_parts(&mut parts)?;
+    let text = join_parts(alloc, parts.as_slice())?;
     Ok(text)
 }

@@ -2,6 +2,7 @@
 #![tactic(auto)]
 
 pub mod gather;
+mod holdings;
 pub mod laws;
 mod line;
 mod line_source;

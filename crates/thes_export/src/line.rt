@@ -17,43 +17,44 @@ use thes_base::number::ResNo;
 use thes_base::triple::{Class, Property};
 use thes_core::Core;
 
-/// A line of N-Triples with its line feed; lines are compared by their bytes.
+/// A part of an export's text: a line with its line feed, or all lines about a resource. Parts are compared by their
+/// bytes.
 #[derive(Drop)]
-pub struct TripleLine {
+pub struct ExportPart {
     text: Vec<u8>,
 }
 
-impl Model for TripleLine {
+impl Model for ExportPart {
     ghost Value = { List ℕ };
 
     ghost view = { λ line. line.text.items };
 }
 
-impl PartialEq for TripleLine {
+impl PartialEq for ExportPart {
     ghost eq = { pointwise nat_eq };
 
     ghost laws = { Cmp.partial_equiv_from_equiv nat_list_eq_equiv };
 
-    fn eq(&self, other: &TripleLine) -> bool {
+    fn eq(&self, other: &ExportPart) -> bool {
         self.as_bytes() == other.as_bytes()
     }
 }
 
-impl Eq for TripleLine {
+impl Eq for ExportPart {
     ghost laws = { nat_list_eq_equiv };
 }
 
-impl PartialOrd for TripleLine {
+impl PartialOrd for ExportPart {
     ghost partial_cmp = { λ x y. Some (slice_cmp nat_cmp x y) };
 
     ghost laws = { texts_po };
 
-    fn partial_cmp(&self, other: &TripleLine) -> Option<Ordering> {
+    fn partial_cmp(&self, other: &ExportPart) -> Option<Ordering> {
         Some(self.cmp(other))
     }
 }
 
-impl Ord for TripleLine {
+impl Ord for ExportPart {
     ghost cmp = { slice_cmp nat_cmp };
 
     ghost total = { nat_list_cmp_total };
@@ -62,7 +63,7 @@ impl Ord for TripleLine {
 
     ghost matches_eq = { texts_ties };
 
-    fn cmp(&self, other: &TripleLine) -> Ordering {
+    fn cmp(&self, other: &ExportPart) -> Ordering {
         self.as_bytes().cmp(other.as_bytes())
     }
 }
@@ -185,15 +186,22 @@ fn begin_label_line(
 }
 
 // Completes a line with a space, a full stop and a line feed.
-fn end_line(mut text: Vec<u8>) -> Result<TripleLine, AllocError>
+fn end_line(mut text: Vec<u8>) -> Result<ExportPart, AllocError>
     ensures { IfOk result (λ line. line ≡ text.items ++ codes " .\n") }
 {
     text.extend_from_slice(b" .\n")?;
-    Ok(TripleLine { text })
+    Ok(ExportPart { text })
 }
 
-impl TripleLine {
-    /// Returns the bytes of the line in UTF-8, with its line feed.
+impl ExportPart {
+    /// Creates a part from the bytes of its lines.
+    pub fn of_lines(text: Vec<u8>) -> ExportPart
+        ensures { result ≡ text.items }
+    {
+        ExportPart { text }
+    }
+
+    /// Returns the bytes of the part in UTF-8, with its line feeds.
     pub fn as_bytes(&self) -> &[u8]
         ensures { result.now ≡ self.now }
     {
@@ -207,7 +215,7 @@ impl TripleLine {
         n: ResNo,
         property: Property,
         object: ResNo,
-    ) -> Result<TripleLine, AllocError>
+    ) -> Result<ExportPart, AllocError>
         requires { core.now.spent ≡ false }
         ensures { let iri = number_iri core.now in
             IfOk result (λ line. line ≡ line_of (triple (iri n) property (Node (iri object)))) }
@@ -224,7 +232,7 @@ impl TripleLine {
         core: &Core,
         n: ResNo,
         class: Class,
-    ) -> Result<TripleLine, AllocError>
+    ) -> Result<ExportPart, AllocError>
         requires { core.now.spent ≡ false }
         ensures { let subject = number_iri core.now n in
             IfOk result (λ line. line ≡ line_of (triple subject Property.HasType (OfClass class))) }
@@ -236,7 +244,7 @@ impl TripleLine {
     }
 
     /// Returns the line of the triple that states that a concept is deprecated (`owl:deprecated`).
-    pub fn of_dead(alloc: Global, core: &Core, n: ResNo) -> Result<TripleLine, AllocError>
+    pub fn of_dead(alloc: Global, core: &Core, n: ResNo) -> Result<ExportPart, AllocError>
         requires { core.now.spent ≡ false }
         ensures { let subject = number_iri core.now n in
             IfOk result (λ line. line ≡ line_of (triple subject Property.Deprecated True)) }
@@ -253,7 +261,7 @@ impl TripleLine {
         core: &Core,
         n: ResNo,
         label: &Label,
-    ) -> Result<TripleLine, AllocError>
+    ) -> Result<ExportPart, AllocError>
         requires { core.now.spent ≡ false }
         ensures { IfOk result (λ line. line ≡ line_of (label_triple core.now n label.now)) }
     {

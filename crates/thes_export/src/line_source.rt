@@ -2,6 +2,7 @@
 ghost use Rattle.std.specs.Prelude.{◌≡◌, false, Some};
 ghost use Rattle.thes_base.specs.Resources.{entry_at};
 
+use crate::holdings::Holdings;
 use std::alloc::Global;
 use thes_base::data::Resource;
 use thes_base::number::ResNo;
@@ -14,6 +15,7 @@ pub struct LineSource<'a> {
     pub core: &'a Core,
     pub n: ResNo,
     pub resource: &'a Resource,
+    pub holdings: &'a Holdings,
     ghost unspent: { core.now.spent ≡ false },
     ghost found: { entry_at core.now.resources n ≡ Some resource.now },
 }

@@ -1,9 +1,10 @@
 //! Lines of a resource's links: of a concept's relations and mappings, and of memberships.
 ghost use Rattle.std.specs.Prelude.{◌≡◌, Bool, false, OnOk};
 ghost use Rattle.thes_base.specs.Links.{is_symmetric};
+ghost use Rattle.thes_export.specs.Holdings.{AreHoldings};
 ghost use Rattle.thes_export.specs.Topics.{Adds, AddsTopic, IsLineOf, IsMatch, MapsOne};
 
-use crate::line::TripleLine;
+use crate::line::ExportPart;
 use crate::line_source::LineSource;
 use crate::push::{push_node, push_nodes};
 use crate::resource_lines::is_concept;
@@ -16,7 +17,7 @@ use thes_base::triple::Property;
 // Appends the lines of the broader concepts (`skos:broader`).
 pub(crate) fn push_broader(
     about: &LineSource,
-    lines: &mut Vec<TripleLine>,
+    lines: &mut Vec<ExportPart>,
 ) -> Result<(), AllocError>
     ensures { OnOk result (AddsTopic about.now Topic.Broader lines.old.items lines.new.items) }
 {
@@ -28,7 +29,7 @@ pub(crate) fn push_broader(
 // Appends the lines of the narrower concepts (`skos:narrower`).
 pub(crate) fn push_narrower(
     about: &LineSource,
-    lines: &mut Vec<TripleLine>,
+    lines: &mut Vec<ExportPart>,
 ) -> Result<(), AllocError>
     ensures { OnOk result (AddsTopic about.now Topic.Narrower lines.old.items lines.new.items) }
 {
@@ -40,7 +41,7 @@ pub(crate) fn push_narrower(
 // Appends the lines of the related concepts (`skos:related`).
 pub(crate) fn push_related(
     about: &LineSource,
-    lines: &mut Vec<TripleLine>,
+    lines: &mut Vec<ExportPart>,
 ) -> Result<(), AllocError>
     ensures { OnOk result (AddsTopic about.now Topic.Related lines.old.items lines.new.items) }
 {
@@ -53,7 +54,7 @@ pub(crate) fn push_related(
 // object; a link in the other direction has no line here.
 fn push_match(
     about: &LineSource,
-    lines: &mut Vec<TripleLine>,
+    lines: &mut Vec<ExportPart>,
     kind: LinkKind,
     object: ResNo,
     property: Property,
@@ -70,14 +71,14 @@ fn push_match(
     if !about.core.has(&link) {
         return Ok(());
     }
-    push_node(about, lines, about.n, property, object)?;
+    push_node(about, lines, property, object)?;
     Ok(())
 }
 
 // Appends the line of one mapping, if the concept is its subject.
 fn push_mapping(
     about: &LineSource,
-    lines: &mut Vec<TripleLine>,
+    lines: &mut Vec<ExportPart>,
     kind: LinkKind,
     object: ResNo,
 ) -> Result<(), AllocError>
@@ -85,9 +86,9 @@ fn push_mapping(
         OnOk result (Adds (IsLineOf maps) lines.old.items lines.new.items) }
 {
     match kind {
-        LinkKind::Exact => push_node(about, lines, about.n, Property::ExactMatch, object),
-        LinkKind::Close => push_node(about, lines, about.n, Property::CloseMatch, object),
-        LinkKind::RelMatch => push_node(about, lines, about.n, Property::RelatedMatch, object),
+        LinkKind::Exact => push_node(about, lines, Property::ExactMatch, object),
+        LinkKind::Close => push_node(about, lines, Property::CloseMatch, object),
+        LinkKind::RelMatch => push_node(about, lines, Property::RelatedMatch, object),
         LinkKind::Broad => {
             push_match(about, lines, LinkKind::Broad, object, Property::BroadMatch)
         }
@@ -108,7 +109,7 @@ fn push_mapping(
 // concept.
 pub(crate) fn push_mappings(
     about: &LineSource,
-    lines: &mut Vec<TripleLine>,
+    lines: &mut Vec<ExportPart>,
 ) -> Result<(), AllocError>
     ensures { OnOk result (AddsTopic about.now Topic.Mappings lines.old.items lines.new.items) }
 {
@@ -122,16 +123,15 @@ pub(crate) fn push_mappings(
     Ok(())
 }
 
-// Appends the line of each collection of which the resource is a member, with the collection as its subject.
-pub(crate) fn push_memberships(
+// Appends the lines of the members of a collection (`skos:member`); other resources have none.
+pub(crate) fn push_members(
     about: &LineSource,
-    lines: &mut Vec<TripleLine>,
+    lines: &mut Vec<ExportPart>,
 ) -> Result<(), AllocError>
-    ensures { OnOk result (AddsTopic about.now Topic.Memberships lines.old.items lines.new.items) }
+    requires { AreHoldings about.now.core.now about.now.holdings.now }
+    ensures { OnOk result (AddsTopic about.now Topic.Members lines.old.items lines.new.items) }
 {
-    let collections = about.core.collections_of(about.alloc, about.n)?;
-    for collection in &collections {
-        push_node(about, lines, *collection, Property::Member, about.n)?;
-    }
+    let members = about.holdings.members_of(about.n);
+    push_nodes(about, lines, Property::Member, members)?;
     Ok(())
 }

@@ -2,32 +2,31 @@
 ghost use Rattle.std.specs.Prelude.{◌≡◌, ℕ, List, Contains, OnOk};
 ghost use Rattle.thes_export.specs.Topics.{Adds, IsLineOf, IsNode, Nodes};
 
-use crate::line::TripleLine;
+use crate::line::ExportPart;
 use crate::line_source::LineSource;
 use std::alloc::AllocError;
 use thes_base::number::ResNo;
 use thes_base::triple::Property;
 
 /// Appends a line, unless memory runs out.
-pub(crate) fn push_line(lines: &mut Vec<TripleLine>, line: TripleLine) -> Result<(), AllocError>
+pub(crate) fn push_line(lines: &mut Vec<ExportPart>, line: ExportPart) -> Result<(), AllocError>
     ensures { OnOk result (Adds (λ (l : List ℕ). l ≡ line) lines.old.items lines.new.items) }
 {
     lines.push(line)?;
     Ok(())
 }
 
-/// Appends the line of a triple whose object is a resource.
+/// Appends the line of the triple from the resource to an object.
 pub(crate) fn push_node(
     about: &LineSource,
-    lines: &mut Vec<TripleLine>,
-    subject: ResNo,
+    lines: &mut Vec<ExportPart>,
     property: Property,
     object: ResNo,
 ) -> Result<(), AllocError>
-    ensures { let is_node = IsNode about.now.core.now subject property object in
+    ensures { let is_node = IsNode about.now.core.now about.now.n property object in
         OnOk result (Adds (IsLineOf is_node) lines.old.items lines.new.items) }
 {
-    let line = TripleLine::of_node(about.alloc, about.core, subject, property, object)?;
+    let line = ExportPart::of_node(about.alloc, about.core, about.n, property, object)?;
     push_line(lines, line)?;
     Ok(())
 }
@@ -35,7 +34,7 @@ pub(crate) fn push_node(
 /// Appends the line of the triple from the resource to each object, in the order of the objects.
 pub(crate) fn push_nodes(
     about: &LineSource,
-    lines: &mut Vec<TripleLine>,
+    lines: &mut Vec<ExportPart>,
     property: Property,
     objects: &[ResNo],
 ) -> Result<(), AllocError>
@@ -43,7 +42,7 @@ pub(crate) fn push_nodes(
         OnOk result (Adds (IsLineOf is_node) lines.old.items lines.new.items) }
 {
     for object in objects {
-        push_node(about, lines, about.n, property, *object)?;
+        push_node(about, lines, property, *object)?;
     }
     Ok(())
 }

@@ -1,17 +1,19 @@
 //! Lines on a resource's class, its scheme, whether it is a top concept or deprecated, its
 //! replacement and its labels.
-ghost use Rattle.std.specs.Prelude.{◌≡◌, ◌&&◌, not, IfOk, OnOk};
-ghost use Rattle.thes_base.specs.Resources.{is_concept_kind};
-ghost use Rattle.thes_export.specs.Topics.{AddsTopic, IsTopScheme, class_in};
+ghost use Rattle.std.specs.Prelude.{◌≡◌, ◌&&◌, not, false, Some, IfOk, OnOk};
+ghost use Rattle.thes_base.specs.Resources.{entry_at, is_concept_kind};
+ghost use Rattle.thes_export.specs.Holdings.{AreHoldings, IsTopScheme};
+ghost use Rattle.thes_export.specs.Topics.{AddsTopic, class_in};
 
-use crate::line::TripleLine;
+use crate::line::ExportPart;
 use crate::line_source::LineSource;
-use crate::push::{push_line, push_node};
+use crate::push::{push_line, push_node, push_nodes};
 use crate::topic::Topic;
-use std::alloc::AllocError;
+use std::alloc::{AllocError, Global};
 use thes_base::data::{Resource, ResourceKind};
 use thes_base::number::ResNo;
 use thes_base::triple::{Class, Property};
+use thes_core::Core;
 
 // Returns the SKOS class of a resource; an outside concept has none, since other data describe it.
 fn class_of(resource: &Resource) -> Option<Class>
@@ -64,13 +66,13 @@ fn is_dead_concept(resource: &Resource) -> bool
 }
 
 // Appends the line of the SKOS class; an outside concept has none.
-pub(crate) fn push_kind(about: &LineSource, lines: &mut Vec<TripleLine>) -> Result<(), AllocError>
+pub(crate) fn push_kind(about: &LineSource, lines: &mut Vec<ExportPart>) -> Result<(), AllocError>
     ensures { OnOk result (AddsTopic about.now Topic.Kind lines.old.items lines.new.items) }
 {
     match class_of(about.resource) {
         None => Ok(()),
         Some(class) => {
-            let line = TripleLine::of_class(about.alloc, about.core, about.n, class)?;
+            let line = ExportPart::of_class(about.alloc, about.core, about.n, class)?;
             push_line(lines, line)?;
             Ok(())
         }
@@ -81,57 +83,74 @@ pub(crate) fn push_kind(about: &LineSource, lines: &mut Vec<TripleLine>) -> Resu
 // one.
 pub(crate) fn push_belonging(
     about: &LineSource,
-    lines: &mut Vec<TripleLine>,
+    lines: &mut Vec<ExportPart>,
 ) -> Result<(), AllocError>
     ensures { OnOk result (AddsTopic about.now Topic.Belonging lines.old.items lines.new.items) }
 {
     match scheme_in(about.resource) {
         None => Ok(()),
         Some(scheme) => {
-            push_node(about, lines, about.n, Property::InScheme, scheme)?;
+            push_node(about, lines, Property::InScheme, scheme)?;
             Ok(())
         }
     }
 }
 
-// Returns the scheme of which the resource is a top concept; None if it isn't a live concept
-// without broader ones.
-fn top_scheme_of(about: &LineSource) -> Result<Option<ResNo>, AllocError>
-    ensures { IfOk result (IsTopScheme about.now.core.now about.now.n) }
+/// Returns the scheme of which the resource is a top concept; None if it isn't a live concept without broader ones.
+pub(crate) fn top_scheme_of(
+    alloc: Global,
+    core: &Core,
+    n: ResNo,
+    resource: &Resource,
+) -> Result<Option<ResNo>, AllocError>
+    requires unspent { core.now.spent ≡ false }
+    requires found { entry_at core.now.resources n ≡ Some resource.now }
+    ensures { IfOk result (IsTopScheme core.now n) }
 {
-    if !is_live_concept(about.resource) {
+    if !is_live_concept(resource) {
         return Ok(None);
     }
-    let broader = about.core.broader_of(about.alloc, about.n)?;
+    let broader = core.broader_of(alloc, n)?;
     if !broader.as_slice().is_empty() {
         return Ok(None);
     }
-    Ok(scheme_in(about.resource))
+    Ok(scheme_in(resource))
 }
 
-// Appends the lines of a top concept in both directions (`skos:topConceptOf`,
-// `skos:hasTopConcept`), if the resource is one.
-pub(crate) fn push_top(about: &LineSource, lines: &mut Vec<TripleLine>) -> Result<(), AllocError>
+// Appends the line of the scheme of which the resource is a top concept (`skos:topConceptOf`), if it is one.
+pub(crate) fn push_top(about: &LineSource, lines: &mut Vec<ExportPart>) -> Result<(), AllocError>
     ensures { OnOk result (AddsTopic about.now Topic.Top lines.old.items lines.new.items) }
 {
-    match top_scheme_of(about)? {
+    match top_scheme_of(about.alloc, about.core, about.n, about.resource)? {
         None => Ok(()),
         Some(scheme) => {
-            push_node(about, lines, about.n, Property::TopConceptOf, scheme)?;
-            push_node(about, lines, scheme, Property::HasTopConcept, about.n)?;
+            push_node(about, lines, Property::TopConceptOf, scheme)?;
             Ok(())
         }
     }
 }
 
+// Appends the lines of the top concepts of a scheme (`skos:hasTopConcept`); other resources have none.
+pub(crate) fn push_top_concepts(
+    about: &LineSource,
+    lines: &mut Vec<ExportPart>,
+) -> Result<(), AllocError>
+    requires { AreHoldings about.now.core.now about.now.holdings.now }
+    ensures { OnOk result (AddsTopic about.now Topic.TopConcepts lines.old.items lines.new.items) }
+{
+    let tops = about.holdings.tops_of(about.n);
+    push_nodes(about, lines, Property::HasTopConcept, tops)?;
+    Ok(())
+}
+
 // Appends the line that states that a concept is deprecated, if the resource is such a concept.
-pub(crate) fn push_death(about: &LineSource, lines: &mut Vec<TripleLine>) -> Result<(), AllocError>
+pub(crate) fn push_death(about: &LineSource, lines: &mut Vec<ExportPart>) -> Result<(), AllocError>
     ensures { OnOk result (AddsTopic about.now Topic.Death lines.old.items lines.new.items) }
 {
     if !is_dead_concept(about.resource) {
         return Ok(());
     }
-    let line = TripleLine::of_dead(about.alloc, about.core, about.n)?;
+    let line = ExportPart::of_dead(about.alloc, about.core, about.n)?;
     push_line(lines, line)?;
     Ok(())
 }
@@ -139,25 +158,25 @@ pub(crate) fn push_death(about: &LineSource, lines: &mut Vec<TripleLine>) -> Res
 // Appends the line of the concept that replaces the resource (`dct:isReplacedBy`), if there is one.
 pub(crate) fn push_replacement(
     about: &LineSource,
-    lines: &mut Vec<TripleLine>,
+    lines: &mut Vec<ExportPart>,
 ) -> Result<(), AllocError>
     ensures { OnOk result (AddsTopic about.now Topic.Replacement lines.old.items lines.new.items) }
 {
     match replacement_in(about.resource) {
         None => Ok(()),
         Some(other) => {
-            push_node(about, lines, about.n, Property::IsReplacedBy, other)?;
+            push_node(about, lines, Property::IsReplacedBy, other)?;
             Ok(())
         }
     }
 }
 
 // Appends the lines of all labels and scope notes.
-pub(crate) fn push_labels(about: &LineSource, lines: &mut Vec<TripleLine>) -> Result<(), AllocError>
+pub(crate) fn push_labels(about: &LineSource, lines: &mut Vec<ExportPart>) -> Result<(), AllocError>
     ensures { OnOk result (AddsTopic about.now Topic.Labels lines.old.items lines.new.items) }
 {
     for label in about.core.labels_of(about.n) {
-        let line = TripleLine::of_label(about.alloc, about.core, about.n, label)?;
+        let line = ExportPart::of_label(about.alloc, about.core, about.n, label)?;
         push_line(lines, line)?;
     }
     Ok(())

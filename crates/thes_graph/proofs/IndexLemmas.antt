@@ -33,7 +33,7 @@ use Rattle.thes_lists.proofs.ListingLemmas.{insert_has, remove_apart, remove_kee
 use Rattle.thes_lists.proofs.ListingLemmas.{listing_remove}
 use Rattle.thes_graph.specs.declared.side.SidedLink.{SidedLink}
 use Rattle.thes_graph.specs.Side.{sided_link_at, sided_link_cmp}
-use Rattle.thes_graph.specs.Reading.{IsRow}
+use Rattle.thes_graph.specs.Reading.{HaveTwoEnds, IsRow}
 use Rattle.thes_graph.specs.GraphView.{GraphView, ends_at, insertion_sort, sorted_links, sorted_row, sided_links_at}
 use Rattle.thes_graph.specs.GraphView.{links_at}
 use Rattle.thes_graph.specs.Whole.{AreAll}
@@ -472,8 +472,9 @@ module _ (ks : List Link) (outside : List ℕ) (old : Lists SidedLink) (index : 
         })
 
 -- The keys are exactly the links of their set.
-pub AreAll-keys : (ks : List Link) → AreAll (from_list {R = link_cmp} ks) ks
-AreAll-keys ks = record { sound = held_from_list ks; complete = listed_of_held ks }
+pub AreAll-keys : (ks : List Link) → HaveTwoEnds (Holds (from_list {R = link_cmp} ks))
+    → AreAll (from_list {R = link_cmp} ks) ks
+AreAll-keys ks two = record { two_ends = two; sound = held_from_list ks; complete = listed_of_held ks }
 
 -- The graph after the insertion of a key has the link, whether or not the key was there.
 pub GraphView-added : (ks keys : List Link) (outside : FinSet nat_cmp) (net : GraphView) (l m : Link)

@@ -34,4 +34,5 @@ mod UpwardLinkLemmas
 mod PairedSearchLemmas
 mod NextNodeLemmas
 mod UpperSetLemmas
+mod WordLemmas
 mod S27Lemmas

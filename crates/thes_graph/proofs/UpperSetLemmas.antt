@@ -46,11 +46,11 @@ module _ (v w j : ℕ) where
   or_bit-second has = bit_at_or v w j ∙ ap (λ (b : ℕ). max (bit_at v j) b) has ∙ max_second (bit_at v j) (bit_at-lt v j)
 
 module _ (old new : List ℕ) (n bits : ℕ) (set : HasBitsSet old new n bits) where
-  word_same : (m : ℕ) → m ≡ n → word_at new m ≡ bit_or (word_at old m) bits
+  pub word_same : (m : ℕ) → m ≡ n → word_at new m ≡ bit_or (word_at old m) bits
   word_same m same = set m ∙ ap (λ b. if b then bit_or (word_at old m) bits else word_at old m)
       ((Decides-eqb m n).1 same)
 
-  word_other : (m : ℕ) → (m ≡ n → ⊥) → word_at new m ≡ word_at old m
+  pub word_other : (m : ℕ) → (m ≡ n → ⊥) → word_at new m ≡ word_at old m
   word_other m other = set m ∙ ap (λ b. if b then bit_or (word_at old m) bits else word_at old m)
       (false_from_ne_true (nat_eq m n) (λ e. other ((Decides-eqb m n).0 e)))
 

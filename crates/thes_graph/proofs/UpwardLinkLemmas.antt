@@ -1,6 +1,6 @@
 -- Two alternating searches, up from the high node and down from the low one, find what a link up would break. They make
 -- at most four visits for each link near it.
-use Rattle.std.proofs.Common.{◌≡◌, ◌+◌, ◌-◌, ◌*◌, ◌≤◌, ◌<◌, inl, inr, ℕ, List, [], ◌∷◌, length, sym, subst, arith}
+use Rattle.std.proofs.Common.{◌≡◌, ◌+◌, ◌-◌, ◌*◌, ◌≤◌, inl, inr, ℕ, List, [], ◌∷◌, length, sym, subst, arith}
 use Rattle.std.proofs.Common.{Contains, Bool, true, false, Option, Some, None, ap, take, get_or}
 use Rattle.std.proofs.lemmas.List.{take_all}
 use Rattle.std.proofs.lemmas.List.Elements.{Contains-get_or}
@@ -188,14 +188,6 @@ module _ (edit : LinkEdit) (held : Links) where
       spent_two edit (side_in relation) Sideways (leads_one_way relation walked) side_search.nodes is.closed.distinct
       ns in
       omega (arith, paid, both, ap (λ nodes. read_cost edit (side_in relation) nodes ns) whole)
-
-  -- A search that is done has read its start.
-  pub start_was_read : (relation : Relation) (goals : List ℕ) (start : ℕ) (side_search : SideSearch) (read : ℕ)
-      → length side_search.nodes ≤ side_search.next → IsSideSearch edit held relation goals start side_search read → 0
-      < side_search.next
-  start_was_read relation goals start side_search read done is = let some : is.closed.starts.0 < length
-      side_search.nodes =
-      is.closed.starts.1 in omega arith
 
   module _ (low high : ℕ) (lows highs : List ℕ) (up down : SideSearch) (a b from before after : ℕ)
       (paid : before ≤ from + a + b) where

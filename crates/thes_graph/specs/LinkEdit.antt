@@ -52,8 +52,3 @@ abbrev pub IsValidEdit : LinkEdit → Type 0
 IsValidEdit NoEdit = Unit {0}
 IsValidEdit (WithLink new) = new.a ≢ new.b
 IsValidEdit (AfterMerge source target) = source ≢ target
-
--- The edit is NoEdit, which changes nothing.
-abbrev pub IsNoEdit : LinkEdit → Type 0
-IsNoEdit NoEdit = Unit {0}
-IsNoEdit _ = ⊥

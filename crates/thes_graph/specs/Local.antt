@@ -3,8 +3,9 @@ use Rattle.std.specs.Prelude.{◌≡◌, ◌≢◌, ◌⊎◌, ℕ, List, Contai
 use Rattle.thes_base.specs.declared.data.Link.{Link}
 use Rattle.thes_base.specs.declared.fault.Refusal.{Refusal}
 use Rattle.thes_base.specs.declared.fault.Refusal.TheVariants as no
-use Rattle.thes_base.specs.Links.{Links, exact_direction, IsJoined, IsNarrower, IsBelow, IsRelated, IsExactMatch}
+use Rattle.thes_base.specs.Links.{Links, Holds, exact_direction, IsJoined, IsNarrower, IsBelow, IsRelated, IsExactMatch}
 use Rattle.thes_base.specs.Links.{IsDisjointMatch, NoCycle, S27, IsFirstBroken, HasEnd}
+use Rattle.thes_graph.specs.Reading.{HaveTwoEnds}
 use Rattle.thes_graph.specs.declared.relation.Relation.{Relation}
 use Rattle.thes_graph.specs.declared.edit.LinkEdit.{LinkEdit}
 use Rattle.thes_graph.specs.Steps.{Steps, Reaches, IsReachOf}
@@ -13,6 +14,12 @@ use Rattle.thes_graph.specs.LinkEdit.{HeldAfter, CoversAt}
 -- The links break none of the rules Cycle, S27 and S46.
 abbrev pub BreakNone : (Link → Type 0) → Type 0
 BreakNone Held = IsFirstBroken Held None
+
+-- The links break no rule and each has two different ends, as has the new one.
+pub record AreSoundWith (held : Links) (new : Link) : Type 0 where
+  pub ends : new.a ≢ new.b
+  pub two_ends : HaveTwoEnds (Holds held)
+  pub unbroken : BreakNone (Holds held)
 
 -- The held links without an end at p.
 abbrev pub HeldAwayFrom : (Link → Type 0) → ℕ → Link → Type 0

@@ -1,14 +1,15 @@
 -- The state of two searches, one from each end of a link, of which the second reads no more links than the first.
-use Rattle.std.specs.Prelude.{◌⊎◌, ◌+◌, ◌*◌, ◌≤◌, ℕ, List, length}
+use Rattle.std.specs.Prelude.{◌⊎◌, ◌+◌, ◌*◌, ◌≤◌, ◌<◌, ℕ, List, length}
 use Rattle.thes_base.specs.declared.data.Link.{Link}
 use Rattle.thes_base.specs.Links.{Links, Holds}
 use Rattle.thes_graph.specs.declared.relation.Relation.{Relation}
 use Rattle.thes_graph.specs.declared.relation.Relation.TheVariants as along
 use Rattle.thes_graph.specs.declared.edit.LinkEdit.TheVariants.{NoEdit}
+use Rattle.thes_graph.specs.declared.side.Part.{Part}
 use Rattle.thes_graph.specs.declared.side_search.SideSearch.{SideSearch}
 use Rattle.thes_graph.specs.Steps.{Steps, Reaches}
 use Rattle.thes_graph.specs.LinkEdit.{CoversAt}
-use Rattle.thes_graph.specs.SideSearch.{IsSideSearch, LeadsTo}
+use Rattle.thes_graph.specs.SideSearch.{HasNextPart, IsHierarchy, IsSideSearch, LeadsTo}
 
 -- The converse relation: narrower for broader, broader for narrower, and any other itself.
 abbrev pub converse : Relation → Relation
@@ -21,6 +22,15 @@ abbrev pub AreVisitsBounded : Links → Relation → (start before after : ℕ) 
 AreVisitsBounded held relation start before after =
     (ns : List Link) → ((n : ℕ) → Reaches (Steps relation (Holds held)) start n → CoversAt NoEdit held n ns)
     → after ≤ before + 2 * length ns
+
+-- The relation is broader or narrower, both searches have met a node that they haven't read, and the range has the links
+-- of the second's next node.
+pub record CanAdvanceBoth (held : Links) (rows : ℕ → List Link) (relation : Relation) (first second : SideSearch)
+    (part : Part) : Type 0 where
+  pub hierarchy : IsHierarchy relation
+  pub more_first : first.next < length first.nodes
+  pub more_second : second.next < length second.nodes
+  pub ready : HasNextPart held rows (converse relation) second part
 
 -- The state of the two searches. The links that the second has read, and the `left` that it may still read, are
 -- together at most as many as the first has read. The count has grown from `before` by at most the number of links that

@@ -12,8 +12,10 @@ use Rattle.thes_graph.specs.declared.edit.LinkEdit.{LinkEdit}
 use Rattle.thes_graph.specs.declared.edit.LinkEdit.TheVariants.{NoEdit, WithLink, AfterMerge}
 use Rattle.thes_graph.specs.Local.{ReachesUp}
 use Rattle.thes_graph.specs.GraphView.{ends_at}
-use Rattle.thes_graph.specs.Side.{side_no, side_at, side_in}
-use Rattle.thes_graph.specs.LinkEdit.{HeldAfter, link_after_merge, CoversAt}
+use Rattle.thes_graph.specs.declared.side.Part.{Part}
+use Rattle.thes_graph.specs.Reading.{HaveTwoEnds, IsRow}
+use Rattle.thes_graph.specs.Side.{side_no, side_at, side_in, IsOneSided, IsPart}
+use Rattle.thes_graph.specs.LinkEdit.{HeldAfter, link_after_merge, CoversAt, IsValidEdit}
 use Rattle.thes_graph.specs.Steps.{Steps, step_along, Reaches, IsSearchedUpTo, GrowsBy}
 use Rattle.thes_graph.specs.declared.side_search.SideSearch.{SideSearch}
 
@@ -72,6 +74,42 @@ IsHierarchy along.Broader = Unit {0}
 IsHierarchy along.Narrower = Unit {0}
 IsHierarchy _ = ⊥
 
+-- The range of the row, which has the links at the node, has exactly those on this side, and each link has two ends.
+pub record IsPartAt (held : Links) (row : List Link) (at : ℕ) (side : Side) (part : Part) : Type 0 where
+  pub two_ends : HaveTwoEnds (Holds held)
+  pub is_row : IsRow held at row
+  pub on_side : IsPart row at side part
+
+-- The edit is valid, the links of the relation lie on one side of each node, and the range has those at the node.
+pub record CanFollow (edit : LinkEdit) (held : Links) (rows : ℕ → List Link) (relation : Relation) (at : ℕ)
+    (part : Part) : Type 0 where
+  pub fit : IsValidEdit edit
+  pub one_side : IsOneSided relation
+  pub ready : IsPartAt held (rows at) at (side_in relation) part
+
+-- The edit is valid, and the relation is broader or narrower.
+pub record IsHierarchySearch (edit : LinkEdit) (relation : Relation) : Type 0 where
+  pub fit : IsValidEdit edit
+  pub hierarchy : IsHierarchy relation
+
+-- The next node of the search, 0 past the end.
+abbrev pub next_node : SideSearch → ℕ
+next_node side_search = get_or side_search.nodes side_search.next 0
+
+-- The range has the next node's links on the side of the relation, if there is a next node.
+abbrev pub HasNextPart : (held : Links) → (rows : ℕ → List Link) → Relation → SideSearch → Part → Type 0
+HasNextPart held rows relation side_search part =
+    side_search.next < length side_search.nodes
+    → IsPartAt held (rows (next_node side_search)) (next_node side_search) (side_in relation) part
+
+-- The edit is valid, the relation is broader or narrower, and the range has the links of the next node.
+pub record CanAdvance (edit : LinkEdit) (held : Links) (rows : ℕ → List Link) (relation : Relation)
+    (side_search : SideSearch) (part : Part) : Type 0 where
+  pub fit : IsValidEdit edit
+  pub hierarchy : IsHierarchy relation
+  pub more : side_search.next < length side_search.nodes
+  pub ready : HasNextPart held rows relation side_search part
+
 -- The state of a search after `read` visits: the first `next` nodes were read, and none of them leads to a goal.
 pub record IsSideSearch (edit : LinkEdit) (held : Links) (kind : Relation) (goals : List ℕ) (start : ℕ)
     (side_search : SideSearch) (read : ℕ) : Type 0 where
@@ -116,6 +154,12 @@ IsBrokenBetween Held low high (Some _) = ⊥
 abbrev pub CoversBetween : LinkEdit → Links → (low high : ℕ) → List Link → Type 0
 CoversBetween edit held low high ns =
     (n : ℕ) → ReachesUp (HeldAfter edit held) n low ⊎ ReachesUp (HeldAfter edit held) high n → CoversAt edit held n ns
+
+-- The ranges have the links of the next nodes of two searches, one up and one down.
+pub record HaveNextParts (held : Links) (rows : ℕ → List Link) (up : SideSearch) (up_part : Part) (down : SideSearch)
+    (down_part : Part) : Type 0 where
+  pub upward : HasNextPart held rows along.Broader up up_part
+  pub downward : HasNextPart held rows along.Narrower down down_part
 
 -- The state of two alternating searches, up from `high` and down from `low`; the count has grown from `from` to `count`
 -- by at most their visits.

@@ -4,11 +4,14 @@ use Rattle.thes_base.specs.declared.data.Link.{Link}
 use Rattle.thes_base.specs.declared.data.Direction.TheVariants.{Never}
 use Rattle.thes_base.specs.Links.{Links, Holds, IsBelow, IsRelated, IsExactMatch, IsDisjointMatch}
 use Rattle.thes_graph.specs.declared.relation.Relation.{Relation}
+use Rattle.thes_graph.specs.Reading.{HaveTwoEnds}
 use Rattle.thes_graph.specs.Steps.{direction_of}
 use Rattle.thes_graph.specs.Local.{ReachesUp}
+use Rattle.thes_graph.specs.CycleSearch.{IsUpwardOrder}
 
--- The list has exactly the links held, in any order.
+-- The list has exactly the links held, in any order, and each has two different ends.
 pub record AreAll (held : Links) (all : List Link) : Type 0 where
+  pub two_ends : HaveTwoEnds (Holds held)
   pub sound : (l : Link) → Contains all l → Holds held l
   pub complete : (l : Link) → Holds held l → Contains all l
 
@@ -27,6 +30,11 @@ HasNoEndAbove Held l = (ReachesUp Held l.a l.b → ⊥) × (ReachesUp Held l.b l
 -- The list has both ends of each link held.
 abbrev pub HasAllEnds : (Link → Type 0) → List ℕ → Type 0
 HasAllEnds Held nodes = (l : Link) → Held l → Contains nodes l.a × Contains nodes l.b
+
+-- The nodes are in upward order, and are the ends of all links.
+pub record IsWholeOrder (Held : Link → Type 0) (nodes : List ℕ) : Type 0 where
+  pub order : IsUpwardOrder Held nodes
+  pub ends : HasAllEnds Held nodes
 
 -- No concept related to x is x itself, or below x (SKOS S27).
 abbrev pub KeepsS27Below : (Link → Type 0) → ℕ → Type 0

@@ -3,11 +3,10 @@
 ghost use Rattle.std.specs.Prelude.{◌≡◌, ◌≢◌, ◌+◌, ◌*◌, ◌≤◌, false, List, OnOk, IfOk, MatchBool, length};
 ghost use Rattle.thes_base.specs.declared.data.Link.{Link};
 ghost use Rattle.thes_base.specs.declared.data.Direction.TheVariants.{Either, Never};
-ghost use Rattle.thes_base.specs.Links.{Holds, S46, broader_direction, related_direction, exact_direction, disjoint_direction, IsFirstBroken};
+ghost use Rattle.thes_base.specs.Links.{S46, broader_direction, related_direction, exact_direction, disjoint_direction, IsFirstBroken};
 ghost use Rattle.thes_graph.specs.declared.edit.LinkEdit.TheVariants.{WithLink};
-ghost use Rattle.thes_graph.specs.Reading.{HaveTwoEnds};
 ghost use Rattle.thes_graph.specs.LinkEdit.{HeldAfter};
-ghost use Rattle.thes_graph.specs.Local.{BreakNone, IsFirstOfCycleAndS27, CoversNear};
+ghost use Rattle.thes_graph.specs.Local.{AreSoundWith, IsFirstOfCycleAndS27, CoversNear};
 ghost use Rattle.thes_graph.specs.Whole.{BreaksS46};
 
 use crate::class::breaks_class;
@@ -45,8 +44,7 @@ fn check_level_link<L: Links>(
     links: &mut L,
     new: &Link,
 ) -> Result<Option<Refusal>, AllocError>
-    requires ends { new.now.a ≢ new.now.b }
-    requires unbroken { BreakNone (Holds (L.net links.old).links) }
+    requires sound { AreSoundWith (L.net links.old).links new.now }
     requires level { broader_direction new.now.kind ≡ Never }
     ensures net { L.net links.new ≡ L.net links.old }
     ensures first { IfOk result
@@ -70,8 +68,7 @@ fn check_cycle_and_s27<L: Links>(
     links: &mut L,
     new: &Link,
 ) -> Result<Option<Refusal>, AllocError>
-    requires ends { new.now.a ≢ new.now.b }
-    requires unbroken { BreakNone (Holds (L.net links.old).links) }
+    requires { AreSoundWith (L.net links.old).links new.now }
     ensures net { L.net links.new ≡ L.net links.old }
     ensures first { IfOk result
         (IsFirstOfCycleAndS27 (HeldAfter (WithLink new.now) (L.net links.old).links)) }
@@ -99,9 +96,7 @@ fn check_cycle_and_s27<L: Links>(
 // Checks whether two exact matches would also be broader or related matches after the new link
 // (SKOS S46).
 fn breaks_s46<L: Links>(alloc: Global, links: &mut L, new: &Link) -> Result<bool, AllocError>
-    requires ends { new.now.a ≢ new.now.b }
-    requires two_ends { HaveTwoEnds (Holds (L.net links.old).links) }
-    requires unbroken { BreakNone (Holds (L.net links.old).links) }
+    requires { AreSoundWith (L.net links.old).links new.now }
     ensures net { L.net links.new ≡ L.net links.old }
     ensures s46 { IfOk result
         (λ found. MatchBool found (BreaksS46 (HeldAfter (WithLink new.now) (L.net links.old).links))
@@ -124,9 +119,7 @@ pub fn check_added_link<L: Links>(
     links: &mut L,
     new: &Link,
 ) -> Result<Option<Refusal>, AllocError>
-    requires ends { new.now.a ≢ new.now.b }
-    requires two_ends { HaveTwoEnds (Holds (L.net links.old).links) }
-    requires unbroken { BreakNone (Holds (L.net links.old).links) }
+    requires { AreSoundWith (L.net links.old).links new.now }
     ensures net { L.net links.new ≡ L.net links.old }
     ensures first { IfOk result
         (IsFirstBroken (HeldAfter (WithLink new.now) (L.net links.old).links)) }

@@ -1,9 +1,7 @@
 //! The check of S46 in one class of exact matches, which is a set of concepts that chains of exact matches join.
 ghost use Rattle.std.specs.Prelude.{◌≡◌, ◌+◌, ◌*◌, ◌≤◌, List, OnOk, IfOk, MatchBool, length};
 ghost use Rattle.thes_base.specs.declared.data.Link.{Link};
-ghost use Rattle.thes_base.specs.Links.{Holds};
-ghost use Rattle.thes_graph.specs.Reading.{HaveTwoEnds};
-ghost use Rattle.thes_graph.specs.LinkEdit.{HeldAfter, IsValidEdit, IsNoEdit};
+ghost use Rattle.thes_graph.specs.LinkEdit.{HeldAfter, IsValidEdit};
 ghost use Rattle.thes_graph.specs.Local.{BreaksS46At, KeepsS46At, CoversNear};
 
 use crate::edit::LinkEdit;

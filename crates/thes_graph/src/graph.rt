@@ -138,12 +138,20 @@ impl Graph {
             .is_ok()
     }
 
+    // Checks whether the resource is marked as an outside concept.
+    fn has_marked(&self, n: ResNo) -> bool
+        ensures outside { result ≡ is_marked self.now n }
+        ensures two_ends { HaveTwoEnds (Holds self.now.links) }
+    {
+        self.marked.contains(&n)
+    }
+
     /// Checks whether the resource is marked as an outside concept, so that mappings to it are held with their ends in
     /// the order given.
     pub fn is_outside(&self, n: ResNo) -> bool
         ensures { result ≡ is_marked self.now n }
     {
-        self.marked.contains(&n)
+        self.has_marked(n)
     }
 
     /// Checks whether the link is held in its normal form, so that a symmetric link may be stated from either end.
@@ -449,7 +457,7 @@ impl<'a> Links for Walk<'a> {
     }
 
     fn is_outside(&self, n: ResNo) -> bool {
-        self.graph.is_outside(n)
+        self.graph.has_marked(n)
     }
 
     fn visits(&self) -> u64 {

@@ -8,8 +8,8 @@ ghost use Rattle.thes_base.specs.Neighbourhood.{Add, Merge, Recheck};
 ghost use Rattle.thes_graph.specs.declared.edit.LinkEdit.TheVariants.{WithLink};
 ghost use Rattle.thes_graph.specs.GraphView.{is_marked};
 ghost use Rattle.thes_graph.specs.Reading.{HaveTwoEnds};
-ghost use Rattle.thes_graph.specs.LinkEdit.{HeldAfter, IsValidEdit, IsNoEdit};
-ghost use Rattle.thes_graph.specs.Local.{BreakNone, HeldAwayFrom, IsFirstBrokenAt, CoversNear};
+ghost use Rattle.thes_graph.specs.LinkEdit.{HeldAfter, IsValidEdit};
+ghost use Rattle.thes_graph.specs.Local.{BreakNone, AreSoundWith, HeldAwayFrom, IsFirstBrokenAt, CoversNear};
 ghost use Rattle.thes_graph.specs.EditChecks.{checks_of_add, CoversEdit, AreFewVisits};
 
 use crate::addition::check_added_link;
@@ -47,9 +47,17 @@ pub fn normalize_ends(link: &Link, outside: bool) -> Link
 
 // Returns the normal form of the link, in which these links would hold it.
 fn normal<L: Links>(links: &L, link: &Link) -> Link
-    ensures { result ≡ normal_form (is_marked (L.net links.now)) link.now }
+    ensures normal { result ≡ normal_form (is_marked (L.net links.now)) link.now }
+    ensures two_ends { HaveTwoEnds (Holds (L.net links.now).links) }
 {
     normalize_ends(link, links.is_outside(link.a) || links.is_outside(link.b))
+}
+
+// No effect; states for the proof that each link held has two different ends.
+fn learn_two_ends<L: Links>(links: &L, n: ResNo)
+    ensures { HaveTwoEnds (Holds (L.net links.now).links) }
+{
+    links.is_outside(n);
 }
 
 // Returns the first rule that the links after the edit break by a chain or pair through the pivot; None says nothing
@@ -62,8 +70,6 @@ fn first_broken_at<L: Links>(
 ) -> Result<Option<Refusal>, AllocError>
     requires { IsValidEdit edit.now }
     ensures net { L.net links.new ≡ L.net links.old }
-    ensures two_ends { OnOk result
-        (IsNoEdit edit.now → HaveTwoEnds (Holds (L.net links.old).links)) }
     ensures first { IfOk result (IsFirstBrokenAt (HeldAfter edit.now (L.net links.old).links)
         pivot) }
     ensures count { OnOk result ((ns : List Link)
@@ -96,6 +102,7 @@ pub fn check_at<L: Links>(
     ensures count { OnOk result (AreFewVisits (is_marked (L.net links.old)) (Recheck pivot)
         (L.net links.old).links (L.count links.old) (L.count links.new)) }
 {
+    learn_two_ends(links, pivot);
     let answer = first_broken_at(alloc, links, &LinkEdit::NoEdit, pivot)?;
     Ok(answer)
 }
@@ -132,8 +139,7 @@ fn check_normal_link<L: Links>(
     links: &mut L,
     new: &Link,
 ) -> Result<Option<Refusal>, AllocError>
-    requires ends { new.now.a ≢ new.now.b }
-    requires unbroken { BreakNone (Holds (L.net links.old).links) }
+    requires { AreSoundWith (L.net links.old).links new.now }
     ensures net { L.net links.new ≡ L.net links.old }
     ensures answer { IfOk result (checks_of_add (L.net links.old).links new.now) }
     ensures count { OnOk result ((ns : List Link) → Contains ns new.now

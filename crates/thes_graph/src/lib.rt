@@ -22,3 +22,4 @@ mod upper_sets;
 mod upward_link;
 mod walk;
 mod whole;
+mod words;

@@ -47,7 +47,8 @@ pub trait Links {
 
     /// Checks whether the resource is marked as an outside concept, without counting a visit.
     fn is_outside(&self, n: ResNo) -> bool
-        ensures { result ≡ is_marked (net self.now) n };
+        ensures outside { result ≡ is_marked (net self.now) n }
+        ensures two_ends { HaveTwoEnds (Holds (net self.now).links) };
 
     /// Returns the number of visits so far, which saturates at `u64::MAX`.
     fn visits(&self) -> u64

@@ -12,7 +12,7 @@ use thes_base::number::ResNo;
 #[derive(Drop)]
 pub struct Nodes {
     list: Vec<ResNo>,
-    marks: Vec<bool>,
+    marks: Vec<u64>,
 }
 
 impl Model for Nodes {
@@ -41,9 +41,13 @@ impl Nodes {
     pub fn singleton(alloc: Global, start: ResNo) -> Result<Nodes, AllocError>
         ensures { IfOk result (λ nodes. nodes ≡ start ∷ []) }
     {
-        let list = vec![in alloc; start]?;
-        let marks = Vec::new(alloc);
-        Ok(Nodes { list, marks })
+        let mut list = Vec::new(alloc);
+        list.reserve(FEW)?;
+        list.push(start)?;
+        Ok(Nodes {
+            list,
+            marks: Vec::new(alloc),
+        })
     }
 
     /// Returns the nodes in the order in which they were met.

@@ -5,13 +5,14 @@ ghost use Rattle.thes_base.specs.declared.data.Link.{Link};
 ghost use Rattle.thes_base.specs.Links.{Holds, Chain};
 ghost use Rattle.thes_graph.specs.declared.edit.LinkEdit.TheVariants.{NoEdit};
 ghost use Rattle.thes_graph.specs.Steps.{Steps};
-ghost use Rattle.thes_graph.specs.SideSearch.{IsHierarchy, CoversBetween};
-ghost use Rattle.thes_graph.specs.PairedSearch.{AreVisitsBounded, ArePairedSearches, HasFoundGoal};
+ghost use Rattle.thes_graph.specs.SideSearch.{IsHierarchy, HasNextPart, CoversBetween};
+ghost use Rattle.thes_graph.specs.PairedSearch.{converse, CanAdvanceBoth, AreVisitsBounded, ArePairedSearches, HasFoundGoal};
 ghost use Rattle.thes_graph.specs.Whole.{HasEndAbove, HasNoEndAbove};
 
 use crate::links::Links;
 use crate::nodes::Nodes;
 use crate::relation::{Relation, converse_of};
+use crate::side::Part;
 use crate::side_search::SideSearch;
 use std::alloc::{AllocError, Global};
 use thes_base::data::Link;
@@ -54,21 +55,23 @@ fn advance_first<L: Links>(
 
 // Advances the first search by a node if `allowance`, the number of links that the second may still
 // read, is too small for the second's next node. Then advances the second if `allowance` is large
-// enough, and subtracts the number of links that it reads. Returns whether one of them found a
-// goal.
+// enough, and subtracts the number of links that it reads. The range has the links held at the
+// second's next node. Returns whether one of them found a goal.
 fn advance_pair<L: Links>(
     links: &mut L,
     relation: Relation,
     first: &mut SideSearch,
     second: &mut SideSearch,
+    part: &mut Part,
     allowance: &mut usize,
     froms: &Nodes,
     tos: &Nodes,
 ) -> Result<bool, AllocError>
-    requires walked { IsHierarchy relation }
-    requires first { first.old.next < length first.old.nodes }
-    requires second { second.old.next < length second.old.nodes }
+    requires { CanAdvanceBoth (L.net links.old).links (L.links_of (L.net links.old)) relation
+        first.old second.old part.old }
     ensures net { L.net links.new ≡ L.net links.old }
+    ensures part { OnOk result (HasNextPart (L.net links.old).links (L.links_of (L.net links.old))
+        (converse relation) second.new part.new) }
     ensures next { IfOk result (λ found. found ≡ false
         → first.old.next + second.old.next < first.new.next + second.new.next) }
     ensures advances { IfOk result (λ found. (from to before : ℕ)
@@ -80,7 +83,6 @@ fn advance_pair<L: Links>(
         second.new allowance.new before (L.count links.new))) }
 {
     let back = converse_of(relation);
-    let part = second.next_part(links, back);
     let size = part.size();
     if advance_first(links, relation, first, allowance, size, tos)? {
         return Ok(true);
@@ -88,7 +90,8 @@ fn advance_pair<L: Links>(
     if *allowance < size {
         return Ok(false);
     }
-    let found = second.advance_at(links, back, part, froms)?;
+    let found = second.advance_at(links, back, *part, froms)?;
+    *part = second.next_part(links, back);
     *allowance -= size;
     Ok(found)
 }
@@ -115,9 +118,19 @@ fn run_paired_search<L: Links>(
         from to first.new second.new allowance
         before (L.count links.new))) }
 {
+    let mut part = second.next_part(links, converse_of(relation));
     let mut allowance = 0;
     'steps: while !first.is_done() && !second.is_done() {
-        if advance_pair(links, relation, first, second, &mut allowance, froms, tos)? {
+        if advance_pair(
+            links,
+            relation,
+            first,
+            second,
+            &mut part,
+            &mut allowance,
+            froms,
+            tos,
+        )? {
             return Ok(true);
         }
     }

@@ -6,15 +6,14 @@ ghost use Rattle.thes_base.specs.declared.data.Link.{Link};
 ghost use Rattle.thes_base.specs.Links.{Holds, S27};
 ghost use Rattle.thes_graph.specs.declared.relation.Relation.TheVariants as relation;
 ghost use Rattle.thes_graph.specs.Reading.{HaveTwoEnds};
-ghost use Rattle.thes_graph.specs.CycleSearch.{IsUpwardOrder};
 ghost use Rattle.thes_graph.specs.UpperSets.{HasBit, AreUpwardRows, AreUpperSets};
-ghost use Rattle.thes_graph.specs.Whole.{AreAll, HasDirection, HasAllEnds, KeepsS27Below, BreaksS27};
+ghost use Rattle.thes_graph.specs.Whole.{AreAll, HasDirection, IsWholeOrder, KeepsS27Below, BreaksS27};
 
 use crate::find_cycle::{PathNode, path_node_at};
 use crate::links::Links;
 use crate::nodes::Nodes;
 use crate::relation::{Relation, has_direction};
-use crate::upper_sets::{BLOCK, find_upper_sets, has_bit};
+use crate::upper_sets::{BLOCK, find_upper_sets, is_set};
 use crate::walk::next_nodes;
 use std::alloc::{AllocError, Global};
 use thes_base::data::Link;
@@ -26,8 +25,7 @@ fn read_upward_rows<L: Links>(
     links: &mut L,
     order: &Nodes,
 ) -> Result<Vec<PathNode>, AllocError>
-    requires order { IsUpwardOrder (Holds (L.net links.old).links) order.now }
-    requires ends { HasAllEnds (Holds (L.net links.old).links) order.now }
+    requires { IsWholeOrder (Holds (L.net links.old).links) order.now }
     ensures net { L.net links.new ≡ L.net links.old }
     ensures rows { IfOk result (λ rows. AreUpwardRows (L.net links.old).links rows.items) }
 {
@@ -72,7 +70,7 @@ fn some_has_bit(words: &[u64], nodes: &[ResNo], j: usize) -> bool
         ((n : ℕ) → Contains nodes.now n → HasBit words.now n j → ⊥) }
 {
     for n in nodes {
-        if has_bit(words, *n, j) {
+        if is_set(words, *n, j) {
             return true;
         }
     }
@@ -147,9 +145,7 @@ pub fn breaks_s27<L: Links>(
     order: &Nodes,
 ) -> Result<bool, AllocError>
     requires all { AreAll (L.net links.old).links all.now }
-    requires two_ends { HaveTwoEnds (Holds (L.net links.old).links) }
-    requires order { IsUpwardOrder (Holds (L.net links.old).links) order.now }
-    requires ends { HasAllEnds (Holds (L.net links.old).links) order.now }
+    requires whole { IsWholeOrder (Holds (L.net links.old).links) order.now }
     ensures net { L.net links.new ≡ L.net links.old }
     ensures s27 { IfOk result (λ found. MatchBool found (BreaksS27 (Holds (L.net links.old).links))
         (S27 (Holds (L.net links.old).links))) }

@@ -1,13 +1,11 @@
 //! A breadth-first search that reads the links on one side of each node, and can pause after each node.
 ghost use Rattle.std.specs.Prelude.{◌≡◌, ◌≢◌, ◌+◌, ◌-◌, ◌≤◌, ◌<◌, ◌^◌, ◌∷◌, [], ℕ, true, false, List, Contains, OnOk, IfOk, MatchBool, length, sum_by, get_or, slice_get, option_and_then};
 ghost use Rattle.thes_base.specs.declared.data.Link.{Link};
-ghost use Rattle.thes_base.specs.Links.{Holds};
 ghost use Rattle.thes_graph.specs.declared.edit.LinkEdit.TheVariants.{NoEdit, AfterMerge};
-ghost use Rattle.thes_graph.specs.Reading.{HaveTwoEnds, IsRow};
-ghost use Rattle.thes_graph.specs.Side.{IsOneSided, IsPart, side_in};
+ghost use Rattle.thes_graph.specs.Side.{side_in};
 ghost use Rattle.thes_graph.specs.Steps.{Steps};
-ghost use Rattle.thes_graph.specs.LinkEdit.{HeldAfter, IsValidEdit, CoversAt, IsNoEdit};
-ghost use Rattle.thes_graph.specs.SideSearch.{link_after, step_after_edit, LeadsWithin, LeadsFrom, IsSearchResult, CoversSide, one_on_side, link_visits, IsHierarchy, IsSideSearch, IsAdvanceResult};
+ghost use Rattle.thes_graph.specs.LinkEdit.{HeldAfter, CoversAt};
+ghost use Rattle.thes_graph.specs.SideSearch.{link_after, step_after_edit, LeadsWithin, LeadsFrom, IsSearchResult, CoversSide, one_on_side, link_visits, IsHierarchySearch, IsPartAt, HasNextPart, CanFollow, CanAdvance, IsSideSearch, IsAdvanceResult};
 
 use crate::edit::{LinkEdit, merge};
 use crate::links::Links;
@@ -99,45 +97,53 @@ fn follow_part<L: Links>(
     Ok(false)
 }
 
-// Appends the nodes to which the links at `at`, on the side of the relation, lead from `x` after the edit, up to the
-// first goal. Returns whether there is a goal.
+/// Returns the range of the node's held links that lie on the side of the relation, without reading them.
+pub fn part_along<L: Links>(links: &L, relation: Relation, n: ResNo) -> Part
+    ensures { IsPartAt (L.net links.now).links (L.links_of (L.net links.now) n) n (side_in relation)
+        result }
+{
+    links.part(n, side_for(relation))
+}
+
+// Appends the nodes to which this range of the links at `at`, which has those on the side of the relation, leads from
+// `x` after the edit, up to the first goal. Returns whether there is a goal.
 fn follow<L: Links>(
     links: &mut L,
     nodes: &mut Nodes,
     edit: &LinkEdit,
     relation: Relation,
     at: ResNo,
+    part: Part,
     x: ResNo,
     goals: &Nodes,
 ) -> Result<bool, AllocError>
+    requires { IsPartAt (L.net links.old).links (L.links_of (L.net links.old) at) at
+        (side_in relation) part }
     ensures net { L.net links.new ≡ L.net links.old }
-    ensures two_ends { OnOk result (HaveTwoEnds (Holds (L.net links.old).links)) }
     ensures finds { IfOk result (λ found. IsSearchResult found nodes.old nodes.new goals.now
         (LeadsFrom edit.now (L.net links.old).links relation at x)) }
     ensures count { OnOk result
         ((ns : List Link) → CoversSide (L.net links.old).links at (side_in relation) ns
         → L.count links.new ≤ L.count links.old + sum_by (one_on_side at (side_in relation)) ns) }
 {
-    let part = links.part(at, side_for(relation));
     let found = follow_part(links, nodes, edit, relation, at, part, x, goals)?;
     Ok(found)
 }
 
 // Appends the nodes to which the target of a merge leads in the relation after it, up to the first
-// goal. Returns whether there is a goal. Reads the links held at the target, and then those held at
-// the source.
+// goal. Returns whether there is a goal. Reads this range of the links held at the target, and then
+// those held at the source.
 fn follow_merged<L: Links>(
     links: &mut L,
     nodes: &mut Nodes,
-    edit: &LinkEdit,
     relation: Relation,
     source: ResNo,
     target: ResNo,
+    part: Part,
     goals: &Nodes,
 ) -> Result<bool, AllocError>
-    requires merge { edit.now ≡ AfterMerge source target }
-    requires ends { source ≢ target }
-    requires walked { IsOneSided relation }
+    requires { CanFollow (AfterMerge source target) (L.net links.old).links
+        (L.links_of (L.net links.old)) relation target part }
     ensures net { L.net links.new ≡ L.net links.old }
     ensures finds { IfOk result (λ found. IsSearchResult found nodes.old nodes.new goals.now
         (Steps relation (HeldAfter (AfterMerge source target) (L.net links.old).links) target)) }
@@ -146,28 +152,29 @@ fn follow_merged<L: Links>(
         → L.count links.new ≤ L.count links.old
         + sum_by (link_visits (AfterMerge source target) target (side_in relation)) ns) }
 {
-    if follow(links, nodes, edit, relation, target, target, goals)? {
+    let edit = LinkEdit::AfterMerge(source, target);
+    if follow(links, nodes, &edit, relation, target, part, target, goals)? {
         return Ok(true);
     }
-    let found = follow(links, nodes, edit, relation, source, target, goals)?;
+    let more = part_along(links, relation, source);
+    let found = follow(links, nodes, &edit, relation, source, more, target, goals)?;
     Ok(found)
 }
 
 /// Appends the nodes to which `x` leads in the relation after the edit, up to the first goal, and returns whether there
-/// is a goal.
+/// is a goal. The range has the links held at `x` on the side of the relation.
 pub fn follow_after_edit<L: Links>(
     links: &mut L,
     nodes: &mut Nodes,
     edit: &LinkEdit,
     relation: Relation,
     x: ResNo,
+    part: Part,
     goals: &Nodes,
 ) -> Result<bool, AllocError>
-    requires fit { IsValidEdit edit.now }
-    requires walked { IsOneSided relation }
+    requires { CanFollow edit.now (L.net links.old).links (L.links_of (L.net links.old)) relation x
+        part }
     ensures net { L.net links.new ≡ L.net links.old }
-    ensures two_ends { OnOk result
-        (IsNoEdit edit.now → HaveTwoEnds (Holds (L.net links.old).links)) }
     ensures finds { IfOk result (λ found. IsSearchResult found nodes.old nodes.new goals.now
         (Steps relation (HeldAfter edit.now (L.net links.old).links) x)) }
     ensures count { OnOk result ((ns : List Link) → CoversAt edit.now (L.net links.old).links x ns
@@ -176,11 +183,11 @@ pub fn follow_after_edit<L: Links>(
 {
     match edit {
         LinkEdit::NoEdit => {
-            let found = follow(links, nodes, edit, relation, x, x, goals)?;
+            let found = follow(links, nodes, edit, relation, x, part, x, goals)?;
             Ok(found)
         }
         LinkEdit::WithLink(new) => {
-            if follow(links, nodes, edit, relation, x, x, goals)? {
+            if follow(links, nodes, edit, relation, x, part, x, goals)? {
                 return Ok(true);
             }
             let found = take(nodes, step(relation, new, x), goals)?;
@@ -191,10 +198,10 @@ pub fn follow_after_edit<L: Links>(
                 return Ok(false);
             }
             if x == *target {
-                let found = follow_merged(links, nodes, edit, relation, *source, *target, goals)?;
+                let found = follow_merged(links, nodes, relation, *source, *target, part, goals)?;
                 return Ok(found);
             }
-            let found = follow(links, nodes, edit, relation, x, x, goals)?;
+            let found = follow(links, nodes, edit, relation, x, part, x, goals)?;
             Ok(found)
         }
     }
@@ -219,21 +226,20 @@ impl SideSearch {
         self.nodes.as_slice().len() <= self.next
     }
 
-    /// Reads the links that lead from the next node in the relation after the edit. Appends the
-    /// nodes to which they lead, up to the first goal, and returns whether there is a goal.
+    /// Reads the links that lead from the next node in the relation after the edit, of which the
+    /// range has those held there. Appends the nodes to which they lead, up to the first goal, and
+    /// returns whether there is a goal.
     pub fn advance<L: Links>(
         &mut self,
         links: &mut L,
         edit: &LinkEdit,
         relation: Relation,
+        part: Part,
         goals: &Nodes,
     ) -> Result<bool, AllocError>
-        requires fit { IsValidEdit edit.now }
-        requires walked { IsHierarchy relation }
-        requires more { self.old.next < length self.old.nodes }
+        requires { CanAdvance edit.now (L.net links.old).links (L.links_of (L.net links.old))
+            relation self.old part }
         ensures net { L.net links.new ≡ L.net links.old }
-        ensures two_ends { OnOk result
-            (IsNoEdit edit.now → HaveTwoEnds (Holds (L.net links.old).links)) }
         ensures next { OnOk result (self.new.next ≡ self.old.next + 1) }
         ensures advances { IfOk result (λ found. (start read : ℕ)
             → IsSideSearch edit.now (L.net links.old).links relation goals.now start self.old read
@@ -241,21 +247,21 @@ impl SideSearch {
             (read + (L.count links.new - L.count links.old)) found) }
     {
         let x = self.nodes.as_slice()[self.next];
-        let found = follow_after_edit(links, &mut self.nodes, edit, relation, x, goals)?;
+        let found = follow_after_edit(links, &mut self.nodes, edit, relation, x, part, goals)?;
         self.next += 1;
         Ok(found)
     }
 
-    /// Returns the range of the next node's held links on the side of the relation, without reading them.
+    /// Returns the range of the next node's held links on the side of the relation, without reading them; an empty
+    /// range if there is no next node.
     pub fn next_part<L: Links>(&self, links: &L, relation: Relation) -> Part
-        requires more { self.now.next < length self.now.nodes }
-        ensures two_ends { HaveTwoEnds (Holds (L.net links.now).links) }
-        ensures listed { let x = get_or self.now.nodes self.now.next 0 in
-            IsRow (L.net links.now).links x (L.links_of (L.net links.now) x) }
-        ensures part { let x = get_or self.now.nodes self.now.next 0 in
-            IsPart (L.links_of (L.net links.now) x) x (side_in relation) result }
+        ensures { HasNextPart (L.net links.now).links (L.links_of (L.net links.now)) relation
+            self.now result }
     {
-        links.part(self.nodes.as_slice()[self.next], side_for(relation))
+        match self.nodes.get(self.next) {
+            Some(x) => part_along(links, relation, x),
+            None => Part { from: 0, to: 0 },
+        }
     }
 
     /// Reads this range of the next node's held links. Appends the nodes to which they lead, up to
@@ -267,13 +273,8 @@ impl SideSearch {
         part: Part,
         goals: &Nodes,
     ) -> Result<bool, AllocError>
-        requires walked { IsHierarchy relation }
-        requires more { self.old.next < length self.old.nodes }
-        requires two_ends { HaveTwoEnds (Holds (L.net links.old).links) }
-        requires listed { let x = get_or self.old.nodes self.old.next 0 in
-            IsRow (L.net links.old).links x (L.links_of (L.net links.old) x) }
-        requires part { let x = get_or self.old.nodes self.old.next 0 in
-            IsPart (L.links_of (L.net links.old) x) x (side_in relation) part }
+        requires { CanAdvance NoEdit (L.net links.old).links (L.links_of (L.net links.old)) relation
+            self.old part }
         ensures net { L.net links.new ≡ L.net links.old }
         ensures next { OnOk result (self.new.next ≡ self.old.next + 1) }
         ensures count { L.count links.new ≤ L.count links.old + (part.to - part.from) }
@@ -298,8 +299,7 @@ impl SideSearch {
         relation: Relation,
         goals: &Nodes,
     ) -> Result<bool, AllocError>
-        requires fit { IsValidEdit edit.now }
-        requires walked { IsHierarchy relation }
+        requires { IsHierarchySearch edit.now relation }
         ensures net { L.net links.new ≡ L.net links.old }
         ensures done { IfOk result
             (λ found. found ≡ false → length self.new.nodes ≤ self.new.next) }
@@ -309,7 +309,8 @@ impl SideSearch {
             (read + (L.count links.new - L.count links.old)) found) }
     {
         'reading: while !self.is_done() {
-            if self.advance(links, edit, relation, goals)? {
+            let part = self.next_part(links, relation);
+            if self.advance(links, edit, relation, part, goals)? {
                 return Ok(true);
             }
         }

@@ -6,6 +6,7 @@ ghost use Rattle.thes_base.specs.Links.{Links};
 ghost use Rattle.thes_graph.specs.UpperSets.{word_at, HasBit, HasBitsSet, AreUpwardRows, AreUpperSets};
 
 use crate::find_cycle::PathNode;
+use crate::words::{has_bit, set_bits, word_of};
 use std::alloc::AllocError;
 use thes_base::number::ResNo;
 
@@ -13,32 +14,25 @@ use thes_base::number::ResNo;
 pub const BLOCK: usize = 64;
 
 // Returns the word of the node; 0 past the end.
-fn word_of(words: &[u64], n: ResNo) -> u64
+fn word_of_node(words: &[u64], n: ResNo) -> u64
     ensures { result ≡ word_at words.now n }
 {
-    match words.get(n.get() as usize) {
-        Some(word) => *word,
-        None => 0,
-    }
+    word_of(words, n.get())
 }
 
 /// Checks whether bit j of the node's word is set, so that the j-th node of the block is at or above the node.
-pub fn has_bit(words: &[u64], n: ResNo, j: usize) -> bool
+pub fn is_set(words: &[u64], n: ResNo, j: usize) -> bool
     requires { j < 64 }
     ensures { MatchBool result (HasBit words.now n j) (HasBit words.now n j → ⊥) }
 {
-    (word_of(words, n) >> j) & 1 == 1
+    has_bit(words, n.get(), j)
 }
 
-// Sets these bits in the word of the node, and extends the words if they end before it.
-fn set_bits(words: &mut Vec<u64>, n: ResNo, bits: u64) -> Result<(), AllocError>
+// Sets these bits in the word of the node.
+fn set_bits_of_node(words: &mut Vec<u64>, n: ResNo, bits: u64) -> Result<(), AllocError>
     ensures { OnOk result (HasBitsSet words.old.items words.new.items n bits) }
 {
-    let place = n.get() as usize;
-    if words.len() <= place {
-        words.resize(place + 1, 0)?;
-    }
-    words[place] |= bits;
+    set_bits(words, n.get(), bits)?;
     Ok(())
 }
 
@@ -50,7 +44,7 @@ fn start_block(words: &mut Vec<u64>, block: &[ResNo]) -> Result<(), AllocError>
 {
     words.clear();
     for (j, n) in block.iter().enumerate() {
-        set_bits(words, *n, 1 << j)?;
+        set_bits_of_node(words, *n, 1 << j)?;
     }
     Ok(())
 }
@@ -62,8 +56,8 @@ fn set_bits_above(words: &mut Vec<u64>, row: &PathNode) -> Result<(), AllocError
         × ((h : ℕ) × Contains row.now.above.items h × HasBit words.old.items h j)))) }
 {
     for high in &row.above {
-        let bits = word_of(words, *high);
-        set_bits(words, row.node, bits)?;
+        let bits = word_of_node(words, *high);
+        set_bits_of_node(words, row.node, bits)?;
     }
     Ok(())
 }

@@ -3,42 +3,44 @@
 //! link may lead from one of these nodes.
 ghost use Rattle.std.specs.Prelude.{◌≡◌, ◌+◌, ◌-◌, ◌*◌, ◌≤◌, ◌<◌, ℕ, true, false, List, Contains, OnOk, IfOk, MatchBool, length};
 ghost use Rattle.thes_base.specs.declared.data.Link.{Link};
-ghost use Rattle.thes_base.specs.Links.{Holds};
-ghost use Rattle.thes_graph.specs.declared.relation.Relation.TheVariants.{Related};
+ghost use Rattle.thes_graph.specs.declared.relation.Relation.TheVariants.{Broader, Narrower, Related};
 ghost use Rattle.thes_graph.specs.declared.side.Side.TheVariants.{Sideways};
-ghost use Rattle.thes_graph.specs.Reading.{HaveTwoEnds};
-ghost use Rattle.thes_graph.specs.Side.{IsOneSided};
 ghost use Rattle.thes_graph.specs.Steps.{Steps, Reaches};
-ghost use Rattle.thes_graph.specs.LinkEdit.{HeldAfter, IsValidEdit, CoversAt, IsNoEdit};
-ghost use Rattle.thes_graph.specs.SideSearch.{read_cost, IsHierarchy, IsSideSearch, AreAlternating, HasEitherFoundGoal, AreTied, IsSecondResult, IsBrokenBetween, CoversBetween};
+ghost use Rattle.thes_graph.specs.LinkEdit.{HeldAfter, IsValidEdit, CoversAt};
+ghost use Rattle.thes_graph.specs.SideSearch.{read_cost, CanAdvance, HaveNextParts, IsHierarchySearch, IsSideSearch, AreAlternating, HasEitherFoundGoal, AreTied, IsSecondResult, IsBrokenBetween, CoversBetween};
 
 use crate::edit::LinkEdit;
 use crate::ends::is_end_after;
 use crate::links::Links;
 use crate::nodes::Nodes;
 use crate::relation::Relation;
-use crate::side_search::{SideSearch, follow_after_edit};
+use crate::side::Part;
+use crate::side_search::{SideSearch, follow_after_edit, part_along};
 use std::alloc::{AllocError, Global};
 use thes_base::fault::Refusal;
 use thes_base::number::ResNo;
 
 // Advances the search that will have read less after its next node, and returns whether it found a
 // goal. The number of nodes that a search has met estimates what it has read, so that neither reads
-// a node with many links while the other has few to read.
+// a node with many links while the other has few to read. The ranges have the links held at the
+// next nodes.
 fn advance_in_turn<L: Links>(
     links: &mut L,
     edit: &LinkEdit,
     up: &mut SideSearch,
+    up_part: &mut Part,
     down: &mut SideSearch,
+    down_part: &mut Part,
     lows: &Nodes,
     highs: &Nodes,
 ) -> Result<bool, AllocError>
-    requires fit { IsValidEdit edit.now }
-    requires up { up.old.next < length up.old.nodes }
-    requires down { down.old.next < length down.old.nodes }
+    requires up { CanAdvance edit.now (L.net links.old).links (L.links_of (L.net links.old)) Broader
+        up.old up_part.old }
+    requires down { CanAdvance edit.now (L.net links.old).links (L.links_of (L.net links.old))
+        Narrower down.old down_part.old }
     ensures net { L.net links.new ≡ L.net links.old }
-    ensures two_ends { OnOk result
-        (IsNoEdit edit.now → HaveTwoEnds (Holds (L.net links.old).links)) }
+    ensures parts { OnOk result (HaveNextParts (L.net links.old).links
+        (L.links_of (L.net links.old)) up.new up_part.new down.new down_part.new) }
     ensures next { OnOk result (up.new.next + down.new.next ≡ up.old.next + down.old.next + 1) }
     ensures advances { IfOk result (λ found. (low high from : ℕ)
         → AreAlternating edit.now (L.net links.old).links lows.now highs.now low high up.old
@@ -49,15 +51,15 @@ fn advance_in_turn<L: Links>(
         (AreAlternating edit.now (L.net links.old).links lows.now highs.now low high up.new
         down.new from (L.count links.new))) }
 {
-    let up_part = up.next_part(links, Relation::Broader);
-    let down_part = down.next_part(links, Relation::Narrower);
     let up_read = up.nodes.as_slice().len().saturating_add(up_part.size());
     let down_read = down.nodes.as_slice().len().saturating_add(down_part.size());
     if up_read <= down_read {
-        let found = up.advance(links, edit, Relation::Broader, lows)?;
+        let found = up.advance(links, edit, Relation::Broader, *up_part, lows)?;
+        *up_part = up.next_part(links, Relation::Broader);
         return Ok(found);
     }
-    let found = down.advance(links, edit, Relation::Narrower, highs)?;
+    let found = down.advance(links, edit, Relation::Narrower, *down_part, highs)?;
+    *down_part = down.next_part(links, Relation::Narrower);
     Ok(found)
 }
 
@@ -71,12 +73,8 @@ fn search_in_turns<L: Links>(
     lows: &Nodes,
     highs: &Nodes,
 ) -> Result<bool, AllocError>
-    requires fit { IsValidEdit edit.now }
-    requires new { (up.old.next ≡ 0) × (down.old.next ≡ 0) }
+    requires { IsValidEdit edit.now }
     ensures net { L.net links.new ≡ L.net links.old }
-    ensures two_ends { OnOk result (IsNoEdit edit.now → 0 < up.new.next + down.new.next
-        → HaveTwoEnds (Holds (L.net links.old).links)) }
-    ensures turns { IfOk result (λ found. found ≡ true → 0 < up.new.next + down.new.next) }
     ensures done { IfOk result (λ found. found ≡ false → up.new.next < length up.new.nodes
         → length down.new.nodes ≤ down.new.next) }
     ensures advances { IfOk result (λ found. (low high from : ℕ)
@@ -88,8 +86,19 @@ fn search_in_turns<L: Links>(
         (AreAlternating edit.now (L.net links.old).links lows.now highs.now low high up.new
         down.new from (L.count links.new))) }
 {
+    let mut up_part = up.next_part(links, Relation::Broader);
+    let mut down_part = down.next_part(links, Relation::Narrower);
     'turns: while !up.is_done() && !down.is_done() {
-        if advance_in_turn(links, edit, up, down, lows, highs)? {
+        if advance_in_turn(
+            links,
+            edit,
+            up,
+            &mut up_part,
+            down,
+            &mut down_part,
+            lows,
+            highs,
+        )? {
             return Ok(true);
         }
     }
@@ -129,7 +138,8 @@ fn are_tied<L: Links>(
 {
     let mut met = Nodes::none(alloc);
     for x in xs.as_slice() {
-        if follow_after_edit(links, &mut met, edit, Relation::Related, *x, ys)? {
+        let part = part_along(links, Relation::Related, *x);
+        if follow_after_edit(links, &mut met, edit, Relation::Related, *x, part, ys)? {
             return Ok(true);
         }
     }
@@ -147,8 +157,7 @@ fn check_second_search<L: Links>(
     relation: Relation,
     goals: &Nodes,
 ) -> Result<Option<Refusal>, AllocError>
-    requires fit { IsValidEdit edit.now }
-    requires walked { IsHierarchy relation }
+    requires { IsHierarchySearch edit.now relation }
     ensures net { L.net links.new ≡ L.net links.old }
     ensures rest { IfOk result (λ answer. (start read : ℕ)
         → IsSideSearch edit.now (L.net links.old).links relation goals.now start other.old read
@@ -185,8 +194,6 @@ pub fn check_upward_link<L: Links>(
 ) -> Result<Option<Refusal>, AllocError>
     requires { IsValidEdit edit.now }
     ensures net { L.net links.new ≡ L.net links.old }
-    ensures two_ends { OnOk result
-        (IsNoEdit edit.now → HaveTwoEnds (Holds (L.net links.old).links)) }
     ensures broken { IfOk result
         (IsBrokenBetween (HeldAfter edit.now (L.net links.old).links) low high) }
     ensures count { OnOk result

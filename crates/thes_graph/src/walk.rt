@@ -6,7 +6,7 @@ ghost use Rattle.thes_base.specs.Links.{Holds};
 ghost use Rattle.thes_graph.specs.declared.edit.LinkEdit.TheVariants.{AfterMerge};
 ghost use Rattle.thes_graph.specs.Reading.{HaveTwoEnds, IsRow};
 ghost use Rattle.thes_graph.specs.Steps.{Steps, GrowsBy, Ties, step_along};
-ghost use Rattle.thes_graph.specs.LinkEdit.{HeldAfter, ends_at_node, IsReadOf, CoversAt, row_after_edit, IsValidEdit, IsNoEdit};
+ghost use Rattle.thes_graph.specs.LinkEdit.{HeldAfter, ends_at_node, IsReadOf, CoversAt, row_after_edit, IsValidEdit};
 ghost use Rattle.thes_graph.specs.Local.{IsReachableSet};
 
 use crate::edit::{LinkEdit, links_after_edit};
@@ -97,8 +97,6 @@ fn read<L: Links>(
 ) -> Result<Vec<Link>, AllocError>
     requires { IsValidEdit edit.now }
     ensures net { L.net links.new ≡ L.net links.old }
-    ensures two_ends { OnOk result
-        (IsNoEdit edit.now → HaveTwoEnds (Holds (L.net links.old).links)) }
     ensures read { IfOk result (λ row. IsReadOf edit.now (L.net links.old).links node row.items) }
     ensures count { OnOk result ((ns : List Link)
         → CoversAt edit.now (L.net links.old).links node ns
@@ -168,8 +166,6 @@ pub fn gather<L: Links>(
 ) -> Result<ReachableSet, AllocError>
     requires { IsValidEdit edit.now }
     ensures net { L.net links.new ≡ L.net links.old }
-    ensures two_ends { OnOk result
-        (IsNoEdit edit.now → HaveTwoEnds (Holds (L.net links.old).links)) }
     ensures gathered { IfOk result (λ got. IsReachableSet (HeldAfter edit.now
         (L.net links.old).links) relation start got.nodes got.links.items) }
     ensures count { IfOk result (λ got. (ns : List Link) → ((n : ℕ) → Contains got.nodes n

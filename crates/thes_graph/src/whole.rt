@@ -6,7 +6,7 @@ ghost use Rattle.thes_base.specs.Links.{Holds, NoCycle, S46, IsFirstBroken};
 ghost use Rattle.thes_graph.specs.Reading.{HaveTwoEnds};
 ghost use Rattle.thes_graph.specs.Steps.{GrowsBy};
 ghost use Rattle.thes_graph.specs.Local.{KeepsS46At};
-ghost use Rattle.thes_graph.specs.Whole.{AreAll, HasDirection, HasAllEnds, HasCycle, BreaksS46};
+ghost use Rattle.thes_graph.specs.Whole.{AreAll, HasDirection, IsWholeOrder, HasCycle, BreaksS46};
 ghost use Rattle.thes_graph.specs.CycleSearch.{IsUpwardOrder};
 
 use crate::edit::LinkEdit;
@@ -34,10 +34,8 @@ fn has_cycle<L: Links>(
     ensures net { L.net links.new ≡ L.net links.old }
     ensures cycle { IfOk result (λ found. MatchBool found (HasCycle (Holds (L.net links.old).links))
         (NoCycle (Holds (L.net links.old).links))) }
-    ensures order { IfOk result
-        (λ found. found ≡ false → IsUpwardOrder (Holds (L.net links.old).links) order.new) }
-    ensures ends { IfOk result
-        (λ found. found ≡ false → HasAllEnds (Holds (L.net links.old).links) order.new) }
+    ensures whole { IfOk result
+        (λ found. found ≡ false → IsWholeOrder (Holds (L.net links.old).links) order.new) }
 {
     for link in all {
         if find_cycle(alloc, links, link.a, order)? {
@@ -88,8 +86,7 @@ fn breaks_s46_at<L: Links>(
 
 // Checks whether two exact matches are also broader or related matches (SKOS S46).
 fn breaks_s46<L: Links>(alloc: Global, links: &mut L, all: &[Link]) -> Result<bool, AllocError>
-    requires all { AreAll (L.net links.old).links all.now }
-    requires two_ends { HaveTwoEnds (Holds (L.net links.old).links) }
+    requires { AreAll (L.net links.old).links all.now }
     ensures net { L.net links.new ≡ L.net links.old }
     ensures s46 { IfOk result (λ found. MatchBool found (BreaksS46 (Holds (L.net links.old).links))
         (S46 (Holds (L.net links.old).links))) }
@@ -112,8 +109,7 @@ pub fn check_listed_links<L: Links>(
     links: &mut L,
     all: &[Link],
 ) -> Result<Option<Refusal>, AllocError>
-    requires all { AreAll (L.net links.old).links all.now }
-    requires two_ends { HaveTwoEnds (Holds (L.net links.old).links) }
+    requires { AreAll (L.net links.old).links all.now }
     ensures net { L.net links.new ≡ L.net links.old }
     ensures first { IfOk result (IsFirstBroken (Holds (L.net links.old).links)) }
 {

@@ -1,7 +1,18 @@
 -- Proves that consecutive connections lead from the first state to the last.
-use Rattle.std.proofs.Common.{◌≡◌, subst, refl, sym, ℕ, ◌+◌, ◌≤◌, List, [], ◌∷◌, ◌++◌, length-append, arith}
+use Rattle.std.proofs.Common.{◌≡◌, Option, ap, true, subst, refl, sym, ℕ, ◌+◌, ◌≤◌, List, [], ◌∷◌, ◌++◌, length-append, arith}
 use Rattle.thes_http.specs.declared.response.Response.{Response}
-use Rattle.thes_http.specs.Server.{Exchange, AreAnswered, LeadsBy}
+use Rattle.std.specs.Io.KnownBytes.{Appends}
+use Rattle.thes_base.specs.Pipe.{AppendsPrefix, ended_of, unread_bytes}
+use Rattle.thes_base.specs.declared.pipe.Pipe.{Pipe}
+use Rattle.thes_requests.specs.Script.{Session, session}
+use Rattle.thes_http_request.specs.Inbox.{HasStopped}
+use Rattle.thes_http.specs.Connection.{IsConnectionAnswer, IsCutOff, IsAnsweredWith, IsAnsweredInPart, IsUntouched}
+use Rattle.thes_http.specs.declared.serve.ConnectionEnd.{ConnectionEnd}
+use Rattle.thes_http.specs.declared.serve.ConnectionEnd.TheVariants.{Answered, Cut, ReadFault, WriteFault}
+use Rattle.thes_http.specs.declared.server.ServedStream.{ServedStream}
+use Rattle.thes_http.specs.Server.{Exchange, AreAnswered, HasOutcome, LeadsBy, LeavesOutput}
+use Rattle.thes_http.specs.declared.response.Status.{Status}
+use Rattle.thes_http.specs.Responses.{response_text}
 use Rattle.thes_http.specs.Serving.{ServiceEffects, Answers}
 
 module _ {S : Type 0} (d : ServiceEffects S) where
@@ -39,3 +50,64 @@ module _ {S : Type 0} (d : ServiceEffects S) where
     answered =
         a.answered;
   }
+
+  -- Whatever its outcome, a connection leads on by one exchange at most.
+  module _ {T : Type 0} (remaining contents : T → Option (List ℕ)) (input output : T) (served : ServedStream T)
+      (old new : S) where
+    pub leads_by_end : (end : ConnectionEnd) → HasOutcome remaining contents d input output old served new end
+        → LeadsBy d 1 old new
+    leads_by_end (Answered status) is = leads_once old new is.1.bytes is.0 is.1.answers
+    leads_by_end WriteFault is = leads_once old new is.1.bytes is.0 is.1.answers
+    leads_by_end Cut is = leads_nowhere 1 old new is.1.0
+    leads_by_end ReadFault is = leads_nowhere 1 old new is.0
+
+    -- The outcome over pipes is that over the streams that these wrap.
+    module _ {D : Type 0} (stream : D → T) (reader reader' writer writer' : Pipe D) (from : stream reader.device ≡ input)
+        (to : stream writer.device ≡ output) (from' : served.input ≡ stream reader'.device)
+        (to' : served.output ≡ stream writer'.device) where
+      abbrev taken : D → Option (List ℕ)
+      taken device = remaining (stream device)
+
+      abbrev given : D → Option (List ℕ)
+      given device = contents (stream device)
+
+      ends_read : (Is : T → T → Type 0) → Is (stream reader.device) (stream reader'.device) → Is input served.input
+      ends_read Is is = subst (λ (ends : T × T). Is ends.0 ends.1) (λ i. (from i, sym from' i)) is
+
+      ends_written : (Is : T → T → Type 0) → Is (stream writer.device) (stream writer'.device)
+          → Is output served.output
+      ends_written Is is = subst (λ (ends : T × T). Is ends.0 ends.1) (λ i. (to i, sym to' i)) is
+
+      abbrev before : Session D D S
+      before = session reader writer old
+
+      abbrev after : Session D D S
+      after = session reader' writer' new
+
+      untouched : IsUntouched before after → LeavesOutput remaining contents d input output old served new
+      untouched same = (same.0, ends_written (λ x y. contents y ≡ contents x) (ap (λ (p : Pipe D). given p.device) same.1))
+
+      pub outcome_of : (end : ConnectionEnd)
+          → ((status : Status) → end ≡ Answered status → IsAnsweredWith taken given d before after status)
+          → (end ≡ Cut → IsCutOff (unread_bytes taken reader) (unread_bytes taken reader') × (ended_of reader' ≡ true)
+          × IsUntouched before after)
+          → (end ≡ ReadFault → HasStopped reader' × IsUntouched before after)
+          → (end ≡ WriteFault → HasStopped writer' × IsAnsweredInPart taken given d before after)
+          → HasOutcome remaining contents d input output old served new end
+      outcome_of (Answered status) answered cut read write =
+          let a = answered status refl in (
+            a.response,
+            ends_read (λ x y. IsConnectionAnswer d (remaining x) (remaining y) old a.response new) a.answer,
+            a.is_status,
+            ends_written (λ x y. Appends (contents x) (contents y) (response_text a.response)) a.text,
+          )
+      outcome_of WriteFault answered cut read write =
+          let a = (write refl).1 in (
+            a.response,
+            ends_read (λ x y. IsConnectionAnswer d (remaining x) (remaining y) old a.response new) a.answer,
+            ends_written (λ x y. AppendsPrefix (contents x) (contents y) (response_text a.response)) a.text,
+          )
+      outcome_of Cut answered cut read write =
+          let c = cut refl in
+          (ends_read (λ x y. IsCutOff (remaining x) (remaining y)) c.0, untouched c.2)
+      outcome_of ReadFault answered cut read write = untouched (read refl).1

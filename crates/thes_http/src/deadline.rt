@@ -68,7 +68,9 @@ pub(crate) struct TimedStream<'a, C, T> {
 
 impl<'a, C: Clock, T> TimedStream<'a, C, T> {
     /// Wraps a stream, whose time begins with the first read or write.
-    pub(crate) fn new(stream: T, clock: &'a C) -> TimedStream<'a, C, T> {
+    pub(crate) fn new(stream: T, clock: &'a C) -> TimedStream<'a, C, T>
+        ensures { result.stream ≡ stream }
+    {
         TimedStream {
             stream,
             clock,
@@ -78,7 +80,9 @@ impl<'a, C: Clock, T> TimedStream<'a, C, T> {
     }
 
     /// Returns the stream without a deadline.
-    pub(crate) fn into_stream(self) -> T {
+    pub(crate) fn into_stream(self) -> T
+        ensures { result ≡ self.entry.stream }
+    {
         let TimedStream { stream, .. } = self;
         stream
     }

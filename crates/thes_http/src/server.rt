@@ -1,6 +1,7 @@
 //! Serves connections, one after another.
-ghost use Rattle.std.specs.Prelude.{◌≡◌, true, OnOk};
-ghost use Rattle.thes_http.specs.Server.{LeadsBy};
+ghost use Rattle.std.specs.Prelude.{◌≡◌, true, IfOk, OnOk};
+ghost use Rattle.std.specs.IoError.{error_kind};
+ghost use Rattle.thes_http.specs.Server.{IsAcceptOutcome, IsServedBy, LeadsBy, is_wait};
 ghost use Rattle.thes_http.specs.Serving.{effects};
 
 use crate::deadline::TimedStream;
@@ -9,7 +10,7 @@ use crate::service::Service;
 use std::alloc::Global;
 use std::io;
 use std::io::{ErrorKind, Read, Write};
-use std::net::{Net, OpenListener, OpenStream, Shutdown};
+use std::net::{Net, OpenListener, OpenStream, Shutdown, SocketAddr};
 use std::rt::Clock;
 use std::time::{Duration, Instant};
 use thes_base::pipe::Pipe;
@@ -51,22 +52,55 @@ fn drain_input<C: Clock, T: Read + OpenStream + Drop>(clock: &C, mut stream: T) 
         match stream.read(&mut buffer) {
             Ok(0) => return,
             Ok(_) => {}
-            Err(error) if waits < WAITS && has_waited(&error) => waits += 1,
+            Err(error) if waits < WAITS && has_waited(error.kind()) => waits += 1,
             Err(_) => return,
         }
     }
 }
 
 // Returns whether a read timed out or was interrupted, so that it may be repeated.
-fn has_waited(error: &io::Error) -> bool {
+fn has_waited(kind: ErrorKind) -> bool
+    ensures { result ≡ is_wait kind }
+{
     matches!(
-        error.kind(),
+        kind,
         ErrorKind::WouldBlock | ErrorKind::TimedOut | ErrorKind::Interrupted
     )
 }
 
-// Serves one connection, or closes it if its stream can't be cloned. Reads and writes fail once the
-// client exceeds its time.
+/// A connection that was served: its outcome, and its two ends.
+#[derive(Drop)]
+pub(crate) struct ServedStream<T> {
+    end: ConnectionEnd,
+    input: T,
+    output: T,
+}
+
+// Reads a request from one end of a connection, performs it, and writes the response to the other end. Reads and
+// writes fail once the client exceeds its time.
+fn serve_ends<C: Clock, T: Read + Write + OpenStream + Drop, S: Service>(
+    alloc: Global,
+    routes: &Routes,
+    clock: &C,
+    input: T,
+    output: T,
+    service: &mut S,
+) -> ServedStream<T>
+    requires { S.is_open service.old ≡ true }
+    ensures { let d = effects S.performs S.shows S.imports S.exports S.displays in
+        IsServedBy T.remaining T.contents d input output service.old result service.new }
+{
+    let mut reader = Pipe::new(TimedStream::new(input, clock));
+    let mut writer = Pipe::new(TimedStream::new(output, clock));
+    let end = serve_routed(alloc, Some(routes), &mut reader, &mut writer, service);
+    ServedStream {
+        end,
+        input: reader.into_device().into_stream(),
+        output: writer.into_device().into_stream(),
+    }
+}
+
+// Serves one connection, or closes it if its stream can't be cloned.
 fn serve_stream<C: Clock, T: Read + Write + OpenStream + Drop, S: Service>(
     alloc: Global,
     routes: &Routes,
@@ -81,11 +115,28 @@ fn serve_stream<C: Clock, T: Read + Write + OpenStream + Drop, S: Service>(
     let Ok(input) = stream.try_clone() else {
         return;
     };
-    let mut reader = Pipe::new(TimedStream::new(input, clock));
-    let mut writer = Pipe::new(TimedStream::new(stream, clock));
-    match serve_routed(alloc, Some(routes), &mut reader, &mut writer, service) {
-        ConnectionEnd::Answered(_) => drain_input(clock, reader.into_device().into_stream()),
-        ConnectionEnd::WriteFault | ConnectionEnd::Cut | ConnectionEnd::ReadFault => {}
+    let served = serve_ends(alloc, routes, clock, input, stream, service);
+    if is_answered(served.end) {
+        drain_input(clock, served.input);
+    }
+}
+
+// Returns whether the response was written completely.
+fn is_answered(end: ConnectionEnd) -> bool {
+    match end {
+        ConnectionEnd::Answered(_) => true,
+        ConnectionEnd::WriteFault | ConnectionEnd::Cut | ConnectionEnd::ReadFault => false,
+    }
+}
+
+// Returns the stream of an accept, or `None` if the client closed its connection before; any other error is final.
+fn accepted_stream<T: Drop>(accept: io::Result<(T, SocketAddr)>) -> io::Result<Option<T>>
+    ensures { IsAcceptOutcome accept result }
+{
+    match accept {
+        Ok((stream, _)) => Ok(Some(stream)),
+        Err(error) if error.kind() == ErrorKind::ConnectionAborted => Ok(None),
+        Err(error) => Err(error),
     }
 }
 
@@ -93,15 +144,11 @@ fn serve_stream<C: Clock, T: Read + Write + OpenStream + Drop, S: Service>(
 fn next_stream<N: Net>(
     listener: &N::Listener,
 ) -> io::Result<Option<<N::Listener as OpenListener>::Stream>> {
-    match listener.accept() {
-        Ok((stream, _)) => Ok(Some(stream)),
-        Err(error) if error.kind() == ErrorKind::ConnectionAborted => Ok(None),
-        Err(error) => Err(error),
-    }
+    accepted_stream(listener.accept())
 }
 
-/// Serves `count` connections, one after another; one that its client closed before it was accepted
-/// counts as well. A client has 30 seconds to send its request and 30 to read the response, by the
+/// Serves `count` connections, one after another, and returns their number; one that its client closed before it was
+/// accepted counts as well. A client has 30 seconds to send its request and 30 to read the response, by the
 /// clock, and one more second for each 100,000 bytes.
 ///
 /// A client that closes its connection early loses only its own response. An error is that of
@@ -114,8 +161,9 @@ pub fn serve<N: Net + Clock, S: Service>(
     listener: &N::Listener,
     count: u32,
     service: &mut S,
-) -> io::Result<()>
+) -> io::Result<u32>
     requires { S.is_open service.old ≡ true }
+    ensures all { IfOk result (λ served. served ≡ count) }
     ensures leads { LeadsBy (effects S.performs S.shows S.imports S.exports S.displays) count
         service.old service.new }
     ensures open { OnOk result (S.is_open service.new ≡ true) }
@@ -123,7 +171,9 @@ pub fn serve<N: Net + Clock, S: Service>(
     let Ok(routes) = Routes::new(alloc) else {
         return Err(io::Error::from(ErrorKind::OutOfMemory));
     };
+    let mut served = 0;
     for _ in 0..count {
+        served += 1;
         let Some(stream) = next_stream::<N>(listener)? else {
             continue;
         };
@@ -132,5 +182,5 @@ pub fn serve<N: Net + Clock, S: Service>(
             return Err(io::Error::from(ErrorKind::OutOfMemory));
         }
     }
-    Ok(())
+    Ok(served)
 }

@@ -74,3 +74,8 @@ pub record CutsBody (old new : Option (List ℕ)) (start : List ℕ) (count : �
 -- twice the number of bytes that arrived.
 abbrev pub HasBoundedCapacity : ℕ → ℕ → ℕ → Type 0
 HasBoundedCapacity count came room = (room ≤ count) × (room ≤ 2 * came + 4096)
+
+-- The capacity of the body's buffer is at least the length announced, or 4,096 more than twice the number of bytes
+-- that arrived.
+abbrev pub HasGrowingCapacity : ℕ → ℕ → ℕ → Type 0
+HasGrowingCapacity count came room = (count ≤ room) ⊎ (2 * came + 4096 ≤ room)

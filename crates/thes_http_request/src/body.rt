@@ -1,7 +1,7 @@
 //! Reads the body of an HTTP request.
 ghost use Rattle.std.specs.Prelude.{◌≡◌, ◌≤◌, ◌<◌, ◌+◌, ◌++◌, [], length, true, false, vec_len, vec_capacity, IfOk, OnOk, IsErrOf};
 ghost use Rattle.thes_base.specs.Pipe.{ended_of, IsFresh, PaysCalls, unread_bytes};
-ghost use Rattle.thes_http_request.specs.Inbox.{ReadsBody, CutsBody, ConsumesSome, BufferGrowth, HasBoundedCapacity, HasStopped, HasEnded};
+ghost use Rattle.thes_http_request.specs.Inbox.{ReadsBody, CutsBody, ConsumesSome, BufferGrowth, HasBoundedCapacity, HasGrowingCapacity, HasStopped, HasEnded};
 
 use crate::inbox::InputFault;
 use std::alloc::AllocError;
@@ -47,6 +47,8 @@ fn make_room(body: &mut Vec<u8>, count: usize) -> Result<(), AllocError>
     ensures items { body.new.items ≡ body.old.items }
     ensures len { vec_len body.new ≡ vec_len body.old }
     ensures some { OnOk result (vec_len body.new < vec_capacity body.new) }
+    ensures grows { vec_capacity body.old ≤ vec_len body.old →
+        OnOk result (HasGrowingCapacity count (vec_len body.old) (vec_capacity body.new)) }
     ensures room { HasBoundedCapacity count (vec_len body.new) (vec_capacity body.new) }
 {
     let len = body.len();

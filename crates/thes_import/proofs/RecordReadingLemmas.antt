@@ -173,8 +173,8 @@ source_after new e = rw e refl
 
 pub takes_record : (old new : Reader (Bor (List ℕ))) (fields : List (List ℕ)) (found : Bool)
     → (old.trim ≡ trim.None → Ready old → ReadRecord (λ s. Some s.now) old new found fields)
-    → (old.trim ≡ trim.None → new.first ≡ true) → TakesRecord old new fields found
-takes_record old new fields found reads begun = record {
+    → (old.trim ≡ trim.None → new.first ≡ true) → new.flexible ≡ old.flexible → TakesRecord old new fields found
+takes_record old new fields found reads begun flexible = record {
   more = λ is bytes records h.
       let r = subst (λ (b : Bool). ReadRecord (λ (s : Bor (List ℕ)). Some s.now) old new b fields) is
       (reads h.plain h.ready) in
@@ -184,6 +184,7 @@ takes_record old new fields found reads begun = record {
           plain = r.3 ∙ h.plain;
           ready = inl (begun h.plain);
           config = r.2 ∙ h.config;
+          any_width = flexible ∙ h.any_width;
           unread = m.0;
           source = m.1;
           reaches = m.2;
@@ -209,9 +210,10 @@ takes_record old new fields found reads begun = record {
 pub takes_found : {E : Type 0} (old new : Reader (Bor (List ℕ))) (fields : List (List ℕ)) (result : Result Bool E)
     (found : Bool) → Some found ≡ result_ok result
     → IfOk result (λ b. old.trim ≡ trim.None → Ready old → ReadRecord (λ s. Some s.now) old new b fields)
-    → (old.trim ≡ trim.None → OnOk result (new.first ≡ true)) → TakesRecord old new fields found
-takes_found old new fields (Ok b) found e reads begun =
+    → (old.trim ≡ trim.None → OnOk result (new.first ≡ true)) → OnOk result (new.flexible ≡ old.flexible)
+    → TakesRecord old new fields found
+takes_found old new fields (Ok b) found e reads begun flexible =
     let both : Some found ≡ Some b = e in
     let same : b ≡ found = cc in
-    subst (TakesRecord old new fields) same (takes_record old new fields b reads begun)
-takes_found old new fields (Err error) found e reads begun = absurd (let bad : Some found ≡ None = e in cc)
+    subst (TakesRecord old new fields) same (takes_record old new fields b reads begun flexible)
+takes_found old new fields (Err error) found e reads begun flexible = absurd (let bad : Some found ≡ None = e in cc)

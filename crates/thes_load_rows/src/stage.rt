@@ -70,7 +70,7 @@ impl Stage {
     }
 
     /// Checks whether the load has stopped with a fault.
-    pub(crate) fn is_stopped(&self) -> bool
+    pub fn is_stopped(&self) -> bool
         ensures { result ≡ is_stopped self.now }
     {
         match self {

@@ -1,9 +1,10 @@
 //! The operations of a load: adding a row, stopping at a table that the database can't query, and
 //! finishing.
-ghost use Rattle.std.specs.Prelude.{◌≤◌, IfOk};
+ghost use Rattle.std.specs.Prelude.{◌≡◌, ◌≤◌, IfOk, OnOk};
+ghost use Rattle.thes_base.specs.declared.fault.Fault.TheVariants.{BadStore};
 ghost use Rattle.thes_tables.specs.Cells.{Raw};
 ghost use Rattle.thes_load_rows.specs.declared.stage.Stage.TheVariants as stage;
-ghost use Rattle.thes_load_rows.specs.Progress.{stage_table, table_no, HasRead, HasRow, HasUnqueried};
+ghost use Rattle.thes_load_rows.specs.Progress.{stage_table, table_no, HasRead, HasRow, HasUnqueried, ReachesTable};
 ghost use Rattle.thes_load_rows.specs.LoadResults.{LoadResult};
 
 use crate::linked_vocab::LinkedVocab;
@@ -11,6 +12,7 @@ use crate::moves::MoveLoad;
 use crate::postings::PlacedPostings;
 use crate::stage::Stage;
 use std::alloc::{AllocError, Global};
+use std::mem;
 use thes_base::fault::{Fault, Table};
 use thes_post::book::Book;
 use thes_tables::cells::Cell;
@@ -26,22 +28,49 @@ pub struct LoadedParts {
 impl Stage {
     /// Closes the tables before `table`, and adds the next row of `table`. If the row can't follow
     /// those read so far, stops with `BadStore`; keeps an earlier fault.
-    pub fn row(self, alloc: Global, table: Table, cells: &[Cell]) -> Result<Stage, AllocError>
-        requires { table_no (stage_table self) ≤ table_no table }
-        ensures { IfOk result (λ next. HasRow self next table cells.now) }
+    pub fn row(&mut self, alloc: Global, table: Table, cells: &[Cell]) -> Result<(), AllocError>
+        requires { table_no (stage_table self.old) ≤ table_no table }
+        ensures { OnOk result (HasRow self.old self.new table cells.now) }
     {
-        let mut stage = self.reach(alloc, table)?;
-        match stage.read(alloc, cells) {
-            Ok(true) => Ok(stage),
+        self.advance(alloc, table)?;
+        match self.read(alloc, cells) {
+            Ok(true) => Ok(()),
             Ok(false) => {
-                drop(stage);
-                Ok(Stage::Stopped(Fault::BadStore(table), table))
+                self.stop(table);
+                Ok(())
             }
-            Err(error) => {
-                drop(stage);
-                Err(error)
-            }
+            Err(error) => Err(error),
         }
+    }
+
+    // Closes the tables before this one, and makes it the current table.
+    fn advance(&mut self, alloc: Global, table: Table) -> Result<(), AllocError>
+        requires { table_no (stage_table self.old) ≤ table_no table }
+        ensures { OnOk result (ReachesTable self.old self.new table) }
+    {
+        if self.current_table() == table {
+            return Ok(());
+        }
+        self.close_earlier(alloc, table)
+    }
+
+    // Closes the tables before this one, and makes it the current table. A stage is large, so it is
+    // moved only where the table changes.
+    fn close_earlier(&mut self, alloc: Global, table: Table) -> Result<(), AllocError>
+        requires { table_no (stage_table self.old) ≤ table_no table }
+        ensures { OnOk result (ReachesTable self.old self.new table) }
+    {
+        let stage = mem::replace(self, Stage::Stopped(Fault::OutOfMemory, table));
+        let next = stage.reach(alloc, table)?;
+        drop(mem::replace(self, next));
+        Ok(())
+    }
+
+    // Stops with `BadStore` of the table.
+    fn stop(&mut self, table: Table)
+        ensures { self.new ≡ stage.Stopped (BadStore table) table }
+    {
+        drop(mem::replace(self, Stage::Stopped(Fault::BadStore(table), table)));
     }
 
     /// Closes the tables before `table`, which the database can't query, and stops with `BadStore`;

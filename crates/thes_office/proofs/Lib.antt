@@ -2,6 +2,7 @@ pub mod StateTableLemmas
 pub mod FactLemmas
 pub mod StepLemmas
 pub mod OfficeViewLemmas
+pub mod GroupLemmas
 pub mod PostingListLemmas
 pub mod LoadLemmas
 pub mod LoadedCoreLemmas

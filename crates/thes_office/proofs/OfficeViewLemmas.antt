@@ -1,7 +1,7 @@
 -- Proves the effect of each call of an office on the tables, and that the call keeps the invariant
 -- of the office.
 use Rattle.std.proofs.Common.{◌≡◌, ◌⊎◌, ◌++◌, ◌∷◌, [], ℕ, List, Bool, true, false, refl, sym, ap, subst, ◌∙◌, inl}
-use Rattle.std.proofs.Common.{inr, append_assoc, append-nil, take, drop, take-append-drop, length, length-drop, arith}
+use Rattle.std.proofs.Common.{inr, append_assoc, append-nil, length, arith}
 use Rattle.std.proofs.Common.{◌<◌, ◌≤◌, length-append}
 use Rattle.std.specs.Prelude.{Result, Ok, Err}
 use Rattle.std.specs.Borrow.{Bor}
@@ -179,7 +179,7 @@ pub all_parts : {X : Type 0} (P : X → Type 0) (xs ys : List X) → AllByRecurs
 all_parts P [] ys all = (tt, all)
 all_parts P (x ∷ xs) ys all = let rest = all_parts P xs ys all.1 in ((all.0, rest.0), rest.1)
 
-run_push : (s : Setting) (commands : List Command) (answers : List Answer) (a b c : State) (command : Command)
+pub run_push : (s : Setting) (commands : List Command) (answers : List Answer) (a b c : State) (command : Command)
     (answer : Answer) → Run s a commands answers b → Step s b command answer c → Run s a (commands ++ command ∷ [])
     (answers ++ answer ∷ []) c
 run_push s [] [] a b c command answer run step = (c, subst (λ (x : State). Step s x command answer c) run step, refl)
@@ -237,27 +237,67 @@ run_of_more limits first mid last commands answers more further x y =
     }
 
 module _ {K : Type 0} (rows : K → Raw) (is_up : K → Type 0) (failed : K → ℕ) where
-  -- The progress of a run: the requests done, and their answers.
-  pub record RunSoFar (old now : OfficeView K) (done : List Command) (before after : List Answer) : Type 0 where
+  -- A request that is answered is a complete run.
+  pub one_completes : (old new : OfficeView K) (before last : List Answer) (command : Command) (answer : Answer)
+      → PerformResult rows is_up old command (Ok answer) new → last ≡ before ++ answer ∷ []
+      → CompleteRun rows is_up old (command ∷ []) before last new
+  one_completes old new before last command answer performed pushed = record {
+    answers = answer ∷ [];
+    each = refl;
+    kept = pushed;
+    goes_on = λ up. let step = performed up in record {
+      base = step.base;
+      state_before = step.state_before;
+      state_after = step.state_after;
+      tables_before = step.tables_before;
+      run = (step.state_after, step.step, refl);
+      shows = step.shows;
+      in_order = legal_is_consistent step.base step.state_after step.shows.legal;
+    };
+    same = λ up all. (performed up).same all.0;
+  }
+
+  -- A call that makes the copy unusable, and leaves the tables unchanged, keeps the invariant.
+  pub consistent_when_spent : (old new : K) (copy copy' : core.CoreView) (limits : Limits) (stale : Bool)
+      → IsConsistent rows is_up failed old copy limits stale → (is_up new → is_up old)
+      → (is_up new → rows new ≡ rows old) → copy'.spent ≡ true
+      → IsConsistent rows is_up failed new copy' limits true
+  consistent_when_spent old new copy copy' limits stale kept was same spent = record {
+    few = kept.few;
+    shows = λ up. let x = kept.shows (was up) in
+        (x.0, x.1, same_tables_same_state (rows old) (rows new) x.0 x.1 (same up) x.2);
+    unspent = λ e. absurd (cc);
+    copies = λ e. absurd (cc);
+    why = λ e. inl spent;
+  }
+
+  -- The progress of a run: the requests done, those that are left, and the answers.
+  pub record RunSoFar (old now : OfficeView K) (commands rest : List Command) (before after : List Answer) : Type
+      0 where
     pub limits : now.limits ≡ old.limits
     pub was : is_up now.keeper → is_up old.keeper
     pub count : failed now.keeper ≡ failed old.keeper
+    pub commands_done : List Command
+    pub all : commands ≡ commands_done ++ rest
     pub given : List Answer
-    pub each : length given ≡ length done
+    pub each : length given ≡ length commands_done
     pub kept : after ≡ before ++ given
-    pub goes_on : is_up now.keeper → TablesAfterRun old.limits (rows old.keeper) done given (rows now.keeper)
+    pub goes_on : is_up now.keeper → TablesAfterRun old.limits (rows old.keeper) commands_done given
+        (rows now.keeper)
     pub same : is_up now.keeper → AllByRecursion ChangesNothing given → rows now.keeper ≡ rows old.keeper
 
   -- Before the first request, the progress is that of no requests.
   pub run_starts : (keeper : K) (copy : core.CoreView) (limits : Limits) (stale : Bool) (office_view : OfficeView K)
-      (before : List Answer) → IsConsistent rows is_up failed keeper copy limits stale
-      → record { keeper = keeper; limits = limits; stale = stale } ≡ office_view → RunSoFar office_view office_view []
-      before before
-  run_starts keeper copy limits stale office_view before consistent is =
-      subst (λ (d : OfficeView K). RunSoFar d d [] before before) is record {
+      (commands : List Command) (before : List Answer) → IsConsistent rows is_up failed keeper copy limits stale
+      → record { keeper = keeper; limits = limits; stale = stale } ≡ office_view → RunSoFar office_view office_view
+      commands commands before before
+  run_starts keeper copy limits stale office_view commands before consistent is =
+      subst (λ (d : OfficeView K). RunSoFar d d commands commands before before) is record {
         limits = refl;
         was = λ up. up;
         count = refl;
+        commands_done = [];
+        all = refl;
         given = [];
         each = refl;
         kept = sym (append-nil before);
@@ -266,59 +306,60 @@ module _ {K : Type 0} (rows : K → Raw) (is_up : K → Type 0) (failed : K → 
         same = λ up all. refl;
       }
 
-  -- An answered request extends the progress by one.
-  pub run_continues : (old mid new : OfficeView K) (done more : List Command) (before after last : List Answer)
-      (command : Command) (answer : Answer) → RunSoFar old mid done before after → FaultBehaviour rows is_up failed
-      mid new (let x : Result Answer Fault = Ok answer in x)
-      → PerformResult rows is_up mid command (Ok answer) new → last ≡ after ++ answer ∷ [] → more ≡ done ++ command
-      ∷ [] → RunSoFar old new more before last
-  run_continues old mid new done more before after last command answer r fault_behaviour performed pushed grown =
-      record {
-        limits = fault_behaviour.limits ∙ r.limits;
-        was = λ up. r.was (fault_behaviour.was up);
-        count = fault_behaviour.count ∙ r.count;
-        given = r.given ++ answer ∷ [];
-        each = let a = length-append r.given (answer ∷ []) in let b = length-append done (command ∷ []) in
-            let c = ap (λ (l : List Command). length l) grown in
-            omega (arith, a, b, c, r.each);
-        kept = pushed ∙ ap (λ (l : List Answer). l ++ answer ∷ []) r.kept ∙ append_assoc before r.given (answer ∷ []);
-        goes_on = λ up.
-            let step = subst (λ (l : Limits). TablesAfterStep l (rows mid.keeper) command answer (rows new.keeper))
-            r.limits (performed up) in
-            subst (λ (l : List Command). TablesAfterRun old.limits (rows old.keeper) l (r.given ++ answer ∷ [])
-            (rows new.keeper)) (sym grown)
-            (run_of_one_more old.limits (rows old.keeper) (rows mid.keeper) (rows new.keeper) done r.given command
-            answer (r.goes_on (fault_behaviour.was up)) step);
-        same = λ up all. let parts = all_parts ChangesNothing r.given (answer ∷ []) all in
-            (performed up).same parts.1.0 ∙ r.same (fault_behaviour.was up) parts.0;
-      }
-
-  -- The progress after the last request is a complete run.
-  pub run_completes : (old now : OfficeView K) (commands done : List Command) (before after : List Answer)
-      → RunSoFar old now done before after → done ≡ commands → CompleteRun rows is_up old commands before after now
-  run_completes old now commands done before after r same = record {
-    answers = r.given;
-    each = r.each ∙ ap (λ (l : List Command). length l) same;
-    kept = r.kept;
-    goes_on = λ up. subst (λ (l : List Command). TablesAfterRun old.limits (rows old.keeper) l r.given
-        (rows now.keeper)) same (r.goes_on up);
-    same = r.same;
+  -- A complete run of the next requests extends the progress by them.
+  pub run_continues : (old mid new : OfficeView K) (commands rest front later : List Command)
+      (before after last : List Answer) → RunSoFar old mid commands rest before after
+      → FaultBehaviour rows is_up failed mid new (let x : Result (Unit {0}) Fault = Ok tt in x)
+      → CompleteRun rows is_up mid front after last new → rest ≡ front ++ later
+      → RunSoFar old new commands later before last
+  run_continues old mid new commands rest front later before after last r fault_behaviour x split = record {
+    limits = fault_behaviour.limits ∙ r.limits;
+    was = λ up. r.was (fault_behaviour.was up);
+    count = fault_behaviour.count ∙ r.count;
+    commands_done = r.commands_done ++ front;
+    all = r.all ∙ ap (λ (l : List Command). r.commands_done ++ l) split
+        ∙ sym (append_assoc r.commands_done front later);
+    given = r.given ++ x.answers;
+    each = let a = length-append r.given x.answers in let b = length-append r.commands_done front in
+        omega (arith, a, b, r.each, x.each);
+    kept = x.kept ∙ ap (λ (l : List Answer). l ++ x.answers) r.kept ∙ append_assoc before r.given x.answers;
+    goes_on = λ up. run_of_more old.limits (rows old.keeper) (rows mid.keeper) (rows new.keeper) r.commands_done
+        r.given front x.answers (r.goes_on (fault_behaviour.was up))
+        (subst (λ (l : Limits). TablesAfterRun l (rows mid.keeper) front x.answers (rows new.keeper)) r.limits
+        (x.goes_on up));
+    same = λ up all. let parts = all_parts ChangesNothing r.given x.answers all in
+        x.same up parts.1 ∙ r.same (fault_behaviour.was up) parts.0;
   }
 
+  -- The progress after the last request is a complete run.
+  pub run_completes : (old now : OfficeView K) (commands rest : List Command) (before after : List Answer)
+      → RunSoFar old now commands rest before after → length rest ≡ 0
+      → CompleteRun rows is_up old commands before after now
+  run_completes old now commands [] before after r none =
+      let done : r.commands_done ≡ commands = sym (append-nil r.commands_done) ∙ sym r.all in record {
+        answers = r.given;
+        each = r.each ∙ ap (λ (l : List Command). length l) done;
+        kept = r.kept;
+        goes_on = λ up. subst (λ (l : List Command). TablesAfterRun old.limits (rows old.keeper) l r.given
+            (rows now.keeper)) done (r.goes_on up);
+        same = r.same;
+      }
+  run_completes old now commands (x ∷ rest) before after r none = absurd (omega (arith, none))
+
   -- A fault before a request makes the progress a partial run.
-  pub run_stops : (old now last : OfficeView K) (commands : List Command) (n : ℕ) (before after told : List Answer)
-      → n < length commands → RunSoFar old now (take n commands) before after → (is_up last.keeper → is_up now.keeper)
+  pub run_stops : (old now last : OfficeView K) (commands rest : List Command) (before after told : List Answer)
+      → 0 < length rest → RunSoFar old now commands rest before after → (is_up last.keeper → is_up now.keeper)
       → (is_up last.keeper → rows last.keeper ≡ rows now.keeper) → told ≡ after → PartialRun rows is_up old commands
       before told last
-  run_stops old now last commands n before after told more r was same is = record {
-    commands_done = take n commands;
-    commands_left = drop n commands;
+  run_stops old now last commands rest before after told more r was same is = record {
+    commands_done = r.commands_done;
+    commands_left = rest;
     answers = r.given;
-    all = sym (take-append-drop n commands);
-    some = omega (arith, length-drop n commands, more);
+    all = r.all;
+    some = more;
     each = r.each;
     kept = is ∙ r.kept;
-    goes_on = λ up. subst (λ (l : Raw). TablesAfterRun old.limits (rows old.keeper) (take n commands) r.given l)
+    goes_on = λ up. subst (λ (l : Raw). TablesAfterRun old.limits (rows old.keeper) r.commands_done r.given l)
         (sym (same up)) (r.goes_on (was up));
     same = λ up all. same up ∙ r.same (was up) all;
   }

@@ -2,6 +2,7 @@ pub mod TablesOfState
 pub mod QueryFrames
 pub mod AssignedPostings
 pub mod Office
+pub mod Groups
 pub mod LoaderView
 pub mod LoadedCore
 pub mod LoaderFeed

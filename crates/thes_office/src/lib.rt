@@ -3,6 +3,7 @@
 #![tactic(auto)]
 
 mod facts;
+mod group;
 mod keeper_load;
 pub mod laws;
 mod loader;

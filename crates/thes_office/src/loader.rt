@@ -1,5 +1,5 @@
 //! A loader, which builds a core from the rows of a store.
-ghost use Rattle.std.specs.Prelude.{◌≡◌, ◌⊎◌, false, None, Some, Err, IfOk, IfErr, MatchOption};
+ghost use Rattle.std.specs.Prelude.{◌≡◌, ◌⊎◌, IsTrue, false, None, Some, Err, IfOk, IfErr, OnOk, MatchOption};
 ghost use Rattle.thes_base.specs.declared.fault.Fault.TheVariants as faults;
 ghost use Rattle.thes_tables.specs.Cells.{Raw};
 ghost use Rattle.thes_load_rules.specs.Verdicts.{HasVerdict};
@@ -123,25 +123,45 @@ fn stage_after_stop(stage: &Stage, table: Table) -> Option<Stage>
     }
 }
 
-// Returns the stage after a row of a table.
-fn stage_after_row(
-    stage: Stage,
-    alloc: Global,
-    table: Table,
-    row: &[Cell],
-) -> Result<Stage, AllocError>
-    requires { IsOfRows stage }
-    ensures follows { IfOk result (NextStage table (Some row.now) stage) }
-    ensures rows { IfOk result IsOfRows }
+// Checks whether the load hasn't stopped and isn't past the table.
+fn is_open(stage: &Stage, table: Table) -> bool
+    ensures open { IsTrue result
+        → IsInTurn table stage.now × (is_stopped stage.now ≡ false) }
+    ensures closed { result ≡ false → IsInTurn table stage.now → is_stopped stage.now ≡ false → ⊥ }
 {
-    match stage_after_stop(&stage, table) {
-        Some(stage_after_stop) => {
-            // The explicit drop spares the proof a case for each variant of the stage.
-            drop(stage);
-            Ok(stage_after_stop)
-        }
-        None => stage.row(alloc, table, row),
+    !stage.is_past(table) && !stage.is_stopped()
+}
+
+// Stops a load that is past the table of a row, or keeps an earlier fault.
+fn stop_after(stage: &mut Stage, table: Table)
+    requires closed { IsInTurn table stage.old → is_stopped stage.old ≡ false → ⊥ }
+    ensures follows { (news : _) → NextStage table news stage.old stage.new }
+    ensures rows { IsOfRows stage.new }
+{
+    match stage_after_stop(stage, table) {
+        Some(stopped) => drop(mem::replace(stage, stopped)),
+        None => {}
     }
+}
+
+// Stops a load with `OutOfMemory`.
+fn run_out(stage: &mut Stage)
+    ensures { stage.new ≡ Stage.Stopped Fault.OutOfMemory Table.Meta }
+{
+    drop(mem::replace(stage, Stage::Stopped(Fault::OutOfMemory, Table::Meta)));
+}
+
+// Adds a row of a table to the stage.
+fn add_row(stage: &mut Stage, alloc: Global, table: Table, row: &[Cell]) -> Result<(), AllocError>
+    requires { IsOfRows stage.old }
+    ensures follows { OnOk result (NextStage table (Some row.now) stage.old stage.new) }
+    ensures rows { OnOk result (IsOfRows stage.new) }
+{
+    if is_open(stage, table) {
+        return stage.row(alloc, table, row);
+    }
+    stop_after(stage, table);
+    Ok(())
 }
 
 // Returns the stage after the report that a table can't be queried.
@@ -163,8 +183,10 @@ impl RowSink for Loader {
     ghost gives = { FeedResult };
 
     fn row(&mut self, table: Table, row: &[Cell]) -> Result<(), Fault> {
-        let next = stage_after_row(self.take_stage(), self.alloc, table, row)?;
-        self.put(next);
+        if add_row(&mut self.stage, self.alloc, table, row).is_err() {
+            run_out(&mut self.stage);
+            return Err(Fault::OutOfMemory);
+        }
         Ok(())
     }
 

@@ -1,13 +1,16 @@
 //! The office, which performs requests and answers queries.
-ghost use Rattle.std.specs.Prelude.{⊤, ◌≡◌, ◌⊎◌, ◌<◌, false, Err, OnOk, IfOk, IfErr, List, ℕ};
+ghost use Rattle.std.specs.Prelude.{⊤, ◌≡◌, ◌⊎◌, ◌<◌, ◌∷◌, [], false, Err, OnOk, IfOk, IfErr, List};
+ghost use Rattle.std.specs.Prelude.{length, ℕ};
 ghost use Rattle.thes_base.specs.Headline.{IsConsistentState};
 ghost use Rattle.thes_base.specs.State.{State};
 ghost use Rattle.thes_store.specs.Causes.{max_failures};
 ghost use Rattle.thes_load_rules.specs.Verdicts.{HasVerdict};
 ghost use Rattle.thes_office.specs.Office.{FaultBehaviour, PerformResult, RunResult, SameTables};
+ghost use Rattle.thes_office.specs.Groups.{GroupResult, IsGroup};
 ghost use Rattle.thes_office.specs.TablesOfState.{TablesOfState};
 
 use crate::facts::facts_of;
+use crate::group::{group_length, perform_group};
 use crate::keeper_load::load;
 use crate::serving::perform_at;
 use std::alloc::Global;
@@ -155,11 +158,67 @@ impl<K: Keeper> Office<K> {
         self.serve(command)
     }
 
-    /// Performs requests in order, and appends their answers. A fault stops the run; the requests
-    /// answered before it stay performed. The tables after the run are consistent. Each posting
-    /// accepted and not withdrawn is assigned to exactly one live concept, to which its moves lead
-    /// from its first concept. The counts of live concepts add up to the number of such postings.
-    /// The triples meet the conditions of SKOS.
+    // Performs one request, and appends its answer.
+    fn run_one(&mut self, command: &Command, answers: &mut Vec<Answer>) -> Result<(), Fault>
+        ensures fault_behaviour { FaultBehaviour K.rows K.is_up K.failed self.old self.new result }
+        ensures ran { GroupResult K.rows K.is_up self.old (command.now ∷ [])
+            answers.old.items answers.new.items result self.new }
+    {
+        if answers.try_reserve(1).is_err() {
+            return Err(Fault::OutOfMemory);
+        }
+        match self.perform(command) {
+            Ok(answer) => answers.push(answer).unwrap(),
+            Err(fault) => return Err(fault),
+        }
+        Ok(())
+    }
+
+    // Performs the requests of a group in one transaction, with a copy that isn't stale, and
+    // appends their answers. A fault makes the copy stale.
+    fn run_group(&mut self, group: &[Command], answers: &mut Vec<Answer>) -> Result<(), Fault>
+        requires fresh { self.old.stale ≡ false }
+        requires group { IsGroup group.now }
+        ensures fault_behaviour { FaultBehaviour K.rows K.is_up K.failed self.old self.new result }
+        ensures ran { GroupResult K.rows K.is_up self.old group.now
+            answers.old.items answers.new.items result self.new }
+    {
+        if answers.try_reserve(group.len()).is_err() {
+            return Err(Fault::OutOfMemory);
+        }
+        match perform_group(self.alloc, &mut self.keeper, &mut self.core, group) {
+            Ok(mut given) => {
+                answers.append(&mut given).unwrap();
+                Ok(())
+            }
+            Err(fault) => {
+                self.stale = true;
+                Err(fault)
+            }
+        }
+    }
+
+    // Performs a single request, or the requests of a group in one transaction, and appends their
+    // answers.
+    fn run_front(&mut self, front: &[Command], answers: &mut Vec<Answer>) -> Result<(), Fault>
+        requires { IsGroup front.now ⊎ (length front.now ≡ 1) }
+        ensures fault_behaviour { FaultBehaviour K.rows K.is_up K.failed self.old self.new result }
+        ensures ran { GroupResult K.rows K.is_up self.old front.now
+            answers.old.items answers.new.items result self.new }
+    {
+        if front.len() == 1 {
+            return self.run_one(&front[0], answers);
+        }
+        self.refresh()?;
+        self.run_group(front, answers)
+    }
+
+    /// Performs requests in order, and appends their answers. Up to 128 posts in a row with
+    /// different keys are performed in one transaction: all of them, or none. A fault stops the
+    /// run; the requests answered before it stay performed. The tables after the run are
+    /// consistent. Each posting accepted and not withdrawn is assigned to exactly one live concept,
+    /// to which its moves lead from its first concept. The counts of live concepts add up to the
+    /// number of such postings. The triples meet the conditions of SKOS.
     pub fn run(&mut self, commands: &[Command], answers: &mut Vec<Answer>) -> Result<(), Fault>
         ensures fault_behaviour { FaultBehaviour K.rows K.is_up K.failed self.old self.new result }
         ensures ran { RunResult K.rows K.is_up self.old commands.now
@@ -167,14 +226,14 @@ impl<K: Keeper> Office<K> {
     {
         // No effect; states the invariant of the office for the proof.
         let _stale = self.stale;
-        for command in commands {
-            if answers.try_reserve(1).is_err() {
-                return Err(Fault::OutOfMemory);
-            }
-            match self.perform(command) {
-                Ok(answer) => answers.push(answer).unwrap(),
+        let mut rest = commands;
+        'groups: while !rest.is_empty() {
+            let (front, later) = rest.split_at(group_length(rest));
+            match self.run_front(front, answers) {
+                Ok(()) => {}
                 Err(fault) => return Err(fault),
             }
+            rest = later;
         }
         Ok(())
     }

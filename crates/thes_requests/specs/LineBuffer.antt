@@ -31,6 +31,10 @@ line_content raw ended = if ended then raw else strip_carriage_return raw
 abbrev pub line_limit : ℕ
 line_limit = 1048576
 
+-- The size of the buffer in bytes, of which a read may fill all: 64 KiB.
+abbrev pub buffer_size : ℕ
+buffer_size = 65536
+
 -- The first line of `old` was consumed: the bytes `raw`, and then a line feed. If `ended`, the line
 -- is the last of the input, and no line feed follows it.
 pub record ConsumesLine (old new : Option (List ℕ)) (raw : List ℕ) (ended : Bool) : Type 0 where

@@ -20,14 +20,15 @@ pub struct LineBuffer {
 }
 
 impl Model for LineBuffer {
-    ghost use Rattle.std.specs.Prelude.{◌≤◌, ◌<◌, ◌-◌, ℕ, List, take, drop, vec_len};
+    ghost use Rattle.std.specs.Prelude.{◌≡◌, ◌≤◌, ◌-◌, ℕ, List, take, drop, vec_len};
+    ghost use Rattle.thes_requests.specs.LineBuffer.{buffer_size};
 
     ghost Value = { List ℕ };
 
     ghost view = { λ f. take (f.filled - f.pos) (drop f.pos f.buffer.items) };
 
     ghost invariant = { λ f. (f.pos ≤ f.filled) × (f.filled ≤ vec_len f.buffer)
-        × (0 < vec_len f.buffer) };
+        × (vec_len f.buffer ≡ buffer_size) };
 }
 
 /// The outcome of a search for the next line.

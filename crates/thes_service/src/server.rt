@@ -12,6 +12,14 @@ use std::rt::Clock;
 use thes_http::server::serve;
 use thes_store::keeper::Keeper;
 
+// Drops the number of connections served, which is always the number asked for.
+fn forget_count(served: io::Result<u32>) -> io::Result<()> {
+    match served {
+        Ok(_) => Ok(()),
+        Err(error) => Err(error),
+    }
+}
+
 /// Serves `count` connections of a listener, one after another.
 ///
 /// If the storage is up at the end of the call, a run of the machine leads from the state that the
@@ -34,5 +42,5 @@ pub fn office_serve<N: Net + Clock, K: Keeper>(
 {
     // No effect; states for the proof that the tables encode a state.
     let _ = handler.office.is_stale();
-    serve::<N, OfficeHandler<K>>(alloc, clock, listener, count, handler)
+    forget_count(serve::<N, OfficeHandler<K>>(alloc, clock, listener, count, handler))
 }

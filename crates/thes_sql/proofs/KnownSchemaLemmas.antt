@@ -1,5 +1,5 @@
 -- Proves which queries compile in the schemas of version 1 and version 2.
-use Rattle.std.proofs.Common.{◌≡◌, ap, ◌∙◌, refl, true, false, inl, inr}
+use Rattle.std.proofs.Common.{◌≡◌, ap, ◌∙◌, refl, true, false}
 use Rattle.sqlite.specs.Listing.{understood, listing_schema}
 use Rattle.sqlite.specs.Schema.{Schema}
 use Rattle.sqlite_tied.specs.Compute.{everything}

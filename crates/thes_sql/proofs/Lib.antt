@@ -12,6 +12,7 @@ pub mod TransactionLemmas
 pub mod SchemaTextLemmas
 pub mod CreateStoreLemmas
 pub mod SelectLemmas
+pub mod FirstRowLemmas
 pub mod QueryTextLemmas
 pub mod ReadFrameLemmas
 pub mod MigrationStepLemmas

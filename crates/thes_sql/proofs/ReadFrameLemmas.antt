@@ -17,6 +17,7 @@ use Rattle.sqlite.specs.Steps.{Outlines}
 use Rattle.sqlite.specs.State.{State, HasCleanDisk, Shown, ShowsRows, FailsToQuery, FailsToShow, IsNotRun}
 use Rattle.sqlite.specs.State.{IsUnchanged, IsNoStatement, store_error, IsRolledBack, Survives, CommitsShowing}
 use Rattle.sqlite.specs.Held.{Held, state}
+use Rattle.sqlite.specs.Given.{Returns, HasGiven, HasBegun}
 use Rattle.sqlite.specs.declared.error.Error.{Error}
 use Rattle.sqlite_schema.specs.declared.command.Returning.{Returning}
 use Rattle.sqlite_resolve.specs.declared.compiled.Compiled.{Compiled}
@@ -117,6 +118,22 @@ module _ {S : Type 0} (g : Ghosts S) (sql : List ℕ) (params : Row) (old new : 
 
   pub keeps_database : KeepsDatabase g old new r
   keeps_database = keeps_after r ok
+
+never_returns : (r : Result Compiled CompileError) → ((c : Compiled) → r ≡ Ok c → IsPlain (Ok c)) → Returns r → ⊥
+never_returns (Ok c) plain some = let none = (plain c refl).0 in absurd (let it = rw none at some in cc)
+never_returns (Err e) plain some = some
+
+-- A query that begins has returned no row, and leaves the database unchanged.
+module _ (sql : List ℕ) (params : Row) (is : IsQuery sql) where
+  pub query_begins : {S : Type 0} (g : Ghosts S) (old new : Held S) → HasBegun g sql params old new
+      → HasGiven g sql params new [] × IsUnchanged (state g old) (state g new)
+  query_begins g old new (inl h) = h
+  query_begins g old new (inr h) = absurd (never_returns (understood old.schema sql)
+      (query_is_plain sql is old.schema) h.0)
+
+  pub query_survives : (old new : State) → Survives old new (CommitsShowing sql params old)
+      → Survives old new (λ _. ⊥)
+  query_survives old new = survives_weaker old new _ _ (λ _ db. commits_nothing sql params old new is db)
 
 -- The error of a store that failed is never that of a query that finds nothing.
 pub cause_finds : (e : Error) (cause : StoreError) → e ≡ store_error cause → finds_nothing e ≡ false

@@ -46,7 +46,7 @@ use Rattle.thes_sql.specs.StoredRows.{stored_meta, stored_resource, stored_outsi
 use Rattle.thes_sql.specs.OldStore.{old_schema, IsStoreOfVersion, stored_version, version_row}
 use Rattle.thes_tables.specs.declared.cells.Cell.TheVariants as cells
 use Rattle.thes_sql.specs.Reads.{cells_of_table, read_text, cells_with_key, cells_with_number, cells_at_concept}
-use Rattle.thes_sql.specs.Reads.{cells_of_moves, tree_of, places_of, rows_in_trees, IsReadable}
+use Rattle.thes_sql.specs.Reads.{assigned_text, cells_of_moves, tree_of, places_of, rows_in_trees, IsReadable}
 use Rattle.thes_sql.specs.Queries.{IsQuery, Finds}
 use Rattle.thes_sql.proofs.StatementTextLemmas.{plain_query, whole_program, equal_terms}
 use Rattle.thes_sql.proofs.KeyedRowLemmas.{int_value_less, rising_filter}
@@ -267,16 +267,12 @@ pub numbered_is_query : IsQuery numbered_text
 unfolding everything
 numbered_is_query = refl
 
-abbrev pub standing_text : List ℕ
-standing_text =
-    codes "SELECT num, pkey, record, first_at, at, withdrawn FROM posting WHERE at = ?1 AND withdrawn = 0 ORDER BY num"
-
-pub standing_is : IsQueryText standing_text (ordered_query 8
+pub standing_is : IsQueryText assigned_text (ordered_query 8
     (equal_terms (col 1 5) (col 0 0) ∷ equal_terms (col 1 6) (lit (Int (pos 0))) ∷ []) posting_columns)
 unfolding understood everything
 standing_is = (_, refl, refl, (refl, refl))
 
-pub standing_is_query : IsQuery standing_text
+pub standing_is_query : IsQuery assigned_text
 unfolding everything
 standing_is_query = refl
 
@@ -312,8 +308,8 @@ row_with_number n = postings_shown numbered_text (Int (pos n) ∷ []) (equal_ter
     (λ x. x.number == n) (by_number [] n) numbered_is
 
 pub rows_at_concept : (concept : ℕ) (old new : State) (t : Tables) (out : List Row) → Keeps old.now t
-    → Shown standing_text (Int (pos concept) ∷ []) old new out → out ≡ map values (cells_at_concept concept t)
-rows_at_concept concept = postings_shown standing_text (Int (pos concept) ∷ [])
+    → Shown assigned_text (Int (pos concept) ∷ []) old new out → out ≡ map values (cells_at_concept concept t)
+rows_at_concept concept = postings_shown assigned_text (Int (pos concept) ∷ [])
     (equal_terms (col 1 5) (col 0 0) ∷ equal_terms (col 1 6) (lit (Int (pos 0))) ∷ [])
     (λ x. not x.withdrawn && x.place == concept) (by_place [] concept) standing_is
 

@@ -1,6 +1,6 @@
 -- The rows that queries return, and what queries leave unchanged.
-use Rattle.std.specs.Prelude.{◌≡◌, ◌≢◌, ◌≤◌, ◌==◌, ◌&&◌, ℕ, List, [], ◌∷◌, map, filter, codes, not, false, IsTrue}
-use Rattle.std.specs.Prelude.{Result, IfOk, IfErr}
+use Rattle.std.specs.Prelude.{◌≡◌, ◌≤◌, ◌==◌, ◌&&◌, ℕ, List, [], ◌∷◌, map, filter, codes, not, false, IsTrue}
+use Rattle.std.specs.Prelude.{Result, IfOk}
 use Rattle.std.specs.Ordering.{nat_cmp, eq_by_cmp}
 use Rattle.std.specs.Cmp.Lexicographic.{slice_cmp}
 use Rattle.sqlite.specs.Order.{Row, column}
@@ -8,9 +8,6 @@ use Rattle.sqlite.specs.Tree.{Trees}
 use Rattle.sqlite.specs.Effect.{Database}
 use Rattle.sqlite.specs.State.{HasCleanDisk, Survives}
 use Rattle.sqlite.specs.Held.{Held, state}
-use Rattle.sqlite.specs.declared.error.Error.{Error}
-use Rattle.sqlite.specs.declared.error.Error.TheVariants.{SqlInputError}
-use Rattle.sqlite_resolve.specs.declared.error.CompileError.{CompileError}
 use Rattle.sqlite_trees.specs.Tree.{IsTable}
 use Rattle.sqlite_trees.specs.View.{doubt}
 use Rattle.sqlite_trees.specs.declared.store.Store.{Ghosts}
@@ -78,6 +75,11 @@ read_text table.Hier = codes "SELECT a, b, typ FROM hier ORDER BY rowid"
 read_text table.Posting = codes "SELECT num, pkey, record, first_at, at, withdrawn FROM posting ORDER BY num"
 read_text table.Move = codes "SELECT num, posting, source, target FROM move ORDER BY num"
 
+-- The query for the rows of the postings that are assigned to a concept, sorted by number.
+abbrev pub assigned_text : List ℕ
+assigned_text =
+    codes "SELECT num, pkey, record, first_at, at, withdrawn FROM posting WHERE at = ?1 AND withdrawn = 0 ORDER BY num"
+
 -- The rows of table posting that have the key.
 abbrev pub cells_with_key : List ℕ → Tables → List (List Cell)
 cells_with_key key t = map posting_cells (filter (λ (x : PostingRow). eq_by_cmp (slice_cmp nat_cmp) x.key key)
@@ -102,19 +104,6 @@ abbrev pub SelectResult : {S V E : Type 0} → Ghosts S → (Tables → List (Li
 SelectResult g wanted old new r rows =
     HasCleanDisk (state g new) → IfOk r (λ out. (t : Tables) → Keeps (state g old).now t
     → rows out ≡ map values (wanted t))
-
--- The query returns exactly the rows of the table's tree in order, if the database is readable.
-abbrev pub TableSelectResult : {S V E : Type 0} → Ghosts S → Table → Held S → Held S → Result V E → (V → List Row)
-    → Type 0
-TableSelectResult g p old new r rows =
-    HasCleanDisk (state g new) → IsReadable (state g old).now
-    → IfOk r (λ out. rows out ≡ rows_in_trees p (state g old).now.trees)
-
--- The query doesn't fail to compile in the schema of a store.
-abbrev pub HasNoInputError : {S V : Type 0} → Ghosts S → Held S → Held S → Result V Error → Type 0
-HasNoInputError g old new r =
-    HasCleanDisk (state g new) → (state g old).now.schema ≡ store_schema
-    → IfErr r (λ e. (fault : CompileError) → e ≢ SqlInputError fault)
 
 -- A call leaves the database unchanged if nothing in it was uncommitted.
 pub record LeavesTables {S : Type 0} (g : Ghosts S) (old new : Held S) : Type 0 where

@@ -1,11 +1,10 @@
 //! Checks whether a commit that failed has taken effect.
 ghost use Rattle.thes_sql.specs.Reads.{LeavesTables};
 
-use crate::reads::table_rows;
 use crate::values::{hier_values, label_values, link_values};
+use crate::versions::version_rows;
 use sqlite::types::ValueRef;
 use sqlite::{Alter, Connection, Error, ErrorCode, params};
-use thes_base::fault::Table;
 use thes_tables::change::Change;
 
 /// Queries the database to check whether a failure has shut the connection; false after any other
@@ -13,7 +12,7 @@ use thes_tables::change::Change;
 pub fn is_shut<S: Alter>(conn: &mut Connection<S>) -> bool
     ensures { LeavesTables S.Store conn.old conn.new }
 {
-    match table_rows(conn, Table::Meta) {
+    match version_rows(conn) {
         Err(Error::SqliteFailure(ErrorCode::Closed)) => true,
         _ => false,
     }

@@ -1,15 +1,16 @@
 //! Queries that read rows of the tables.
 ghost use Rattle.std.specs.Prelude.{◌≡◌};
-ghost use Rattle.thes_sql.specs.Reads.{cells_of_table, read_text, cells_with_key, cells_with_number, cells_at_concept, cells_of_moves};
-ghost use Rattle.thes_sql.specs.Reads.{SelectResult, TableSelectResult, HasNoInputError, LeavesAlone};
+ghost use Rattle.thes_sql.specs.Reads.{read_text, assigned_text, cells_with_key, cells_with_number, cells_of_moves};
+ghost use Rattle.thes_sql.specs.Reads.{SelectResult, LeavesAlone};
 
 use sqlite::{Alter, Connection, Error, Row, params};
 use thes_base::fault::Table;
-use thes_base::number::{PostNo, ResNo};
+use thes_base::number::PostNo;
 use thes_base::text::Key;
 
-// Returns the query for all rows of a table.
-fn table_text(table: Table) -> &'static str
+/// Returns the query for all rows of a table, sorted by number or, in label, link and hier, in
+/// insertion order. Its rows can be read one at a time.
+pub fn table_query(table: Table) -> &'static str
     ensures { result.now ≡ read_text table }
 {
     match table {
@@ -25,16 +26,12 @@ fn table_text(table: Table) -> &'static str
     }
 }
 
-/// Reads all rows of a table, sorted by number or, in label, link and hier, in insertion order.
-pub fn table_rows<S: Alter>(conn: &mut Connection<S>, table: Table) -> Result<Vec<Row>, Error>
-    ensures shows { SelectResult S.Store (cells_of_table table) conn.old conn.new result
-        (λ rows. rows.items) }
-    ensures whatever { TableSelectResult S.Store table conn.old conn.new result
-        (λ rows. rows.items) }
-    ensures understood { HasNoInputError S.Store conn.old conn.new result }
-    ensures leaves { LeavesAlone S.Store conn.old conn.new }
+/// Returns the query for the rows of the postings that are assigned to the concept that is its
+/// parameter, sorted by number.
+pub fn assigned_query() -> &'static str
+    ensures { result.now ≡ assigned_text }
 {
-    conn.query_all(table_text(table), &[])
+    "SELECT num, pkey, record, first_at, at, withdrawn FROM posting WHERE at = ?1 AND withdrawn = 0 ORDER BY num"
 }
 
 /// Reads the rows of table posting that have the key: one row, or none.
@@ -64,21 +61,6 @@ pub fn posting_rows_with_number<S: Alter>(
     conn.query_all(
         "SELECT num, pkey, record, first_at, at, withdrawn FROM posting WHERE num = ?1 ORDER BY num",
         params![n.get()],
-    )
-}
-
-/// Reads the rows of the postings that are assigned to the concept, sorted by number.
-pub fn posting_rows_at<S: Alter>(
-    conn: &mut Connection<S>,
-    concept: ResNo,
-) -> Result<Vec<Row>, Error>
-    ensures shows { SelectResult S.Store (cells_at_concept concept) conn.old conn.new result
-        (λ rows. rows.items) }
-    ensures leaves { LeavesAlone S.Store conn.old conn.new }
-{
-    conn.query_all(
-        "SELECT num, pkey, record, first_at, at, withdrawn FROM posting WHERE at = ?1 AND withdrawn = 0 ORDER BY num",
-        params![concept.get()],
     )
 }
 

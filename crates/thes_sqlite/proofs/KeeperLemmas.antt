@@ -156,6 +156,22 @@ pub before_read : {S : Type 0} (g : Ghosts S) (old new : Held S) → LeavesTable
     → IsUp (state g old)
 before_read g old new leaves up = (omega (arith, leaves.clean, up.0), leaves.was up.0 up.1)
 
+-- Two calls of which each leaves the tables unchanged leave them unchanged together.
+pub tables_then : {S : Type 0} (g : Ghosts S) (old mid new : Held S) → LeavesTables g old mid → LeavesTables g mid new
+    → LeavesTables g old new
+tables_then g old mid new first second = record {
+  mode = λ idle. second.mode (first.mode idle);
+  was = λ clean still_open. first.was (clean_before clean) (second.was clean still_open);
+  clean = (let a = first.clean in let b = second.clean in omega (arith, a, b));
+  same = λ clean still_open settled.
+      let here = first.same (clean_before clean) (second.was clean still_open) settled in
+      let there = second.same clean still_open (here.0 ∙ settled ∙ sym here.1) in
+      (there.0 ∙ here.0, there.1 ∙ here.1);
+}
+  where
+    clean_before : HasCleanDisk (state g new) → HasCleanDisk (state g mid)
+    clean_before clean = let less = second.clean in omega (arith, less, clean)
+
 -- A property of the tables of a store holds for the tables whose cells its rows are.
 pub holds_of_raw : {S : Type 0} (g : Ghosts S) (first : State) (start old new : Held S) → start ≡ old
     → IsKeeperState first (state g start) → LeavesTables g start new → {P : Tables → Type 0}

@@ -45,7 +45,7 @@ use Rattle.thes_sqlite.specs.MigrationEffects.{links_verdict_of}
 use Rattle.thes_sqlite.specs.MigrationEffects.{hier_verdict_of, IsUnwritten, Migrates}
 use Rattle.thes_sqlite.specs.MigrationLaws.{HoldsOldState, HoldsState, MigratesState, MigratesStates}
 use Rattle.thes_sqlite.specs.ValueCells.{cell_of}
-use Rattle.thes_sqlite.proofs.KeeperLemmas.{raw_of}
+use Rattle.thes_sqlite.proofs.KeeperLemmas.{raw_of, tables_then}
 
 -- The verdict on a store of version 1 is that it is to be migrated; on one of version 2, that it is current.
 
@@ -173,15 +173,7 @@ module _ {S : Type 0} (g : Ghosts S) (old mid new : Held S) (first : LeavesAlone
 
   pub leaves_then : LeavesAlone g old new
   leaves_then = record {
-    tables = record {
-      mode = λ idle. second.tables.mode (first.tables.mode idle);
-      was = λ clean still_open. first.tables.was (clean_before clean) (second.tables.was clean still_open);
-      clean = (let a = first.tables.clean in let b = second.tables.clean in omega (arith, a, b));
-      same = λ clean still_open settled.
-          let here = first.tables.same (clean_before clean) (second.tables.was clean still_open) settled in
-          let there = second.tables.same clean still_open (here.0 ∙ settled ∙ sym here.1) in
-          (there.0 ∙ here.0, there.1 ∙ here.1);
-    };
+    tables = tables_then g old mid new first.tables second.tables;
     crash = survives_then (state g old) (state g mid) (state g new) _ _ (λ _. ⊥) (λ _ db none. none)
         (λ _ db none. none) first.crash second.crash;
   }

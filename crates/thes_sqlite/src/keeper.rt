@@ -12,7 +12,9 @@ ghost use Rattle.thes_store.specs.Reading.{IsPostingOfKey, IsPostingOfNumber, as
 ghost use Rattle.thes_store.specs.Loading.{sink_rows_of_tables};
 ghost use Rattle.thes_sqlite.specs.KeeperView.{IsUp, IsStore, IsKeeperUp, RawAfterChanges, LeavesEither, LeavesAfter};
 ghost use Rattle.thes_sqlite.specs.KeeperView.{raw_table, raw_of_keeper};
-ghost use Rattle.thes_sqlite.specs.MigrationEffects.{Migrates, HasCountedCause, ServesMigrated};
+ghost use Rattle.thes_sqlite.specs.MigrationEffects.{Migrates, HasCountedCause, ServesMigrated, IsUnwritten};
+ghost use Rattle.thes_sqlite.specs.FoundRows.{PassesTable, PassesNamed, PassesTables};
+ghost use Rattle.thes_sql.specs.Reads.{LeavesTables};
 ghost use Rattle.sqlite.specs.Held.{state};
 
 use crate::faults::{count_fault, count_if_store, fault_of};
@@ -29,7 +31,6 @@ use thes_base::text::{Base, Key};
 use thes_sql::commit::commit_all;
 use thes_sql::create::create_tables;
 use thes_sql::outcome::is_shut;
-use thes_sql::reads::posting_rows_at;
 use thes_store::keeper::{Keeper, Posting};
 use thes_store::row_output::tables_in_order;
 use thes_store::sink::{PostingSink, RowSink};
@@ -182,6 +183,9 @@ impl<S: Alter> SqlKeeper<S> {
         ensures was { IsKeeperUp S.Store self.new → IsKeeperUp S.Store self.old }
         ensures cause { HasCause self.old.failures self.new.failures result }
         ensures first { self.new.first ≡ self.old.first }
+        ensures passes { OnOk result (IsUp (state S.Store self.new.conn)
+            → PassesTable R.gives name (state S.Store self.old.conn).now sink.old sink.new) }
+        ensures leaves { LeavesTables S.Store self.old.conn self.new.conn }
     {
         match yield_table_rows(self.alloc, &mut self.conn, name, sink) {
             Ok(_) => Ok(()),
@@ -199,6 +203,10 @@ impl<S: Alter> SqlKeeper<S> {
         ensures was { IsKeeperUp S.Store self.new → IsKeeperUp S.Store self.old }
         ensures cause { HasCause self.old.failures self.new.failures result }
         ensures first { self.new.first ≡ self.old.first }
+        ensures passes { OnOk result (IsUp (state S.Store self.new.conn)
+            → (state S.Store self.old.conn).now ≡ (state S.Store self.old.conn).committed
+            → PassesNamed R.gives names.now (state S.Store self.old.conn).now sink.old sink.new) }
+        ensures leaves { LeavesTables S.Store self.old.conn self.new.conn }
     {
         for name in names {
             if let Err(fault) = self.yield_table(*name, sink) {
@@ -231,7 +239,16 @@ impl<S: Alter> Keeper for SqlKeeper<S> {
         ensures was { IsKeeperUp S.Store self.new → IsKeeperUp S.Store self.old }
         ensures cause { HasCause self.old.failures self.new.failures result }
         ensures first { self.new.first ≡ self.old.first }
+
+        // Whatever the database holds, a load leaves it unchanged, and passes the rows that the
+        // queries of the tables find.
+        ensures leaves { IsUp (state S.Store self.new.conn)
+            → IsUnwritten (state S.Store self.old.conn) (state S.Store self.new.conn) }
+        ensures passes { OnOk result (IsUp (state S.Store self.new.conn)
+            → PassesTables R.gives (state S.Store self.old.conn).now sink.old sink.new) }
     {
+        let settled = self.conn.is_autocommit();
+        prove!(settled);
         self.yield_tables(&tables_in_order(), sink)
     }
 
@@ -300,12 +317,9 @@ impl<S: Alter> Keeper for SqlKeeper<S> {
         ensures cause { HasCause self.old.failures self.new.failures result }
         ensures first { self.new.first ≡ self.old.first }
     {
-        match posting_rows_at(&mut self.conn, concept) {
-            Ok(rows) => match yield_postings(self.alloc, rows.as_slice(), sink) {
-                Ok(_) => Ok(()),
-                Err(fault) => Err(count_fault(&mut self.failures, fault)),
-            },
-            Err(error) => Err(count_fault(&mut self.failures, fault_of(error))),
+        match yield_postings(self.alloc, &mut self.conn, concept, sink) {
+            Ok(_) => Ok(()),
+            Err(fault) => Err(count_fault(&mut self.failures, fault)),
         }
     }
 }

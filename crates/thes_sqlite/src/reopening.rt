@@ -22,7 +22,6 @@ use thes_base::number::{PostNo, ResNo};
 use thes_base::text::Key;
 use thes_sql::commit::commit_all;
 use thes_sql::outcome::{has_change, is_shut};
-use thes_sql::reads::posting_rows_at;
 use thes_store::keeper::{Keeper, Posting};
 use thes_store::row_output::tables_in_order;
 use thes_store::sink::{PostingSink, RowSink};
@@ -135,21 +134,6 @@ fn posting_later<S: Alter>(
 {
     match find_with_moves(alloc, conn, number) {
         Ok(found) => Ok(found),
-        Err(error) => Err(fault_of(error)),
-    }
-}
-
-// Passes the postings of a reopened database that are assigned to the concept to a sink.
-fn standing_later<S: Alter, P: PostingSink>(
-    alloc: Global,
-    conn: &mut Connection<S>,
-    concept: ResNo,
-    sink: &mut P,
-) -> Result<(), Fault>
-    ensures { IfErr result IsKeeperFault }
-{
-    match posting_rows_at(conn, concept) {
-        Ok(rows) => yield_postings(alloc, rows.as_slice(), sink),
         Err(error) => Err(fault_of(error)),
     }
 }
@@ -379,7 +363,7 @@ impl<S: Alter + Drop, O: Reopen<Connection<S>>> ReopeningKeeper<S, O> {
             return keeper.standing(concept, sink);
         }
         match &mut self.later {
-            Some(conn) => standing_later(self.alloc, conn, concept, sink),
+            Some(conn) => yield_postings(self.alloc, conn, concept, sink),
             None => Err(Fault::Store),
         }
     }

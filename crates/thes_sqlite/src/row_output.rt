@@ -1,13 +1,17 @@
-//! Reads rows of the database as cells, and passes them to a sink.
-ghost use Rattle.std.specs.Prelude.{◌≡◌, ◌∷◌, [], List, None, Some, false, map, IfErr};
+//! Passes rows of the database to a sink, as cells or as postings. Each is passed as it is read, so
+//! no table is in memory as a whole.
+ghost use Rattle.std.specs.Prelude.{◌≡◌, ◌∷◌, [], None, Some, false, true, map, IfErr, OnOk};
 ghost use Rattle.thes_tables.specs.declared.rows.PostingRow.{PostingRow};
 ghost use Rattle.thes_tables.specs.Cells.{posting_cells};
+ghost use Rattle.thes_tables.specs.Tables.{Tables};
+ghost use Rattle.thes_store.specs.Reading.{assigned_posting_rows};
 ghost use Rattle.thes_store.specs.Sinks.{SinkOutcome, sink_rows_of_table};
 ghost use Rattle.thes_sql.specs.Declarations.{declares};
-ghost use Rattle.thes_sql.specs.StoredRows.{values};
+ghost use Rattle.thes_sql.specs.StoredRows.{values, Keeps};
 ghost use Rattle.thes_sqlite.specs.Faults.{IsKeeperFault};
 ghost use Rattle.thes_sql.specs.Reads.{IsReadable, LeavesTables};
 ghost use Rattle.thes_sqlite.specs.KeeperView.{raw_table};
+ghost use Rattle.thes_sqlite.specs.FoundRows.{PassesTable};
 ghost use Rattle.thes_sqlite.specs.ValueCells.{cell_of};
 ghost use Rattle.sqlite.specs.State.{HasCleanDisk};
 ghost use Rattle.sqlite.specs.Held.{state};
@@ -15,11 +19,12 @@ ghost use Rattle.sqlite.specs.Held.{state};
 use crate::faults::fault_of;
 use crate::found::any_cells_of;
 use crate::rows::read_posting;
-use sqlite::{Alter, Connection, Error, Row};
+use sqlite::{Alter, Connection, Error, Row, params};
 use std::alloc::Global;
 use thes_base::fault::{Fault, Table};
+use thes_base::number::ResNo;
 use thes_sql::declarations::declares;
-use thes_sql::reads::table_rows;
+use thes_sql::reads::{assigned_query, table_query};
 use thes_store::sink::{PostingSink, RowSink};
 
 // Passes a row to a sink as a row of this table.
@@ -32,24 +37,41 @@ fn yield_row<R: RowSink>(alloc: Global, name: Table, row: &Row, sink: &mut R) ->
     sink.row(name, cells.as_slice())
 }
 
-// Passes rows to a sink as rows of this table, in their order.
-fn yield_rows<R: RowSink>(
+// Passes the rows of a table to a sink as they are read. If the table can't be queried, reports that
+// to the sink instead.
+fn yield_rows<S: Alter, R: RowSink>(
     alloc: Global,
+    conn: &mut Connection<S>,
     name: Table,
-    rows: &[Row],
     sink: &mut R,
 ) -> Result<(), Fault>
-    ensures yields { SinkOutcome R.gives sink.old
-        (sink_rows_of_table name (Some (map (map cell_of) rows.now)))
+    requires { declares (state S.Store conn.old).now.schema name ≡ true }
+    ensures yields { HasCleanDisk (state S.Store conn.new) → IsReadable (state S.Store conn.old).now
+        → SinkOutcome R.gives sink.old
+        (sink_rows_of_table name (raw_table name (state S.Store conn.old).now.trees))
         result sink.new }
+    ensures passes { HasCleanDisk (state S.Store conn.new) → OnOk result
+        (PassesTable R.gives name (state S.Store conn.old).now sink.old sink.new) }
     ensures err { IfErr result IsKeeperFault }
+    ensures leaves { LeavesTables S.Store conn.old conn.new }
 {
-    for row in rows {
+    let mut rows = match conn.query(table_query(name), &[]) {
+        Ok(rows) => rows,
+        Err(Error::SqlInputError(_)) => return sink.report_unqueried(name),
+        Err(error) => return Err(fault_of(error)),
+    };
+    'rows: for _ in 0..u64::MAX {
+        if let Err(error) = rows.advance() {
+            return Err(fault_of(error));
+        }
+        let Some(row) = rows.get() else {
+            return Ok(());
+        };
         if let Err(fault) = yield_row(alloc, name, row, sink) {
             return Err(fault);
         }
     }
-    Ok(())
+    Err(Fault::Store)
 }
 
 /// Passes the rows of a table to a sink. If the table can't be queried, or isn't declared as in a
@@ -64,6 +86,8 @@ pub(crate) fn yield_table_rows<S: Alter, R: RowSink>(
         → SinkOutcome R.gives sink.old
         (sink_rows_of_table name (raw_table name (state S.Store conn.old).now.trees))
         result sink.new }
+    ensures passes { HasCleanDisk (state S.Store conn.new) → OnOk result
+        (PassesTable R.gives name (state S.Store conn.old).now sink.old sink.new) }
     ensures differs { declares (state S.Store conn.old).now.schema name ≡ false
         → SinkOutcome R.gives sink.old (sink_rows_of_table name None) result sink.new }
     ensures err { IfErr result IsKeeperFault }
@@ -72,11 +96,7 @@ pub(crate) fn yield_table_rows<S: Alter, R: RowSink>(
     if !declares(conn, name) {
         return sink.report_unqueried(name);
     }
-    match table_rows(conn, name) {
-        Ok(rows) => yield_rows(alloc, name, rows.as_slice(), sink),
-        Err(Error::SqlInputError(_)) => sink.report_unqueried(name),
-        Err(error) => Err(fault_of(error)),
-    }
+    yield_rows(alloc, conn, name, sink)
 }
 
 // Passes a row of table posting to a sink as a posting.
@@ -91,21 +111,34 @@ fn yield_posting<P: PostingSink>(alloc: Global, row: &Row, sink: &mut P) -> Resu
     }
 }
 
-/// Passes rows of table posting to a sink as postings, in their order.
-pub(crate) fn yield_postings<P: PostingSink>(
+/// Passes the postings that are assigned to the concept to a sink as they are read, sorted by
+/// number.
+pub(crate) fn yield_postings<S: Alter, P: PostingSink>(
     alloc: Global,
-    rows: &[Row],
+    conn: &mut Connection<S>,
+    concept: ResNo,
     sink: &mut P,
 ) -> Result<(), Fault>
-    ensures yields { (postings : List PostingRow)
-        → rows.now ≡ map values (map posting_cells postings)
-        → SinkOutcome P.gives sink.old postings result sink.new }
+    ensures yields { HasCleanDisk (state S.Store conn.new) → (t : Tables)
+        → Keeps (state S.Store conn.old).now t
+        → SinkOutcome P.gives sink.old (assigned_posting_rows concept t.posting) result sink.new }
     ensures err { IfErr result IsKeeperFault }
+    ensures leaves { LeavesTables S.Store conn.old conn.new }
 {
-    for row in rows {
+    let mut postings = match conn.query(assigned_query(), params![concept.get()]) {
+        Ok(postings) => postings,
+        Err(error) => return Err(fault_of(error)),
+    };
+    'postings: for _ in 0..u64::MAX {
+        if let Err(error) = postings.advance() {
+            return Err(fault_of(error));
+        }
+        let Some(row) = postings.get() else {
+            return Ok(());
+        };
         if let Err(fault) = yield_posting(alloc, row, sink) {
             return Err(fault);
         }
     }
-    Ok(())
+    Err(Fault::Store)
 }

@@ -11,7 +11,7 @@ use Rattle.thes_store.specs.declared.tables.MemTables.{MemTables}
 use Rattle.thes_store.specs.AddedRow.{rows_added_by, added_resource, added_outside, added_label, inserted_link}
 use Rattle.thes_store.specs.AddedRow.{added_hier, added_posting, added_move}
 use Rattle.thes_store.specs.Numbers.{owner_of, indexed_end_of, narrower_end_of}
-use Rattle.thes_store.specs.Index.{HasPosition}
+use Rattle.thes_store.specs.Places.{HasPlace}
 use Rattle.thes_store.specs.Room.{HasRoomForRows}
 use Rattle.thes_store.specs.Slots.{IsReady}
 
@@ -29,7 +29,7 @@ module _ {A : Type 0} where
   }
   ready_first number s (Some x) rest ready = record { room = let r = ready.room in omega (arith, r); expected = first }
     where
-      first : (k : ℕ) (row : A) → slice_get (x ∷ []) k ≡ Some row → HasPosition s.places (number row)
+      first : (k : ℕ) (row : A) → slice_get (x ∷ []) k ≡ Some row → HasPlace s.places (number row)
           (vec_len s.rows + k)
       first zero row e = ready.expected zero row e
       first (suc k) row e = absurd (cc)

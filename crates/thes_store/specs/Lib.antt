@@ -4,6 +4,7 @@ pub mod Covers
 pub mod Sinks
 pub mod Index
 pub mod Keys
+pub mod Places
 pub mod Loading
 pub mod Numbers
 pub mod RowsAtPositions

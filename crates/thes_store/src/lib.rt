@@ -9,6 +9,7 @@ mod indexes;
 pub mod keeper;
 mod keys;
 pub mod mem;
+mod places;
 pub mod row_output;
 pub mod sink;
 mod slots;

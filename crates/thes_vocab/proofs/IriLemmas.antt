@@ -14,14 +14,38 @@ use Rattle.std.proofs.lemmas.Map.Lookups.{exact_unsigned, exact_bytes}
 use Rattle.thes_base.specs.Resources.{Iris}
 use Rattle.thes_base.proofs.LegalResourceLemmas.{iri_cases}
 use Rattle.std.proofs.lemmas.Option.{none-some, same_Some}
+use Rattle.std.proofs.lemmas.Bool.{both_ways}
 use Rattle.thes_vocab.specs.IriIndex.{iris_in, AreInverse}
-use Rattle.thes_vocab.proofs.NameLemmas.{IsSet, same_or_not}
 
 abbrev Numbers : Type 0
 Numbers = BTreeMap (List ℕ) ℕ
 
 abbrev iri_cmp : List ℕ → List ℕ → Ordering
 iri_cmp = slice_cmp nat_cmp
+
+same_or_not : (i iri : List ℕ) → (i ≡ iri) ⊎ (i ≡ iri → ⊥)
+same_or_not i iri = go (is_at (iri_cmp iri) i) refl
+  where
+    go : (b : Bool) → is_at (iri_cmp iri) i ≡ b → (i ≡ iri) ⊎ (i ≡ iri → ⊥)
+    go true at = inl (sym (exact_bytes iri i ((Equal-is (iri_cmp iri i)).0 at)))
+    go false at = inr (λ same. both_ways (is_at (iri_cmp iri) i) at
+        (ap (is_at (iri_cmp iri)) same ∙ ap is_eq (tied_itself nat_list_cmp_total iri)))
+
+-- The new map has `value` at the IRI, and the old values at all others.
+pub record IsNumberSet (old new : Numbers) (iri : List ℕ) (value : Option ℕ) : Type 0 where
+  pub at : get iri_cmp new iri ≡ value
+  pub others : (i : List ℕ) → (i ≡ iri → ⊥) → get iri_cmp new i ≡ get iri_cmp old i
+
+pub number_updated : (old new : Numbers) (iri : List ℕ) (value : Option ℕ) → Updates iri_cmp old new iri value
+    → IsNumberSet old new iri value
+number_updated old new iri value u = record { at = u.1; others = λ i apart. u.2 i (differs i apart) }
+  where
+    differs : (i : List ℕ) → (i ≡ iri → ⊥) → is_at (iri_cmp iri) i ≡ false
+    differs i apart = go (is_at (iri_cmp iri) i) refl
+      where
+        go : (b : Bool) → is_at (iri_cmp iri) i ≡ b → is_at (iri_cmp iri) i ≡ false
+        go true at = absurd (apart (sym (exact_bytes iri i ((Equal-is (iri_cmp iri i)).0 at))))
+        go false at = at
 
 find_is : (es : List (ℕ × List ℕ)) (n : ℕ) → dict.find nat_cmp n es ≡ lookup (is_at (nat_cmp n)) es
 find_is [] n = refl
@@ -45,7 +69,7 @@ iris_after_insert old new n iri u = dict.same_map nat_cmp_total dict.nat_cmp-IsA
     (get_iri_at old q)))
 
 module _ (iris : Iris) (numbers more : Numbers) (n : ℕ) (iri : List ℕ) (tied : AreInverse iris numbers)
-    (set : IsSet iri_cmp numbers more iri (Some n)) (free : (m : ℕ) → dict.get iris m ≢ Some iri) where
+    (set : IsNumberSet numbers more iri (Some n)) (free : (m : ℕ) → dict.get iris m ≢ Some iri) where
   other_iri : (m : ℕ) (i : List ℕ) → dict.get iris m ≡ Some i → i ≡ iri → ⊥
   other_iri m i has same = free m (has ∙ ap Some same)
 
@@ -53,7 +77,7 @@ module _ (iris : Iris) (numbers more : Numbers) (n : ℕ) (iri : List ℕ) (tied
   pub inverse_after_insert : dict.get iris n ≡ None → AreInverse (dict.insert iris n iri) more
   inverse_after_insert none = record {
     number = λ m i e. number_at m i (iri_cases iris n iri m i e);
-    iri = λ m i e. iri_at m i e (same_or_not iri_cmp nat_list_cmp_total exact_bytes i iri);
+    iri = λ m i e. iri_at m i e (same_or_not i iri);
   }
     where
       number_at : (m : ℕ) (i : List ℕ) → ((m ≡ n) × (i ≡ iri)) ⊎ (dict.get iris m ≡ Some i) → get iri_cmp more i
@@ -84,10 +108,10 @@ module _ (iris : Iris) (numbers more : Numbers) (n : ℕ) (iri : List ℕ) (tied
       iri_at m i e (inr apart) = kept m i (tied.iri m i (sym (set.others i apart) ∙ e))
 
   -- Removing the IRI from the second map again restores the old maps.
-  pub inverse_after_undo : (back : Numbers) → IsSet iri_cmp more back iri None → AreInverse iris back
+  pub inverse_after_undo : (back : Numbers) → IsNumberSet more back iri None → AreInverse iris back
   inverse_after_undo back unset = record {
     number = λ m i has. unset.others i (other_iri m i has) ∙ set.others i (other_iri m i has) ∙ tied.number m i has;
-    iri = λ m i e. iri_at m i e (same_or_not iri_cmp nat_list_cmp_total exact_bytes i iri);
+    iri = λ m i e. iri_at m i e (same_or_not i iri);
   }
     where
       iri_at : (m : ℕ) (i : List ℕ) → get iri_cmp back i ≡ Some m → (i ≡ iri) ⊎ (i ≡ iri → ⊥) → dict.get iris m ≡ Some i

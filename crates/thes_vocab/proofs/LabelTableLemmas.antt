@@ -1,16 +1,16 @@
 -- Changes of an owner's row change the set of all labels in the same way.
-use Rattle.std.proofs.Common.{◌≡◌, ◌≢◌, ◌≤◌, ℕ, zero, suc, ◌+◌, ◌-◌, List, [], ◌∷◌, refl, sym, ap, ◌∙◌, subst, arith}
-use Rattle.std.proofs.Common.{Bool, true, false, not, ◌&&◌, ◌||◌, cond, map}
-use Rattle.std.specs.Prelude.{Option, None, Some}
-use Rattle.std.specs.Option.{unwrap_or, IsSome, MatchOption}
-use Rattle.std.specs.declared.cmp.Ordering.TheVariants.{Less}
+use Rattle.std.proofs.Common.{◌≡◌, ◌≢◌, ◌≤◌, ◌<◌, ℕ, zero, suc, ◌+◌, ◌-◌, List, [], ◌∷◌, refl, sym, ap, ◌∙◌, arith, inl}
+use Rattle.std.proofs.Common.{inr, Bool, true, false, not, ◌&&◌, ◌||◌, cond, map, length, get_or, set as set_at}
+use Rattle.std.specs.Prelude.{Option, None, Some, slice_get}
+use Rattle.std.specs.Option.{unwrap_or, MatchOption}
 use Rattle.std.specs.Ordering.{nat_cmp, eq_by_cmp, is_eq, ordering_then}
-use Rattle.std.specs.Cmp.{nat_cmp_total, eq_by_cmp_equiv, Equal-is}
+use Rattle.std.specs.Cmp.{nat_cmp_total, tied_itself, Equal-is}
 use Rattle.std.specs.Cmp.Lexicographic.{slice_cmp}
-use Rattle.std.specs.List.{list_any, AllByRecursion}
-use Rattle.std.specs.List.Sorted.{IsStrictlySortedBy}
-use Rattle.std.specs.Map.{keys_of, lookup}
-use Rattle.std.specs.BTreeMap.{BTreeMap, IsOrdered, is_at, get, Updates, WritesThrough}
+use Rattle.std.specs.List.{list_any}
+use Rattle.std.proofs.lemmas.Bool.{cases_lt, both_ways}
+use Rattle.std.proofs.lemmas.Grind.{get_or-set_at}
+use Rattle.std.proofs.lemmas.List.{get_or-set_other, length-set}
+use Rattle.std.proofs.lemmas.Option.{slice_get_past, slice_get-get_or}
 use Rattle.std.proofs.lemmas.Map.Lookups.{exact_unsigned}
 use Rattle.std.proofs.lemmas.List.Folds.{list_any-append}
 use Rattle.std.proofs.Math.Bool.{and_assoc, and-false, and-or_distrib_left, or-false}
@@ -24,8 +24,9 @@ use Rattle.thes_base.proofs.LabelSetLemmas.{labels_total, labels_exact}
 use Rattle.thes_base.proofs.SetMemberLemmas.{both_equal}
 use Rattle.thes_vocab.specs.OwnLabels.{data_cmp, own_label, has_own, HasNoOwnPreferred, HasTwoOwnPreferred}
 use Rattle.thes_vocab.specs.Rivals.{HasTwoPreferred}
-use Rattle.thes_vocab.specs.LabelRows.{all_owned, labels_in, owner_row, AreLabelRows, IsRowOfOwner, HasNoLabels}
-use Rattle.thes_vocab.specs.LabelRows.{RowsAfterInsert, RowsAfterRemove, AreSameLabelRows}
+use Rattle.thes_vocab.specs.LabelRows.{LabelRows, all_owned, labels_in, owner_row, IsRowOfOwner, HasNoLabels}
+use Rattle.thes_vocab.specs.LabelRows.{RowsAfterInsert, RowsAfterInsertions, RowsAfterRemove, IsRowWritten}
+use Rattle.thes_vocab.specs.LabelRows.{AreSameLabelRows}
 
 -- The label without its owner.
 abbrev pub data_of : Label → LabelData
@@ -57,108 +58,103 @@ any_row q owner (l ∷ row) =
     ∙ sym (and-or_distrib_left (eq_by_cmp nat_cmp q.owner owner) (eq_by_cmp data_cmp (data_of q) l)
     (has_own row (data_of q)))
 
--- The test of whether a row of the owner has the label.
-abbrev has_in : ℕ → LabelData → List (ℕ × List LabelData) → Bool
-has_in owner l = list_any (λ e. eq_by_cmp nat_cmp owner e.0 && has_own e.1 l)
-
-any_owned : (q : Label) (es : List (ℕ × List LabelData)) → list_any (eq_by_cmp label_cmp q) (all_owned es)
-    ≡ has_in q.owner (data_of q) es
-any_owned q [] = refl
-any_owned q (e ∷ es) =
-    list_any-append (eq_by_cmp label_cmp q) (map (owned_label e.0) e.1) (all_owned es)
-    ∙ ap (λ b. b || list_any (eq_by_cmp label_cmp q) (all_owned es)) (any_row q e.0 e.1)
-    ∙ ap (λ b. (eq_by_cmp nat_cmp q.owner e.0 && has_own e.1 (data_of q)) || b) (any_owned q es)
-
-none_after : (owner : ℕ) (l : LabelData) (es : List (ℕ × List LabelData))
-    → AllByRecursion (λ k. nat_cmp owner k ≡ Less) (keys_of es) → has_in owner l es ≡ false
-none_after owner l [] each = refl
-none_after owner l (e ∷ es) each = ap (λ r. (is_eq r && has_own e.1 l) || has_in owner l es) each.0
-    ∙ none_after owner l es each.1
-
-found_in : (owner : ℕ) (l : LabelData) (es : List (ℕ × List LabelData)) → IsStrictlySortedBy nat_cmp (keys_of es)
-    → has_in owner l es ≡ has_own (unwrap_or (lookup (is_at (nat_cmp owner)) es) []) l
-unfolding IsStrictlySortedBy
-found_in owner l [] sorted = refl
-found_in owner l (e ∷ es) sorted = go (found_in owner l es sorted.1) (eq_by_cmp nat_cmp owner e.0) refl
+-- Different numbers don't compare as equal.
+apart_by_cmp : (m n : ℕ) → m ≢ n → eq_by_cmp nat_cmp m n ≡ false
+apart_by_cmp m n apart = go (eq_by_cmp nat_cmp m n) refl
   where
-    go : has_in owner l es ≡ has_own (unwrap_or (lookup (is_at (nat_cmp owner)) es) []) l → (b : Bool)
-        → eq_by_cmp nat_cmp owner e.0 ≡ b → ((b && has_own e.1 l) || has_in owner l es)
-        ≡ has_own (unwrap_or (cond b (Some e.1) (lookup (is_at (nat_cmp owner)) es)) []) l
-    go rest true tie =
-        let same = exact_unsigned owner e.0 ((Equal-is (nat_cmp owner e.0)).0 tie) in
-        ap (λ b. has_own e.1 l || b) (ap (λ k. has_in k l es) same ∙ none_after e.0 l es sorted.0)
-        ∙ or-false (has_own e.1 l)
-    go rest false tie = rest
+    go : (b : Bool) → eq_by_cmp nat_cmp m n ≡ b → eq_by_cmp nat_cmp m n ≡ false
+    go true tie = absurd (apart (exact_unsigned m n ((Equal-is (nat_cmp m n)).0 tie)))
+    go false tie = tie
+
+module _ (q : Label) where
+  -- Rows whose first owner has number `k` have no labels of owners before it.
+  none_before : (k : ℕ) (rows : LabelRows) → q.owner < k → list_any (eq_by_cmp label_cmp q) (all_owned k rows) ≡ false
+  none_before k [] before = refl
+  none_before k (row ∷ rows) before =
+      list_any-append (eq_by_cmp label_cmp q) (map (owned_label k) row) (all_owned (k + 1) rows)
+      ∙ ap (λ b. b || list_any (eq_by_cmp label_cmp q) (all_owned (k + 1) rows))
+      (any_row q k row ∙ ap (λ b. b && has_own row (data_of q)) (apart_by_cmp q.owner k (omega (arith, before))))
+      ∙ none_before (k + 1) rows (omega (arith, before))
+
+  found_from : (k i : ℕ) (rows : LabelRows) → q.owner ≡ k + i
+      → list_any (eq_by_cmp label_cmp q) (all_owned k rows) ≡ has_own (owner_row rows i) (data_of q)
+  found_from k i [] at = refl
+  found_from k zero (row ∷ rows) at =
+      list_any-append (eq_by_cmp label_cmp q) (map (owned_label k) row) (all_owned (k + 1) rows)
+      ∙ (λ j. first j || none_before (k + 1) rows (omega (arith, at)) j) ∙ or-false (has_own row (data_of q))
+    where
+      first : list_any (eq_by_cmp label_cmp q) (map (owned_label k) row) ≡ has_own row (data_of q)
+      first = any_row q k row ∙ ap (λ b. b && has_own row (data_of q))
+          (ap (λ m. eq_by_cmp nat_cmp m k) (let same : q.owner ≡ k = omega (arith, at) in same)
+          ∙ ap is_eq (tied_itself nat_cmp_total k))
+  found_from k (suc i) (row ∷ rows) at =
+      list_any-append (eq_by_cmp label_cmp q) (map (owned_label k) row) (all_owned (k + 1) rows)
+      ∙ ap (λ b. b || list_any (eq_by_cmp label_cmp q) (all_owned (k + 1) rows))
+      (any_row q k row ∙ ap (λ b. b && has_own row (data_of q)) (apart_by_cmp q.owner k (omega (arith, at))))
+      ∙ found_from (k + 1) i rows (omega (arith, at))
 
 -- The set has a label exactly when its owner's row has it.
-pub has_label : (rows : BTreeMap ℕ (List LabelData)) → IsOrdered nat_cmp rows → (q : Label)
-    → set.contains (labels_in rows.entries) q ≡ has_own (owner_row rows q.owner) (data_of q)
-has_label rows ordered q = set.contains-from_list labels_total (all_owned rows.entries) q ∙ any_owned q rows.entries
-    ∙ found_in q.owner (data_of q) rows.entries ordered
+pub has_label : (rows : LabelRows) (q : Label) → set.contains (labels_in rows) q
+    ≡ has_own (owner_row rows q.owner) (data_of q)
+has_label rows q = set.contains-from_list labels_total (all_owned 0 rows) q ∙ found_from q 0 q.owner rows (omega arith)
 
--- Two maps with the same row for each owner have the same set of labels.
-pub same_labels : (old new : BTreeMap ℕ (List LabelData)) → IsOrdered nat_cmp old → IsOrdered nat_cmp new
-    → AreSameLabelRows old new → labels_in new.entries ≡ labels_in old.entries
-same_labels old new o n same = set.same_set labels_total labels_exact _ _
-    (λ q. has_label new n q ∙ ap (λ row. has_own row (data_of q)) (same q.owner) ∙ sym (has_label old o q))
+-- The same rows have the same set of labels.
+pub same_labels : (old new : LabelRows) → AreSameLabelRows old new → labels_in new ≡ labels_in old
+same_labels old new same = set.same_set labels_total labels_exact _ _
+    (λ q. has_label new q ∙ ap (λ row. has_own row (data_of q)) (same q.owner) ∙ sym (has_label old q))
 
-pub put_labels : (old new : BTreeMap ℕ (List LabelData)) (owner : ℕ) (l : LabelData) → IsOrdered nat_cmp old
-    → IsOrdered nat_cmp new → RowsAfterInsert old new owner l → labels_in new.entries
-    ≡ set.insert (labels_in old.entries) (owned_label owner l)
-put_labels old new owner l o n is = set.same_set labels_total labels_exact _ _ (λ q.
-    has_label new n q ∙ is q.owner (data_of q)
-    ∙ sym (set.contains-insert labels_total (labels_in old.entries) (owned_label owner l) q
-    ∙ ap (λ b. b || set.contains (labels_in old.entries) q) (owned_tie q owner l)
-    ∙ ap (λ b. (eq_by_cmp nat_cmp q.owner owner && eq_by_cmp data_cmp (data_of q) l) || b) (has_label old o q)))
+pub put_labels : (old new : LabelRows) (owner : ℕ) (l : LabelData) → RowsAfterInsert old new owner l
+    → labels_in new ≡ set.insert (labels_in old) (owned_label owner l)
+put_labels old new owner l is = set.same_set labels_total labels_exact _ _ (λ q.
+    has_label new q ∙ is q.owner (data_of q)
+    ∙ sym (set.contains-insert labels_total (labels_in old) (owned_label owner l) q
+    ∙ ap (λ b. b || set.contains (labels_in old) q) (owned_tie q owner l)
+    ∙ ap (λ b. (eq_by_cmp nat_cmp q.owner owner && eq_by_cmp data_cmp (data_of q) l) || b) (has_label old q)))
 
-pub take_labels : (old new : BTreeMap ℕ (List LabelData)) (owner : ℕ) (l : LabelData) → IsOrdered nat_cmp old
-    → IsOrdered nat_cmp new → RowsAfterRemove old new owner l → labels_in new.entries
-    ≡ set.remove (labels_in old.entries) (owned_label owner l)
-take_labels old new owner l o n is = set.same_set labels_total labels_exact _ _ (λ q.
-    has_label new n q ∙ is q.owner (data_of q)
-    ∙ sym (set.contains-remove labels_total (labels_in old.entries) (owned_label owner l) q
-    ∙ ap (λ b. not b && set.contains (labels_in old.entries) q) (owned_tie q owner l)
-    ∙ ap (λ b. not (eq_by_cmp nat_cmp q.owner owner && eq_by_cmp data_cmp (data_of q) l) && b) (has_label old o q)))
+pub take_labels : (old new : LabelRows) (owner : ℕ) (l : LabelData) → RowsAfterRemove old new owner l
+    → labels_in new ≡ set.remove (labels_in old) (owned_label owner l)
+take_labels old new owner l is = set.same_set labels_total labels_exact _ _ (λ q.
+    has_label new q ∙ is q.owner (data_of q)
+    ∙ sym (set.contains-remove labels_total (labels_in old) (owned_label owner l) q
+    ∙ ap (λ b. not b && set.contains (labels_in old) q) (owned_tie q owner l)
+    ∙ ap (λ b. not (eq_by_cmp nat_cmp q.owner owner && eq_by_cmp data_cmp (data_of q) l) && b) (has_label old q)))
 
-pub row_owns : (rows : BTreeMap ℕ (List LabelData)) → IsOrdered nat_cmp rows
-    → (owner : ℕ) (o : Option (List LabelData)) → o ≡ get nat_cmp rows owner
-    → MatchOption o (HasNoLabels (labels_in rows.entries) owner) (IsRowOfOwner (labels_in rows.entries) owner)
-row_owns rows ordered owner None e = λ l. has_label rows ordered (owned_label owner l)
-    ∙ ap (λ r. has_own (unwrap_or r []) l) (sym e)
-row_owns rows ordered owner (Some row) e =
-    λ l. sym (has_label rows ordered (owned_label owner l) ∙ ap (λ r. has_own (unwrap_or r []) l) (sym e))
+pub row_owns : (rows : LabelRows) (owner : ℕ) (o : Option (List LabelData)) → o ≡ slice_get rows owner
+    → MatchOption o (HasNoLabels (labels_in rows) owner) (IsRowOfOwner (labels_in rows) owner)
+row_owns rows owner None e = λ l. has_label rows (owned_label owner l) ∙ ap (λ r. has_own (unwrap_or r []) l) (sym e)
+row_owns rows owner (Some row) e =
+    λ l. sym (has_label rows (owned_label owner l) ∙ ap (λ r. has_own (unwrap_or r []) l) (sym e))
 
--- The new map has the row `now` for the owner, and the old rows for all others.
-abbrev pub IsRowWritten : BTreeMap ℕ (List LabelData) → BTreeMap ℕ (List LabelData) → ℕ → List LabelData → Type 0
-IsRowWritten old new owner now = (n : ℕ) → get nat_cmp new n ≡ cond (eq_by_cmp nat_cmp n owner) (Some now)
-    (get nat_cmp old n)
+-- Writing a row at the index of an owner that has one replaces this row alone.
+pub row_set : (rows : LabelRows) (owner i : ℕ) (now : List LabelData) → i ≡ owner → i < length rows
+    → IsRowWritten rows (set_at rows i now) owner now
+row_set rows owner i now at within = record {
+  own = ap (λ o. unwrap_or o []) (slice_get-get_or (set_at rows i now) owner now
+      (omega (arith, at, within, length-set rows i now)) ∙ ap Some (get_or-set_at rows i owner now now (sym at) within));
+  others = λ n apart. ap (λ o. unwrap_or o []) (elim (cases_lt n (length rows)) [
+    | inl inside ↦ slice_get-get_or (set_at rows i now) n now (omega (arith, inside, length-set rows i now))
+        ∙ ap Some (get_or-set_other rows i n now now (λ same. apart (same ∙ at))) ∙ sym (slice_get-get_or rows n now inside)
+    | inr past ↦ slice_get_past (set_at rows i now) n (omega (arith, past, length-set rows i now))
+        ∙ sym (slice_get_past rows n past)
+  ]);
+}
 
-row_written_of_lookup : (old new : BTreeMap ℕ (List LabelData)) (owner : ℕ) (now : List LabelData)
-    → ((n : ℕ) → get nat_cmp new n ≡ cond (is_at (nat_cmp owner) n) (Some now) (get nat_cmp old n))
-    → IsRowWritten old new owner now
-row_written_of_lookup old new owner now each n = each n ∙ ap (λ b. cond b (Some now) (get nat_cmp old n))
-    ((eq_by_cmp_equiv nat_cmp_total).symm owner n)
+-- The row at the index of an owner that has one is the owner's.
+pub row_at : (rows : LabelRows) (owner i : ℕ) (row : List LabelData) → i ≡ owner → i < length rows
+    → row ≡ get_or rows i row → owner_row rows owner ≡ row
+row_at rows owner i row at within is = ap (owner_row rows) (sym at)
+    ∙ ap (λ o. unwrap_or o []) (slice_get-get_or rows i row within) ∙ sym is
 
-pub row_written_through : (old new : BTreeMap ℕ (List LabelData)) (owner : ℕ) (old_label now : List LabelData)
-    → WritesThrough nat_cmp (nat_cmp owner) old now new → Some old_label ≡ get nat_cmp old owner
-    → IsRowWritten old new owner now
-row_written_through old new owner old_label now w e = row_written_of_lookup old new owner now
-    (w.3 (subst (λ o. IsSome o) e refl)).0
-
-pub row_written_by_insert : (old new : BTreeMap ℕ (List LabelData)) (owner : ℕ) (now : List LabelData)
-    → Updates nat_cmp old new owner (Some now) → IsRowWritten old new owner now
-row_written_by_insert old new owner now u = row_written_of_lookup old new owner now u.0
-
-pub row_after : (old new : BTreeMap ℕ (List LabelData)) (owner : ℕ) (now : List LabelData)
-    → IsRowWritten old new owner now → (n : ℕ) → owner_row new n ≡ cond (eq_by_cmp nat_cmp n owner) now
-    (owner_row old n)
-row_after old new owner now w n = ap (λ o. unwrap_or o []) (w n) ∙ go (eq_by_cmp nat_cmp n owner)
+pub row_after : (old new : LabelRows) (owner : ℕ) (now : List LabelData) → IsRowWritten old new owner now → (n : ℕ)
+    → owner_row new n ≡ cond (eq_by_cmp nat_cmp n owner) now (owner_row old n)
+row_after old new owner now w n = go (eq_by_cmp nat_cmp n owner) refl
   where
-    go : (b : Bool) → unwrap_or (cond b (Some now) (get nat_cmp old n)) [] ≡ cond b now (owner_row old n)
-    go true = refl
-    go false = refl
+    go : (b : Bool) → eq_by_cmp nat_cmp n owner ≡ b → owner_row new n ≡ cond b now (owner_row old n)
+    go true tie = ap (owner_row new) (exact_unsigned n owner ((Equal-is (nat_cmp n owner)).0 tie)) ∙ w.own
+    go false tie = w.others n (λ same. both_ways (eq_by_cmp nat_cmp n owner) tie
+        (ap (λ k. eq_by_cmp nat_cmp k owner) same ∙ ap is_eq (tied_itself nat_cmp_total owner)))
 
-pub row_put : (old new : BTreeMap ℕ (List LabelData)) (owner : ℕ) (now : List LabelData) (l : LabelData)
+pub row_put : (old new : LabelRows) (owner : ℕ) (now : List LabelData) (l : LabelData)
     → IsRowWritten old new owner now
     → ((q : LabelData) → has_own now q ≡ (eq_by_cmp data_cmp q l || has_own (owner_row old owner) q))
     → RowsAfterInsert old new owner l
@@ -171,7 +167,23 @@ row_put old new owner now l w each n q = ap (λ row. has_own row q) (row_after o
         (sym (exact_unsigned n owner ((Equal-is (nat_cmp n owner)).0 tie)))
     go false tie = refl
 
-pub row_taken : (old new : BTreeMap ℕ (List LabelData)) (owner : ℕ) (now : List LabelData) (l : LabelData)
+pub row_put_all : (old new : LabelRows) (owner : ℕ) (now inserted : List LabelData) → IsRowWritten old new owner now
+    → ((q : LabelData) → has_own now q ≡ (has_own inserted q || has_own (owner_row old owner) q))
+    → RowsAfterInsertions old new owner inserted
+row_put_all old new owner now inserted w each = record {
+  own = λ q. ap (λ row. has_own row q) w.own ∙ each q;
+  others = w.others;
+}
+
+-- Rows that show the same labels are the same after the insertions.
+pub put_all_after : (old mid new : LabelRows) (owner : ℕ) (inserted : List LabelData) → AreSameLabelRows old mid
+    → RowsAfterInsertions mid new owner inserted → RowsAfterInsertions old new owner inserted
+put_all_after old mid new owner inserted same after = record {
+  own = λ q. after.own q ∙ ap (λ row. has_own inserted q || has_own row q) (same owner);
+  others = λ n apart. after.others n apart ∙ same n;
+}
+
+pub row_taken : (old new : LabelRows) (owner : ℕ) (now : List LabelData) (l : LabelData)
     → IsRowWritten old new owner now
     → ((q : LabelData) → has_own now q ≡ (not (eq_by_cmp data_cmp q l) && has_own (owner_row old owner) q))
     → RowsAfterRemove old new owner l
@@ -185,7 +197,7 @@ row_taken old new owner now l w each n q = ap (λ row. has_own row q) (row_after
     go false tie = refl
 
 -- Replacing a row by itself changes nothing.
-pub row_kept : (old new : BTreeMap ℕ (List LabelData)) (owner : ℕ) (now : List LabelData) → IsRowWritten old new owner
+pub row_kept : (old new : LabelRows) (owner : ℕ) (now : List LabelData) → IsRowWritten old new owner
     now → now ≡ owner_row old owner → AreSameLabelRows old new
 row_kept old new owner now w same n = row_after old new owner now w n ∙ go (eq_by_cmp nat_cmp n owner) refl
   where
@@ -229,61 +241,45 @@ pub none_preferred : (labels : Labels) (owner : ℕ) (tag text : List ℕ) → H
     → HasLabel labels owner Pref tag text → ⊥
 none_preferred labels owner tag text none has = let e = none (own_label Pref tag text) in cc
 
-pub rows_same : (old new : BTreeMap ℕ (List LabelData)) (count : ℕ) → AreLabelRows old count → IsOrdered nat_cmp new
-    → AreSameLabelRows old new → AreLabelRows new count
-rows_same old new count rows ordered same =
-    record {
-      ordered = ordered;
-      counted = rows.counted
-          ∙ ap set.len (sym (same_labels old new rows.ordered ordered same));
-    }
-
-module _ (old new : BTreeMap ℕ (List LabelData)) (count owner : ℕ) (l : LabelData) (rows : AreLabelRows old count)
-    (ordered : IsOrdered nat_cmp new) where
-  was_there : set.contains (labels_in old.entries) (owned_label owner l) ≡ has_own (owner_row old owner) l
-  was_there = has_label old rows.ordered (owned_label owner l)
+module _ (old new : LabelRows) (count owner : ℕ) (l : LabelData) (counted : count ≡ set.len (labels_in old)) where
+  was_there : set.contains (labels_in old) (owned_label owner l) ≡ has_own (owner_row old owner) l
+  was_there = has_label old (owned_label owner l)
 
   pub rows_put : RowsAfterInsert old new owner l → (added : Bool) → added ≡ not (has_own (owner_row old owner) l)
-      → AreLabelRows new (cond added (count + 1) count)
-  rows_put is added e = record { ordered = ordered; counted = go (has_own (owner_row old owner) l) refl ∙ sym after }
+      → cond added (count + 1) count ≡ set.len (labels_in new)
+  rows_put is added e = go (has_own (owner_row old owner) l) refl ∙ sym after
     where
-      after : set.len (labels_in new.entries) ≡ cond (has_own (owner_row old owner) l)
-          (set.len (labels_in old.entries)) (set.len (labels_in old.entries) + 1)
-      after = ap set.len (put_labels old new owner l rows.ordered ordered is) ∙ set.len-insert labels_total
-          (labels_in old.entries) (owned_label owner l)
-          ∙ ap (λ b. cond b (set.len (labels_in old.entries)) (set.len (labels_in old.entries) + 1)) was_there
+      after : set.len (labels_in new) ≡ cond (has_own (owner_row old owner) l)
+          (set.len (labels_in old)) (set.len (labels_in old) + 1)
+      after = ap set.len (put_labels old new owner l is) ∙ set.len-insert labels_total
+          (labels_in old) (owned_label owner l)
+          ∙ ap (λ b. cond b (set.len (labels_in old)) (set.len (labels_in old) + 1)) was_there
 
       go : (b : Bool) → has_own (owner_row old owner) l ≡ b → cond added (count + 1) count
-          ≡ cond b (set.len (labels_in old.entries)) (set.len (labels_in old.entries) + 1)
-      go true h = ap (λ a. cond a (count + 1) count) (e ∙ ap not h) ∙ rows.counted
-      go false h = ap (λ a. cond a (count + 1) count) (e ∙ ap not h) ∙ ap (λ n. n + 1) rows.counted
+          ≡ cond b (set.len (labels_in old)) (set.len (labels_in old) + 1)
+      go true h = ap (λ a. cond a (count + 1) count) (e ∙ ap not h) ∙ counted
+      go false h = ap (λ a. cond a (count + 1) count) (e ∙ ap not h) ∙ ap (λ n. n + 1) counted
 
   pub rows_taken : RowsAfterRemove old new owner l → (taken : Bool) → taken ≡ has_own (owner_row old owner) l
-      → AreLabelRows new (cond taken (count - 1) count)
-  rows_taken is taken e = record {
-    ordered = ordered;
-    counted = ap (λ n. cond taken (n - 1) n) rows.counted
-        ∙ sym (ap set.len (take_labels old new owner l rows.ordered ordered is) ∙ set.len-remove labels_total
-        (labels_in old.entries) (owned_label owner l)
-        ∙ ap (λ b. cond b (set.len (labels_in old.entries) - 1) (set.len (labels_in old.entries))) (was_there ∙ sym e));
-  }
+      → cond taken (count - 1) count ≡ set.len (labels_in new)
+  rows_taken is taken e = ap (λ n. cond taken (n - 1) n) counted
+      ∙ sym (ap set.len (take_labels old new owner l is) ∙ set.len-remove labels_total (labels_in old)
+      (owned_label owner l)
+      ∙ ap (λ b. cond b (set.len (labels_in old) - 1) (set.len (labels_in old))) (was_there ∙ sym e))
 
--- A set with a label isn't empty.
-pub counted_one : (rows : BTreeMap ℕ (List LabelData)) (count owner : ℕ) (l : LabelData) → AreLabelRows rows count
-    → has_own (owner_row rows owner) l ≡ true → 1 ≤ count
-counted_one rows count owner l is has = go count refl
-  where
-    go : (n : ℕ) → count ≡ n → 1 ≤ count
-    go zero e =
-        absurd (cc (
-          ap (λ s. set.contains s (owned_label owner l))
-              (set.empty_of_len (labels_in rows.entries) (sym is.counted ∙ e)),
-          set.contains-empty label_cmp
-              (owned_label owner l),
-          has_label rows is.ordered (owned_label owner l),
-          has,
-        ))
-    go (suc n) e = omega (arith, e)
+  -- A set with a label isn't empty.
+  pub counted_one : has_own (owner_row old owner) l ≡ true → 1 ≤ count
+  counted_one has = go count refl
+    where
+      go : (n : ℕ) → count ≡ n → 1 ≤ count
+      go zero e =
+          absurd (cc (
+            ap (λ s. set.contains s (owned_label owner l)) (set.empty_of_len (labels_in old) (sym counted ∙ e)),
+            set.contains-empty label_cmp (owned_label owner l),
+            was_there,
+            has,
+          ))
+      go (suc n) e = omega (arith, e)
 
 module _ (labels : Labels) where
   -- Removing a new label after its insertion gives the old set.

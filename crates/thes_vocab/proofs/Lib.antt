@@ -1,11 +1,12 @@
 pub mod OwnLabelLemmas
 mod LabelTableLemmas
 mod AnswerLemmas
-mod NameLemmas
 mod ConceptListLemmas
 mod IriLemmas
 mod LabelCheckLemmas
+mod NameLemmas
 mod ConsistencyLemmas
+mod LexicalLabelLemmas
 mod MergedRowLemmas
 mod ForwardingLemmas
 mod LoadingLemmas

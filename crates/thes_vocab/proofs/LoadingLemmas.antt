@@ -23,13 +23,13 @@ use Rattle.thes_vocab.specs.declared.names.Names.{Names}
 use Rattle.thes_lists.specs.Lists.{AreListings}
 use Rattle.thes_vocab.specs.Vocabulary.{Vocabulary, IsConceptIn, IsConceptOf, concept_scheme}
 use Rattle.thes_vocab.specs.OwnLabels.{data_cmp, has_own}
-use Rattle.thes_vocab.specs.NameIndex.{IsLabelNameUpdate}
+use Rattle.thes_vocab.specs.NameIndex.{KeepsNames, HasLabelEntry}
 use Rattle.thes_vocab.specs.Consistency.{IsConsistentVocabulary}
 use Rattle.thes_vocab.specs.Loading.{AreSound, IsLoading, AreLabelsSoFar, MayLoadIri, MayLoadLabel, IsFreeLabel}
 use Rattle.thes_vocab.specs.Loading.{HaveIris}
 use Rattle.thes_vocab.proofs.LabelCheckLemmas.{breaks_s13, keeps_s13, breaks_s14, keeps_s14, breaks_unique}
 use Rattle.thes_vocab.proofs.LabelCheckLemmas.{keeps_unique}
-use Rattle.thes_vocab.proofs.ConsistencyLemmas.{IsSchemeOf, finds_label_noted, finds_label_added}
+use Rattle.thes_vocab.proofs.ConsistencyLemmas.{IsSchemeOf, finds_more, finds_added}
 use Rattle.thes_vocab.proofs.OwnLabelLemmas.{label_data_of_tie, tie_of_label_data}
 
 pref_or_not : (k : LabelKind) → (k ≡ Pref) ⊎ (k ≢ Pref)
@@ -72,21 +72,21 @@ vocabulary base rs iris labels = record { base = base; resources = rs; iris = ir
 
 module _ (base : List ℕ) (rs : List Resource) (iris : Iris) (labels : Labels) (old new : Names) (concepts : Lists ℕ)
     (is : IsLoading base rs iris labels old concepts) where
-  module _ (owner : ℕ) (d : LabelData) (o : Option ℕ) (at : IsSchemeOf rs owner o)
-      (noted : IsLabelNameUpdate old new o d (Some owner)) (fits : MayLoadLabel (vocabulary base rs iris labels)
+  -- The invariant holds after entries are added to the index of preferred labels.
+  pub loading_more : KeepsNames old new → IsLoading base rs iris labels new concepts
+  loading_more keeps = record {
+    sound = is.sound;
+    iris_so_far = is.iris_so_far;
+    labels_so_far = is.labels_so_far;
+    found = finds_more rs labels old new keeps is.found;
+    listed = is.listed;
+  }
+
+  module _ (owner : ℕ) (d : LabelData) (keeps : KeepsNames old new) (o : Option ℕ) (at : IsSchemeOf rs owner o)
+      (noted : HasLabelEntry new o d owner) (fits : MayLoadLabel (vocabulary base rs iris labels)
       (owned_label owner d)) where
     abbrev l : Label
     l = owned_label owner d
-
-    pub loading_noted : IsLoading base rs iris labels new concepts
-    loading_noted = record {
-      sound = is.sound;
-      iris_so_far = is.iris_so_far;
-      labels_so_far = is.labels_so_far;
-      found =
-          finds_label_noted rs labels l old new is.found fits.unique o at noted;
-      listed = is.listed;
-    }
 
     -- The invariant holds after a label is loaded.
     pub loading_label : IsLoading base rs iris (set.insert labels l) new concepts
@@ -102,7 +102,7 @@ module _ (base : List ℕ) (rs : List Resource) (iris : Iris) (labels : Labels) 
         one_preferred = fits.one_preferred;
         unique = fits.unique;
       };
-      found = finds_label_added rs labels l old new is.found fits.unique o at noted;
+      found = finds_added rs labels l old new is.found keeps o at noted;
       listed = is.listed;
     }
 

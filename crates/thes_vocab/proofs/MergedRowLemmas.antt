@@ -1,5 +1,5 @@
 -- The target's row after a merge, and the number of labels copied to it, are those of the machine's definition.
-use Rattle.std.proofs.Common.{◌≡◌, ◌⊎◌, inl, inr, ◌<◌, ℕ, zero, suc, ◌+◌, length, List, [], ◌∷◌, refl, sym, ap, ◌∙◌}
+use Rattle.std.proofs.Common.{◌≡◌, ◌⊎◌, inl, inr, ◌<◌, ℕ, zero, suc, ◌+◌, length, List, [], ◌∷◌, ◌++◌, refl, sym, ap, ◌∙◌}
 use Rattle.std.proofs.Common.{subst, arith, Bool, true, false, not, ◌&&◌, ◌||◌, cond, get_or, take, map, eqb-true}
 use Rattle.std.proofs.Common.{eq-eqb}
 use Rattle.std.specs.Prelude.{filter, if◌then◌else◌, ◌==◌}
@@ -10,7 +10,6 @@ use Rattle.std.specs.Cmp.{nat_cmp_total, both_ways, tied_itself, Equal-is}
 use Rattle.std.specs.List.{list_any, AllByRecursion}
 use Rattle.std.specs.List.Sorted.{IsStrictlySortedBy}
 use Rattle.std.proofs.lemmas.Map.Lookups.{exact_unsigned}
-use Rattle.std.specs.BTreeMap.{BTreeMap, IsOrdered}
 use Rattle.std.specs.FinSet as set
 use Rattle.std.proofs.lemmas.Bool.{or_cases, or_left, or_right, true≢false, and_from, cases_Bool, not-true, and_parts}
 use Rattle.std.proofs.Math.Bool.{and-false, and-or_distrib_left, or-false, or_assoc, or_comm}
@@ -24,9 +23,11 @@ use Rattle.thes_base.proofs.CopiedLabelLemmas.{name_of, name_taken}
 use Rattle.thes_base.proofs.SetMemberLemmas.{or_swap}
 use Rattle.thes_vocab.specs.OwnLabels.{data_cmp, own_label, has_own, AreLabelsOf}
 use Rattle.thes_vocab.specs.CopiedLabels.{lacks_name, lacks_own_name, merged_label, copies_label}
-use Rattle.thes_vocab.specs.LabelRows.{IsRowOfOwner, labels_in, owner_row, IsMergedRow}
+use Rattle.thes_vocab.specs.LabelRows.{LabelRows, IsRowOfOwner, labels_in, owner_row, IsRowWritten, RowsAfterInsertions}
+use Rattle.thes_vocab.specs.LabelRows.{AreMissingLabels}
 use Rattle.thes_vocab.proofs.OwnLabelLemmas.{data_total, label_data_of_tie, tie_of_label_data, less_not_equal}
-use Rattle.thes_vocab.proofs.LabelTableLemmas.{data_of, owned_tie, has_label, IsRowWritten, row_after}
+use Rattle.thes_vocab.proofs.OwnLabelLemmas.{has_pushed, any_found, any_of}
+use Rattle.thes_vocab.proofs.LabelTableLemmas.{data_of, owned_tie, has_label, row_after}
 
 any_more : {A : Type 0} (p : A → Bool) (xs : List A) (i : ℕ) (x : A) → i < length xs → x ≡ get_or xs i x
     → list_any p (take (suc i) xs) ≡ (list_any p (take i xs) || p x)
@@ -43,28 +44,23 @@ gives_more source target i l q b e = ap (λ k. copies_label (take k source) targ
     omega arith in s) ∙ any_more (λ x. lacks_own_name target x && eq_by_cmp data_cmp q (merged_label x)) source i l b
     e
 
--- The row after one step: the label is copied if the target lacks it.
-pub gives_taken : (source target row now : List LabelData) (i : ℕ) (l q : LabelData) → i < length source → l
-    ≡ get_or source i l → has_own row q ≡ (has_own target q || copies_label (take i source) target q)
-    → lacks_own_name target l ≡ true → has_own now q ≡ (eq_by_cmp data_cmp q (merged_label l) || has_own row q)
-    → has_own now q ≡ (has_own target q || copies_label (take (i + 1) source) target q)
-gives_taken source target row now i l q b e before picks after =
-    after ∙ ap (λ c. eq_by_cmp data_cmp q (merged_label l) || c) before
-    ∙ or_comm (eq_by_cmp data_cmp q (merged_label l)) _ ∙ or_assoc (has_own target q)
-    (copies_label (take i source) target q) (eq_by_cmp data_cmp q (merged_label l))
-    ∙ ap (λ c. has_own target q || c)
-    (ap (λ y. copies_label (take i source) target q || (y && eq_by_cmp data_cmp q (merged_label l))) (sym picks)
-    ∙ sym (gives_more source target i l q b e))
+-- The copies after one step: the label is copied if the target lacks it.
+pub copies_taken : (source target copies : List LabelData) (i : ℕ) (l q : LabelData) → i < length source → l
+    ≡ get_or source i l → has_own copies q ≡ copies_label (take i source) target q → lacks_own_name target l ≡ true
+    → has_own (copies ++ merged_label l ∷ []) q ≡ copies_label (take (i + 1) source) target q
+copies_taken source target copies i l q b e before picks =
+    has_pushed copies (merged_label l) q ∙ ap (λ c. c || eq_by_cmp data_cmp q (merged_label l)) before
+    ∙ ap (λ y. copies_label (take i source) target q || (y && eq_by_cmp data_cmp q (merged_label l))) (sym picks)
+    ∙ sym (gives_more source target i l q b e)
 
-pub gives_left : (source target row : List LabelData) (i : ℕ) (l q : LabelData) → i < length source → l
-    ≡ get_or source i l → has_own row q ≡ (has_own target q || copies_label (take i source) target q)
-    → lacks_own_name target l ≡ false → has_own row q
-    ≡ (has_own target q || copies_label (take (i + 1) source) target q)
-gives_left source target row i l q b e before no_name =
-    before ∙ ap (λ c. has_own target q || c)
-    (sym (gives_more source target i l q b e
+pub copies_left : (source target copies : List LabelData) (i : ℕ) (l q : LabelData) → i < length source → l
+    ≡ get_or source i l → has_own copies q ≡ copies_label (take i source) target q → lacks_own_name target l ≡ false
+    → has_own copies q ≡ copies_label (take (i + 1) source) target q
+copies_left source target copies i l q b e before no_name =
+    before
+    ∙ sym (gives_more source target i l q b e
     ∙ ap (λ y. copies_label (take i source) target q || (y && eq_by_cmp data_cmp q (merged_label l))) no_name
-    ∙ or-false (copies_label (take i source) target q)))
+    ∙ or-false (copies_label (take i source) target q))
 
 module _ {A : Type 0} (p : A → Bool) where
   pub kept_yes : (x : A) (xs : List A) → p x ≡ true → filter p (x ∷ xs) ≡ x ∷ filter p xs
@@ -114,23 +110,6 @@ mapped_any p f q l (x ∷ ls) picks is e = elim (or_cases _ _ e) [
     | inr miss ↦ ap (λ ys. list_any (eq_by_cmp label_cmp q) (map f ys)) (kept_no p x ls miss)
         ∙ mapped_any p f q l ls picks is later
   ]
-]
-
-any_found : (test : LabelData → Bool) (own : List LabelData) → list_any test own ≡ true → (d : LabelData)
-    × (test d ≡ true) × (has_own own d ≡ true)
-any_found test [] e = absurd (cc)
-any_found test (x ∷ own) e = elim (or_cases _ _ e) [
-  | inl hit ↦ (x, hit, or_left _ _ (tie_of_label_data x x refl))
-  | inr later ↦ let found = any_found test own later in
-      (found.0, found.1, or_right (eq_by_cmp data_cmp found.0 x) _ found.2)
-]
-
-any_of : (test : LabelData → Bool) (own : List LabelData) (d : LabelData) → test d ≡ true → has_own own d ≡ true
-    → list_any test own ≡ true
-any_of test [] d hit e = e
-any_of test (x ∷ own) d hit e = elim (or_cases _ _ e) [
-  | inl same ↦ or_left _ _ (ap test (sym (label_data_of_tie d x same)) ∙ hit)
-  | inr later ↦ or_right (test x) _ (any_of test own d hit later)
 ]
 
 -- The labels that a merge copies, computed from the source's own list.
@@ -357,34 +336,41 @@ module _ (labels : Labels) (source target : ℕ) (s13 : S13 labels) where
       (set.contains-from_list labels_total (map as_taken (missing_labels own)) q ∙ built_any own q)
       ∙ sym (union_contains labels source target own are.each q)))
 
--- The set of labels after the target's row is replaced by the merged one is the union with the copies.
-pub union_rows : (old new : BTreeMap ℕ (List LabelData)) (source target : ℕ) (row : List LabelData)
-    → IsOrdered nat_cmp old → IsOrdered nat_cmp new → IsRowWritten old new target row → IsMergedRow old source target
-    row → labels_in new.entries ≡ set.union (labels_in old.entries)
-    (copied_labels source target (labels_in old.entries))
-union_rows old new source target row o n written merged = set.same_set labels_total labels_exact _ _ (λ q.
-    has_label new n q ∙ ap (λ r. has_own r (data_of q)) (row_after old new target row written q.owner)
+-- The set of labels after the insertion of the missing labels is the union with the copies.
+pub union_rows : (old new : LabelRows) (source target : ℕ) (copies : List LabelData)
+    → RowsAfterInsertions old new target copies → AreMissingLabels old source target copies
+    → labels_in new ≡ set.union (labels_in old) (copied_labels source target (labels_in old))
+union_rows old new source target copies after missing = set.same_set labels_total labels_exact _ _ (λ q.
+    has_label new q ∙ ap (λ r. has_own r (data_of q)) (row_after old new target (owner_row new target) written q.owner)
     ∙ at q (eq_by_cmp nat_cmp q.owner target) refl
-    ∙ sym (union_contains (labels_in old.entries) source target (owner_row old source) (owns source) q))
+    ∙ sym (union_contains (labels_in old) source target (owner_row old source) (owns source) q))
   where
-    owns : (n : ℕ) → IsRowOfOwner (labels_in old.entries) n (owner_row old n)
-    owns n l = sym (has_label old o (owned_label n l))
+    written : IsRowWritten old new target (owner_row new target)
+    written = record { own = refl; others = after.others }
+
+    merged : (l : LabelData) → has_own (owner_row new target) l
+        ≡ (has_own (owner_row old target) l || copies_label (owner_row old source) (owner_row old target) l)
+    merged l = after.own l ∙ or_comm (has_own copies l) (has_own (owner_row old target) l)
+        ∙ ap (λ b. has_own (owner_row old target) l || b) (missing l)
+
+    owns : (n : ℕ) → IsRowOfOwner (labels_in old) n (owner_row old n)
+    owns n l = sym (has_label old (owned_label n l))
 
     at : (q : Label) (b : Bool) → eq_by_cmp nat_cmp q.owner target ≡ b
-        → has_own (cond b row (owner_row old q.owner)) (data_of q)
-        ≡ (set.contains (labels_in old.entries) q ||
-        (eq_by_cmp nat_cmp q.owner target && list_any (λ d. lacks_name (labels_in old.entries) target d &&
+        → has_own (cond b (owner_row new target) (owner_row old q.owner)) (data_of q)
+        ≡ (set.contains (labels_in old) q ||
+        (eq_by_cmp nat_cmp q.owner target && list_any (λ d. lacks_name (labels_in old) target d &&
         eq_by_cmp data_cmp (data_of q) (merged_label d)) (owner_row old source)))
     at q true tie =
         let here = exact_unsigned q.owner target ((Equal-is (nat_cmp q.owner target)).0 tie) in
         merged (data_of q)
-        ∙ (λ i. (ap (λ k. has_own (owner_row old k) (data_of q)) (sym here) ∙ sym (has_label old o q)) i || gives_is
-        (labels_in old.entries) target (owner_row old target) (owns target) (owner_row old source) (data_of q) i)
-        ∙ ap (λ b. set.contains (labels_in old.entries) q ||
-        (b && list_any (λ d. lacks_name (labels_in old.entries) target d && eq_by_cmp data_cmp (data_of q)
+        ∙ (λ i. (ap (λ k. has_own (owner_row old k) (data_of q)) (sym here) ∙ sym (has_label old q)) i || gives_is
+        (labels_in old) target (owner_row old target) (owns target) (owner_row old source) (data_of q) i)
+        ∙ ap (λ b. set.contains (labels_in old) q ||
+        (b && list_any (λ d. lacks_name (labels_in old) target d && eq_by_cmp data_cmp (data_of q)
         (merged_label d)) (owner_row old source))) (sym tie)
     at q false apart =
-        sym (has_label old o q) ∙ sym (or-false (set.contains (labels_in old.entries) q))
-        ∙ ap (λ b. set.contains (labels_in old.entries) q ||
-        (b && list_any (λ d. lacks_name (labels_in old.entries) target d && eq_by_cmp data_cmp (data_of q)
+        sym (has_label old q) ∙ sym (or-false (set.contains (labels_in old) q))
+        ∙ ap (λ b. set.contains (labels_in old) q ||
+        (b && list_any (λ d. lacks_name (labels_in old) target d && eq_by_cmp data_cmp (data_of q)
         (merged_label d)) (owner_row old source))) (sym apart)

@@ -1,6 +1,6 @@
 -- Searches, insertions and removals in an owner's sorted list of labels.
-use Rattle.std.proofs.Common.{◌≡◌, ◌≢◌, inl, inr, ◌<◌, ◌≤◌, ◌+◌, ℕ, suc, length, List, [], ◌∷◌, refl, sym, ap, ◌∙◌}
-use Rattle.std.proofs.Common.{subst, arith, true, false, not, ◌&&◌, ◌||◌, get_or}
+use Rattle.std.proofs.Common.{◌≡◌, ◌≢◌, inl, inr, ◌<◌, ◌≤◌, ◌+◌, ℕ, suc, length, List, [], ◌∷◌, ◌++◌, refl, sym, ap, ◌∙◌}
+use Rattle.std.proofs.Common.{subst, arith, Bool, true, false, not, ◌&&◌, ◌||◌, get_or}
 use Rattle.std.specs.Prelude.{Result, Ok, Err, is_ok}
 use Rattle.std.specs.Result.{MatchResult, result_ok}
 use Rattle.std.specs.Option.{MatchOption}
@@ -9,17 +9,17 @@ use Rattle.std.specs.declared.cmp.Ordering.TheVariants.{Less, Equal, Greater}
 use Rattle.std.specs.BTreeMap.{is_at}
 use Rattle.std.specs.BTreeSet.{insert_key}
 use Rattle.std.specs.Set.{remove_key}
-use Rattle.std.proofs.Math.Bool.{or-true}
-use Rattle.std.proofs.lemmas.Bool.{cases_lt, or_cases}
+use Rattle.std.proofs.Math.Bool.{or-true, or-false, or_assoc}
+use Rattle.std.proofs.lemmas.Bool.{cases_lt, or_cases, or_left, or_right}
 use Rattle.std.proofs.lemmas.Map.Keys.{Less-from_sorted}
 use Rattle.std.proofs.lemmas.List.Sorted.{searchable_from_sorted}
 use Rattle.std.specs.Ordering.{nat_cmp, eq_by_cmp, is_eq, is_lt, ordering_reverse, ordering_then}
 use Rattle.std.specs.Cmp.{IsTotalOrder, nat_cmp_total, tied_itself, Equal-is}
-use Rattle.std.specs.List.{AllByRecursion, insert, remove}
+use Rattle.std.specs.List.{AllByRecursion, insert, list_any, remove}
 use Rattle.std.specs.List.Sorted.{IsStrictlySortedBy, IsBinarySearchResult, IsSearchInRange, IsPartitionPoint}
 use Rattle.std.specs.Cmp.Lexicographic.{slice_cmp}
 use Rattle.std.proofs.lemmas.Cmp.{then_total, on_total, nat_list_cmp_total}
-use Rattle.std.proofs.lemmas.List.Folds.{list_any_at}
+use Rattle.std.proofs.lemmas.List.Folds.{list_any_at, list_any-append}
 use Rattle.thes_base.specs.declared.data.LabelKind.{LabelKind}
 use Rattle.thes_base.specs.declared.data.LabelKind.TheVariants.{Pref, Alt, Hidden, Scope}
 use Rattle.thes_base.specs.Data.{LabelData}
@@ -71,6 +71,40 @@ pub found_is : (own : List LabelData) (l : LabelData) (r : Result ℕ ℕ) → I
     → is_ok r ≡ has_own own l
 found_is own l (Ok i) at = sym (has_found data_cmp data_total own i l at.0 at.1)
 found_is own l (Err i) at = sym (has_missed data_cmp data_total own i l at.1 at.0)
+
+-- A test that passes somewhere in a list passes for a label of it.
+pub any_found : (test : LabelData → Bool) (own : List LabelData) → list_any test own ≡ true → (d : LabelData)
+    × (test d ≡ true) × (has_own own d ≡ true)
+any_found test [] e = absurd (cc)
+any_found test (x ∷ own) e = elim (or_cases _ _ e) [
+  | inl hit ↦ (x, hit, or_left _ _ (tie_of_label_data x x refl))
+  | inr later ↦ let found = any_found test own later in
+      (found.0, found.1, or_right (eq_by_cmp data_cmp found.0 x) _ found.2)
+]
+
+-- A label of a list that passes a test is found.
+pub any_of : (test : LabelData → Bool) (own : List LabelData) (d : LabelData) → test d ≡ true → has_own own d ≡ true
+    → list_any test own ≡ true
+any_of test [] d hit e = e
+any_of test (x ∷ own) d hit e = elim (or_cases _ _ e) [
+  | inl same ↦ or_left _ _ (ap test (sym (label_data_of_tie d x same)) ∙ hit)
+  | inr later ↦ or_right (test x) _ (any_of test own d hit later)
+]
+
+-- A list has its last label and those before it.
+pub has_pushed : (own : List LabelData) (l q : LabelData) → has_own (own ++ l ∷ []) q
+    ≡ (has_own own q || eq_by_cmp data_cmp q l)
+has_pushed own l q = list_any-append (eq_by_cmp data_cmp q) own (l ∷ [])
+    ∙ ap (λ b. has_own own q || b) (or-false (eq_by_cmp data_cmp q l))
+
+-- Moving the last label of one list into another changes no membership in one of them.
+pub has_moved : (labels rest own now : List LabelData) (l q : LabelData) → labels ≡ rest ++ l ∷ []
+    → has_own now q ≡ (eq_by_cmp data_cmp q l || has_own own q)
+    → (has_own rest q || has_own now q) ≡ (has_own labels q || has_own own q)
+has_moved labels rest own now l q is after =
+    ap (λ b. has_own rest q || b) after
+    ∙ sym (or_assoc (has_own rest q) (eq_by_cmp data_cmp q l) (has_own own q))
+    ∙ ap (λ b. b || has_own own q) (sym (has_pushed rest l q) ∙ ap (λ ls. has_own ls q) (sym is))
 
 pub insert_is : (own : List LabelData) (l : LabelData) (i : ℕ) → IsLabelPosition own l (Err i) → insert own i l
     ≡ insert_key data_cmp own l

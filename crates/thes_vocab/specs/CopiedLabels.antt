@@ -1,5 +1,6 @@
 -- The labels that a merge copies to the target.
-use Rattle.std.specs.Prelude.{ℕ, List, Bool, not, ◌&&◌, ◌||◌}
+use Rattle.std.specs.Prelude.{ℕ, List, Bool, not, ◌&&◌, ◌||◌, nat_eq}
+use Rattle.std.specs.Cmp.Lexicographic.{pointwise}
 use Rattle.std.specs.List.{list_any}
 use Rattle.std.specs.Ordering.{eq_by_cmp}
 use Rattle.thes_base.specs.declared.data.LabelKind.TheVariants.{Pref, Alt, Hidden}
@@ -18,6 +19,10 @@ abbrev pub has_own_name : List LabelData → List ℕ → List ℕ → Bool
 has_own_name own tag text =
     has_own own (own_label Pref tag text) || has_own own (own_label Alt tag text) || has_own own
     (own_label Hidden tag text)
+
+-- The test of whether the label is lexical and has the text in the language.
+abbrev pub is_name : List ℕ → List ℕ → LabelData → Bool
+is_name tag text l = pointwise nat_eq l.text text && (pointwise nat_eq l.tag tag && is_lexical_kind l.kind)
 
 -- The test of whether the label is lexical and an owner's list lacks its text in the language.
 abbrev pub lacks_own_name : List LabelData → LabelData → Bool

@@ -1,7 +1,6 @@
--- The labels of all owners, stored as a row for each owner.
-use Rattle.std.specs.Prelude.{◌≡◌, ℕ, List, [], ◌∷◌, ◌++◌, map, false, not, ◌&&◌, ◌||◌}
+-- The labels of all owners, stored as a row for each owner, at the index that is the owner's number.
+use Rattle.std.specs.Prelude.{◌≡◌, ◌≢◌, ℕ, ◌+◌, List, [], ◌∷◌, ◌++◌, map, false, not, ◌&&◌, ◌||◌, slice_get}
 use Rattle.std.specs.Ordering.{nat_cmp, eq_by_cmp}
-use Rattle.std.specs.BTreeMap.{BTreeMap, IsOrdered, get}
 use Rattle.std.specs.Option.{unwrap_or}
 use Rattle.std.specs.FinSet as set
 use Rattle.thes_base.specs.Data.{LabelData}
@@ -10,18 +9,22 @@ use Rattle.thes_base.specs.Machine.{owned_label}
 use Rattle.thes_vocab.specs.OwnLabels.{data_cmp, has_own}
 use Rattle.thes_vocab.specs.CopiedLabels.{copies_label}
 
--- The labels of all rows, each with its owner.
-abbrev pub all_owned : List (ℕ × List LabelData) → List Label
-all_owned [] = []
-all_owned (row ∷ rows) = map (owned_label row.0) row.1 ++ all_owned rows
+-- The rows of owners from number 0 on.
+abbrev pub LabelRows : Type 0
+LabelRows = List (List LabelData)
+
+-- The labels of rows whose first owner has number `n`, each with its owner.
+abbrev pub all_owned : ℕ → LabelRows → List Label
+all_owned n [] = []
+all_owned n (row ∷ rows) = map (owned_label n) row ++ all_owned (n + 1) rows
 
 -- The labels of all rows, as a set.
-abbrev pub labels_in : List (ℕ × List LabelData) → Labels
-labels_in rows = set.from_list (all_owned rows)
+abbrev pub labels_in : LabelRows → Labels
+labels_in rows = set.from_list (all_owned 0 rows)
 
 -- The owner's row, or the empty row if there is none.
-abbrev pub owner_row : BTreeMap ℕ (List LabelData) → ℕ → List LabelData
-owner_row rows owner = unwrap_or (get nat_cmp rows owner) []
+abbrev pub owner_row : LabelRows → ℕ → List LabelData
+owner_row rows owner = unwrap_or (slice_get rows owner) []
 
 -- The row has exactly the owner's labels.
 abbrev pub IsRowOfOwner : Labels → ℕ → List LabelData → Type 0
@@ -32,27 +35,31 @@ abbrev pub HasNoLabels : Labels → ℕ → Type 0
 HasNoLabels labels owner = (l : LabelData) → set.contains labels (owned_label owner l) ≡ false
 
 -- The new rows are the old ones after the insertion of a label for the owner.
-abbrev pub RowsAfterInsert : BTreeMap ℕ (List LabelData) → BTreeMap ℕ (List LabelData) → ℕ → LabelData → Type 0
+abbrev pub RowsAfterInsert : LabelRows → LabelRows → ℕ → LabelData → Type 0
 RowsAfterInsert old new owner l = (n : ℕ) (q : LabelData) →
     has_own (owner_row new n) q ≡ ((eq_by_cmp nat_cmp n owner && eq_by_cmp data_cmp q l) || has_own (owner_row old n) q)
 
 -- The new rows are the old ones after the removal of a label of the owner.
-abbrev pub RowsAfterRemove : BTreeMap ℕ (List LabelData) → BTreeMap ℕ (List LabelData) → ℕ → LabelData → Type 0
+abbrev pub RowsAfterRemove : LabelRows → LabelRows → ℕ → LabelData → Type 0
 RowsAfterRemove old new owner l = (n : ℕ) (q : LabelData) →
     has_own (owner_row new n) q
     ≡ (not (eq_by_cmp nat_cmp n owner && eq_by_cmp data_cmp q l) && has_own (owner_row old n) q)
 
--- The row has the target's labels, and copies of the lexical labels of the source that the target lacks.
-abbrev pub IsMergedRow : BTreeMap ℕ (List LabelData) → ℕ → ℕ → List LabelData → Type 0
-IsMergedRow rows source target row = (l : LabelData) →
-    has_own row l ≡ (has_own (owner_row rows target) l || copies_label (owner_row rows source) (owner_row rows target)
-    l)
+-- The new rows are the old ones with `row` in place of the owner's row.
+pub record IsRowWritten (old new : LabelRows) (owner : ℕ) (row : List LabelData) : Type 0 where
+  pub own : owner_row new owner ≡ row
+  pub others : (n : ℕ) → n ≢ owner → owner_row new n ≡ owner_row old n
 
--- Each owner has the same row in both maps.
-abbrev pub AreSameLabelRows : BTreeMap ℕ (List LabelData) → BTreeMap ℕ (List LabelData) → Type 0
+-- The new rows are the old ones after the insertion of labels for the owner.
+pub record RowsAfterInsertions (old new : LabelRows) (owner : ℕ) (inserted : List LabelData) : Type 0 where
+  pub own : (l : LabelData) → has_own (owner_row new owner) l ≡ (has_own inserted l || has_own (owner_row old owner) l)
+  pub others : (n : ℕ) → n ≢ owner → owner_row new n ≡ owner_row old n
+
+-- The list has copies of exactly the lexical labels of the source that the target lacks.
+abbrev pub AreMissingLabels : LabelRows → ℕ → ℕ → List LabelData → Type 0
+AreMissingLabels rows source target copies = (l : LabelData) →
+    has_own copies l ≡ copies_label (owner_row rows source) (owner_row rows target) l
+
+-- Each owner has the same row, or the same lack of labels, in both.
+abbrev pub AreSameLabelRows : LabelRows → LabelRows → Type 0
 AreSameLabelRows old new = (n : ℕ) → owner_row new n ≡ owner_row old n
-
--- Each owner has at most one row, and `count` is the number of labels.
-pub record AreLabelRows (rows : BTreeMap ℕ (List LabelData)) (count : ℕ) : Type 0 where
-  pub ordered : IsOrdered nat_cmp rows
-  pub counted : count ≡ set.len (labels_in rows.entries)

@@ -10,9 +10,9 @@ use Rattle.thes_base.specs.Labels.{Label, Labels, HasLabel, HasPreferred, is_lex
 use Rattle.thes_base.specs.Links.{Chain}
 use Rattle.thes_base.specs.Changes.{has_lexical_label}
 use Rattle.thes_base.specs.Legal.{IsLegalResource}
-use Rattle.thes_vocab.specs.Vocabulary.{Vocabulary, IsConceptOf, IsHolder, with_labels}
+use Rattle.thes_vocab.specs.Vocabulary.{Vocabulary, IsConceptOf, with_labels}
 use Rattle.thes_vocab.specs.Rivals.{HasRival}
-use Rattle.thes_vocab.specs.NameIndex.{holder_in}
+use Rattle.thes_vocab.specs.NameIndex.{AreHoldersIndexed}
 use Rattle.thes_vocab.specs.declared.names.Names.{Names}
 use Rattle.thes_lists.specs.declared.lists.Lists.{Lists}
 use Rattle.thes_lists.specs.Lists.{AreListings}
@@ -35,12 +35,6 @@ pub record AreLabelsSoFar (resources : List Resource) (labels : Labels) : Type 0
   pub disjoint : S13 labels
   pub one_preferred : S14 labels
   pub unique : UniquePreferred resources labels
-
--- The index has the holder of each preferred label of a live concept.
-abbrev pub AreHoldersIndexed : List Resource → Labels → Names → Type 0
-AreHoldersIndexed resources labels names =
-    (scheme n : ℕ) (tag text : List ℕ) → IsHolder resources labels scheme tag text n
-    → holder_in names scheme tag text ≡ Some n
 
 -- The invariant of a vocabulary that is being loaded: legal resources, legal IRIs and labels so far, and complete
 -- indexes.

@@ -1,65 +1,57 @@
--- The index of preferred labels by scheme, language and text.
-use Rattle.std.specs.Prelude.{◌≡◌, ℕ, List, Option, None, Some, option_and_then}
-use Rattle.std.specs.Ordering.{nat_cmp}
-use Rattle.std.specs.Cmp.Lexicographic.{slice_cmp}
-use Rattle.std.specs.BTreeMap.{BTreeMap, get}
-use Rattle.thes_base.specs.declared.data.LabelKind.{LabelKind}
-use Rattle.thes_base.specs.declared.data.LabelKind.TheVariants.{Pref, Alt, Hidden, Scope}
+-- The index of preferred labels: for each label of a concept, an entry with a digest of the label and the concept.
+use Rattle.std.specs.Prelude.{◌≡◌, ◌%◌, ◌^◌, ◌&&◌, ◌==◌, ℕ, List, Bool, true, Option, Some, fold}
+use Rattle.std.specs.declared.cmp.Ordering.{Ordering}
+use Rattle.std.specs.Ordering.{nat_cmp, ordering_then}
+use Rattle.std.specs.BTreeSet.{contains}
+use Rattle.std.specs.Hash as fed
+use Rattle.std.specs.Hash.FoldHasher.{initial, write, finish}
+use Rattle.thes_base.specs.declared.data.Resource.{Resource}
+use Rattle.thes_base.specs.declared.data.LabelKind.TheVariants.{Pref}
 use Rattle.thes_base.specs.Data.{LabelData}
+use Rattle.thes_base.specs.Labels.{Labels, label_kind_no}
+use Rattle.thes_vocab.specs.Vocabulary.{IsHolder}
+use Rattle.thes_vocab.specs.OwnLabels.{HasOwnPreferred}
 use Rattle.thes_vocab.specs.declared.names.Names.{Names}
 
--- The index of one language: for each text, the concept that holds it as its preferred label.
-abbrev pub TextIndex : Type 0
-TextIndex = BTreeMap (List ℕ) ℕ
+-- The 32-bit digest of a preferred label in a scheme. Different labels may have the same digest.
+unfoldable pub name_digest : ℕ → List ℕ → List ℕ → ℕ
+name_digest scheme tag text = finish (write (write (fold write initial (fed.u32 scheme)) tag) text) % 2 ^ 32
 
--- The index of one scheme: for each language, the index of its texts.
-abbrev pub TagIndex : Type 0
-TagIndex = BTreeMap (List ℕ) TextIndex
+-- The order of entries by digest, then by concept.
+abbrev pub entry_cmp : ℕ × ℕ → ℕ × ℕ → Ordering
+entry_cmp x y = ordering_then (nat_cmp x.0 y.0) (nat_cmp x.1 y.1)
 
--- The holder of a text in the index of a language.
-abbrev pub text_holder : TextIndex → List ℕ → Option ℕ
-text_holder texts text = get (slice_cmp nat_cmp) texts text
+-- The index has an entry for the concept with the preferred label in the scheme.
+abbrev pub HasNameEntry : Names → ℕ → List ℕ → List ℕ → ℕ → Type 0
+HasNameEntry names scheme tag text n = contains entry_cmp names.entries (name_digest scheme tag text, n) ≡ true
 
--- The holder of a text in a language, in the index of a scheme.
-abbrev pub tag_holder : TagIndex → List ℕ → List ℕ → Option ℕ
-tag_holder tags tag text = option_and_then (λ texts. text_holder texts text) (get (slice_cmp nat_cmp) tags tag)
+-- The new index has all entries of the old one.
+abbrev pub KeepsNames : Names → Names → Type 0
+KeepsNames old new =
+    (scheme n : ℕ) (tag text : List ℕ) → HasNameEntry old scheme tag text n → HasNameEntry new scheme tag text n
 
--- The holder of a text in a language and a scheme: the concept that last got it as its preferred label.
-abbrev pub holder_in : Names → ℕ → List ℕ → List ℕ → Option ℕ
-holder_in names scheme tag text = option_and_then (λ tags. tag_holder tags tag text) (get nat_cmp names.schemes scheme)
+-- The index has an entry for the concept with the preferred label in its scheme, if there is a scheme.
+abbrev pub HasEntryInScheme : Names → Option ℕ → List ℕ → List ℕ → ℕ → Type 0
+HasEntryInScheme names in_scheme tag text n =
+    (scheme : ℕ) → in_scheme ≡ Some scheme → HasNameEntry names scheme tag text n
 
--- The new index of a scheme has `holder` at the text in the language, and the holders of the old one elsewhere.
-abbrev pub IsTagIndexUpdate : TagIndex → TagIndex → List ℕ → List ℕ → Option ℕ → Type 0
-IsTagIndexUpdate old new tag text holder =
-    (tag_holder new tag text ≡ holder) × ((t x : List ℕ) → ((t ≡ tag) × (x ≡ text) → ⊥) → tag_holder new t x
-    ≡ tag_holder old t x)
+-- The index has an entry for the concept with the label in its scheme, if the label is preferred and there is a scheme.
+abbrev pub HasLabelEntry : Names → Option ℕ → LabelData → ℕ → Type 0
+HasLabelEntry names in_scheme l n = l.kind ≡ Pref → HasEntryInScheme names in_scheme l.tag l.text n
 
--- Both indexes of a scheme have the same holders.
-abbrev pub AreSameTags : TagIndex → TagIndex → Type 0
-AreSameTags old new = (tag text : List ℕ) → tag_holder new tag text ≡ tag_holder old tag text
+-- The new index has the entries of the old one for other concepts, and those for this concept with the preferred
+-- labels of its list in its scheme.
+abbrev pub KeepsOtherNames : Names → Names → Option ℕ → ℕ → List LabelData → Type 0
+KeepsOtherNames old new in_scheme concept own =
+    (scheme n : ℕ) (tag text : List ℕ) → (n ≡ concept → (in_scheme ≡ Some scheme) × HasOwnPreferred own tag text)
+    → HasNameEntry old scheme tag text n → HasNameEntry new scheme tag text n
 
--- The new index has `holder` at the text in the language and scheme, and the holders of the old one elsewhere.
-abbrev pub IsNameUpdate : Names → Names → ℕ → List ℕ → List ℕ → Option ℕ → Type 0
-IsNameUpdate old new scheme tag text holder =
-    (holder_in new scheme tag text ≡ holder)
-    × ((s : ℕ) (t x : List ℕ) → ((s ≡ scheme) × (t ≡ tag) × (x ≡ text) → ⊥) → holder_in new s t x ≡ holder_in old s t x)
+-- The test of whether the label is a preferred one with this digest in the scheme.
+abbrev pub has_digest : ℕ → ℕ → LabelData → Bool
+has_digest scheme digest l = label_kind_no l.kind == 1 && name_digest scheme l.tag l.text == digest
 
--- Both indexes have the same holders, in each scheme.
-abbrev pub AreSameNames : Names → Names → Type 0
-AreSameNames old new = (scheme : ℕ) (tag text : List ℕ) → holder_in new scheme tag text ≡ holder_in old scheme tag text
-
--- The new index has `holder` at the text in the language and scheme; without a scheme it is as the old one.
-abbrev pub IsSchemeNameUpdate : Names → Names → Option ℕ → List ℕ → List ℕ → Option ℕ → Type 0
-IsSchemeNameUpdate old new None tag text holder = AreSameNames old new
-IsSchemeNameUpdate old new (Some scheme) tag text holder = IsNameUpdate old new scheme tag text holder
-
--- The new index has `holder` at the label, if its kind is preferred; otherwise it is as the old one.
-abbrev pub IsKindNameUpdate : LabelKind → Names → Names → Option ℕ → LabelData → Option ℕ → Type 0
-IsKindNameUpdate Pref old new scheme l holder = IsSchemeNameUpdate old new scheme l.tag l.text holder
-IsKindNameUpdate Alt old new scheme l holder = AreSameNames old new
-IsKindNameUpdate Hidden old new scheme l holder = AreSameNames old new
-IsKindNameUpdate Scope old new scheme l holder = AreSameNames old new
-
--- The index after the label is recorded or removed; only a preferred label of a scheme changes it.
-abbrev pub IsLabelNameUpdate : Names → Names → Option ℕ → LabelData → Option ℕ → Type 0
-IsLabelNameUpdate old new scheme l holder = IsKindNameUpdate l.kind old new scheme l holder
+-- The index has an entry for each preferred label of a live concept.
+abbrev pub AreHoldersIndexed : List Resource → Labels → Names → Type 0
+AreHoldersIndexed resources labels names =
+    (scheme n : ℕ) (tag text : List ℕ) → IsHolder resources labels scheme tag text n
+    → HasNameEntry names scheme tag text n

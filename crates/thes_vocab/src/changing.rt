@@ -76,10 +76,9 @@ impl Vocab {
         ensures { self.new ≡
             with_labels self.old (set.remove self.old.labels (owned_label owner label.now)) }
     {
-        let scheme = concept_scheme(self.resources.as_slice(), owner);
-        self.names.forget_label(scheme, label);
         self.labels
             .remove(owner, label.kind(), &label.tag, label.text());
+        self.forget_name(owner, &label.tag, label.text());
     }
 
     /// Replaces the owner's preferred label in the language by a text that passes `check_relabel`;
@@ -110,8 +109,7 @@ impl Vocab {
         let scheme = concept_scheme(self.resources.as_slice(), owner);
         self.names.put(scheme, tag, text, owner)?;
         self.labels.rename(owner, tag, &old, text, keep)?;
-        let scheme = concept_scheme(self.resources.as_slice(), owner);
-        self.names.forget(scheme, tag, &old);
+        self.forget_name(owner, tag, old.as_str());
         Ok(())
     }
 
@@ -169,6 +167,15 @@ impl Vocab {
             && !self
                 .labels
                 .has_lexical_label(target, &label.tag, label.text())
+    }
+
+    // Removes the entry of a label that the owner has lost from the index of preferred labels.
+    fn forget_name(&mut self, owner: ResNo, tag: &Tag, text: &str)
+        ensures { self.new ≡ self.old }
+    {
+        let scheme = concept_scheme(self.resources.as_slice(), owner);
+        let own = self.labels.of_owner(owner);
+        self.names.forget(scheme, tag, text, owner, own);
     }
 
     // Adds a resource other than an outside concept, with its preferred label.

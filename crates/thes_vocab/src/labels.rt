@@ -1,5 +1,5 @@
 // The labels of all owners, in a row for each owner.
-ghost use Rattle.std.specs.Prelude.{◌≡◌, ◌≢◌, ◌↔◌, ◌+◌, false, IsTrue, ℕ, List, IfOk, OnOk, OnErr, not, MatchOption};
+ghost use Rattle.std.specs.Prelude.{◌≡◌, ◌≢◌, ◌↔◌, ◌+◌, ◌<◌, false, IsTrue, ℕ, List, IfOk, OnOk, OnErr, length, not, option_copied, slice_get, MatchOption};
 ghost use Rattle.std.specs.FinSet as set;
 ghost use Rattle.thes_base.specs.declared.data.LabelKind.TheVariants.{Pref, Alt};
 ghost use Rattle.thes_base.specs.Data.{label_value_kind, label_value_text};
@@ -8,27 +8,26 @@ ghost use Rattle.thes_base.specs.Labels.{HasLabel};
 ghost use Rattle.thes_base.specs.Machine.{owned_label};
 ghost use Rattle.thes_vocab.specs.Rivals.{HasTwoPreferred, HasClash};
 ghost use Rattle.thes_vocab.specs.OwnLabels.{own_label, has_own, AreLabelsOf};
-ghost use Rattle.thes_vocab.specs.LabelRows.{IsRowOfOwner, HasNoLabels, owner_row, RowsAfterInsert, RowsAfterRemove, IsMergedRow, AreSameLabelRows};
-ghost use Rattle.std.specs.Ordering.{nat_cmp};
-ghost use Rattle.std.specs.BTreeMap.{IsOrdered};
+ghost use Rattle.thes_vocab.specs.LabelRows.{IsRowOfOwner, HasNoLabels, owner_row, RowsAfterInsert, RowsAfterRemove, RowsAfterInsertions, AreMissingLabels, AreSameLabelRows};
 
-use crate::row::{OwnerRow, merge_rows};
+use crate::row::{OwnerRow, missing_labels};
 use std::alloc::{AllocError, Global};
-use std::collections::BTreeMap;
 use std::marker::Model;
 use thes_base::data::{Label, LabelKind, LabelValue};
 use thes_base::number::ResNo;
 use thes_base::text::{Tag, Text};
 
-// A set of labels, stored as a sorted row for each owner, with the number of all labels.
+// A set of labels, stored as a sorted row for each owner, with the number of all labels. A row is
+// at the index that is its owner's number; resources are numbered without gaps.
 #[derive(Drop)]
 pub(crate) struct LabelTable {
     alloc: Global,
-    rows: BTreeMap<ResNo, OwnerRow>,
+    rows: Vec<OwnerRow>,
     count: u64,
 }
 
 impl Model for LabelTable {
+    ghost use Rattle.std.specs.Prelude.{◌≡◌};
     ghost use Rattle.std.specs.Coded.{codes};
     ghost use Rattle.std.specs.FinSet as set;
     ghost use Rattle.thes_base.specs.Labels.{Labels};
@@ -37,11 +36,11 @@ impl Model for LabelTable {
 
     ghost coded = { Prim.hlevel (codes, set.code) };
 
-    ghost use Rattle.thes_vocab.specs.LabelRows.{labels_in, AreLabelRows};
+    ghost use Rattle.thes_vocab.specs.LabelRows.{labels_in};
 
-    ghost view = { λ a. labels_in a.rows.entries };
+    ghost view = { λ a. labels_in a.rows.items };
 
-    ghost invariant = { λ a. AreLabelRows a.rows a.count };
+    ghost invariant = { λ a. a.count ≡ set.len (labels_in a.rows.items) };
 }
 
 impl LabelTable {
@@ -51,7 +50,7 @@ impl LabelTable {
     {
         LabelTable {
             alloc,
-            rows: BTreeMap::new(alloc),
+            rows: Vec::new(alloc),
             count: 0,
         }
     }
@@ -68,7 +67,7 @@ impl LabelTable {
         ensures { MatchOption result (HasNoLabels self.now owner)
             (λ row. IsRowOfOwner self.now owner row.now) }
     {
-        self.rows.get(&owner)
+        row_of(self.rows.as_slice(), owner)
     }
 
     // Returns the owner's labels, sorted by kind, language and text.
@@ -227,64 +226,118 @@ impl LabelTable {
         ensures err { OnErr result (self.new ≡ self.old) }
     {
         let count = self.count.checked_add(gained).ok_or(AllocError)?;
-        let row = merged_row(&self.rows, self.alloc, source, target)?;
-        self.rows.insert(target, row)?;
+        let copies = missing_of(self.rows.as_slice(), self.alloc, source, target)?;
+        put_all(&mut self.rows, self.alloc, target, copies)?;
         self.count = count;
         Ok(())
     }
 }
 
+// Returns the owner's row, at the index that is its number.
+fn row_of(rows: &[OwnerRow], owner: ResNo) -> Option<&OwnerRow>
+    ensures { option_copied result ≡ slice_get rows.now owner }
+{
+    rows.get(owner.get() as usize)
+}
+
 // Inserts a label into its owner's row, and returns whether it is new.
 fn put(
-    rows: &mut BTreeMap<ResNo, OwnerRow>,
+    rows: &mut Vec<OwnerRow>,
     alloc: Global,
     owner: ResNo,
     label: Label,
 ) -> Result<bool, AllocError>
-    ensures added { IfOk result (λ added. added ≡ not (has_own (owner_row rows.old owner) label)) }
-    ensures ok { OnOk result (RowsAfterInsert rows.old rows.new owner label) }
-    ensures err { OnErr result (AreSameLabelRows rows.old rows.new) }
-    ensures ordered { IsOrdered nat_cmp rows.new }
+    ensures added { IfOk result
+        (λ added. added ≡ not (has_own (owner_row rows.old.items owner) label)) }
+    ensures ok { OnOk result (RowsAfterInsert rows.old.items rows.new.items owner label) }
+    ensures err { OnErr result (AreSameLabelRows rows.old.items rows.new.items) }
 {
-    if let Some(row) = rows.get_mut(&owner) {
-        return row.insert(label);
+    open_row(rows, alloc, owner)?;
+    insert_in_row(rows, owner, label)
+}
+
+// Inserts a label into the row of an owner that has one, and returns whether it is new.
+fn insert_in_row(rows: &mut Vec<OwnerRow>, owner: ResNo, label: Label) -> Result<bool, AllocError>
+    requires { owner < length rows.old.items }
+    ensures added { IfOk result
+        (λ added. added ≡ not (has_own (owner_row rows.old.items owner) label)) }
+    ensures ok { OnOk result (RowsAfterInsert rows.old.items rows.new.items owner label) }
+    ensures err { OnErr result (AreSameLabelRows rows.old.items rows.new.items) }
+{
+    match rows.get_mut(owner.get() as usize) {
+        Some(row) => row.insert(label),
+        None => Ok(false),
     }
-    let mut row = OwnerRow::new(alloc);
-    row.insert(label)?;
-    rows.insert(owner, row)?;
-    Ok(true)
+}
+
+// Adds empty rows until the owner has one; if memory runs out, perhaps only some of them.
+fn open_row(rows: &mut Vec<OwnerRow>, alloc: Global, owner: ResNo) -> Result<(), AllocError>
+    ensures same { AreSameLabelRows rows.old.items rows.new.items }
+    ensures open { OnOk result (owner < length rows.new.items) }
+{
+    'opening: while rows.len() <= owner.get() as usize {
+        rows.push(OwnerRow::new(alloc))?;
+    }
+    Ok(())
+}
+
+// Inserts labels into their owner's row.
+fn put_all(
+    rows: &mut Vec<OwnerRow>,
+    alloc: Global,
+    owner: ResNo,
+    labels: Vec<Label>,
+) -> Result<(), AllocError>
+    ensures ok { OnOk result
+        (RowsAfterInsertions rows.old.items rows.new.items owner labels.items) }
+    ensures err { OnErr result (AreSameLabelRows rows.old.items rows.new.items) }
+{
+    open_row(rows, alloc, owner)?;
+    insert_all_in_row(rows, owner, labels)
+}
+
+// Inserts labels into the row of an owner that has one.
+fn insert_all_in_row(
+    rows: &mut Vec<OwnerRow>,
+    owner: ResNo,
+    labels: Vec<Label>,
+) -> Result<(), AllocError>
+    requires { owner < length rows.old.items }
+    ensures ok { OnOk result
+        (RowsAfterInsertions rows.old.items rows.new.items owner labels.items) }
+    ensures err { OnErr result (AreSameLabelRows rows.old.items rows.new.items) }
+{
+    match rows.get_mut(owner.get() as usize) {
+        Some(row) => row.insert_all(labels),
+        None => Ok(()),
+    }
 }
 
 // Removes a label from its owner's row, and returns whether the row had it.
-fn take(
-    rows: &mut BTreeMap<ResNo, OwnerRow>,
-    owner: ResNo,
-    kind: LabelKind,
-    tag: &Tag,
-    text: &str,
-) -> bool
-    ensures taken { result ≡ has_own (owner_row rows.old owner) (own_label kind tag.now text.now) }
-    ensures after { RowsAfterRemove rows.old rows.new owner (own_label kind tag.now text.now) }
-    ensures ordered { IsOrdered nat_cmp rows.new }
+fn take(rows: &mut Vec<OwnerRow>, owner: ResNo, kind: LabelKind, tag: &Tag, text: &str) -> bool
+    ensures taken { let l = own_label kind tag.now text.now in
+        result ≡ has_own (owner_row rows.old.items owner) l }
+    ensures after { let l = own_label kind tag.now text.now in
+        RowsAfterRemove rows.old.items rows.new.items owner l }
 {
-    match rows.get_mut(&owner) {
+    match rows.get_mut(owner.get() as usize) {
         Some(row) => row.remove(kind, tag, text),
         None => false,
     }
 }
 
-// Returns a copy of the target's row, with the lexical labels of the source that the target lacks,
-// preferred ones as alternative ones.
-fn merged_row(
-    rows: &BTreeMap<ResNo, OwnerRow>,
+// Returns copies of the lexical labels of the source that the target lacks, with preferred ones as
+// alternative ones.
+fn missing_of(
+    rows: &[OwnerRow],
     alloc: Global,
     source: ResNo,
     target: ResNo,
-) -> Result<OwnerRow, AllocError>
-    ensures { IfOk result (IsMergedRow rows.now source target) }
+) -> Result<Vec<Label>, AllocError>
+    ensures { IfOk result (λ copies. AreMissingLabels rows.now source target copies.items) }
 {
     let none = OwnerRow::new(alloc);
-    let from = rows.get(&source).unwrap_or(&none);
-    let to = rows.get(&target).unwrap_or(&none);
-    merge_rows(alloc, from, to)
+    let from = rows.get(source.get() as usize).unwrap_or(&none);
+    let to = rows.get(target.get() as usize).unwrap_or(&none);
+    missing_labels(alloc, from, to)
 }

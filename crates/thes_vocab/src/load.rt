@@ -4,13 +4,14 @@ ghost use Rattle.std.specs.Prelude.{◌≡◌, ◌<◌, ◌^◌, ◌↔◌, ℕ,
 ghost use Rattle.std.specs.Ordering.{nat_cmp};
 ghost use Rattle.thes_base.specs.declared.data.LabelKind.TheVariants.{Pref};
 ghost use Rattle.thes_base.specs.Resources.{CanOwn, IsOutside};
-ghost use Rattle.thes_base.specs.Labels.{HasLabel, HasPreferred, EachHasPreferred, UniquePreferred, IsPreferredTaken, is_lexical_kind};
+ghost use Rattle.thes_base.specs.Labels.{HasLabel, HasPreferred, EachHasPreferred, UniquePreferred, is_lexical_kind};
 ghost use Rattle.thes_base.specs.Changes.{has_lexical_label};
 ghost use Rattle.thes_base.specs.Machine.{owned_label};
 ghost use Rattle.thes_lists.specs.Lists.{listed_at, AreListings};
-ghost use Rattle.thes_vocab.specs.Vocabulary.{IsConceptOf, IsHolder};
+ghost use Rattle.thes_vocab.specs.Vocabulary.{IsConceptOf};
+ghost use Rattle.thes_vocab.specs.NameIndex.{AreHoldersIndexed};
 ghost use Rattle.thes_vocab.specs.Rivals.{HasRival};
-ghost use Rattle.thes_vocab.specs.Loading.{AreSound, AreIrisSoFar, AreLabelsSoFar, AreHoldersIndexed, HasIri, HaveIris, IsFreeIri, LoadIriResult, LoadLabelResult, IsFreeLabel, bare_vocabulary};
+ghost use Rattle.thes_vocab.specs.Loading.{AreSound, AreIrisSoFar, AreLabelsSoFar, HasIri, HaveIris, IsFreeIri, LoadIriResult, LoadLabelResult, IsFreeLabel, bare_vocabulary};
 
 use crate::concepts;
 use crate::iris::IriTable;
@@ -245,6 +246,7 @@ fn is_free_label(
     owner: ResNo,
     label: &Label,
 ) -> bool
+    requires few { length resources.now < 2 ^ 32 }
     requires found { AreHoldersIndexed resources.now labels.now names.now }
     requires unique { UniquePreferred resources.now labels.now }
     ensures { IsTrue result ↔ IsFreeLabel resources.now labels.now (owned_label owner label.now) }
@@ -290,6 +292,7 @@ fn repeats_holder(
     owner: ResNo,
     label: &Label,
 ) -> bool
+    requires few { length resources.now < 2 ^ 32 }
     requires found { AreHoldersIndexed resources.now labels.now names.now }
     requires unique { UniquePreferred resources.now labels.now }
     ensures { IsTrue result ↔ ((label.now.kind ≡ Pref)
@@ -311,6 +314,7 @@ fn has_rival(
     tag: &Tag,
     text: &Text,
 ) -> bool
+    requires few { length resources.now < 2 ^ 32 }
     requires found { AreHoldersIndexed resources.now labels.now names.now }
     requires unique { UniquePreferred resources.now labels.now }
     ensures { IsTrue result ↔ HasRival resources.now labels.now owner tag.now text.now }
@@ -318,46 +322,10 @@ fn has_rival(
     let Some(scheme) = concept_scheme(resources, owner) else {
         return false;
     };
-    match holder(resources, labels, names, scheme, tag, text) {
+    match names.holder(resources, labels, scheme, tag, text) {
         Some(n) => n != owner,
         None => false,
     }
-}
-
-// Returns the live concept of the scheme that has this preferred label.
-fn holder(
-    resources: &[Resource],
-    labels: &LabelTable,
-    names: &Names,
-    scheme: ResNo,
-    tag: &Tag,
-    text: &Text,
-) -> Option<ResNo>
-    requires { AreHoldersIndexed resources.now labels.now names.now }
-    ensures { MatchOption result
-        (¬ IsPreferredTaken resources.now labels.now scheme tag.now text.now)
-        (IsHolder resources.now labels.now scheme tag.now text.now) }
-{
-    let n = names.holder(scheme, tag, text)?;
-    if is_held(resources, labels, n, scheme, tag, text) {
-        return Some(n);
-    }
-    None
-}
-
-// Checks whether the number is that of a live concept of the scheme that has the preferred label.
-fn is_held(
-    resources: &[Resource],
-    labels: &LabelTable,
-    n: ResNo,
-    scheme: ResNo,
-    tag: &Tag,
-    text: &Text,
-) -> bool
-    ensures { IsTrue result ↔ IsHolder resources.now labels.now scheme tag.now text.now n }
-{
-    concept_scheme(resources, n) == Some(scheme)
-        && labels.contains(n, LabelKind::Pref, tag, text.as_str())
 }
 
 // Checks whether each scheme, concept and collection has a preferred label in some language.

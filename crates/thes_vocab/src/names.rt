@@ -1,55 +1,82 @@
 // The index of preferred labels by scheme, language and text.
-ghost use Rattle.std.specs.Prelude.{◌≡◌, ℕ, List, OnOk, OnErr, None, Some};
-ghost use Rattle.thes_vocab.specs.NameIndex.{holder_in, IsSchemeNameUpdate, IsLabelNameUpdate, IsNameUpdate, AreSameNames, IsTagIndexUpdate, AreSameTags};
+ghost use Rattle.std.specs.Prelude.{◌≡◌, ◌↔◌, ◌<◌, ◌^◌, ℕ, false, true, IsTrue, Some, OnOk, MatchOption, length};
+ghost use Rattle.std.specs.BTreeSet.{contains};
+ghost use Rattle.std.specs.BTreeMap.{is_at};
+ghost use Rattle.std.specs.List.{list_any};
+ghost use Rattle.thes_base.specs.Forms.{IsNumber};
+ghost use Rattle.thes_base.specs.Labels.{IsPreferredTaken};
+ghost use Rattle.thes_vocab.specs.Vocabulary.{IsHolder};
+ghost use Rattle.thes_vocab.specs.NameIndex.{name_digest, entry_cmp, has_digest, HasNameEntry, HasEntryInScheme, HasLabelEntry, KeepsNames, KeepsOtherNames, AreHoldersIndexed};
 
+use crate::labels::LabelTable;
+use crate::vocab::concept_scheme;
 use std::alloc::{AllocError, Global};
-use std::collections::BTreeMap;
-use thes_base::data::{Label, LabelValue};
+use std::collections::BTreeSet;
+use std::collections::btree_set::Range;
+use std::hash::{FoldHasher, Hasher};
+use thes_base::data::{Label, LabelKind, LabelValue, Resource};
 use thes_base::number::ResNo;
 use thes_base::text::{Tag, Text};
 
-type TextIndex = BTreeMap<Text, ResNo>;
-
-type TagIndex = BTreeMap<Tag, TextIndex>;
-
-// An index from scheme, language and text to the concept that last got this preferred label. An
-// entry may be out of date, so a caller of `holder` checks that the concept is live and still has
-// the label.
+// For each preferred label of a concept, an entry with a digest of the scheme, the language and the
+// text, and the concept. A look-up checks the labels of the concepts under a digest, so further
+// entries do no harm.
 #[derive(Drop)]
 pub(crate) struct Names {
-    alloc: Global,
-    schemes: BTreeMap<ResNo, TagIndex>,
+    entries: BTreeSet<(u32, ResNo)>,
 }
 
 impl Names {
     // Creates an empty index without allocating.
-    pub(crate) fn new(alloc: Global) -> Names
-        ensures { (scheme : ℕ) (tag text : List ℕ) → holder_in result scheme tag text ≡ None }
-    {
+    pub(crate) fn new(alloc: Global) -> Names {
         Names {
-            alloc,
-            schemes: BTreeMap::new(alloc),
+            entries: BTreeSet::new(alloc),
         }
     }
 
-    // Returns the concept of the scheme that last got the preferred label; it may have lost the
-    // label since, or be dead.
-    pub(crate) fn holder(&self, scheme: ResNo, tag: &Tag, text: &Text) -> Option<ResNo>
-        ensures { result ≡ holder_in self.now scheme tag.now text.now }
+    // Returns the live concept of the scheme that has the preferred label. There is at most one.
+    pub(crate) fn holder(
+        &self,
+        resources: &[Resource],
+        labels: &LabelTable,
+        scheme: ResNo,
+        tag: &Tag,
+        text: &Text,
+    ) -> Option<ResNo>
+        requires few { length resources.now < 2 ^ 32 }
+        requires found { AreHoldersIndexed resources.now labels.now self.now }
+        ensures { MatchOption result
+            (¬ IsPreferredTaken resources.now labels.now scheme tag.now text.now)
+            (IsHolder resources.now labels.now scheme tag.now text.now) }
     {
-        self.schemes.get(&scheme)?.get(tag)?.get(text).copied()
+        let digest = name_digest(scheme, tag, text.as_str());
+        for entry in self.with_digest(digest) {
+            if is_held(resources, labels, entry.1, scheme, tag, text) {
+                return Some(entry.1);
+            }
+        }
+        None
     }
 
-    // Records the concept as the label's holder, if the label is preferred and there is a scheme.
+    // Returns the entries with the digest.
+    fn with_digest(&self, digest: u32) -> Range<'_, (u32, ResNo)>
+        ensures { (n : ℕ) → IsNumber n → contains entry_cmp self.now.entries (digest, n) ≡ true
+            → list_any (is_at (entry_cmp (digest, n))) result ≡ true }
+    {
+        let first = (digest, ResNo::new(1));
+        let last = (digest, ResNo::new(u32::MAX));
+        self.entries.range(first..=last)
+    }
+
+    // Adds an entry for the concept, if the label is preferred and there is a scheme.
     pub(crate) fn put_label(
         &mut self,
         scheme: Option<ResNo>,
         label: &Label,
         concept: ResNo,
     ) -> Result<(), AllocError>
-        ensures ok { OnOk result
-            (IsLabelNameUpdate self.old self.new scheme label.now (Some concept)) }
-        ensures err { OnErr result (AreSameNames self.old self.new) }
+        ensures keeps { KeepsNames self.old self.new }
+        ensures ok { OnOk result (HasLabelEntry self.new scheme label.now concept) }
     {
         match &label.value {
             LabelValue::Pref(text) => self.put(scheme, &label.tag, text, concept),
@@ -57,7 +84,7 @@ impl Names {
         }
     }
 
-    // Records the concept as the preferred label's holder, if there is a scheme.
+    // Adds an entry for the concept with the preferred label, if there is a scheme.
     pub(crate) fn put(
         &mut self,
         scheme: Option<ResNo>,
@@ -65,9 +92,8 @@ impl Names {
         text: &Text,
         concept: ResNo,
     ) -> Result<(), AllocError>
-        ensures ok { OnOk result
-            (IsSchemeNameUpdate self.old self.new scheme tag.now text.now (Some concept)) }
-        ensures err { OnErr result (AreSameNames self.old self.new) }
+        ensures keeps { KeepsNames self.old self.new }
+        ensures ok { OnOk result (HasEntryInScheme self.new scheme tag.now text.now concept) }
     {
         match scheme {
             Some(scheme) => self.put_in(scheme, tag, text, concept),
@@ -75,28 +101,7 @@ impl Names {
         }
     }
 
-    // Removes the entry of the label, if the label is preferred and there is a scheme.
-    pub(crate) fn forget_label(&mut self, scheme: Option<ResNo>, label: &Label)
-        ensures { IsLabelNameUpdate self.old self.new scheme label.now None }
-    {
-        match &label.value {
-            LabelValue::Pref(text) => self.forget(scheme, &label.tag, text),
-            _ => {}
-        }
-    }
-
-    // Removes the entry of the preferred label, if there is a scheme.
-    pub(crate) fn forget(&mut self, scheme: Option<ResNo>, tag: &Tag, text: &Text)
-        ensures { IsSchemeNameUpdate self.old self.new scheme tag.now text.now None }
-    {
-        match scheme {
-            Some(scheme) => self.forget_in(scheme, tag, text),
-            None => {}
-        }
-    }
-
-    // Records the concept as the preferred label's holder in the scheme; a failure changes no
-    // look-up.
+    // Adds an entry for the concept with the preferred label in the scheme.
     fn put_in(
         &mut self,
         scheme: ResNo,
@@ -104,57 +109,83 @@ impl Names {
         text: &Text,
         concept: ResNo,
     ) -> Result<(), AllocError>
-        ensures ok { OnOk result
-            (IsNameUpdate self.old self.new scheme tag.now text.now (Some concept)) }
-        ensures err { OnErr result (AreSameNames self.old self.new) }
+        ensures keeps { KeepsNames self.old self.new }
+        ensures ok { OnOk result (HasNameEntry self.new scheme tag.now text.now concept) }
     {
-        let tag = tag.try_clone(self.alloc)?;
-        let text = text.try_clone(self.alloc)?;
-        if let Some(tags) = self.schemes.get_mut(&scheme) {
-            return put_tag(tags, self.alloc, tag, text, concept);
-        }
-        let mut tags = BTreeMap::new(self.alloc);
-        put_tag(&mut tags, self.alloc, tag, text, concept)?;
-        self.schemes.insert(scheme, tags)?;
+        self.entries
+            .insert((name_digest(scheme, tag, text.as_str()), concept))?;
         Ok(())
     }
 
-    // Removes the entry of a preferred label in the scheme, if there is one.
-    fn forget_in(&mut self, scheme: ResNo, tag: &Tag, text: &Text)
-        ensures { IsNameUpdate self.old self.new scheme tag.now text.now None }
+    // Removes the entry for a label that the concept doesn't have, if there is a scheme, unless one
+    // of its preferred labels, which are in `own`, has the same digest.
+    pub(crate) fn forget(
+        &mut self,
+        scheme: Option<ResNo>,
+        tag: &Tag,
+        text: &str,
+        concept: ResNo,
+        own: &[Label],
+    )
+        ensures { KeepsOtherNames self.old self.new scheme concept own.now }
     {
-        if let Some(tags) = self.schemes.get_mut(&scheme) {
-            forget_tag(tags, tag, text);
+        match scheme {
+            Some(scheme) => self.forget_in(scheme, tag, text, concept, own),
+            None => {}
+        }
+    }
+
+    // Removes the entry for a label that the concept doesn't have in the scheme, unless one of its
+    // preferred labels has the same digest.
+    fn forget_in(&mut self, scheme: ResNo, tag: &Tag, text: &str, concept: ResNo, own: &[Label])
+        ensures keeps { KeepsOtherNames self.old self.new (Some scheme) concept own.now }
+        ensures gone { list_any (has_digest scheme (name_digest scheme tag.now text.now)) own.now ≡ false
+            → ¬ HasNameEntry self.new scheme tag.now text.now concept }
+    {
+        let digest = name_digest(scheme, tag, text);
+        if !is_digest_of_one(own, scheme, digest) {
+            self.entries.remove(&(digest, concept));
         }
     }
 }
 
-// Records the concept under a text in a language; a failure changes no look-up.
-fn put_tag(
-    tags: &mut TagIndex,
-    alloc: Global,
-    tag: Tag,
-    text: Text,
-    concept: ResNo,
-) -> Result<(), AllocError>
-    ensures ok { OnOk result (IsTagIndexUpdate tags.old tags.new tag text (Some concept)) }
-    ensures err { OnErr result (AreSameTags tags.old tags.new) }
+// Checks whether the number is that of a live concept of the scheme that has the preferred label.
+fn is_held(
+    resources: &[Resource],
+    labels: &LabelTable,
+    n: ResNo,
+    scheme: ResNo,
+    tag: &Tag,
+    text: &Text,
+) -> bool
+    ensures { IsTrue result ↔ IsHolder resources.now labels.now scheme tag.now text.now n }
 {
-    if let Some(texts) = tags.get_mut(&tag) {
-        texts.insert(text, concept)?;
-        return Ok(());
-    }
-    let mut texts = BTreeMap::new(alloc);
-    texts.insert(text, concept)?;
-    tags.insert(tag, texts)?;
-    Ok(())
+    concept_scheme(resources, n) == Some(scheme)
+        && labels.contains(n, LabelKind::Pref, tag, text.as_str())
 }
 
-// Removes the entry of a text in a language, if there is one.
-fn forget_tag(tags: &mut TagIndex, tag: &Tag, text: &Text)
-    ensures { IsTagIndexUpdate tags.old tags.new tag.now text.now None }
+// Checks whether one of the labels is a preferred one with the digest in the scheme.
+fn is_digest_of_one(own: &[Label], scheme: ResNo, digest: u32) -> bool
+    ensures { result ≡ list_any (has_digest scheme digest) own.now }
 {
-    if let Some(texts) = tags.get_mut(tag) {
-        let _was = texts.remove(text);
-    }
+    own.iter().any(|label| has_digest(label, scheme, digest))
+}
+
+// Checks whether the label is a preferred one with the digest in the scheme.
+fn has_digest(label: &Label, scheme: ResNo, digest: u32) -> bool
+    ensures { result ≡ has_digest scheme digest label.now }
+{
+    label.kind().number() == 1 && name_digest(scheme, &label.tag, label.text()) == digest
+}
+
+// Returns a 32-bit digest of a preferred label in a scheme.
+#[tactic(auto, unfolding(crate::specs::NameIndex::name_digest))]
+fn name_digest(scheme: ResNo, tag: &Tag, text: &str) -> u32
+    ensures { result ≡ name_digest scheme tag.now text.now }
+{
+    let mut hasher = FoldHasher::default();
+    hasher.write_u32(scheme.get());
+    hasher.write(tag.as_str().as_bytes());
+    hasher.write(text.as_bytes());
+    (hasher.finish() % 4_294_967_296) as u32
 }

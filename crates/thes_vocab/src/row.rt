@@ -1,10 +1,12 @@
 // The labels of one owner, as a sorted row.
-ghost use Rattle.std.specs.Prelude.{◌≡◌, ◌↔◌, ◌&&◌, ◌||◌, IsTrue, ℕ, List, [], IfOk, OnOk, OnErr, false, true, not, MatchOption};
+ghost use Rattle.std.specs.Prelude.{◌≡◌, ◌↔◌, ◌&&◌, ◌||◌, ◌≤◌, ◌<◌, ◌+◌, IsTrue, ℕ, List, [], IfOk, OnOk, OnErr, length, false, true, not, MatchOption};
+ghost use Rattle.std.specs.List.{insert, list_any};
+ghost use Rattle.std.specs.Vec.{vec_len, vec_capacity};
 ghost use Rattle.std.specs.List.Sorted.{IsStrictlySortedBy};
 ghost use Rattle.std.specs.Ordering.{eq_by_cmp};
 ghost use Rattle.thes_base.specs.Data.{LabelData};
 ghost use Rattle.thes_vocab.specs.LabelPositions.{IsLabelPosition, IsPreferredAt};
-ghost use Rattle.thes_vocab.specs.CopiedLabels.{has_own_name, lacks_own_name, merged_label, copies_label};
+ghost use Rattle.thes_vocab.specs.CopiedLabels.{has_own_name, is_name, lacks_own_name, merged_label, copies_label};
 ghost use Rattle.thes_vocab.specs.OwnLabels.{data_cmp, language_cmp, own_label, has_own, HasOwnPreferred, HasNoOwnPreferred, HasTwoOwnPreferred};
 
 use std::alloc::{AllocError, Global};
@@ -12,6 +14,10 @@ use std::cmp::Ordering;
 use std::marker::Model;
 use thes_base::data::{Label, LabelKind, LabelValue};
 use thes_base::text::{Tag, Text};
+
+// The greatest number of labels that are compared one by one, which is faster than three binary
+// searches.
+const FEW: usize = 16;
 
 // The labels of one owner, each once, sorted by kind, language and text.
 #[derive(Drop)]
@@ -76,6 +82,9 @@ impl OwnerRow {
     pub(crate) fn has_lexical_label(&self, tag: &Tag, text: &str) -> bool
         ensures { result ≡ has_own_name self.now tag.now text.now }
     {
+        if self.labels.len() <= FEW {
+            return has_name(self.labels.as_slice(), tag, text);
+        }
         self.contains(LabelKind::Pref, tag, text)
             || self.contains(LabelKind::Alt, tag, text)
             || self.contains(LabelKind::Hidden, tag, text)
@@ -88,17 +97,6 @@ impl OwnerRow {
         label.kind() != LabelKind::Scope && !self.has_lexical_label(&label.tag, label.text())
     }
 
-    // Allocates a copy; fails only if memory runs out.
-    fn try_clone(&self, alloc: Global) -> Result<OwnerRow, AllocError>
-        ensures { IfOk result (λ row. row ≡ self.now) }
-    {
-        let mut labels = Vec::new(alloc);
-        for label in &self.labels {
-            labels.push(label.try_clone(alloc)?)?;
-        }
-        Ok(OwnerRow { labels })
-    }
-
     // Inserts a label at its place, unless it is there, and returns whether it is new.
     pub(crate) fn insert(&mut self, label: Label) -> Result<bool, AllocError>
         ensures added { IfOk result (λ added. added ≡ not (has_own self.old label)) }
@@ -109,10 +107,21 @@ impl OwnerRow {
         match search_label(self.labels.as_slice(), &label) {
             Ok(_) => Ok(false),
             Err(place) => {
-                self.labels.insert(place, label)?;
+                insert_at(&mut self.labels, place, label)?;
                 Ok(true)
             }
         }
+    }
+
+    // Inserts labels at their places, unless they are there. If memory runs out, inserts none.
+    pub(crate) fn insert_all(&mut self, labels: Vec<Label>) -> Result<(), AllocError>
+        ensures ok { OnOk result ((l : LabelData) →
+            has_own self.new l ≡ (has_own labels.items l || has_own self.old l)) }
+        ensures err { OnErr result (self.new ≡ self.old) }
+    {
+        self.labels.try_reserve(labels.len())?;
+        insert_reserved(&mut self.labels, labels);
+        Ok(())
     }
 
     // Removes a label, and returns whether the row had it.
@@ -143,23 +152,83 @@ impl OwnerRow {
     }
 }
 
-// Returns a copy of the target's row, with the lexical labels of the source that the target lacks,
-// preferred ones as alternative ones.
-pub(crate) fn merge_rows(
+// Checks whether one of the labels is a preferred, alternative or hidden one with the text in the
+// language.
+fn has_name(labels: &[Label], tag: &Tag, text: &str) -> bool
+    ensures { result ≡ list_any (is_name tag.now text.now) labels.now }
+{
+    labels.iter().any(|label| is_name(label, tag, text))
+}
+
+// Checks whether the label is a preferred, alternative or hidden one with the text in the language.
+fn is_name(label: &Label, tag: &Tag, text: &str) -> bool
+    ensures { result ≡ is_name tag.now text.now label.now }
+{
+    label.text() == text && label.tag == *tag && label.kind() != LabelKind::Scope
+}
+
+// Inserts a label at an index. A full row grows by a quarter, since most owners have few labels, and
+// the first label gets room for itself alone.
+fn insert_at(labels: &mut Vec<Label>, place: usize, label: Label) -> Result<(), AllocError>
+    requires { place ≤ length labels.old.items }
+    ensures ok { OnOk result (labels.new.items ≡ insert labels.old.items place label) }
+    ensures err { OnErr result (labels.new.items ≡ labels.old.items) }
+{
+    if labels.len() == labels.capacity() {
+        labels.reserve_exact(1 + labels.len() / 4)?;
+    }
+    labels.insert(place, label)?;
+    Ok(())
+}
+
+// Inserts labels at their places in a sorted list that has room for them, unless they are there.
+fn insert_reserved(list: &mut Vec<Label>, mut labels: Vec<Label>)
+    requires room { vec_len list.old + vec_len labels ≤ vec_capacity list.old }
+    requires sorted { IsStrictlySortedBy data_cmp list.old.items }
+    ensures sorted { IsStrictlySortedBy data_cmp list.new.items }
+    ensures has { (l : LabelData) →
+        has_own list.new.items l ≡ (has_own labels.items l || has_own list.old.items l) }
+{
+    'inserting: while let Some(label) = labels.pop() {
+        insert_in(list, label);
+    }
+}
+
+// Inserts a label at its place in a sorted list that has room for it, unless it is there.
+fn insert_in(list: &mut Vec<Label>, label: Label)
+    requires room { vec_len list.old < vec_capacity list.old }
+    requires sorted { IsStrictlySortedBy data_cmp list.old.items }
+    ensures sorted { IsStrictlySortedBy data_cmp list.new.items }
+    ensures has { (l : LabelData) →
+        has_own list.new.items l ≡ (eq_by_cmp data_cmp l label || has_own list.old.items l) }
+    ensures room { (n : ℕ) → vec_len list.old + n + 1 ≤ vec_capacity list.old
+        → vec_len list.new + n ≤ vec_capacity list.new }
+{
+    match search_label(list.as_slice(), &label) {
+        Ok(_) => {}
+        Err(place) => {
+            let _ = list.insert(place, label);
+        }
+    }
+}
+
+// Returns copies of the lexical labels of the source that the target lacks, with preferred ones as
+// alternative ones.
+pub(crate) fn missing_labels(
     alloc: Global,
     source: &OwnerRow,
     target: &OwnerRow,
-) -> Result<OwnerRow, AllocError>
-    ensures { IfOk result (λ row. (l : LabelData) →
-        has_own row l ≡ (has_own target.now l || copies_label source.now target.now l)) }
+) -> Result<Vec<Label>, AllocError>
+    ensures { IfOk result (λ copies. (l : LabelData) →
+        has_own copies.items l ≡ copies_label source.now target.now l) }
 {
-    let mut row = target.try_clone(alloc)?;
+    let mut copies = Vec::new(alloc);
     for label in source.as_slice() {
         if target.lacks_name(label) {
-            row.insert(merged_label(alloc, label)?)?;
+            copies.push(merged_label(alloc, label)?)?;
         }
     }
-    Ok(row)
+    Ok(copies)
 }
 
 // Copies a label for the target of a merge, a preferred label as an alternative one.

@@ -14,7 +14,7 @@ use crate::labels::LabelTable;
 use crate::names::Names;
 use std::alloc::Global;
 use std::marker::Model;
-use thes_base::data::{Label, LabelKind, Resource, ResourceKind};
+use thes_base::data::{Label, Resource, ResourceKind};
 use thes_base::number::ResNo;
 use thes_base::text::{Base, Iri, Tag, Text};
 use thes_lists::Lists;
@@ -141,21 +141,9 @@ impl Vocab {
             (¬ IsPreferredTaken self.now.resources self.now.labels scheme tag.now text.now)
             (IsHolder self.now.resources self.now.labels scheme tag.now text.now) }
     {
-        let n = self.names.holder(scheme, tag, text)?;
-        if self.is_held(n, scheme, tag, text) {
-            return Some(n);
-        }
-        None
-    }
-
-    // Checks whether the number is that of a live concept of the scheme that has the preferred
-    // label.
-    fn is_held(&self, n: ResNo, scheme: ResNo, tag: &Tag, text: &Text) -> bool
-        ensures { IsTrue result ↔
-            IsHolder self.now.resources self.now.labels scheme tag.now text.now n }
-    {
-        concept_scheme(self.resources.as_slice(), n) == Some(scheme)
-            && self.labels.contains(n, LabelKind::Pref, tag, text.as_str())
+        let resources = self.resources.as_slice();
+        self.names
+            .holder(resources, &self.labels, scheme, tag, text)
     }
 
     /// Returns the number of the outside concept that has the IRI.

@@ -1,12 +1,10 @@
 //! The changes of rows that deprecations and merges make.
-ghost use Rattle.std.specs.Prelude.{◌≡◌, ◌++◌, ◌⊎◌, ◌↔◌, IfOk, OnOk, List, map, Some, true};
-ghost use Rattle.std.specs.BTreeSet.{contains};
+ghost use Rattle.std.specs.Prelude.{◌≡◌, ◌++◌, IfOk, OnOk, List, map};
+ghost use Rattle.std.specs.List.{filter_map};
 ghost use Rattle.thes_base.specs.Data.{LabelData};
-ghost use Rattle.thes_base.specs.declared.data.Link.{Link};
 ghost use Rattle.thes_base.specs.declared.data.History.{History};
 ghost use Rattle.thes_base.specs.declared.request.Command.TheVariants as request;
 ghost use Rattle.thes_base.specs.Changes.{state_after_deprecation, state_after_merge};
-ghost use Rattle.thes_base.specs.Links.{link_cmp};
 ghost use Rattle.thes_core.specs.Deltas.{link_added_by_merge, copied_label_rows};
 ghost use Rattle.thes_core.specs.Requests.{PartsAccept, AreMatching};
 ghost use Rattle.thes_core.specs.PartsView.{parts_state};
@@ -14,7 +12,6 @@ ghost use Rattle.thes_graph.specs.Reading.{IsRow};
 ghost use Rattle.thes_tables.specs.declared.change.Change.TheVariants as change;
 ghost use Rattle.thes_tables.specs.Changes.{add_link, drop_link};
 ghost use Rattle.thes_tables.specs.ChangeLaw.{AreChangesBetween};
-ghost use Rattle.thes_tables.specs.Tables.{IsIn, IsUnsortedListing};
 ghost use Rattle.thes_vocab.specs.OwnLabels.{AreLabelsOf};
 ghost use Rattle.thes_vocab.specs.CopiedLabels.{merged_label};
 
@@ -23,7 +20,6 @@ use super::{link_insertion, link_removal, one};
 use crate::facts::Facts;
 use crate::thesaurus::Thesaurus;
 use std::alloc::{AllocError, Global};
-use std::collections::BTreeSet;
 use thes_base::data::{Label, LabelValue, Link};
 use thes_base::number::ResNo;
 use thes_graph::judge::normalize_ends;
@@ -38,34 +34,6 @@ fn push_removals(delta: &mut Delta, links: &[Link]) -> Result<(), AllocError>
 {
     for link in links {
         delta.push(link_removal(link))?;
-    }
-    Ok(())
-}
-
-// Appends the insertion of each link.
-fn push_insertions(delta: &mut Delta, links: &[Link]) -> Result<(), AllocError>
-    ensures { OnOk result (delta.new ≡ delta.old ++ map add_link links.now) }
-{
-    for link in links {
-        delta.push(link_insertion(link))?;
-    }
-    Ok(())
-}
-
-// Appends a link to the list and adds it to `seen`, unless it is in `seen` already.
-fn push_unseen(
-    seen: &mut BTreeSet<Link>,
-    links: &mut Vec<Link>,
-    new: &Link,
-) -> Result<(), AllocError>
-    requires { IsUnsortedListing (λ q. contains link_cmp seen.old q ≡ true) links.old.items }
-    ensures seen { OnOk result
-        (IsUnsortedListing (λ q. contains link_cmp seen.new q ≡ true) links.new.items) }
-    ensures gains { OnOk result ((q : Link)
-        → IsIn q links.new.items ↔ (IsIn q links.old.items ⊎ (q ≡ new.now))) }
-{
-    if seen.insert(*new)? {
-        links.push(*new)?;
     }
     Ok(())
 }
@@ -131,25 +99,23 @@ impl Thesaurus {
         Some(normalize_ends(&sent, outside))
     }
 
-    // Returns the links that a merge adds in place of these, each once.
-    fn links_added_by_merge(
+    // Appends the insertion of each link that a merge adds in place of these.
+    fn push_added_links(
         &self,
+        delta: &mut Delta,
         source: ResNo,
         target: ResNo,
         links: &[Link],
-    ) -> Result<Vec<Link>, AllocError>
-        ensures { let is_joined = λ (q : Link). (l : Link) × IsIn l links.now
-            × (link_added_by_merge self.now.graph source target l ≡ Some q) in
-            IfOk result (λ merge_result. IsUnsortedListing is_joined merge_result.items) }
+    ) -> Result<(), AllocError>
+        ensures { let added = filter_map (link_added_by_merge self.now.graph source target) links.now in
+            OnOk result (delta.new ≡ delta.old ++ map add_link added) }
     {
-        let mut seen = BTreeSet::new(self.alloc);
-        let mut merge_result = Vec::new(self.alloc);
         for link in links {
             if let Some(new) = self.merge_result(link, source, target) {
-                push_unseen(&mut seen, &mut merge_result, &new)?;
+                delta.push(link_insertion(&new))?;
             }
         }
-        Ok(merge_result)
+        Ok(())
     }
 
     // Appends the insertion of each label that the merge copies to the target.
@@ -193,8 +159,7 @@ impl Thesaurus {
         self.push_copied_labels(&mut delta, source, target)?;
         let gone = self.links_at(source)?;
         push_removals(&mut delta, gone.as_slice())?;
-        let come = self.links_added_by_merge(source, target, gone.as_slice())?;
-        push_insertions(&mut delta, come.as_slice())?;
+        self.push_added_links(&mut delta, source, target, gone.as_slice())?;
         delta.push(Change::MoveAll(source, target))?;
         let first = u64::from(self.book.moves()) + 1;
         let standing = items_within_numbers(first, facts.standing.as_slice());

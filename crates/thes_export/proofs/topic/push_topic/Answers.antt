@@ -14,6 +14,10 @@ pub returns-in-Top : goal.returns-in-Top
 returns-in-Top c = as_topic c.args.about.now.core.now c.args.about.now.n c.push_top.result c.args.topic topic.Top _ _
     c.in-Top.is c.push_top.ensures
 
+pub returns-in-TopConcepts : goal.returns-in-TopConcepts
+returns-in-TopConcepts c = as_topic c.args.about.now.core.now c.args.about.now.n c.push_top_concepts.result
+    c.args.topic topic.TopConcepts _ _ c.in-TopConcepts.is c.push_top_concepts.ensures
+
 pub returns-in-Death : goal.returns-in-Death
 returns-in-Death c = as_topic c.args.about.now.core.now c.args.about.now.n c.push_death.result c.args.topic
     topic.Death _ _ c.in-Death.is c.push_death.ensures
@@ -42,6 +46,6 @@ pub returns-in-Mappings : goal.returns-in-Mappings
 returns-in-Mappings c = as_topic c.args.about.now.core.now c.args.about.now.n c.push_mappings.result c.args.topic
     topic.Mappings _ _ c.in-Mappings.is c.push_mappings.ensures
 
-pub returns-in-Memberships : goal.returns-in-Memberships
-returns-in-Memberships c = as_topic c.args.about.now.core.now c.args.about.now.n c.push_memberships.result
-    c.args.topic topic.Memberships _ _ c.in-Memberships.is c.push_memberships.ensures
+pub returns-in-Members : goal.returns-in-Members
+returns-in-Members c = as_topic c.args.about.now.core.now c.args.about.now.n c.push_members.result c.args.topic
+    topic.Members _ _ c.in-Members.is c.push_members.ensures

@@ -8,7 +8,7 @@ use Rattle.thes_graph.proofs.judge.check_at.Goals as goal
 pub returns-clause-first : goal.returns-clause-first
 returns-clause-first g c =
     IsFirstBroken-from_pivot (Holds (g.L.Links.net c.args.links.now).links) c.args.pivot c.requires
-    (c.in_ok-answer.ensures.two_ends tt) c.in_ok-answer.answer c.in_ok-answer.ensures.first
+    c.learn_two_ends.ensures c.in_ok-answer.answer c.in_ok-answer.ensures.first
 
 pub returns-clause-count : goal.returns-clause-count
 returns-clause-count g c ns has =

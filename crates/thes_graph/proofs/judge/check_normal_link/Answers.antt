@@ -2,7 +2,7 @@ use Rattle.std.proofs.Common.{◌+◌, ◌*◌, ◌<◌, ◌≤◌, inr, length,
 use Rattle.std.proofs.lemmas.Bool.{both_ways}
 use Rattle.thes_base.specs.Links.{Holds}
 use Rattle.thes_graph.specs.declared.edit.LinkEdit.TheVariants.{WithLink}
-use Rattle.thes_graph.specs.Local.{BreakNone, CoversNear}
+use Rattle.thes_graph.specs.Local.{BreakNone, AreSoundWith, CoversNear}
 use Rattle.thes_graph.specs.GraphView.{GraphView}
 use Rattle.thes_graph.proofs.EditCheckLemmas.{CoversNear-with}
 use Rattle.thes_graph.proofs.ContractLemmas.{IsFirstBroken-inserted}
@@ -45,9 +45,6 @@ returns-then-is_harmless-clause-count g c ns has_new all =
     let some : has_new.0 < length ns = has_new.1 in
     omega (arith, c.if-holds.ensures.count)
 
-pub check_added_link-requires-clause-two_ends : goal.check_added_link-requires-clause-two_ends
-check_added_link-requires-clause-two_ends g c = rw c.if-holds.ensures.net c.if-holds.ensures.two_ends
-
-pub check_added_link-requires-clause-unbroken : goal.check_added_link-requires-clause-unbroken
-check_added_link-requires-clause-unbroken g c = subst (λ (net : GraphView). BreakNone (Holds net.links))
-    (sym c.if-holds.ensures.net) c.requires.unbroken
+pub check_added_link-requires : goal.check_added_link-requires
+check_added_link-requires g c = subst (λ (net : GraphView). AreSoundWith net.links c.args.new.now)
+    (sym c.if-holds.ensures.net) c.requires

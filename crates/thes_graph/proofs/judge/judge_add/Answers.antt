@@ -11,7 +11,7 @@ returns-clause-count g c =
     subst (λ (new : Link). AreFewVisits (is_marked (g.L.Links.net c.args.links.now)) (Add new)
     (g.L.Links.net c.args.links.now).links (g.L.Links.count c.args.links.now)
     (g.L.Links.count c.check_normal_link.new.links))
-    c.normal-new.ensures
+    c.normal-new.ensures.normal
     (λ ns has. let near = add_neighbourhood (is_marked (g.L.Links.net c.args.links.now))
     (g.L.Links.net c.args.links.now).links ns c.normal-new.result has in
     c.in_ok-answer.ensures.count ns near.0 near.1)

@@ -1,14 +1,26 @@
-use Rattle.std.proofs.Common.{◌≡◌, ◌≢◌, Some, arith, inl, inr, sym, ◌∙◌}
+use Rattle.std.proofs.Common.{◌≡◌, ◌≢◌, ℕ, List, Some, arith, inl, inr, subst, sym, ◌∙◌}
+use Rattle.thes_base.specs.declared.data.Link.{Link}
 use Rattle.thes_graph.specs.declared.edit.LinkEdit.TheVariants.{NoEdit, WithLink, AfterMerge}
 use Rattle.thes_graph.specs.Side.{side_in}
 use Rattle.thes_graph.specs.LinkEdit.{HeldAfter}
 use Rattle.thes_graph.specs.Steps.{Steps}
-use Rattle.thes_graph.specs.SideSearch.{LeadsFrom}
+use Rattle.thes_graph.specs.SideSearch.{LeadsFrom, IsPartAt}
 use Rattle.thes_graph.proofs.NumberLemmas.{eq_same, eq_other}
 use Rattle.thes_graph.proofs.SideSearchLemmas.{IsSearchResult-same, IsSearchResult-then, Steps-sound, Steps-held}
 use Rattle.thes_graph.proofs.SideSearchLemmas.{Steps-with, Steps-with_new}
 use Rattle.thes_graph.proofs.MergeStepLemmas.{Steps-other, CoversSide-other, other_cost}
 use Rattle.thes_graph.proofs.side_search.follow_after_edit.Goals as goal
+
+pub follow_merged-requires : goal.follow_merged-requires
+follow_merged-requires g c = record {
+  fit = rw c.in-AfterMerge.is at c.requires.fit;
+  one_side = c.requires.one_side;
+  ready =
+      let rows : ℕ → List Link = g.L.Links.links_of (g.L.Links.net c.args.links.now) in
+      let P : ℕ → Type 0 = λ n. IsPartAt (g.L.Links.net c.args.links.now).links (rows n) n
+      (side_in c.args.relation) c.args.part in
+      subst P (eq_same _ _ _ c.eq-in-AfterMerge.ensures c.if-eq-2.true) c.requires.ready;
+}
 
 pub returns-in_ok-found-in-NoEdit-clause-finds : goal.returns-in_ok-found-in-NoEdit-clause-finds
 returns-in_ok-found-in-NoEdit-clause-finds g c = rw c.in-NoEdit.is (
@@ -16,8 +28,8 @@ returns-in_ok-found-in-NoEdit-clause-finds g c = rw c.in-NoEdit.is (
     (LeadsFrom NoEdit (g.L.Links.net c.args.links.now).links c.args.relation c.args.x c.args.x)
     (Steps c.args.relation (HeldAfter NoEdit (g.L.Links.net c.args.links.now).links) c.args.x)
     (Steps-sound (g.L.Links.net c.args.links.now).links c.args.relation NoEdit c.args.x c.args.x)
-    (Steps-held (g.L.Links.net c.args.links.now).links c.args.relation c.requires.walked
-    c.in_ok-found-in-NoEdit.ensures.two_ends c.args.x)
+    (Steps-held (g.L.Links.net c.args.links.now).links c.args.relation c.requires.one_side
+    c.requires.ready.two_ends c.args.x)
     c.in_ok-found-in-NoEdit.found (rw c.in-NoEdit.is at c.in_ok-found-in-NoEdit.ensures.finds))
 
 pub returns-in_ok-found-in-NoEdit-clause-count : goal.returns-in_ok-found-in-NoEdit-clause-count
@@ -34,14 +46,14 @@ returns-in_ok-found-in-WithLink-clause-finds g c = rw c.in-WithLink.is (
     (LeadsFrom (WithLink c.in-WithLink.new) (g.L.Links.net c.args.links.now).links c.args.relation c.args.x c.args.x)
     (λ y. c.step.result ≡ Some y)
     (Steps c.args.relation (HeldAfter (WithLink c.in-WithLink.new) (g.L.Links.net c.args.links.now).links) c.args.x)
-    (λ y steps. elim (Steps-with (g.L.Links.net c.args.links.now).links c.args.relation c.requires.walked
-    c.in_ok-follow-in-WithLink.ensures.two_ends c.in-WithLink.new c.args.x y steps) [
+    (λ y steps. elim (Steps-with (g.L.Links.net c.args.links.now).links c.args.relation c.requires.one_side
+    c.requires.ready.two_ends c.in-WithLink.new c.args.x y steps) [
       | inl held ↦ inl held
       | inr new ↦ inr (c.step.ensures ∙ new)
     ])
     (Steps-sound (g.L.Links.net c.args.links.now).links c.args.relation (WithLink c.in-WithLink.new) c.args.x c.args.x)
-    (λ y is. Steps-with_new (g.L.Links.net c.args.links.now).links c.args.relation c.requires.walked
-    c.in_ok-follow-in-WithLink.ensures.two_ends c.in-WithLink.new c.args.x y (sym c.step.ensures ∙ is))
+    (λ y is. Steps-with_new (g.L.Links.net c.args.links.now).links c.args.relation c.requires.one_side
+    c.requires.ready.two_ends c.in-WithLink.new c.args.x y (sym c.step.ensures ∙ is))
     (rw (c.if-branch.false, c.in-WithLink.is) at c.in_ok-follow-in-WithLink.ensures.finds)
     c.in_ok-found-in-WithLink.found c.in_ok-found-in-WithLink.ensures)
 
@@ -65,7 +77,7 @@ returns-in_ok-found-in-AfterMerge-2-clause-finds g c =
     (Steps-sound (g.L.Links.net c.args.links.now).links c.args.relation
     (AfterMerge c.in-AfterMerge.source c.in-AfterMerge.target) c.args.x c.args.x)
     (λ y. Steps-other (g.L.Links.net c.args.links.now).links c.in-AfterMerge.source c.in-AfterMerge.target two
-    c.args.relation c.requires.walked c.in_ok-found-in-AfterMerge-2.ensures.two_ends c.args.x y
+    c.args.relation c.requires.one_side c.requires.ready.two_ends c.args.x y
     (eq_other _ _ _ c.eq-in-AfterMerge.ensures c.if-eq-2.false))
     c.in_ok-found-in-AfterMerge-2.found (rw c.in-AfterMerge.is at c.in_ok-found-in-AfterMerge-2.ensures.finds))
 

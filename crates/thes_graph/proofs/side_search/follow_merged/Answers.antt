@@ -13,7 +13,7 @@ returns-then-branch-clause-finds g c =
     let found : IsSearchResult true c.args.nodes.now c.follow.new.nodes c.args.goals.now
     (LeadsFrom (AfterMerge c.args.source c.args.target) (g.L.Links.net c.args.links.now).links c.args.relation
     c.args.target c.args.target) =
-    rw (c.if-branch.true, c.requires.merge) at c.in_ok-follow.ensures.finds in (
+    rw c.if-branch.true at c.in_ok-follow.ensures.finds in (
       found.0,
       found.1,
       Steps-sound (g.L.Links.net c.args.links.now).links c.args.relation
@@ -22,13 +22,13 @@ returns-then-branch-clause-finds g c =
 
 pub returns-then-branch-clause-count : goal.returns-then-branch-clause-count
 returns-then-branch-clause-count g c ns covers =
-    let stands = CoversSide-target (g.L.Links.net c.args.links.now).links c.args.source c.args.target c.requires.ends
+    let stands = CoversSide-target (g.L.Links.net c.args.links.now).links c.args.source c.args.target c.requires.fit
     (side_in c.args.relation) ns covers in
     omega (
       arith,
       c.in_ok-follow.ensures.count ns stands.0,
       target_cost (g.L.Links.net c.args.links.now).links
-          c.args.source c.args.target c.requires.ends (side_in c.args.relation) ns,
+          c.args.source c.args.target c.requires.fit (side_in c.args.relation) ns,
     )
 
 pub returns-clause-finds : goal.returns-clause-finds
@@ -36,15 +36,15 @@ returns-clause-finds g c =
     let At : ℕ → ℕ → Type 0 = λ at. LeadsFrom (AfterMerge c.args.source c.args.target)
     (g.L.Links.net c.args.links.now).links c.args.relation at c.args.target in
     let first : IsSearchResult false c.args.nodes.now c.follow.new.nodes c.args.goals.now (At c.args.target) =
-    rw (c.if-branch.false, c.requires.merge) at c.in_ok-follow.ensures.finds in
+    rw c.if-branch.false at c.in_ok-follow.ensures.finds in
     let second : IsSearchResult c.in_ok-found.found c.follow.new.nodes c.follow-2.new.nodes c.args.goals.now
-    (At c.args.source) = rw (c.in_ok-follow.ensures.net, c.requires.merge) at c.in_ok-found.ensures.finds in
+    (At c.args.source) = rw c.in_ok-follow.ensures.net at c.in_ok-found.ensures.finds in
     IsSearchResult-then c.args.nodes.now c.follow.new.nodes c.follow-2.new.nodes c.args.goals.now (At c.args.target)
     (At c.args.source)
     (Steps c.args.relation (HeldAfter (AfterMerge c.args.source c.args.target) (g.L.Links.net c.args.links.now).links)
     c.args.target)
-    (Steps-target (g.L.Links.net c.args.links.now).links c.args.source c.args.target c.requires.ends c.args.relation
-    c.requires.walked c.in_ok-follow.ensures.two_ends)
+    (Steps-target (g.L.Links.net c.args.links.now).links c.args.source c.args.target c.requires.fit c.args.relation
+    c.requires.one_side c.requires.ready.two_ends)
     (Steps-sound (g.L.Links.net c.args.links.now).links c.args.relation (AfterMerge c.args.source c.args.target)
     c.args.target c.args.target)
     (Steps-sound (g.L.Links.net c.args.links.now).links c.args.relation (AfterMerge c.args.source c.args.target)
@@ -53,7 +53,7 @@ returns-clause-finds g c =
 
 pub returns-clause-count : goal.returns-clause-count
 returns-clause-count g c ns covers =
-    let stands = CoversSide-target (g.L.Links.net c.args.links.now).links c.args.source c.args.target c.requires.ends
+    let stands = CoversSide-target (g.L.Links.net c.args.links.now).links c.args.source c.args.target c.requires.fit
     (side_in c.args.relation) ns covers in
     let more : g.L.Links.count c.follow-2.new.links ≤ g.L.Links.count c.follow.new.links
     + sum_by (one_on_side c.args.source (side_in c.args.relation)) ns =
@@ -63,5 +63,5 @@ returns-clause-count g c ns covers =
       c.in_ok-follow.ensures.count ns stands.0,
       more,
       target_cost (g.L.Links.net c.args.links.now).links
-          c.args.source c.args.target c.requires.ends (side_in c.args.relation) ns,
+          c.args.source c.args.target c.requires.fit (side_in c.args.relation) ns,
     )

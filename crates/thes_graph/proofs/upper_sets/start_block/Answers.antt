@@ -8,11 +8,11 @@ loop-j-init c = AreStarted-none c.clear.new.self.items c.args.block.now c.clear.
 
 pub loop-j-preserved : goal.loop-j-preserved
 loop-j-preserved c =
-    AreStarted-more c.loop-j.words.items c.set_bits.new.words.items c.args.block.now c.loop-j.j c.index-block-j.result
+    AreStarted-more c.loop-j.words.items c.set_bits_of_node.new.words.items c.args.block.now c.loop-j.j c.index-block-j.result
     (omega arith)
     (slice_get-get_or c.args.block.now c.loop-j.j c.index-block-j.result c.loop-j-test.true
     ∙ ap (λ (n : ℕ). Some n) (sym c.index-block-j.is))
-    c.in_ok-set_bits.ensures c.loop-j.invariant
+    c.in_ok-set_bits_of_node.ensures c.loop-j.invariant
 
 pub returns : goal.returns
 returns c = AreStarted-end c.loop-j.words.items c.args.block.now c.loop-j.j c.loop-j-test.false c.loop-j.invariant

@@ -43,7 +43,7 @@ cost g c start read ns is covers there =
       arith,
       more,
       IsSideSearch-paid c.args.edit.now (g.L.Links.net c.args.links.now).links c.args.relation
-          c.args.goals.now start c.requires.walked c.finish.new.self _ side_search ns covers,
+          c.args.goals.now start c.requires.hierarchy c.finish.new.self _ side_search ns covers,
     )
 
 pub returns-then-have_none-clause-rest : goal.returns-then-have_none-clause-rest
@@ -54,7 +54,7 @@ returns-then-have_none-clause-count g c start read ns is covers _ =
     omega (
       arith,
       IsSideSearch-paid c.args.edit.now (g.L.Links.net c.args.links.now).links c.args.relation c.args.goals.now
-          start c.requires.walked c.args.other.now read is ns covers,
+          start c.requires.hierarchy c.args.other.now read is ns covers,
     )
 
 pub returns-then-branch-clause-rest : goal.returns-then-branch-clause-rest

@@ -1,9 +1,9 @@
-use Rattle.std.proofs.Common.{[], ◌∷◌, arith}
+use Rattle.std.proofs.Common.{[], ◌∷◌}
 use Rattle.thes_graph.specs.declared.relation.Relation.TheVariants.{Broader, Narrower}
 use Rattle.thes_graph.specs.SideSearch.{AreAlternating, HasEitherFoundGoal, IsSecondResult}
 use Rattle.thes_graph.proofs.UpwardLinkLemmas.{AreAlternating-start, HasEitherFoundGoal-cycle, broken_up, broken_down}
 use Rattle.thes_graph.proofs.UpwardLinkLemmas.{up_cost}
-use Rattle.thes_graph.proofs.UpwardLinkLemmas.{down_cost, start_was_read}
+use Rattle.thes_graph.proofs.UpwardLinkLemmas.{down_cost}
 use Rattle.thes_graph.proofs.upward_link.check_upward_link.Given.{Over}
 use Rattle.thes_graph.proofs.upward_link.check_upward_link.Goals as goal
 use Rattle.thes_graph.proofs.upward_link.check_upward_link.Goals.{Then-branch, Else-branch}
@@ -33,10 +33,6 @@ in_turn g c =
     (g.L.Links.count c.args.links.now)
     c.in_ok-up.ensures.nodes c.in_ok-up.ensures.unread c.in_ok-down.ensures.nodes c.in_ok-down.ensures.unread)
 
-pub returns-then-branch-clause-two_ends : goal.returns-then-branch-clause-two_ends
-returns-then-branch-clause-two_ends g c = λ looks. c.in_ok-search_in_turns.ensures.two_ends looks
-    (c.in_ok-search_in_turns.ensures.turns c.if-branch.true)
-
 pub returns-then-branch-clause-broken : goal.returns-then-branch-clause-broken
 returns-then-branch-clause-broken g c =
     HasEitherFoundGoal-cycle c.args.edit.now (g.L.Links.net c.args.links.now).links c.args.low c.args.high _ _
@@ -44,16 +40,6 @@ returns-then-branch-clause-broken g c =
 
 pub returns-then-branch-clause-count : goal.returns-then-branch-clause-count
 returns-then-branch-clause-count g c = (met g (goal.at.returns-then-branch-clause-count g c).Then-branch).1
-
-pub returns-then-is_done-clause-two_ends : goal.returns-then-is_done-clause-two_ends
-returns-then-is_done-clause-two_ends g c =
-    let turn = in_turn g (goal.at.returns-then-is_done-clause-two_ends g c).Else-branch in
-    λ looks. c.in_ok-search_in_turns.ensures.two_ends looks
-    (omega (
-      arith,
-      start_was_read c.args.edit.now (g.L.Links.net c.args.links.now).links Broader (c.args.low ∷ []) c.args.high
-          c.search_in_turns.new.up turn.0 c.if-is_done.ensures.done turn.2,
-    ))
 
 pub returns-then-is_done-clause-broken : goal.returns-then-is_done-clause-broken
 returns-then-is_done-clause-broken g c =
@@ -75,17 +61,6 @@ returns-then-is_done-clause-count g c =
     c.if-is_done.ensures.done turn.2
     (λ ns. (rw (c.in_ok-search_in_turns.ensures.net, c.in_ok-highs.ensures) at c.in_ok-rest.ensures.count)
     c.args.low turn.1 ns turn.3)
-
-pub returns-clause-two_ends : goal.returns-clause-two_ends
-returns-clause-two_ends g c =
-    let turn = in_turn g (goal.at.returns-clause-two_ends g c).Else-branch in
-    λ looks. c.in_ok-search_in_turns.ensures.two_ends looks
-    (omega (
-      arith,
-      start_was_read c.args.edit.now (g.L.Links.net c.args.links.now).links Narrower (c.args.high ∷ []) c.args.low
-          c.search_in_turns.new.down turn.1 (c.in_ok-search_in_turns.ensures.done c.if-branch.false
-          c.if-is_done.ensures.done) turn.3,
-    ))
 
 pub returns-clause-broken : goal.returns-clause-broken
 returns-clause-broken g c =

@@ -4,7 +4,7 @@ use Rattle.thes_graph.proofs.upward_link.search_in_turns.Goals as goal
 pub turns-preserved : goal.turns-preserved
 turns-preserved g c = record {
   net = c.in_ok-advance_in_turn.ensures.net ∙ c.turns.invariant.net;
-  two_ends = λ looks _. (rw c.turns.invariant.net at c.in_ok-advance_in_turn.ensures.two_ends) looks;
+  parts = rw c.turns.invariant.net at c.in_ok-advance_in_turn.ensures.parts;
   advances = λ low high from before. (rw (c.if-branch.false, c.turns.invariant.net)
       at c.in_ok-advance_in_turn.ensures.advances) low high from (c.turns.invariant.advances low high from before);
 }

@@ -1,14 +1,12 @@
-use Rattle.std.proofs.Common.{◌≡◌, ◌+◌, ◌-◌, ◌^◌, ◌<◌, ℕ}
-use Rattle.thes_base.specs.Links.{Holds}
-use Rattle.thes_graph.specs.Reading.{HaveTwoEnds}
-use Rattle.thes_graph.specs.LinkEdit.{IsNoEdit}
-use Rattle.thes_graph.specs.SideSearch.{AreAlternating}
+use Rattle.std.proofs.Common.{◌≡◌, ◌+◌, ◌-◌, ◌^◌, ℕ}
+use Rattle.thes_graph.specs.SideSearch.{HaveNextParts, AreAlternating}
 use Rattle.thes_graph.proofs.upward_link.search_in_turns.Given as goal
 
 abbrev pub invariant-turns : goal.invariant-turns
 invariant-turns g l = record {
   net : g.L.Links.net l.links ≡ g.L.Links.net l.fn.links;
-  two_ends : IsNoEdit l.edit → 0 < l.up.next + l.down.next → HaveTwoEnds (Holds (g.L.Links.net l.fn.links).links);
+  parts : HaveNextParts (g.L.Links.net l.fn.links).links (g.L.Links.links_of (g.L.Links.net l.fn.links)) l.up l.up_part
+      l.down l.down_part;
   advances : (low high from : ℕ) → AreAlternating l.edit (g.L.Links.net l.fn.links).links l.lows l.highs low high
       l.fn.up l.fn.down from (g.L.Links.count l.fn.links)
       → AreAlternating l.edit (g.L.Links.net l.fn.links).links l.lows l.highs low high l.up l.down from

@@ -1,4 +1,4 @@
-use Rattle.std.proofs.Common.{◌+◌, ◌≤◌, ◌<◌, List, length, arith, ◌∙◌, sum_by, Contains, refl, sym}
+use Rattle.std.proofs.Common.{◌+◌, ◌≤◌, List, arith, ◌∙◌, sum_by, Contains, refl, sym}
 use Rattle.std.proofs.lemmas.Option.{slice_get_within, get_or_from_slice_get}
 use Rattle.thes_base.specs.declared.data.Link.{Link}
 use Rattle.thes_graph.specs.Steps.{GrowsBy, Steps}
@@ -12,7 +12,6 @@ pub loop-i-init : goal.loop-i-init
 loop-i-init g c = record {
   net = refl;
   small = omega arith;
-  two_ends = λ none. absurd (omega arith);
   walked = rw (c.in_ok-nodes.ensures, c.new-found.ensures.items)
       (IsGatherState-start c.args.edit.now (g.L.Links.net c.args.links.now).links c.args.relation c.args.start
       (g.L.Links.count c.args.links.now));
@@ -27,7 +26,6 @@ loop-i-preserved g c = record {
     slice_get_within c.loop-i.nodes c.loop-i.i c.in-Some.x
         (sym c.in-Some.ensures.node),
   );
-  two_ends = λ _. rw c.loop-i.invariant.net at c.in_ok-raw.ensures.two_ends;
   walked =
       let is : IsReadOf c.args.edit.now (g.L.Links.net c.args.links.now).links c.in-Some.x c.in_ok-raw.raw.items =
       rw c.loop-i.invariant.net at c.in_ok-raw.ensures.read in
@@ -70,17 +68,3 @@ returns-clause-count g c =
           c.loop-i.nodes c.loop-i.i (sym w.in-None.ensures.node)
     ])
     c.loop-i.invariant.walked
-
-pub returns-clause-two_ends : goal.returns-clause-two_ends
-returns-clause-two_ends g c =
-    c.loop-i.invariant.two_ends
-    (started
-    (elim c.loop-i-test.branch [
-      | else-loop-i-test w ↦ omega arith
-      | then-loop-i-test+in-None w ↦ past_of_none
-          c.loop-i.nodes c.loop-i.i (sym w.in-None.ensures.node)
-    ]))
-  where
-    started : length c.loop-i.nodes ≤ c.loop-i.i → 0 < c.loop-i.i
-    started past = let some : c.loop-i.invariant.walked.closed.starts.0 < length c.loop-i.nodes =
-        c.loop-i.invariant.walked.closed.starts.1 in omega arith

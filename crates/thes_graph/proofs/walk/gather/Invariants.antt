@@ -1,7 +1,4 @@
-use Rattle.std.proofs.Common.{◌≡◌, ◌<◌, ◌≤◌, ◌^◌}
-use Rattle.thes_base.specs.Links.{Holds}
-use Rattle.thes_graph.specs.Reading.{HaveTwoEnds}
-use Rattle.thes_graph.specs.LinkEdit.{IsNoEdit}
+use Rattle.std.proofs.Common.{◌≡◌, ◌≤◌, ◌^◌}
 use Rattle.thes_graph.proofs.WalkLemmas.{IsGatherState}
 use Rattle.thes_graph.proofs.walk.gather.Given as goal
 
@@ -9,7 +6,6 @@ abbrev pub invariant-loop-i : goal.invariant-loop-i
 invariant-loop-i g l = record {
   net : g.L.Links.net l.links ≡ g.L.Links.net l.fn.links;
   small : l.i ≤ 2 ^ 63;
-  two_ends : 0 < l.i → IsNoEdit l.edit → HaveTwoEnds (Holds (g.L.Links.net l.fn.links).links);
   walked : IsGatherState l.edit (g.L.Links.net l.fn.links).links l.fn.relation l.fn.start l.nodes l.found.items l.i
       (g.L.Links.count l.fn.links) (g.L.Links.count l.links);
 }

@@ -47,4 +47,4 @@ pub returns-clause-s46 : goal.returns-clause-s46
 returns-clause-s46 g c =
     s46_all (Holds (g.L.Links.net c.args.links.now).links) c.loop-link.done c.loop-link.invariant.free
     (λ l held. holds_all (IsDone (Holds (g.L.Links.net c.args.links.now).links) c.loop-link.done) c.args.all.now
-    c.loop-link.link-index (omega arith) c.loop-link.invariant.done l (c.requires.all.complete l held))
+    c.loop-link.link-index (omega arith) c.loop-link.invariant.done l (c.requires.complete l held))

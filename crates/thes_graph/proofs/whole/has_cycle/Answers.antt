@@ -40,7 +40,9 @@ returns-clause-cycle g c =
     (holds_all (λ (m : Link). Contains c.loop-link.order m.a × Contains c.loop-link.order m.b) c.args.all.now
     c.loop-link.link-index (omega arith) c.loop-link.invariant.ends l (c.requires.all.complete l held)).0)
 
-pub returns-clause-ends : goal.returns-clause-ends
-returns-clause-ends g c _ l held =
-    holds_all (λ (m : Link). Contains c.loop-link.order m.a × Contains c.loop-link.order m.b) c.args.all.now
-    c.loop-link.link-index (omega arith) c.loop-link.invariant.ends l (c.requires.all.complete l held)
+pub returns-clause-whole : goal.returns-clause-whole
+returns-clause-whole g c _ = record {
+  order = c.loop-link.invariant.order;
+  ends = λ l held. holds_all (λ (m : Link). Contains c.loop-link.order m.a × Contains c.loop-link.order m.b)
+      c.args.all.now c.loop-link.link-index (omega arith) c.loop-link.invariant.ends l (c.requires.all.complete l held);
+}

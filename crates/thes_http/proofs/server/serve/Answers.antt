@@ -8,6 +8,7 @@ loop-init g c = record {
   led = leads_nowhere (effects g.S.RequestHandler.performs g.S.RequestHandler.shows g.S.Service.imports
       g.S.Service.exports g.S.Service.displays) 0 _ _ refl;
   stays_open = c.requires;
+  counted = refl;
 }
 
 pub returns-in_err-stream-clause-leads : goal.returns-in_err-stream-clause-leads
@@ -31,6 +32,7 @@ loop-preserved g c = record {
   led = leads_on (effects g.S.RequestHandler.performs g.S.RequestHandler.shows g.S.Service.imports g.S.Service.exports
       g.S.Service.displays) c.loop.counter 1 c.loop.invariant.led c.serve_stream.ensures;
   stays_open = search rules;
+  counted = omega (arith, c.loop.invariant.counted);
 }
 
 pub returns-clause-leads : goal.returns-clause-leads
@@ -38,3 +40,6 @@ returns-clause-leads g c =
     leads_within (effects g.S.RequestHandler.performs g.S.RequestHandler.shows g.S.Service.imports g.S.Service.exports
     g.S.Service.displays) c.loop.counter c.args.count
     (omega (arith, c.loop.auto.counter-end)) c.loop.invariant.led
+
+pub returns-clause-all : goal.returns-clause-all
+returns-clause-all g c = omega (arith, c.loop.auto.counter-end, c.loop.invariant.counted)

@@ -8,4 +8,5 @@ invariant-loop g l = record {
   led : LeadsBy (effects g.S.RequestHandler.performs g.S.RequestHandler.shows g.S.Service.imports g.S.Service.exports
       g.S.Service.displays) l.counter l.fn.service l.service;
   stays_open : g.S.RequestHandler.is_open l.service ≡ true;
+  counted : l.served ≡ l.counter;
 }

@@ -23,14 +23,14 @@ pub loop-record-smaller : goal.loop-record-smaller
 loop-record-smaller c =
     let i = c.loop-record.invariant in
     let found : c.in_ok-next_record.field-0 ≡ true = search rules in
-    let m = c.in_ok-next_record.ensures.more found c.args.bytes.now (header ∷ i.found) i.read in
+    let m = c.in_ok-next_record.ensures.record.more found c.args.bytes.now (header ∷ i.found) i.read in
     m.1
 
 pub loop-record-preserved : goal.loop-record-preserved
 loop-record-preserved c =
     let i = c.loop-record.invariant in
     let found : c.in_ok-next_record.field-0 ≡ true = search rules in
-    let m = c.in_ok-next_record.ensures.more found c.args.bytes.now (header ∷ i.found) i.read in
+    let m = c.in_ok-next_record.ensures.record.more found c.args.bytes.now (header ∷ i.found) i.read in
     let row = c.in_ok-try_row.ensures in
     let n = length-append i.rows (row.0 ∷ []) in
     record {

@@ -7,5 +7,5 @@ pub returns-in_ok-row-in-Ok-true-clause-reads : goal.returns-in_ok-row-in-Ok-tru
 returns-in_ok-row-in-Ok-true-clause-reads c bytes rows first h =
     one_more_row bytes rows first c.args.reader.now _ (fields_of c.next_record.new.entry)
     c.in_ok-row-in-Ok-true.row h
-    (λ records read. let m = c.in-Ok-true.ensures.more c.in-Ok-true.field-0-test bytes records read in m.0)
+    (λ records read. let m = c.in-Ok-true.ensures.record.more c.in-Ok-true.field-0-test bytes records read in m.0)
     c.in_ok-row-in-Ok-true.ensures (omega (arith, c.requires))

@@ -12,6 +12,7 @@ returns c =
       plain = rw (e, h) at fr.trim ∙ c.new.ensures.trim;
       ready = inr (inr (rw (e, h) at fr.has_headers, fr.headers));
       config = rw (e, h) at fr.config ∙ c.new.ensures.config;
+      any_width = rw e at fr.flexible;
       unread = strip_bom c.args.bytes.now;
       source = fr.source;
       reaches = (sym fr.state, refl);

@@ -1,5 +1,5 @@
 use Rattle.std.proofs.Common.{subst, refl}
-use Rattle.thes_base.specs.Machine.{next_state, answer_of}
+use Rattle.thes_base.specs.Machine.{next_state}
 use Rattle.thes_core.specs.CoreDecisions.{IsVerdict, AcceptedVerdict, VerdictMayApply}
 use Rattle.thes_office.proofs.StateTableLemmas.{changes_fit}
 use Rattle.thes_office.proofs.StepLemmas.{steps_settled, steps_accepted, copies_accepted, copies_over}
@@ -68,5 +68,5 @@ returns-in_default-clause-copies g c up unspent =
     copies_accepted c.args.core.now.setting (g.K.Keeper.rows c.args.keeper.now) (g.K.Keeper.rows c.commit.new.self)
     copy.state c.args.command.now c.in-Accepted.answer c.in-Accepted.delta (c.requires.few was)
     c.learn_forms.ensures copy.shows grants (c.in_default.ensures.ok up)
-    c.args.core.now c.apply.new.self (answer_of c.args.command.now copy.state) c.apply.result refl
-    (c.apply.ensures.made copy.state copy.holds facts grants.accepts) unspent
+    c.args.core.now c.apply.new.self c.apply.result refl (c.apply.ensures.made copy.state copy.holds facts grants.accepts)
+    c.apply.ensures.ok c.apply.ensures.err unspent

@@ -1,33 +1,91 @@
-use Rattle.std.proofs.Common.{List, subst, refl, arith}
-use Rattle.std.proofs.lemmas.List.{take_all}
-use Rattle.thes_tables.specs.declared.rows.PostingRow.{PostingRow}
-use Rattle.thes_tables.specs.Cells.{posting_cells}
-use Rattle.thes_store.specs.Sinks.{SinkAcceptsAll}
-use Rattle.thes_store.proofs.SinkLemmas.{part_accepted, part_refused}
-use Rattle.thes_sqlite.proofs.PostingLookUpLemmas.{row_at, same_length}
+use Rattle.std.proofs.Common.{◌∙◌, pos, List, [], ◌∷◌, Option, Err, refl, rules, arith, sym, subst}
+use Rattle.sqlite.specs.declared.types.Value.TheVariants.{Int}
+use Rattle.sqlite.specs.Order.{Row}
+use Rattle.sqlite.specs.State.{HasCleanDisk}
+use Rattle.sqlite.specs.Held.{state}
+use Rattle.sqlite.specs.Given.{Advances}
+use Rattle.thes_store.specs.Reading.{assigned_posting_rows}
+use Rattle.thes_store.proofs.SinkLemmas.{none_accepted}
+use Rattle.thes_sql.specs.Reads.{assigned_text}
+use Rattle.thes_sql.proofs.ReadFrameLemmas.{leaves_alone}
+use Rattle.thes_sql.proofs.SelectLemmas.{standing_is_query}
+use Rattle.thes_sqlite.proofs.RowStreamLemmas.{streams_begin, streams_next, streams_part, streams_refused, streams_whole}
+use Rattle.thes_sqlite.proofs.TableStreamLemmas.{IsPostingRow, assigned_wants}
 use Rattle.thes_sqlite.proofs.row_output.yield_postings.Goals as goal
 
-pub loop-row-preserved : goal.loop-row-preserved
-loop-row-preserved g c = λ xs is.
-    let i = c.loop-row.row-index in
-    let h = row_at posting_cells xs c.args.rows.now i c.row-item.result is c.loop-row-test.true c.row-item.is in
-    part_accepted g.P.PostingSink.gives (λ (l : List PostingRow). l) (λ xs ys. refl) xs i h.0 c.args.sink.now
-    c.loop-row.sink
-    c.yield_posting.new.sink c.yield_posting.result c.in_default.field-0 h.1 h.2 (c.loop-row.invariant xs is)
-    c.in_default.is (c.yield_posting.ensures.yields h.0 h.3)
-
 pub returns-in-Err-clause-yields : goal.returns-in-Err-clause-yields
-returns-in-Err-clause-yields g c = λ xs is.
-    let i = c.loop-row.row-index in
-    let h = row_at posting_cells xs c.args.rows.now i c.row-item.result is c.loop-row-test.true c.row-item.is in
-    part_refused g.P.PostingSink.gives (λ (l : List PostingRow). l) (λ xs ys. refl) xs i h.0 c.in-Err.fault
+returns-in-Err-clause-yields g c = λ clean t keeps.
+    none_accepted g.P.PostingSink.gives (assigned_posting_rows c.args.concept t.posting) c.fault_of.result
     c.args.sink.now
-    c.loop-row.sink c.yield_posting.new.sink c.yield_posting.result h.1 h.2 (c.loop-row.invariant xs is) c.in-Err.is
-    (c.yield_posting.ensures.yields h.0 h.3)
+
+pub returns-in-Err-clause-leaves : goal.returns-in-Err-clause-leaves
+returns-in-Err-clause-leaves g c =
+    let h = rw (c.in-Err.is, c.assigned_query.ensures, c.params-to_sql.ensures, c.get.ensures.value) at
+    c.query.follows.holds-at-none in
+    (leaves_alone g.S.Store assigned_text (Int (pos c.args.concept) ∷ []) c.args.conn.now
+    c.query.follows.lender-at-none {V = List Row} (Err c.in-Err.error) (λ rows. rows) standing_is_query (λ clean. tt)
+    h.mode h.err h.survives).tables
+
+pub postings-init : goal.postings-init
+postings-init g c =
+    let made = rw (c.assigned_query.ensures, c.params-to_sql.ensures, c.get.ensures.value) at c.in-Ok.ensures in (
+      refl,
+      streams_begin g.S.Store g.P.PostingSink.gives IsPostingRow assigned_text (Int (pos c.args.concept) ∷ [])
+          standing_is_query c.args.conn.now c.in-Ok.postings.conn.now c.args.sink.now made.survives made.mode
+          made.begun,
+    )
+
+pub returns-in-Err-advance-clause-yields : goal.returns-in-Err-advance-clause-yields
+returns-in-Err-advance-clause-yields g c clean t keeps =
+    let mid = c.postings.postings.conn.now in
+    let late : HasCleanDisk (state g.S.Store c.advance.new.self.conn.now) = search rules in
+    let le = c.advance.ensures.survives.clean in
+    let early : HasCleanDisk (state g.S.Store mid) = omega (arith, le, late) in
+    streams_part g.S.Store g.P.PostingSink.gives IsPostingRow assigned_text (Int (pos c.args.concept) ∷ []) c.args.conn.now mid
+    c.args.sink.now c.postings.sink c.postings.invariant.1 _ (assigned_wants c.args.concept (state g.S.Store c.args.conn.now) t keeps)
+    c.fault_of-in-Err-advance.result early
+
+pub returns-in_default-get-clause-yields : goal.returns-in_default-get-clause-yields
+returns-in_default-get-clause-yields g c clean t keeps =
+    let mid = c.postings.postings.conn.now in
+    let new = c.advance.new.self.conn.now in
+    let late : HasCleanDisk (state g.S.Store new) = search rules in
+    streams_whole g.S.Store g.P.PostingSink.gives IsPostingRow assigned_text (Int (pos c.args.concept) ∷ []) c.args.conn.now mid
+    new c.args.sink.now c.postings.sink c.postings.invariant.1 c.advance.ensures.survives c.advance.ensures.mode _
+    (assigned_wants c.args.concept (state g.S.Store c.args.conn.now) t keeps)
+    (λ now. subst (λ (r : Option Row). Advances g.S.Store mid new r) (sym c.in_default-get.ensures)
+    (c.in_default.ensures.ok now)) late
+
+pub returns-in-Err-yield_posting-clause-yields : goal.returns-in-Err-yield_posting-clause-yields
+returns-in-Err-yield_posting-clause-yields g c clean t keeps =
+    let mid = c.postings.postings.conn.now in
+    let new = c.advance.new.self.conn.now in
+    let late : HasCleanDisk (state g.S.Store new) = search rules in
+    streams_refused g.S.Store g.P.PostingSink.gives IsPostingRow assigned_text (Int (pos c.args.concept) ∷ []) c.args.conn.now mid
+    new c.args.sink.now c.postings.sink c.postings.invariant.1 c.advance.ensures.survives c.advance.ensures.mode _
+    (assigned_wants c.args.concept (state g.S.Store c.args.conn.now) t keeps) c.yield_posting.new.sink c.in-Some.row.now
+    c.in-Err-yield_posting.fault
+    (λ now. subst (λ (r : Option Row). Advances g.S.Store mid new r) (sym c.in-Some.ensures)
+    (c.in_default.ensures.ok now)) c.in_default.ensures.same
+    (λ x e. c.in-Err-yield_posting.ensures.yields x e) late
+
+pub postings-preserved : goal.postings-preserved
+postings-preserved g c =
+    let mid = c.postings.postings.conn.now in
+    let new = c.advance.new.self.conn.now in (
+      c.advance.ensures.same_reference ∙ c.postings.invariant.0,
+      streams_next g.S.Store g.P.PostingSink.gives IsPostingRow assigned_text (Int (pos c.args.concept) ∷ []) c.args.conn.now mid
+          new c.args.sink.now c.postings.sink c.postings.invariant.1 c.advance.ensures.survives c.advance.ensures.mode
+          c.yield_posting.new.sink c.in-Some.row.now
+          (λ now. subst (λ (r : Option Row). Advances g.S.Store mid new r) (sym c.in-Some.ensures)
+          (c.in_default.ensures.ok now)) c.in_default.ensures.same
+          (λ x e. c.in_default-yield_posting.ensures.yields x e),
+    )
 
 pub returns-clause-yields : goal.returns-clause-yields
-returns-clause-yields g c = λ xs is.
-    let ended = c.loop-row-test.false in
-    let same = same_length posting_cells xs c.args.rows.now is in
-    subst (λ (l : List PostingRow). SinkAcceptsAll g.P.PostingSink.gives c.args.sink.now l c.loop-row.sink)
-    (take_all c.loop-row.row-index xs (omega (arith, ended, same))) (c.loop-row.invariant xs is)
+returns-clause-yields g c clean t keeps =
+    let now = c.postings.postings.conn.now in
+    let late : HasCleanDisk (state g.S.Store now) = search rules in
+    streams_part g.S.Store g.P.PostingSink.gives IsPostingRow assigned_text (Int (pos c.args.concept) ∷ []) c.args.conn.now now
+    c.args.sink.now c.postings.sink c.postings.invariant.1 _ (assigned_wants c.args.concept (state g.S.Store c.args.conn.now) t keeps)
+    _ late

@@ -1,10 +1,11 @@
-use Rattle.std.proofs.Common.{◌≡◌, List, take, map}
-use Rattle.thes_tables.specs.declared.rows.PostingRow.{PostingRow}
-use Rattle.thes_tables.specs.Cells.{posting_cells}
-use Rattle.thes_sql.specs.StoredRows.{values}
-use Rattle.thes_store.specs.Sinks.{SinkAcceptsAll}
+use Rattle.std.proofs.Common.{◌≡◌, pos, [], ◌∷◌}
+use Rattle.sqlite.specs.declared.types.Value.TheVariants.{Int}
+use Rattle.thes_sql.specs.Reads.{assigned_text}
+use Rattle.thes_sqlite.proofs.RowStreamLemmas.{Streams}
+use Rattle.thes_sqlite.proofs.TableStreamLemmas.{IsPostingRow}
 use Rattle.thes_sqlite.proofs.row_output.yield_postings.Given as goal
 
-abbrev pub invariant-loop-row : goal.invariant-loop-row
-invariant-loop-row g l = (xs : List PostingRow) → l.rows ≡ map values (map posting_cells xs)
-    → SinkAcceptsAll g.P.PostingSink.gives l.fn.sink (take l.row-index xs) l.sink
+abbrev pub invariant-postings : goal.invariant-postings
+invariant-postings g l = (l.postings.conn.ghost_name ≡ l.initial.postings.conn.ghost_name)
+    × Streams g.S.Store g.P.PostingSink.gives IsPostingRow assigned_text (Int (pos l.fn.concept) ∷ []) l.fn.conn
+    l.postings.conn.now l.fn.sink l.sink

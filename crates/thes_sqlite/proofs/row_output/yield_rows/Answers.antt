@@ -1,40 +1,131 @@
-use Rattle.std.proofs.Common.{◌∙◌, List, [], ◌∷◌, map, ap, sym, subst}
-use Rattle.std.specs.Prelude.{Option, Some, Result}
-use Rattle.std.proofs.lemmas.List.{take_all}
-use Rattle.std.proofs.lemmas.Simd.{map-map}
+use Rattle.std.proofs.Common.{◌∙◌, inr, [], ◌∷◌, List, Option, Err, refl, rules, arith, sym, subst}
 use Rattle.sqlite.specs.Order.{Row}
-use Rattle.thes_base.specs.declared.fault.Fault.{Fault}
+use Rattle.sqlite.specs.State.{HasCleanDisk}
+use Rattle.sqlite.specs.Held.{state}
+use Rattle.sqlite.specs.Given.{Advances}
 use Rattle.thes_base.specs.declared.fault.Table.{Table}
 use Rattle.thes_tables.specs.declared.cells.Cell.{Cell}
-use Rattle.thes_store.specs.Sinks.{SinkAcceptsAll, SinkAcceptsPrefix, SinkOutcome}
-use Rattle.thes_store.proofs.SinkLemmas.{accepts_next, some_next}
-use Rattle.thes_sqlite.specs.ValueCells.{cell_of}
+use Rattle.thes_sql.specs.Reads.{read_text}
+use Rattle.thes_sql.proofs.QueryTextLemmas.{table_is_query}
+use Rattle.thes_sql.proofs.ReadFrameLemmas.{leaves_alone}
+use Rattle.thes_store.specs.Sinks.{SinkAcceptsAll, SinkAcceptsPrefix}
+use Rattle.thes_store.proofs.SinkLemmas.{none_accepted}
+use Rattle.thes_sqlite.proofs.FoundRowLemmas.{none_passed}
+use Rattle.thes_sqlite.proofs.RowStreamLemmas.{streams_begin, streams_next, streams_part, streams_refused, streams_end}
+use Rattle.thes_sqlite.proofs.RowStreamLemmas.{streams_whole}
+use Rattle.thes_sqlite.proofs.TableStreamLemmas.{IsTableRow, table_wants, table_passed, input_finds_none, never_input}
 use Rattle.thes_sqlite.proofs.row_output.yield_rows.Goals as goal
 
-pub loop-row-preserved : goal.loop-row-preserved
-loop-row-preserved g c =
-    let f : Row → Table × Option (List Cell) = λ row. (c.args.name, Some (map cell_of row)) in
-    let one = subst (λ (r : Result (Unit {0}) Fault). SinkOutcome g.R.RowSink.gives c.loop-row.sink
-    (f c.row-item.result ∷ []) r c.yield_row.new.sink) c.in_default.is c.yield_row.ensures.yields in
-    accepts_next g.R.RowSink.gives f c.args.rows.now c.loop-row.row-index c.row-item.result c.args.sink.now
-    c.loop-row.sink c.yield_row.new.sink c.loop-row-test.true c.row-item.is c.loop-row.invariant one
+pub returns-in-Err-SqlInputError-clause-yields : goal.returns-in-Err-SqlInputError-clause-yields
+returns-in-Err-SqlInputError-clause-yields g c clean is =
+    let h = rw (c.in-Err-SqlInputError.is, c.table_query.ensures) at c.query.follows.holds-at-none in
+    let fails = rw c.in-Err-SqlInputError.field-0-is at (h.err clean) in
+    absurd (never_input c.args.name (state g.S.Store c.args.conn.now) (state g.S.Store c.query.follows.lender-at-none)
+    is c.in-Err-SqlInputError.field-0-0 fails)
 
-pub returns-in-Err-clause-yields : goal.returns-in-Err-clause-yields
-returns-in-Err-clause-yields g c =
-    let f : Row → Table × Option (List Cell) = λ row. (c.args.name, Some (map cell_of row)) in
-    let refused = subst (λ (r : Result (Unit {0}) Fault). SinkOutcome g.R.RowSink.gives c.loop-row.sink
-    (f c.row-item.result ∷ []) r c.yield_row.new.sink) c.in-Err.is c.yield_row.ensures.yields in
-    subst (λ (l : List (Table × Option (List Cell))). SinkAcceptsPrefix g.R.RowSink.gives c.in-Err.fault
-    c.args.sink.now l c.yield_row.new.sink)
-    (sym (map-map (λ (row : List Cell). (c.args.name, Some row)) (map cell_of) c.args.rows.now))
-    (some_next g.R.RowSink.gives f c.args.rows.now c.loop-row.row-index c.row-item.result c.in-Err.fault
-    c.args.sink.now c.loop-row.sink c.yield_row.new.sink c.loop-row-test.true c.row-item.is c.loop-row.invariant
-    refused)
+pub returns-in-Err-SqlInputError-clause-passes : goal.returns-in-Err-SqlInputError-clause-passes
+returns-in-Err-SqlInputError-clause-passes g c clean =
+    let h = rw (c.in-Err-SqlInputError.is, c.table_query.ensures) at c.query.follows.holds-at-none in
+    let fails = rw c.in-Err-SqlInputError.field-0-is at (h.err clean) in
+    none_passed g.R.RowSink.gives c.args.name (state g.S.Store c.args.conn.now).now c.args.sink.now
+    c.report_unqueried.new.self c.report_unqueried.result c.report_unqueried.ensures.gives
+    (inr (input_finds_none c.args.name (state g.S.Store c.args.conn.now)
+    (state g.S.Store c.query.follows.lender-at-none) c.in-Err-SqlInputError.field-0-0 fails))
+
+pub returns-in-Err-SqlInputError-clause-leaves : goal.returns-in-Err-SqlInputError-clause-leaves
+returns-in-Err-SqlInputError-clause-leaves g c =
+    let h = rw (c.in-Err-SqlInputError.is, c.table_query.ensures) at c.query.follows.holds-at-none in
+    (leaves_alone g.S.Store (read_text c.args.name) [] c.args.conn.now c.query.follows.lender-at-none {V = List Row}
+    (Err c.in-Err-SqlInputError.field-0) (λ rows. rows) (table_is_query c.args.name).0 (λ clean. tt) h.mode h.err
+    h.survives).tables
+
+pub returns-in-Err : goal.returns-in-Err
+returns-in-Err g c =
+    let h = rw (c.in-Err.is, c.table_query.ensures) at c.query.follows.holds-at-none in
+    record {
+      yields = λ clean is. none_accepted g.R.RowSink.gives _ c.fault_of.result c.args.sink.now;
+      passes = λ clean. tt;
+      err = c.fault_of.ensures.kind;
+      leaves = (leaves_alone g.S.Store (read_text c.args.name) [] c.args.conn.now c.query.follows.lender-at-none
+          {V = List Row} (Err c.in-Err.error) (λ rows. rows) (table_is_query c.args.name).0 (λ clean. tt) h.mode h.err
+          h.survives).tables;
+    }
+
+pub rows-init : goal.rows-init
+rows-init g c =
+    let made = rw c.table_query.ensures at c.in-Ok.ensures in (
+      refl,
+      streams_begin g.S.Store g.R.RowSink.gives (IsTableRow c.args.name) (read_text c.args.name) []
+          (table_is_query c.args.name).0 c.args.conn.now c.in-Ok.rows.conn.now c.args.sink.now made.survives made.mode
+          made.begun,
+    )
+
+pub returns-in-Err-advance-clause-yields : goal.returns-in-Err-advance-clause-yields
+returns-in-Err-advance-clause-yields g c clean is =
+    let mid = c.rows.rows.conn.now in
+    let late : HasCleanDisk (state g.S.Store c.advance.new.self.conn.now) = search rules in
+    let le = c.advance.ensures.survives.clean in
+    let early : HasCleanDisk (state g.S.Store mid) = omega (arith, le, late) in
+    streams_part g.S.Store g.R.RowSink.gives (IsTableRow c.args.name) (read_text c.args.name) [] c.args.conn.now mid
+    c.args.sink.now c.rows.sink c.rows.invariant.1 _ (table_wants c.args.name (state g.S.Store c.args.conn.now) is)
+    c.fault_of-in-Err-advance.result early
+
+pub returns-in_default-get-clause-yields : goal.returns-in_default-get-clause-yields
+returns-in_default-get-clause-yields g c clean is =
+    let mid = c.rows.rows.conn.now in
+    let new = c.advance.new.self.conn.now in
+    let late : HasCleanDisk (state g.S.Store new) = search rules in
+    streams_whole g.S.Store g.R.RowSink.gives (IsTableRow c.args.name) (read_text c.args.name) [] c.args.conn.now mid
+    new c.args.sink.now c.rows.sink c.rows.invariant.1 c.advance.ensures.survives c.advance.ensures.mode _
+    (table_wants c.args.name (state g.S.Store c.args.conn.now) is)
+    (λ now. subst (λ (r : Option Row). Advances g.S.Store mid new r) (sym c.in_default-get.ensures)
+    (c.in_default.ensures.ok now)) late
+
+pub returns-in_default-get-clause-passes : goal.returns-in_default-get-clause-passes
+returns-in_default-get-clause-passes g c clean =
+    let mid = c.rows.rows.conn.now in
+    let new = c.advance.new.self.conn.now in
+    let late : HasCleanDisk (state g.S.Store new) = search rules in
+    let it = streams_end g.S.Store g.R.RowSink.gives (IsTableRow c.args.name) (read_text c.args.name) []
+    c.args.conn.now mid new c.args.sink.now c.rows.sink c.rows.invariant.1 c.advance.ensures.survives
+    c.advance.ensures.mode
+    (λ now. subst (λ (r : Option Row). Advances g.S.Store mid new r) (sym c.in_default-get.ensures)
+    (c.in_default.ensures.ok now)) late in
+    table_passed g.R.RowSink.gives c.args.name (state g.S.Store c.args.conn.now) (state g.S.Store mid)
+    (state g.S.Store new) c.args.sink.now c.rows.sink it.0 c.requires it.1 it.2 it.3
+
+pub returns-in-Err-yield_row-clause-yields : goal.returns-in-Err-yield_row-clause-yields
+returns-in-Err-yield_row-clause-yields g c clean is =
+    let mid = c.rows.rows.conn.now in
+    let new = c.advance.new.self.conn.now in
+    let late : HasCleanDisk (state g.S.Store new) = search rules in
+    streams_refused g.S.Store g.R.RowSink.gives (IsTableRow c.args.name) (read_text c.args.name) [] c.args.conn.now mid
+    new c.args.sink.now c.rows.sink c.rows.invariant.1 c.advance.ensures.survives c.advance.ensures.mode _
+    (table_wants c.args.name (state g.S.Store c.args.conn.now) is) c.yield_row.new.sink c.in-Some.row.now
+    c.in-Err-yield_row.fault
+    (λ now. subst (λ (r : Option Row). Advances g.S.Store mid new r) (sym c.in-Some.ensures)
+    (c.in_default.ensures.ok now)) c.in_default.ensures.same
+    (λ x e. subst (λ (y : Table × Option (List Cell)). SinkAcceptsPrefix g.R.RowSink.gives c.in-Err-yield_row.fault
+    c.rows.sink (y ∷ []) c.yield_row.new.sink) (sym e) c.in-Err-yield_row.ensures.yields) late
+
+pub rows-preserved : goal.rows-preserved
+rows-preserved g c =
+    let mid = c.rows.rows.conn.now in
+    let new = c.advance.new.self.conn.now in (
+      c.advance.ensures.same_reference ∙ c.rows.invariant.0,
+      streams_next g.S.Store g.R.RowSink.gives (IsTableRow c.args.name) (read_text c.args.name) [] c.args.conn.now mid
+          new c.args.sink.now c.rows.sink c.rows.invariant.1 c.advance.ensures.survives c.advance.ensures.mode
+          c.yield_row.new.sink c.in-Some.row.now
+          (λ now. subst (λ (r : Option Row). Advances g.S.Store mid new r) (sym c.in-Some.ensures)
+          (c.in_default.ensures.ok now)) c.in_default.ensures.same
+          (λ x e. subst (λ (y : Table × Option (List Cell)). SinkAcceptsAll g.R.RowSink.gives c.rows.sink (y ∷ [])
+          c.yield_row.new.sink) (sym e) c.in_default-yield_row.ensures.yields),
+    )
 
 pub returns-clause-yields : goal.returns-clause-yields
-returns-clause-yields g c =
-    let f : Row → Table × Option (List Cell) = λ row. (c.args.name, Some (map cell_of row)) in
-    let all = ap (map f) (take_all c.loop-row.row-index c.args.rows.now c.loop-row-test.false)
-    ∙ sym (map-map (λ (row : List Cell). (c.args.name, Some row)) (map cell_of) c.args.rows.now) in
-    subst (λ (l : List (Table × Option (List Cell))). SinkAcceptsAll g.R.RowSink.gives c.args.sink.now l
-    c.loop-row.sink) all c.loop-row.invariant
+returns-clause-yields g c clean is =
+    let now = c.rows.rows.conn.now in
+    let late : HasCleanDisk (state g.S.Store now) = search rules in
+    streams_part g.S.Store g.R.RowSink.gives (IsTableRow c.args.name) (read_text c.args.name) [] c.args.conn.now now
+    c.args.sink.now c.rows.sink c.rows.invariant.1 _ (table_wants c.args.name (state g.S.Store c.args.conn.now) is)
+    _ late

@@ -1,7 +1,8 @@
-use Rattle.std.proofs.Common.{◌∙◌, ap}
-use Rattle.thes_store.proofs.SinkLemmas.{none_accepted}
+use Rattle.std.proofs.Common.{◌∙◌, inl, ap, sym}
+use Rattle.sqlite.specs.Held.{state}
 use Rattle.thes_sql.specs.Declarations.{declares}
 use Rattle.thes_sql.proofs.DeclarationLemmas.{store_declares}
+use Rattle.thes_sqlite.proofs.FoundRowLemmas.{none_passed}
 use Rattle.thes_sqlite.proofs.row_output.yield_table_rows.Goals as goal
 
 pub returns-then-not-declares-clause-yields : goal.returns-then-not-declares-clause-yields
@@ -11,5 +12,7 @@ returns-then-not-declares-clause-yields g c clean is =
     let clash = rw declared at c.if-not-declares.true in
     absurd (cc)
 
-pub returns-in-Err-clause-yields : goal.returns-in-Err-clause-yields
-returns-in-Err-clause-yields g c clean is = none_accepted g.R.RowSink.gives _ c.fault_of.result c.args.sink.now
+pub returns-then-not-declares-clause-passes : goal.returns-then-not-declares-clause-passes
+returns-then-not-declares-clause-passes g c clean = none_passed g.R.RowSink.gives c.args.name
+    (state g.S.Store c.args.conn.now).now c.args.sink.now c.report_unqueried.new.self c.report_unqueried.result
+    c.report_unqueried.ensures.gives (inl (sym c.declares.ensures ∙ c.if-not-declares.true))

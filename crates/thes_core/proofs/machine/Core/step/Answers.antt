@@ -1,36 +1,41 @@
-use Rattle.std.proofs.Common.{subst, refl}
-use Rattle.std.specs.Prelude.{IfNone}
-use Rattle.thes_core.specs.CoreDecisions.{MayApply, SettledOrAccepted}
-use Rattle.thes_core.proofs.ApplyLemmas.{held_in_order, step_performs, consistent_after_step}
+use Rattle.std.proofs.Common.{subst, sym, refl}
+use Rattle.thes_base.specs.declared.request.Answer.{Answer}
+use Rattle.thes_base.specs.Machine.{Step, next_state}
+use Rattle.thes_core.specs.CoreDecisions.{AcceptedVerdict, IsVerdict, VerdictMayApply}
+use Rattle.thes_core.proofs.ApplyLemmas.{held_in_order}
+use Rattle.thes_core.proofs.NextStateLemmas.{step_of_accepted}
 use Rattle.thes_core.proofs.machine.Core.step.Goals as goal
 
-pub returns-in-Some-clause-performs : goal.returns-in-Some-clause-performs
-returns-in-Some-clause-performs c = λ s holds told. (
+pub apply-requires-clause-may : goal.apply-requires-clause-may
+apply-requires-clause-may c = subst (VerdictMayApply c.args.self.now c.args.command.now) c.in-Accepted.is
+    c.in_ok-answer.ensures.may
+
+pub returns-in-Settled-clause-performs : goal.returns-in-Settled-clause-performs
+returns-in-Settled-clause-performs c = λ s holds told. (
   s,
-  subst (SettledOrAccepted c.args.self.now.setting s c.args.command.now) c.in-Some.is
+  subst (IsVerdict c.args.self.now.setting s c.args.command.now) c.in-Settled.is
       (c.in_ok-answer.ensures.ok s holds told),
   holds,
   c.requires,
   refl,
 )
 
-pub returns-in-Some-clause-in_order : goal.returns-in-Some-clause-in_order
-returns-in-Some-clause-in_order c = held_in_order c.args.self.now
+pub returns-in-Settled-clause-in_order : goal.returns-in-Settled-clause-in_order
+returns-in-Settled-clause-in_order c = held_in_order c.args.self.now
 
-pub apply-requires : goal.apply-requires
-apply-requires c =
-    record {
-      unspent = c.requires;
-      may = subst (λ a. IfNone a (MayApply c.args.self.now c.args.command.now))
-          c.in-None.is c.in_ok-answer.ensures.may;
-    }
+pub returns-in_ok-apply-in-Accepted-clause-performs : goal.returns-in_ok-apply-in-Accepted-clause-performs
+returns-in_ok-apply-in-Accepted-clause-performs c = λ s holds told.
+    let setting = c.args.self.now.setting in
+    let command = c.args.command.now in
+    let verdict : AcceptedVerdict setting s command c.in-Accepted.answer c.in-Accepted._delta =
+    subst (IsVerdict setting s command) c.in-Accepted.is (c.in_ok-answer.ensures.ok s holds told) in (
+      next_state command s,
+      subst (λ (a : Answer). Step setting s command a (next_state command s)) (sym verdict.answer_is)
+          (step_of_accepted setting s command verdict.accepts),
+      c.in_ok-apply-in-Accepted.ensures.made s holds told verdict.accepts,
+      c.in_ok-apply-in-Accepted.ensures.ok.0,
+      c.in_ok-apply-in-Accepted.ensures.ok.1,
+    )
 
-pub returns-in-None-clause-performs : goal.returns-in-None-clause-performs
-returns-in-None-clause-performs c = λ s holds told.
-    let accepts = subst (SettledOrAccepted c.args.self.now.setting s c.args.command.now) c.in-None.is
-    (c.in_ok-answer.ensures.ok s holds told) in
-    step_performs c.args.self.now c.apply.new.self s c.args.command.now c.apply.result accepts
-    (c.apply.ensures.made s holds told accepts)
-
-pub returns-in-None-clause-in_order : goal.returns-in-None-clause-in_order
-returns-in-None-clause-in_order c = consistent_after_step c.apply.new.self c.apply.result
+pub returns-in_ok-apply-in-Accepted-clause-in_order : goal.returns-in_ok-apply-in-Accepted-clause-in_order
+returns-in_ok-apply-in-Accepted-clause-in_order c = held_in_order c.apply.new.self

@@ -1,11 +1,9 @@
-use Rattle.std.proofs.Common.{◌≡◌, ◌+◌, ◌++◌, ◌∷◌, [], ap, sym, subst, ◌∙◌, arith, length, List, ℕ, map}
-use Rattle.std.specs.Prelude.{Some}
-use Rattle.thes_base.specs.declared.data.Link.{Link}
+use Rattle.std.proofs.Common.{◌+◌, ◌++◌, ◌∷◌, [], ap, sym, subst, ◌∙◌, arith, length, ℕ, map}
+use Rattle.std.specs.List.{filter_map}
 use Rattle.thes_base.specs.Changes.{state_after_merge}
 use Rattle.thes_tables.specs.declared.change.Change.TheVariants as change
 use Rattle.thes_tables.specs.Changes.{add_link, drop_link}
 use Rattle.thes_tables.specs.ChangeLaw.{AreChangesBetween}
-use Rattle.thes_tables.specs.Tables.{IsIn, IsUnsortedListing}
 use Rattle.thes_core.specs.Deltas.{link_added_by_merge, move_rows, copied_label_rows}
 use Rattle.thes_core.specs.PartsView.{parts_state}
 use Rattle.thes_core.proofs.ApplyLemmas.{merge_fits}
@@ -20,7 +18,7 @@ returns c = λ hs meant.
     let target = c.args.target in
     let fits = merge_fits t hs source target meant.allows in
     let moves = meant.posting_counts.moves in
-    let are_facts = c.as_slice-4.ensures.value ∙ meant.are_facts.standing in
+    let are_facts = c.as_slice-3.ensures.value ∙ meant.are_facts.standing in
     let many = ap length are_facts ∙ standing_length source hs in
     let count = c.moves.ensures in
     let from = c.from-first.ensures in
@@ -32,14 +30,11 @@ returns c = λ hs meant.
     taken.2 ∙ (λ i. c.in_ok-delta.ensures i
     ++ map change.AddLabel (copied_label_rows t.vocab.labels target taken.0)) in
     let gone = c.in_ok-push_removals.ensures ∙ (λ i. labelled i ++ map drop_link (c.as_slice.ensures.value i)) in
-    let come = c.in_ok-push_insertions.ensures ∙ (λ i. gone i ++ map add_link (c.as_slice-3.ensures.value i)) in
+    let come = c.in_ok-push_added_links.ensures
+    ∙ (λ i. gone i ++ map add_link (filter_map (link_added_by_merge t.graph source target) (c.as_slice-2.ensures.value i)))
+    in
     let placed = c.in_ok-push.ensures.ok ∙ (λ i. come i ++ change.MoveAll source target ∷ []) in
     let made = c.in_ok-push_moves.ensures
     ∙ (λ i. placed i ++ map change.AddMove (move_rows (first i) source target (standing i))) in
-    let merge_result =
-    subst (λ (ls : List Link). IsUnsortedListing (λ (q : Link). (l : Link) × IsIn l ls
-    × (link_added_by_merge t.graph source target l ≡ Some q)) c.in_ok-come.come.items) c.as_slice-2.ensures.value
-    c.in_ok-come.ensures in
     subst (λ d. AreChangesBetween t.vocab.base d s (state_after_merge source target s)) (sym made)
-    (merged_leads t hs source target meant.allows c.in_ok-gone.gone.items c.in_ok-gone.ensures c.in_ok-come.come.items
-    merge_result taken.0 taken.1)
+    (merged_leads t hs source target meant.allows c.in_ok-gone.gone.items c.in_ok-gone.ensures taken.0 taken.1)

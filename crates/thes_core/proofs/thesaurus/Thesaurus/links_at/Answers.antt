@@ -19,7 +19,7 @@ loop-link-preserved c =
     let longer : vec_len c.push.new.self ≡ count + 1 = c.in_ok-push.ensures.len in
     record {
       read = ap (λ (g : GraphView). g.links) c.in-Some.ensures.net ∙ i.read;
-      found = items ∙ ap (λ (l : List Link). l ++ c.in-Some.link ∷ []) i.found ∙ sym got.1
+      found = items ∙ ap (λ (l : List Link). l ++ c.in-Some.link ∷ []) i.found ∙ sym got
           ∙ ap (λ (n : ℕ). take n row) (sym longer);
     }
 

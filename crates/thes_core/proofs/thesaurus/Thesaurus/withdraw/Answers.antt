@@ -32,8 +32,5 @@ returns-clause-counts c = λ hs meant.
     let accepted = are.accepted in
     let gives : HasPostingToWithdraw c.in-Some.row.now.place t.book =
     record { here = omega (arith, one, counted, here); accepted = omega (arith, less, withdrawn, accepted) } in
-    record {
-      answer_is = refl;
-      posting_counts = sums_withdrawn hs c.args.posting are_facts.0 are_facts.1 stays t.book c.withdraw.new.self are
-          (subst (λ (n : ℕ). CountsAfterWithdrawal n t.book c.withdraw.new.self) at (c.withdraw.ensures gives));
-    }
+    sums_withdrawn hs c.args.posting are_facts.0 are_facts.1 stays t.book c.withdraw.new.self are
+    (subst (λ (n : ℕ). CountsAfterWithdrawal n t.book c.withdraw.new.self) at (c.withdraw.ensures gives))

@@ -2,11 +2,10 @@ use Rattle.std.proofs.Common.{◌≡◌, ◌-◌, ◌+◌, ℕ, List, arith, ref
 use Rattle.std.proofs.lemmas.List.{get_or_default}
 use Rattle.thes_base.specs.declared.data.Link.{Link}
 use Rattle.thes_graph.specs.declared.edit.LinkEdit.TheVariants.{NoEdit}
-use Rattle.thes_graph.specs.Reading.{IsRow}
-use Rattle.thes_graph.specs.Side.{side_in, IsPart}
+use Rattle.thes_graph.specs.Side.{side_in}
 use Rattle.thes_graph.specs.LinkEdit.{HeldAfter}
 use Rattle.thes_graph.specs.Steps.{Steps}
-use Rattle.thes_graph.specs.SideSearch.{LeadsWithin}
+use Rattle.thes_graph.specs.SideSearch.{LeadsWithin, IsPartAt}
 use Rattle.thes_graph.proofs.AdvanceLemmas.{hierarchy_is_one_sided, IsAdvanceResult-more}
 use Rattle.thes_graph.proofs.SideSearchLemmas.{IsSearchResult-same, LeadsFrom-read, LeadsFrom-there, part_cost}
 use Rattle.thes_graph.proofs.SideSearchLemmas.{Steps-sound, Steps-held}
@@ -19,30 +18,26 @@ returns-clause-advances g c start read is =
     let at : x ≡ get_or c.args.self.now.nodes c.args.self.now.next 0 =
     c.index-as_slice-self.is ∙ ap (λ (xs : List ℕ). get_or xs c.args.self.now.next x) c.as_slice.ensures
     ∙ get_or_default c.args.self.now.nodes c.args.self.now.next x 0 c.requires.more in
-    let is_row : IsRow (g.L.Links.net c.args.links.now).links x row =
-    subst (λ (n : ℕ). IsRow (g.L.Links.net c.args.links.now).links n
-    (g.L.Links.links_of (g.L.Links.net c.args.links.now) n)) (sym at)
-    c.requires.listed in
-    let is_part : IsPart row x (side_in c.args.relation) c.args.part =
-    subst (λ (n : ℕ). IsPart (g.L.Links.links_of (g.L.Links.net c.args.links.now) n) n (side_in c.args.relation)
-    c.args.part) (sym at)
-    c.requires.part in
+    let rows : ℕ → List Link = g.L.Links.links_of (g.L.Links.net c.args.links.now) in
+    let ready : IsPartAt (g.L.Links.net c.args.links.now).links row x (side_in c.args.relation) c.args.part =
+    subst (λ (n : ℕ). IsPartAt (g.L.Links.net c.args.links.now).links (rows n) n (side_in c.args.relation) c.args.part)
+    (sym at) (c.requires.ready c.requires.more) in
     IsAdvanceResult-more NoEdit (g.L.Links.net c.args.links.now).links c.args.relation c.args.goals.now start
-    c.requires.walked
+    c.requires.hierarchy
     c.args.self.now (record { nodes = c.follow_part.new.nodes; next = c.args.self.now.next + 1 }) x
     (c.args.part.to - c.args.part.from) read (read + (c.args.part.to - c.args.part.from)) c.requires.more
     at refl (omega arith)
-    (λ ns covers. part_cost (g.L.Links.net c.args.links.now).links x (side_in c.args.relation) row c.args.part is_row
-    is_part ns (λ l has ends _. covers l has ends))
+    (λ ns covers. part_cost (g.L.Links.net c.args.links.now).links x (side_in c.args.relation) row c.args.part ready.is_row
+    ready.on_side ns (λ l has ends _. covers l has ends))
     is c.in_ok-found.found
     (IsSearchResult-same c.args.self.now.nodes c.follow_part.new.nodes c.args.goals.now
     (LeadsWithin NoEdit c.args.relation x row c.args.part.from c.args.part.to)
     (Steps c.args.relation (HeldAfter NoEdit (g.L.Links.net c.args.links.now).links) x)
     (λ y within. Steps-sound (g.L.Links.net c.args.links.now).links c.args.relation NoEdit x x y
-    (LeadsFrom-read NoEdit c.args.relation x row (g.L.Links.net c.args.links.now).links x c.args.part is_row is_part
+    (LeadsFrom-read NoEdit c.args.relation x row (g.L.Links.net c.args.links.now).links x c.args.part ready.is_row ready.on_side
     c.args.part.to y (omega arith) within))
-    (λ y steps. LeadsFrom-there NoEdit c.args.relation x row (g.L.Links.net c.args.links.now).links x c.args.part is_row
-    is_part c.args.part.to y (omega arith)
+    (λ y steps. LeadsFrom-there NoEdit c.args.relation x row (g.L.Links.net c.args.links.now).links x c.args.part ready.is_row
+    ready.on_side c.args.part.to y (omega arith)
     (Steps-held (g.L.Links.net c.args.links.now).links c.args.relation
-    (hierarchy_is_one_sided c.args.relation c.requires.walked) c.requires.two_ends x y steps))
+    (hierarchy_is_one_sided c.args.relation c.requires.hierarchy) ready.two_ends x y steps))
     c.in_ok-found.found c.in_ok-found.ensures.finds)

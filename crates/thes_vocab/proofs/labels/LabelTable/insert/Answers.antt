@@ -1,46 +1,37 @@
-use Rattle.std.proofs.Common.{rules, ◌≡◌, ◌∙◌, ◌+◌, ap, subst, cond, Bool}
+use Rattle.std.proofs.Common.{rules, ◌≡◌, ◌∙◌, ◌+◌, ap, sym, cond, Bool}
 use Rattle.std.specs.FinSet as set
 use Rattle.thes_base.specs.Machine.{owned_label}
-use Rattle.thes_vocab.specs.LabelRows.{AreLabelRows}
 use Rattle.thes_vocab.proofs.AnswerLemmas.{on_any_err}
-use Rattle.thes_vocab.proofs.LabelTableLemmas.{rows_same, rows_put, same_labels, put_labels}
+use Rattle.thes_vocab.proofs.LabelTableLemmas.{rows_put, same_labels, put_labels}
 use Rattle.thes_vocab.proofs.labels.LabelTable.insert.Goals as goal
 
 pub invariant_of-self : goal.invariant_of-self
-invariant_of-self c = rows_same c.self.inside.rows c.put.new.rows c.self.inside.count c.self.invariant
-    c.in_err-put.ensures.ordered c.in_err-put.ensures.err
+invariant_of-self c = c.self.invariant ∙ ap set.len
+    (sym (same_labels c.self.inside.rows.items c.put.new.rows.items c.in_err-put.ensures.err))
 
 pub returns-in_err-put-clause-err : goal.returns-in_err-put-clause-err
-returns-in_err-put-clause-err c =
-    let same = same_labels c.self.inside.rows c.put.new.rows c.self.invariant.ordered c.in_err-put.ensures.ordered
-    c.in_err-put.ensures.err ∙ c.self.view_is in
-    on_any_err _ c.from_residual-in_err-put.result same
+returns-in_err-put-clause-err c = on_any_err _ c.from_residual-in_err-put.result
+    (same_labels c.self.inside.rows.items c.put.new.rows.items c.in_err-put.ensures.err ∙ c.self.view_is)
 
 pub invariant_of-self-then-branch : goal.invariant_of-self-then-branch
 invariant_of-self-then-branch c =
     let more : c.self.inside.count + 1 ≡ c.in_ok-count.count = search rules in
-    let rows = rows_put c.self.inside.rows c.put.new.rows c.self.inside.count c.args.owner c.args.label
-    c.self.invariant c.in_ok-put.ensures.ordered c.in_ok-put.ensures.ok c.in_ok-put.field-0
-    c.in_ok-put.ensures.added in
-    subst (AreLabelRows c.put.new.rows) (ap (λ (b : Bool). cond b (c.self.inside.count + 1) c.self.inside.count)
-    c.if-branch.true ∙ more) rows
+    let counted = rows_put c.self.inside.rows.items c.put.new.rows.items c.self.inside.count c.args.owner c.args.label
+    c.self.invariant c.in_ok-put.ensures.ok c.in_ok-put.field-0 c.in_ok-put.ensures.added in
+    sym (ap (λ (b : Bool). cond b (c.self.inside.count + 1) c.self.inside.count) c.if-branch.true ∙ more) ∙ counted
 
 pub invariant_of-self-else-branch : goal.invariant_of-self-else-branch
 invariant_of-self-else-branch c =
-    let rows = rows_put c.self.inside.rows c.put.new.rows c.self.inside.count c.args.owner c.args.label
-    c.self.invariant c.in_ok-put.ensures.ordered c.in_ok-put.ensures.ok c.in_ok-put.field-0
-    c.in_ok-put.ensures.added in
-    subst (AreLabelRows c.put.new.rows) (ap (λ (b : Bool). cond b (c.self.inside.count + 1) c.self.inside.count)
-    c.if-branch.false) rows
+    let counted = rows_put c.self.inside.rows.items c.put.new.rows.items c.self.inside.count c.args.owner c.args.label
+    c.self.invariant c.in_ok-put.ensures.ok c.in_ok-put.field-0 c.in_ok-put.ensures.added in
+    sym (ap (λ (b : Bool). cond b (c.self.inside.count + 1) c.self.inside.count) c.if-branch.false) ∙ counted
 
 pub returns-then-branch-clause-ok : goal.returns-then-branch-clause-ok
 returns-then-branch-clause-ok c =
-    put_labels c.self.inside.rows c.put.new.rows c.args.owner c.args.label c.self.invariant.ordered
-    c.in_ok-put.ensures.ordered c.in_ok-put.ensures.ok
+    put_labels c.self.inside.rows.items c.put.new.rows.items c.args.owner c.args.label c.in_ok-put.ensures.ok
     ∙ ap (λ labels. set.insert labels (owned_label c.args.owner c.args.label)) c.self.view_is
 
 pub returns-else-branch-clause-ok : goal.returns-else-branch-clause-ok
 returns-else-branch-clause-ok c =
-    put_labels c.self.inside.rows c.put.new.rows c.args.owner c.args.label c.self.invariant.ordered
-    c.in_ok-put.ensures.ordered c.in_ok-put.ensures.ok
+    put_labels c.self.inside.rows.items c.put.new.rows.items c.args.owner c.args.label c.in_ok-put.ensures.ok
     ∙ ap (λ labels. set.insert labels (owned_label c.args.owner c.args.label)) c.self.view_is

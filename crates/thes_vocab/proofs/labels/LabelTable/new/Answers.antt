@@ -5,8 +5,4 @@ use Rattle.thes_vocab.specs.LabelRows.{labels_in}
 use Rattle.thes_vocab.proofs.labels.LabelTable.new.Goals as goal
 
 pub invariant_of-result : goal.invariant_of-result
-invariant_of-result c = record {
-  ordered = c.new.ensures.ordered;
-  counted =
-      sym (ap (λ es. set.len (labels_in es)) c.new.ensures.empty ∙ set.len-empty label_cmp);
-}
+invariant_of-result c = sym (ap (λ rows. set.len (labels_in rows)) c.new.ensures.items ∙ set.len-empty label_cmp)

@@ -7,7 +7,7 @@ use Rattle.thes_base.specs.Machine.{owned_label}
 use Rattle.thes_vocab.specs.Vocabulary.{Vocabulary, with_labels}
 use Rattle.thes_vocab.specs.Loading.{IsLoading, IsFreeLabel, MayLoadLabel}
 use Rattle.thes_vocab.proofs.ConsistencyLemmas.{IsSchemeOf}
-use Rattle.thes_vocab.proofs.LoadingLemmas.{loading_noted, loading_label, fits_free, free_fits}
+use Rattle.thes_vocab.proofs.LoadingLemmas.{loading_more, loading_label, fits_free, free_fits}
 use Rattle.thes_vocab.proofs.load.VocabLoad.take_label.Goals as goal
 
 abbrev seen : List ℕ → List Resource → Iris → Labels → Vocabulary
@@ -16,18 +16,10 @@ seen base rs iris labels = record { base = base; resources = rs; iris = iris; la
 pub invariant_of-self-in_err-insert : goal.invariant_of-self-in_err-insert
 invariant_of-self-in_err-insert c =
     let inside = c.self.inside in
-    let l = owned_label c.args.owner c.args.label in
-    let free = subst (λ (rs : List Resource). IsFreeLabel rs inside.labels l) c.as_slice.ensures.value
-    (c.is_free_label.ensures.0 c.if-is_free_label.true) in
-    let fits = fits_free (seen inside.base inside.resources.items inside.iris inside.labels) l
-    c.self.invariant.labels_so_far free in
-    let at = subst (λ (rs : List Resource). IsSchemeOf rs c.args.owner c.concept_scheme-scheme.result)
-    c.as_slice-then-is_free_label.ensures.value c.concept_scheme-scheme.ensures in
     subst (λ (ls : Labels). IsLoading inside.base inside.resources.items inside.iris ls c.put_label.new.self
     inside.concepts) (sym c.in_err-insert.ensures.err)
-    (loading_noted inside.base inside.resources.items inside.iris inside.labels inside.names c.put_label.new.self
-    inside.concepts c.self.invariant c.args.owner c.args.label c.concept_scheme-scheme.result
-    at c.in_ok-put_label.ensures.ok fits)
+    (loading_more inside.base inside.resources.items inside.iris inside.labels inside.names c.put_label.new.self
+    inside.concepts c.self.invariant c.put_label.ensures.keeps)
 
 pub invariant_of-self-then-is_free_label : goal.invariant_of-self-then-is_free_label
 invariant_of-self-then-is_free_label c =
@@ -42,8 +34,8 @@ invariant_of-self-then-is_free_label c =
     subst (λ (ls : Labels). IsLoading inside.base inside.resources.items inside.iris ls c.put_label.new.self
     inside.concepts) (sym c.in_ok-insert.ensures.ok)
     (loading_label inside.base inside.resources.items inside.iris inside.labels inside.names c.put_label.new.self
-    inside.concepts c.self.invariant c.args.owner c.args.label c.concept_scheme-scheme.result
-    at c.in_ok-put_label.ensures.ok fits)
+    inside.concepts c.self.invariant c.args.owner c.args.label c.put_label.ensures.keeps
+    c.concept_scheme-scheme.result at c.in_ok-put_label.ensures.ok fits)
 
 pub returns-in_ok-insert : goal.returns-in_ok-insert
 returns-in_ok-insert c =

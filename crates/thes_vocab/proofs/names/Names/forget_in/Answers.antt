@@ -1,15 +1,15 @@
-use Rattle.std.proofs.Common.{ap, sym}
-use Rattle.std.specs.Prelude.{None, option_and_then}
-use Rattle.thes_vocab.specs.NameIndex.{TagIndex, tag_holder}
-use Rattle.thes_vocab.proofs.NameLemmas.{scheme_written, scheme_put}
+use Rattle.std.proofs.Common.{◌≡◌, ◌∙◌, rules, ap, sym, false, ℕ}
+use Rattle.std.specs.List.{list_any}
+use Rattle.std.proofs.lemmas.Option.{same_Some}
+use Rattle.thes_vocab.specs.NameIndex.{name_digest, has_digest}
+use Rattle.thes_vocab.proofs.NameLemmas.{kept_by_remove, other_digest}
 use Rattle.thes_vocab.proofs.names.Names.forget_in.Goals as goal
 
-pub returns-in-Some : goal.returns-in-Some
-returns-in-Some c =
-    let now = c.forget_tag.new.tags in
-    let after = c.get_mut.follows.lender now in
-    let set = scheme_written c.args.self.now.schemes after c.args.scheme c.in-Some.tags.now now
-    (c.get_mut.follows.holds now) c.in-Some.ensures.value in
-    scheme_put c.args.self.now.alloc c.args.self.now.schemes after c.args.scheme c.in-Some.tags.now now set
-    (λ t x. ap (option_and_then (λ (tags : TagIndex). tag_holder tags t x)) (sym c.in-Some.ensures.value))
-    c.args.tag.now c.args.text.now None c.forget_tag.ensures
+pub returns-then-not-is_digest_of_one-clause-keeps : goal.returns-then-not-is_digest_of_one-clause-keeps
+returns-then-not-is_digest_of_one-clause-keeps c s n t x other had =
+    let digest = c.name_digest-digest.result in
+    let none : list_any (has_digest c.args.scheme digest) c.args.own.now ≡ false = search rules in
+    kept_by_remove c.args.self.now.entries c.remove.new.self (digest, c.args.concept) (name_digest s t x, n)
+    c.remove.ensures.updates (λ same. let its = other (sym (ap (λ (e : ℕ × ℕ). e.1) same)) in
+    other_digest c.args.own.now c.args.scheme digest t x none its.1
+    (ap (λ k. name_digest k t x) (same_Some _ _ its.0) ∙ sym (ap (λ (e : ℕ × ℕ). e.0) same))) had

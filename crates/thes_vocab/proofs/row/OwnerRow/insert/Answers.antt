@@ -10,7 +10,7 @@ pub invariant_of-self-in-Err : goal.invariant_of-self-in-Err
 invariant_of-self-in-Err c =
     let at = subst (λ own. IsLabelPosition own c.args.label (Err c.in-Err.place)) c.as_slice.ensures.value
     c.in-Err.ensures in
-    rw c.in_ok-insert-in-Err.ensures.items (sorted_insert c.self.inside.labels.items c.args.label c.in-Err.place
+    rw c.in_ok-insert_at-in-Err.ensures.ok (sorted_insert c.self.inside.labels.items c.args.label c.in-Err.place
     at c.self.invariant)
 
 pub returns-in-Ok-clause-added : goal.returns-in-Ok-clause-added
@@ -26,16 +26,16 @@ returns-in-Ok-clause-ok c q =
     subst (λ own. has_own own q ≡ (eq_by_cmp data_cmp q c.args.label || has_own own q)) c.self.view_is
     (has_again c.self.inside.labels.items c.args.label c.in-Ok.field-0 c.self.invariant at q)
 
-pub returns-in_ok-insert-in-Err-clause-added : goal.returns-in_ok-insert-in-Err-clause-added
-returns-in_ok-insert-in-Err-clause-added c =
+pub returns-in_ok-insert_at-in-Err-clause-added : goal.returns-in_ok-insert_at-in-Err-clause-added
+returns-in_ok-insert_at-in-Err-clause-added c =
     let at = subst (λ own. IsLabelPosition own c.args.label (Err c.in-Err.place)) (c.as_slice.ensures.value
     ∙ c.self.view_is) c.in-Err.ensures in
     ap not (found_is c.args.self.now c.args.label (Err c.in-Err.place) at)
 
-pub returns-in_ok-insert-in-Err-clause-ok : goal.returns-in_ok-insert-in-Err-clause-ok
-returns-in_ok-insert-in-Err-clause-ok c q =
+pub returns-in_ok-insert_at-in-Err-clause-ok : goal.returns-in_ok-insert_at-in-Err-clause-ok
+returns-in_ok-insert_at-in-Err-clause-ok c q =
     let at = subst (λ own. IsLabelPosition own c.args.label (Err c.in-Err.place)) c.as_slice.ensures.value
     c.in-Err.ensures in
-    ap (λ own. has_own own q) c.in_ok-insert-in-Err.ensures.items
+    ap (λ own. has_own own q) c.in_ok-insert_at-in-Err.ensures.ok
     ∙ has_inserted c.self.inside.labels.items c.args.label c.in-Err.place at q
     ∙ ap (λ own. eq_by_cmp data_cmp q c.args.label || has_own own q) c.self.view_is

@@ -12,10 +12,8 @@ invariant_of-self-in_err-insert c =
     let inside = c.self.inside in
     let next : c.new-n.result ≡ length inside.resources.items + 1 = search rules in
     let kept = seen_new_noted inside.base inside.resources.items inside.iris inside.labels inside.names c.put.new.self
-    inside.concepts c.self.invariant _ c.self.view_is
-    c.args.resource c.args.tag c.args.text c.requires.named c.requires.free c.scheme_if_concept-scheme.result
-    c.scheme_if_concept-scheme.ensures.scheme _ next
-    c.in_ok-put.ensures.ok c.make_room.new.concepts c.make_room.ensures.same in
+    inside.concepts c.self.invariant _ c.self.view_is c.put.ensures.keeps
+    c.args.resource c.args.tag c.args.text _ next c.make_room.new.concepts c.make_room.ensures.same in
     subst (λ (p : List Resource × Labels). IsConsistentVocabulary inside.base p.0 inside.iris p.1 c.put.new.self
     c.make_room.new.concepts) (λ i. (sym c.try_reserve.ensures.items i, sym c.in_err-insert.ensures.err i)) kept
 
@@ -26,11 +24,10 @@ invariant_of-self-2 c =
     let added = subst (λ (o : Option ℕ). ConceptListsAfterInsert c.make_room.new.concepts c.insert-2.new.concepts o
     c.new-n.result) (sym c.scheme_if_concept-scheme.ensures.value) c.insert-2.ensures in
     let kept = seen_new inside.base inside.resources.items inside.iris inside.labels inside.names c.put.new.self
-    inside.concepts c.self.invariant _ c.self.view_is
-    c.args.resource c.args.tag c.args.text c.requires.named c.requires.free c.scheme_if_concept-scheme.result
-    c.scheme_if_concept-scheme.ensures.scheme _ next
-    c.in_ok-put.ensures.ok c.make_room.new.concepts c.make_room.ensures.same c.requires.room c.insert-2.new.concepts
-    added in
+    inside.concepts c.self.invariant _ c.self.view_is c.put.ensures.keeps
+    c.args.resource c.args.tag c.args.text _ next c.make_room.new.concepts c.make_room.ensures.same
+    c.requires.named c.requires.free c.scheme_if_concept-scheme.result c.scheme_if_concept-scheme.ensures.scheme
+    c.in_ok-put.ensures.ok c.requires.room c.insert-2.new.concepts added in
     let items : c.push.new.self.items ≡ inside.resources.items ++ c.args.resource ∷ [] = search rules in
     subst (λ (p : List Resource × Labels). IsConsistentVocabulary inside.base p.0 inside.iris p.1 c.put.new.self
     c.insert-2.new.concepts) (λ i. (sym items i, sym c.in_ok-insert.ensures.ok i)) kept

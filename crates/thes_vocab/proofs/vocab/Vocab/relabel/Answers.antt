@@ -1,5 +1,4 @@
-use Rattle.std.proofs.Common.{rules, ◌≡◌, ◌≢◌, ◌∙◌, sym, ap, subst, List, ℕ}
-use Rattle.thes_base.specs.declared.data.Resource.{Resource}
+use Rattle.std.proofs.Common.{rules, ◌≡◌, ◌∙◌, sym, ap, subst, List, ℕ}
 use Rattle.thes_base.specs.declared.data.LabelKind.TheVariants.{Pref}
 use Rattle.thes_base.specs.Labels.{Labels, HasLabel}
 use Rattle.thes_base.specs.Legal.{AreLegalLabels}
@@ -7,7 +6,7 @@ use Rattle.thes_base.specs.Changes.{labels_after_relabel}
 use Rattle.thes_vocab.specs.Vocabulary.{Vocabulary, with_labels}
 use Rattle.thes_vocab.specs.Consistency.{IsConsistentVocabulary}
 use Rattle.thes_vocab.proofs.LabelCheckLemmas.{relabelled_is}
-use Rattle.thes_vocab.proofs.ConsistencyLemmas.{IsSchemeOf, seen_name_noted, seen_renamed, relabel_to_same_text}
+use Rattle.thes_vocab.proofs.ConsistencyLemmas.{kept_more, seen_renamed, relabel_to_same_text}
 use Rattle.thes_vocab.proofs.vocab.Vocab.relabel.Goals as goal
 
 -- A copy of the text of the owner's preferred label is the text of that label.
@@ -29,29 +28,22 @@ returns-then-eq-clause-ok c =
 pub invariant_of-self-in_err-rename : goal.invariant_of-self-in_err-rename
 invariant_of-self-in_err-rename c =
     let inside = c.self.inside in
-    let kept = seen_name_noted inside.base inside.resources.items inside.iris inside.labels inside.names
-    c.put.new.self inside.concepts c.self.invariant _ c.self.view_is c.args.owner
-    c.concept_scheme-scheme.result _ c.as_slice.ensures.value c.concept_scheme-scheme.ensures c.args.tag.now
-    c.args.text.now c.in_ok-old.old c.args.keep
-    (held inside.labels c.args.owner c.args.tag.now _ _ c.in-Some.ensures c.in_ok-old.ensures) c.requires.allowed
-    c.in_ok-put.ensures.ok in
     subst (λ (labels : Labels). IsConsistentVocabulary inside.base inside.resources.items inside.iris labels
-    c.put.new.self inside.concepts) (sym c.in_err-rename.ensures.err) kept
+    c.put.new.self inside.concepts) (sym c.in_err-rename.ensures.err)
+    (kept_more inside.base inside.resources.items inside.iris inside.labels inside.names c.put.new.self inside.concepts
+    c.self.invariant c.put.ensures.keeps)
 
 pub invariant_of-self-2 : goal.invariant_of-self-2
 invariant_of-self-2 c =
     let inside = c.self.inside in
-    let again = subst (λ (xs : List Resource). IsSchemeOf xs c.args.owner c.concept_scheme-scheme-2.result)
-    (c.as_slice-2.ensures.value ∙ sym c.as_slice.ensures.value) c.concept_scheme-scheme-2.ensures in
-    let differ : c.in_ok-old.old ≢ c.args.text.now = search rules in
-    let kept = seen_renamed inside.base inside.resources.items inside.iris inside.labels inside.names c.put.new.self
-    inside.concepts c.self.invariant _ c.self.view_is c.args.owner
+    subst (λ (labels : Labels). IsConsistentVocabulary inside.base inside.resources.items inside.iris labels
+    c.put.new.self inside.concepts) (sym c.in_ok-rename.ensures.ok)
+    (seen_renamed inside.base inside.resources.items inside.iris inside.labels inside.names c.put.new.self
+    inside.concepts c.self.invariant _ c.self.view_is c.put.ensures.keeps c.args.owner
     c.concept_scheme-scheme.result _ c.as_slice.ensures.value c.concept_scheme-scheme.ensures c.args.tag.now
     c.args.text.now c.in_ok-old.old c.args.keep
     (held inside.labels c.args.owner c.args.tag.now _ _ c.in-Some.ensures c.in_ok-old.ensures) c.requires.allowed
-    c.in_ok-put.ensures.ok c.requires.owner.can differ c.forget.new.self _ again c.forget.ensures in
-    subst (λ (labels : Labels). IsConsistentVocabulary inside.base inside.resources.items inside.iris labels
-    c.forget.new.self inside.concepts) (sym c.in_ok-rename.ensures.ok) kept
+    c.in_ok-put.ensures.ok c.requires.owner.can)
 
 pub returns-clause-ok : goal.returns-clause-ok
 returns-clause-ok c =
@@ -59,7 +51,8 @@ returns-clause-ok c =
     let is = relabelled_is inside.labels c.args.owner c.args.tag.now c.args.text.now c.in_ok-old.old c.args.keep
     c.self.invariant.named.one_preferred (held inside.labels c.args.owner c.args.tag.now _ _ c.in-Some.ensures
     c.in_ok-old.ensures) in
-    ap (λ (labels : Labels). let v : Vocabulary = record {
+    c.forget_name.ensures
+    ∙ ap (λ (labels : Labels). let v : Vocabulary = record {
       base = inside.base;
       resources = inside.resources.items;
       iris = inside.iris;

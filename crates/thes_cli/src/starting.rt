@@ -1,0 +1,342 @@
+//! Opens what the job of a command line names: its store, and its file or socket.
+ghost use Rattle.std.specs.Prelude.{◌≡◌, false, IfOk};
+ghost use Rattle.thes_cli.specs.Starting.{IsIdle};
+
+use crate::making::MakingMark;
+use crate::screen::Screen;
+use crate::store_files::{StoreFiles, has_long_name, is_linked};
+use crate::stores::{DatabaseWork, MemoryWork, is_blank, make_store};
+use crate::trouble::trouble_of;
+use crate::work::{PlannedWork, Work, import_work, planned_work, serve_work};
+use sqlite::{Alter, Connection, Error, FileStore};
+use std::fs;
+use std::fs::File;
+use std::io::{ErrorKind, IsTerminal};
+use std::net::{Ipv4Addr, TcpListener};
+use thes_base::fault::Fault;
+use thes_base::text::Base;
+use thes_command_line::arguments::{EarlyExit, Job, StoreSetting, Task};
+use thes_command_line::opening::{
+    FileState, Opening, Preparation, file_state, folder_of, is_check, is_import, is_mark_void,
+    opening_of, preparation_of,
+};
+use thes_command_line::printing::OpenFailure;
+use thes_command_line::start_failure::StartFailure;
+use thes_command_line::trouble::{StoreTrouble, name_trouble, refused_access};
+use thes_sqlite::faults::fault_of;
+
+/// A job whose store, and whose file or socket if it has one, are open.
+pub enum OpenJob<'r, S: Alter> {
+    /// Work over the store in a file.
+    InFile(DatabaseWork<S, StoreFiles<'r>, Option<Screen<'r, HostRuntime>>, File, TcpListener>),
+    /// Work over a new store in memory.
+    InMemory(MemoryWork<Option<Screen<'r, HostRuntime>>, File, TcpListener>),
+    /// The migration of the store in the file with this name.
+    Migration(String, Connection<S>),
+    /// The migration of a new store in memory, which already has version 2.
+    Version,
+}
+
+// Returns the error of opening a file for reading or, if a store is to be made in it, of reading
+// its folder; None if there is no error.
+fn access_error(rt: &HostRuntime, opening: Opening, file: &str) -> Option<ErrorKind> {
+    let error = match opening {
+        Opening::Existing => File::open(rt, file).err(),
+        Opening::New => fs::metadata(rt, folder_of(file)).err(),
+    };
+    match error {
+        Some(error) => Some(error.kind()),
+        None => None,
+    }
+}
+
+// Returns the reason why the database in a file couldn't be opened. If the error names no reason,
+// it is a second name of the file, or else what access to the file shows.
+fn open_trouble(
+    rt: &HostRuntime,
+    opening: Opening,
+    found: FileState,
+    file: &str,
+    error: &Error,
+) -> StoreTrouble {
+    let access = access_error(rt, opening, file);
+    trouble_of(
+        error,
+        refused_access(opening, found, is_linked(rt, file), access),
+    )
+}
+
+// Opens the database in a file, which it marks first if a store is to be made in it. An error is
+// the fault with its reason.
+fn open_database(
+    rt: &HostRuntime,
+    opening: Opening,
+    found: FileState,
+    mark: &MakingMark<'_>,
+    file: &str,
+) -> Result<Connection<FileStore<sqlite::File>>, (StoreTrouble, Fault)>
+    ensures { IfOk result (λ conn. conn.in_transaction ≡ false) }
+{
+    if opening == Opening::New {
+        mark.make();
+    }
+    match Connection::open(rt, file) {
+        Ok(conn) => Ok(conn),
+        Err(error) => {
+            let trouble = open_trouble(rt, opening, found, file, &error);
+            if is_mark_void(trouble, file_state(&fs::metadata(rt, file))) {
+                mark.remove();
+            }
+            Err((trouble, fault_of(error)))
+        }
+    }
+}
+
+// Chooses how the store in a file is opened for a task. An error is the fault with its reason.
+fn opening_for(
+    rt: &HostRuntime,
+    task: &Task,
+    found: FileState,
+    mark: &MakingMark<'_>,
+    file: &str,
+) -> Result<Opening, (StoreTrouble, Fault)> {
+    if let Some(reported) = name_trouble(has_long_name(rt, file)) {
+        return Err(reported);
+    }
+    match opening_of(task, found, mark.is_there()) {
+        Ok(opening) => Ok(opening),
+        Err(trouble) => Err((trouble, Fault::Store)),
+    }
+}
+
+// The open database of a store, with the mark of a store that is unfinished.
+#[derive(Drop)]
+struct StoreDatabase<'r, S: Alter> {
+    conn: Connection<S>,
+    mark: MakingMark<'r>,
+    opening: Opening,
+}
+
+// Opens the database of the store in a file for a task. An error is the fault with its reason.
+fn open_store<'r>(
+    rt: &'r HostRuntime,
+    task: &Task,
+    file: &str,
+) -> Result<StoreDatabase<'r, FileStore<sqlite::File>>, (StoreTrouble, Fault)>
+    ensures { IfOk result (λ store. store.conn.in_transaction ≡ false) }
+{
+    let mark = match MakingMark::new(rt, file) {
+        Ok(mark) => mark,
+        Err(fault) => return Err((StoreTrouble::Unreadable, fault)),
+    };
+    let found = file_state(&fs::metadata(rt, file));
+    let opening = opening_for(rt, task, found, &mark, file)?;
+    let conn = open_database(rt, opening, found, &mark, file)?;
+    Ok(StoreDatabase {
+        conn,
+        mark,
+        opening,
+    })
+}
+
+// The functions from here to `open_over` work for a database of any kind, since their proofs would
+// go through all parts of one in a file.
+
+// Makes the tables of a new store in a database, removes its mark, and reports the store. An error
+// is the fault with its reason.
+fn make_marked_store<S: Alter>(
+    store: &mut StoreDatabase<'_, S>,
+    screen: Option<Screen<'_, HostRuntime>>,
+    file: &str,
+    base: &Base,
+) -> Result<(), (StoreTrouble, Fault)>
+    requires { store.old.conn.in_transaction ≡ false }
+    ensures { store.new.conn.in_transaction ≡ false }
+{
+    make_store(&mut store.conn, base)?;
+    store.mark.remove();
+    if let Some(screen) = screen {
+        screen.report_new_store(file);
+    }
+    Ok(())
+}
+
+// Makes the store in an open database if it is a new one, and else removes its mark, but not for a
+// check. An error is the fault with its reason.
+fn prepare_store<S: Alter>(
+    store: &mut StoreDatabase<'_, S>,
+    is_check: bool,
+    screen: Option<Screen<'_, HostRuntime>>,
+    file: &str,
+    base: &Base,
+) -> Result<(), (StoreTrouble, Fault)>
+    requires { store.old.conn.in_transaction ≡ false }
+    ensures { store.new.conn.in_transaction ≡ false }
+{
+    match preparation_of(store.opening, is_blank(&store.conn), is_check) {
+        Preparation::MakeTables => make_marked_store(store, screen, file, base),
+        Preparation::RemoveMark => {
+            store.mark.remove();
+            Ok(())
+        }
+        Preparation::Nothing => Ok(()),
+    }
+}
+
+// Returns a listener for progress, if standard error is a terminal and the clock works.
+fn screen_of<'a>(rt: &'a HostRuntime, task: &Task) -> Option<Screen<'a, HostRuntime>> {
+    if rt.stderr().is_terminal() {
+        Screen::new(rt, is_import(task))
+    } else {
+        None
+    }
+}
+
+// Opens a socket on this machine's loopback address, if the system also lets the program open three
+// more files. A connection needs its stream and a copy of it, and one more file while the store is
+// opened again.
+fn open_socket(rt: &HostRuntime, port: u16) -> Result<TcpListener, OpenFailure> {
+    let Ok(listener) = TcpListener::bind(rt, (Ipv4Addr::LOCALHOST, port)) else {
+        return Err(OpenFailure::Socket);
+    };
+    let copies = (
+        listener.try_clone(),
+        listener.try_clone(),
+        listener.try_clone(),
+    );
+    match copies {
+        (Ok(_), Ok(_), Ok(_)) => Ok(listener),
+        _ => Err(OpenFailure::Connection),
+    }
+}
+
+// Opens the posting file of an import, or a socket on the loopback address for a server. Returns
+// `None` for a migration, which loads no store.
+fn open_work(
+    rt: &HostRuntime,
+    task: Task,
+    screen: &Option<Screen<'_, HostRuntime>>,
+) -> Result<Option<Work<File, TcpListener>>, OpenFailure> {
+    match planned_work(task) {
+        PlannedWork::Ready(work) => Ok(Some(work)),
+        PlannedWork::Import(file) => {
+            Ok(Some(import_work(File::open(rt, file.as_str()), screen)?))
+        }
+        PlannedWork::Serve(options) => {
+            Ok(Some(serve_work(open_socket(rt, options.port), options)?))
+        }
+        PlannedWork::Migrate => Ok(None),
+    }
+}
+
+// Prepares the store in an open database for its task, and opens the task's file or socket. An
+// error is the fault of either.
+fn open_over<'r, S: Alter + Drop>(
+    rt: &'r HostRuntime,
+    task: Task,
+    mut store: StoreDatabase<'r, S>,
+    file: String,
+    setting: StoreSetting,
+) -> Result<OpenJob<'r, S>, StartFailure>
+    requires { store.conn.in_transaction ≡ false }
+    ensures { IfOk result IsIdle }
+{
+    let StoreSetting { base, limits } = setting;
+    let progress = screen_of(rt, &task);
+    let is_check = is_check(&task);
+    let work = match open_work(rt, task, &progress) {
+        Ok(work) => work,
+        Err(unopened) => return Err(StartFailure::Unopened(unopened)),
+    };
+    if let Err((trouble, fault)) = prepare_store(
+        &mut store,
+        is_check,
+        progress,
+        file.as_str(),
+        &base,
+    ) {
+        return Err(StartFailure::InStore(file, trouble, fault));
+    }
+    let opener = match StoreFiles::new(rt, file.as_str()) {
+        Ok(opener) => opener,
+        Err(fault) => {
+            return Err(StartFailure::InStore(file, StoreTrouble::Unreadable, fault));
+        }
+    };
+    let StoreDatabase {
+        conn,
+        mark: _,
+        opening: _,
+    } = store;
+    match work {
+        Some(work) => Ok(OpenJob::InFile(DatabaseWork {
+            work,
+            file,
+            limits,
+            conn,
+            opener,
+            progress,
+        })),
+        None => Ok(OpenJob::Migration(file, conn)),
+    }
+}
+
+// Opens the job of a task over the store in a file. If the file is absent or empty, or making its
+// store was cut short, every task but a check makes the store.
+fn open_in_file(
+    rt: &HostRuntime,
+    task: Task,
+    file: String,
+    setting: StoreSetting,
+) -> Result<OpenJob<'_, FileStore<sqlite::File>>, StartFailure>
+    ensures { IfOk result IsIdle }
+{
+    match open_store(rt, &task, file.as_str()) {
+        Ok(store) => open_over(rt, task, store, file, setting),
+        Err((trouble, fault)) => Err(StartFailure::InStore(file, trouble, fault)),
+    }
+}
+
+// Opens the job of a task over a new store in memory.
+fn open_in_memory<S: Alter>(
+    rt: &HostRuntime,
+    task: Task,
+    setting: StoreSetting,
+) -> Result<OpenJob<'_, S>, StartFailure>
+    ensures { IfOk result IsIdle }
+{
+    let StoreSetting { base, limits } = setting;
+    let progress = screen_of(rt, &task);
+    match open_work(rt, task, &progress) {
+        Ok(Some(work)) => Ok(OpenJob::InMemory(MemoryWork {
+            work,
+            base,
+            limits,
+            progress,
+        })),
+        Ok(None) => Ok(OpenJob::Version),
+        Err(unopened) => Err(StartFailure::Unopened(unopened)),
+    }
+}
+
+/// Opens the store that a job names, and the file or socket of its task.
+pub fn open_job(
+    rt: &HostRuntime,
+    planned: Result<Job, EarlyExit>,
+) -> Result<OpenJob<'_, FileStore<sqlite::File>>, StartFailure>
+    ensures { IfOk result IsIdle }
+{
+    match planned {
+        Ok(
+            Job {
+                task,
+                file,
+                setting,
+            },
+        ) => match file {
+            Some(file) => open_in_file(rt, task, file, setting),
+            None => open_in_memory(rt, task, setting),
+        },
+        Err(early_exit) => Err(StartFailure::EarlyExit(early_exit)),
+    }
+}

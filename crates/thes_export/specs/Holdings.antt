@@ -1,0 +1,38 @@
+-- The top concepts of each scheme, and the members of each collection.
+use Rattle.std.specs.Prelude.{◌≡◌, ◌≤◌, ℕ, Option, None, Some, length}
+use Rattle.std.specs.Ordering.{nat_cmp}
+use Rattle.thes_base.specs.declared.data.LinkKind.TheVariants as kind
+use Rattle.thes_base.specs.Resources.{IsLiveConcept, scheme_of}
+use Rattle.thes_base.specs.Views.{HasLink, HasBroader}
+use Rattle.thes_core.specs.CoreView.{CoreView}
+use Rattle.thes_lists.specs.Lists.{AreListings}
+use Rattle.thes_export.specs.declared.holdings.Holdings.{Holdings}
+
+-- The number is one from 1 to `most` with the property.
+abbrev pub IsUpTo : ℕ → (ℕ → Type 0) → ℕ → Type 0
+IsUpTo most Is n = (1 ≤ n) × (n ≤ most) × Is n
+
+module _ (core : CoreView) where
+  -- Concept `n` is a top concept of the scheme `m`.
+  abbrev pub IsTopIn : ℕ → ℕ → Type 0
+  IsTopIn n m =
+      IsLiveConcept core.resources n × (scheme_of core.resources n ≡ Some m)
+      × ((b : ℕ) → HasBroader core.links n b → ⊥)
+
+  -- The option is the scheme of which `n` is a top concept, or None if there is none.
+  abbrev pub IsTopScheme : ℕ → Option ℕ → Type 0
+  IsTopScheme n None = (m : ℕ) → IsTopIn n m → ⊥
+  IsTopScheme n (Some m) = IsTopIn n m
+
+  -- Of the resources up to `most`, `n` is a top concept of the scheme `m`.
+  abbrev pub IsTopUpTo : ℕ → ℕ → ℕ → Type 0
+  IsTopUpTo most m = IsUpTo most (λ n. IsTopIn n m)
+
+  -- Of the resources up to `most`, `n` is a member of the collection `k`.
+  abbrev pub IsMemberUpTo : ℕ → ℕ → ℕ → Type 0
+  IsMemberUpTo most k = IsUpTo most (HasLink core.links kind.Member k)
+
+  -- Under the number of each scheme are its top concepts, under that of each collection its members.
+  pub record AreHoldings (h : Holdings) : Type 0 where
+    pub tops : AreListings nat_cmp (IsTopUpTo (length core.resources)) h.tops
+    pub members : AreListings nat_cmp (IsMemberUpTo (length core.resources)) h.members

@@ -1,0 +1,256 @@
+-- Proves that the changes of the posts of a group, one after another, lead from the rows of the state before the group
+-- to those of the state after it, and that the facts about each of them are those of the tables.
+use Rattle.std.proofs.Common.{◌≡◌, ◌++◌, ◌∷◌, [], ◌<◌, ◌+◌, ◌∙◌, ℕ, suc, List, refl, sym, ap, subst, take, length}
+use Rattle.std.proofs.Common.{arith, inl, inr, append-nil}
+use Rattle.std.proofs.lemmas.List.{take-append-le, take_all}
+use Rattle.std.proofs.lemmas.Option.{slice_get_within}
+use Rattle.std.proofs.lemmas.List.Elements.{All-pop}
+use Rattle.std.specs.Prelude.{Err, None, Ok, Option, Result, Some, slice_get}
+use Rattle.thes_base.specs.declared.data.History.{History}
+use Rattle.thes_base.specs.declared.data.Limits.{Limits}
+use Rattle.thes_base.specs.declared.fault.Fault.{Fault}
+use Rattle.thes_base.specs.declared.request.Answer.{Answer}
+use Rattle.thes_base.specs.declared.request.Command.{Command}
+use Rattle.thes_base.specs.declared.request.Command.TheVariants as request
+use Rattle.thes_base.specs.Changes.{new_history, state_after_post}
+use Rattle.thes_base.specs.Legal.{IsLegalState}
+use Rattle.thes_base.specs.Machine.{Step, next_state}
+use Rattle.thes_base.specs.Refusals.{Setting}
+use Rattle.thes_base.specs.Resources.{replacements}
+use Rattle.thes_base.specs.State.{State}
+use Rattle.thes_base.proofs.MachineLemmas.{legal_is_consistent}
+use Rattle.thes_base.proofs.NumberedLemmas.{push_old, push_cases}
+use Rattle.thes_tables.specs.declared.change.Change.{Change}
+use Rattle.thes_tables.specs.declared.rows.PostingRow.{PostingRow}
+use Rattle.thes_tables.specs.Cells.{Raw, cells_of_tables}
+use Rattle.thes_tables.specs.ChangeLaw.{AreChangesBetween}
+use Rattle.thes_tables.specs.Rows.{tables_after_delta}
+use Rattle.thes_tables.specs.Tables.{Tables, IsRowsOf}
+use Rattle.thes_tables.proofs.DeltaAppendLemmas.{all_append, fit_append}
+use Rattle.thes_core.specs.declared.facts.Facts.{Facts}
+use Rattle.thes_core.specs.CoreDecisions.{AcceptedVerdict}
+use Rattle.thes_core.specs.CoreView.{CoreView, IsViewOf}
+use Rattle.thes_core.specs.Facts.{AreFacts, IsRowOfKey}
+use Rattle.thes_core.proofs.DeltaLemmas.{take_got}
+use Rattle.thes_core.proofs.NextStateLemmas.{step_of_accepted}
+use Rattle.thes_office.specs.Groups.{GroupDecided, GroupResult, HasFactsOf, IsDecided, IsGroup, IsNewPost, IsPostOf}
+use Rattle.thes_office.specs.Groups.{TablesAfterGroup}
+use Rattle.thes_office.specs.Office.{ChangesNothing, IsCopy, OfficeView, SameTables, TablesAfterRun}
+use Rattle.thes_office.specs.TablesOfState.{TablesOfState}
+use Rattle.thes_office.proofs.OfficeViewLemmas.{all_parts, run_push}
+use Rattle.thes_office.proofs.StateTableLemmas.{state_after_changes}
+use Rattle.thes_office.proofs.StepLemmas.{accepted_changes}
+
+-- No requests are a group.
+pub group_empty : (commands : List Command) → IsGroup (take 0 commands)
+group_empty commands i command at = absurd (cc)
+
+-- A group and one more new post are a group.
+group_push : (xs : List Command) (c : Command) → IsGroup xs → IsNewPost xs c → IsGroup (xs ++ c ∷ [])
+group_push xs c group new i command at = elim (push_cases xs c command (suc i) at) [
+  | inl here ↦
+      let within : i < length xs = slice_get_within xs i command here in
+      subst (λ (ys : List Command). IsNewPost ys command) (sym (take-append-le i xs (c ∷ []) (omega arith)))
+      (group i command here)
+  | inr last ↦
+      let front : take i (xs ++ c ∷ []) ≡ xs = take-append-le i xs (c ∷ []) (omega (arith, last.0))
+      ∙ take_all i xs (omega (arith, last.0)) in
+      subst (λ (ys : List Command). IsNewPost ys command) (sym front) (subst (IsNewPost xs) (sym last.1) new)
+]
+
+-- A front that is a group, and the next request, which is a new post, are a group.
+pub group_grows : (commands : List Command) (n : ℕ) (command : Command) → slice_get commands n ≡ Some command
+    → IsGroup (take n commands) → IsNewPost (take n commands) command → IsGroup (take (n + 1) commands)
+group_grows commands n command at group new =
+    subst IsGroup (sym (take_got commands n command at)) (group_push (take n commands) command group new)
+
+-- The changes to a state, and those from it to another, lead to the other.
+changes_then : (base : List ℕ) (s t u : State) (xs ys : List Change) → AreChangesBetween base xs s t
+    → AreChangesBetween base ys t u → AreChangesBetween base (xs ++ ys) s u
+changes_then base s t u xs ys a b = record {
+  rows = λ tables is. subst (IsRowsOf base u) (sym (all_append xs ys tables))
+      (b.rows (tables_after_delta xs tables) (a.rows tables is));
+  fit = λ tables is. fit_append xs ys tables (a.fit tables is)
+      (b.fit (tables_after_delta xs tables) (a.rows tables is));
+}
+
+-- No changes lead from a state to itself.
+pub no_changes : (base : List ℕ) (s : State) → AreChangesBetween base [] s s
+no_changes base s = record { rows = λ tables is. is; fit = λ tables is. tt }
+
+-- A new posting with another key leaves the posting of a key as it is.
+row_stays : (key : List ℕ) (hs : List History) (new : History) (found : Option PostingRow) → (new.key ≡ key → ⊥)
+    → IsRowOfKey key hs found → IsRowOfKey key (hs ++ new ∷ []) found
+row_stays key hs new (Some row) other is = (is.0, (push_old hs new is.0 is.0.number is.1.0, is.1.1), is.2)
+row_stays key hs new None other never = λ h has. elim (push_cases hs new h h.number has.0) [
+  | inl before ↦ never h (before, has.1)
+  | inr last ↦ other (ap (λ (x : History). x.key) (sym last.1) ∙ has.1)
+]
+
+-- A decided post leaves the facts about a post with another key as they are.
+facts_stay : (setting : Setting) (s t : State) (k r : List ℕ) (c : ℕ) (answer : Answer) (key rec : List ℕ) (concept : ℕ)
+    (facts : Facts) → Step setting s (request.Post k r c) answer t → (k ≡ key → ⊥)
+    → AreFacts (request.Post key rec concept) s.histories facts
+    → AreFacts (request.Post key rec concept) t.histories facts
+facts_stay setting s t k r c answer key rec concept facts (inl known) other are =
+    subst (λ (x : State). AreFacts (request.Post key rec concept) x.histories facts) (sym known.1) are
+facts_stay setting s t k r c answer key rec concept facts (inr (new, inl refused)) other are =
+    subst (λ (x : State). AreFacts (request.Post key rec concept) x.histories facts) (sym refused.3) are
+facts_stay setting s t k r c answer key rec concept facts (inr (new, inr accepted)) other are =
+    subst (λ (x : State). AreFacts (request.Post key rec concept) x.histories facts) (sym accepted.2)
+    (let after : AreFacts (request.Post key rec concept) (state_after_post k r c s).histories facts = record {
+      known = row_stays key s.histories (new_history k r c (replacements s.resources c) s.histories) facts.known
+          other are.known;
+      named_postings = are.named_postings;
+      standing = are.standing;
+    } in after)
+
+-- A settled request changes neither the state nor the rows.
+pub decided_settled : (setting : Setting) (s : State) (command : Command) (answer : Answer) (changes : List Change)
+    (copy : CoreView) → Step setting s command answer s → IsViewOf copy s
+    → IsDecided setting s command answer changes changes copy
+decided_settled setting s command answer changes copy step holds = record {
+  state_after = s;
+  step = step;
+  holds = holds;
+  changes = [];
+  more = sym (append-nil changes);
+  leads = no_changes setting.base s;
+  same = λ nothing. refl;
+}
+
+-- An accepted request that is applied to the core leads to the next state.
+pub decided_accepted : (setting : Setting) (s : State) (command : Command) (answer : Answer)
+    (before after changes : List Change) (copy : CoreView) → AcceptedVerdict setting s command answer changes
+    → IsViewOf copy (next_state command s) → after ≡ before ++ changes
+    → IsDecided setting s command answer before after copy
+decided_accepted setting s command answer before after changes copy grants holds more = record {
+  state_after = next_state command s;
+  step = subst (λ (a : Answer). Step setting s command a (next_state command s)) (sym grants.answer_is)
+      (step_of_accepted setting s command grants.accepts);
+  holds = holds;
+  changes = changes;
+  more = more;
+  leads = grants.leads;
+  same = λ nothing. absurd (accepted_changes command s (subst ChangesNothing grants.answer_is nothing));
+}
+
+-- Before its first request, a group is decided on the state of the tables.
+pub group_starts : (raw : Raw) (limits : Limits) (copy : CoreView) (done : List Command) (answers : List Answer)
+    (changes : List Change) → IsCopy raw limits copy → done ≡ [] → answers ≡ [] → changes ≡ []
+    → GroupDecided raw copy.setting done answers changes copy
+group_starts raw limits copy done answers changes is none unanswered unchanged =
+    subst (λ (p : List Command × List Answer × List Change). GroupDecided raw copy.setting p.0 p.1 p.2 copy)
+    (λ i. (sym none i, sym unanswered i, sym unchanged i)) record {
+      state_before = is.state;
+      state_after = is.state;
+      shows = is.shows;
+      holds = is.holds;
+      run = refl;
+      leads = no_changes copy.setting.base is.state;
+      facts = λ command new facts are. are copy.setting.base is.state is.shows;
+      same = λ all. refl;
+    }
+
+-- One more decided post of a group.
+pub group_continues : (raw : Raw) (setting : Setting) (done more : List Command) (command : Command)
+    (answers told : List Answer) (answer : Answer) (before after : List Change) (copy copy' : CoreView)
+    → (g : GroupDecided raw setting done answers before copy) → IsNewPost done command
+    → IsDecided setting g.state_after command answer before after copy' → told ≡ answers ++ answer ∷ []
+    → more ≡ done ++ command ∷ [] → GroupDecided raw setting more told after copy'
+group_continues raw setting done more command answers told answer before after copy copy' g new d pushed grown =
+    subst (λ (p : List Command × List Answer × List Change). GroupDecided raw setting p.0 p.1 p.2 copy')
+    (λ i. (sym grown i, sym pushed i, sym d.more i)) record {
+      state_before = g.state_before;
+      state_after = d.state_after;
+      shows = g.shows;
+      holds = d.holds;
+      run = run_push setting done answers g.state_before g.state_after d.state_after command answer g.run d.step;
+      leads = changes_then setting.base g.state_before g.state_after d.state_after before d.changes g.leads d.leads;
+      facts = λ next newer facts are. facts_of_next next newer facts are;
+      same = λ all. let parts = all_parts ChangesNothing answers (answer ∷ []) all in
+          (λ i. g.same parts.0 i ++ d.same parts.1.0 i);
+    }
+  where
+    step : Step setting g.state_after (request.Post new.key new.rec new.concept) answer d.state_after
+    step = subst (λ (x : Command). Step setting g.state_after x answer d.state_after) new.is d.step
+
+    facts_of_next : (next : Command) → IsNewPost (done ++ command ∷ []) next → HasFactsOf raw next d.state_after
+    facts_of_next next newer facts are =
+        let parts = All-pop (λ (other : Command). IsPostOf newer.key other → ⊥) (done ++ command ∷ []) done
+        (Some command) refl newer.fresh in
+        let other : new.key ≡ newer.key → ⊥ = subst (λ (x : Command). IsPostOf newer.key x → ⊥) new.is parts.1 in
+        let here = g.facts next (record {
+          key = newer.key;
+          rec = newer.rec;
+          concept = newer.concept;
+          is = newer.is;
+          fresh = parts.0;
+        }) facts are in
+        subst (λ (x : Command). AreFacts x d.state_after.histories facts) (sym newer.is)
+        (facts_stay setting g.state_after d.state_after new.key new.rec new.concept answer newer.key newer.rec
+        newer.concept facts step other (subst (λ (x : Command). AreFacts x g.state_after.histories facts) newer.is
+        here))
+
+-- One more post of a group, decided in the state after those before it.
+pub decides_one_more : (raw mid : Raw) (setting : Setting) (done more : List Command) (command : Command)
+    (answers told : List Answer) (answer : Answer) (before after : List Change) (copy copy' : CoreView)
+    → GroupDecided raw setting done answers before copy → copy.setting ≡ setting → mid ≡ raw → IsNewPost done command
+    → ((s : State) → IsViewOf copy s → HasFactsOf mid command s
+    → IsDecided copy.setting s command answer before after copy') → told ≡ answers ++ answer ∷ []
+    → more ≡ done ++ command ∷ [] → GroupDecided raw setting more told after copy'
+decides_one_more raw mid setting done more command answers told answer before after copy copy' g set same new decides
+    pushed grown =
+    group_continues raw setting done more command answers told answer before after copy copy' g new
+    (subst (λ (q : Setting). IsDecided q g.state_after command answer before after copy') set
+    (decides g.state_after g.holds
+    (subst (λ (r : Raw). HasFactsOf r command g.state_after) (sym same) (g.facts command new)))) pushed grown
+
+-- A decided group whose changes are committed.
+module _ (old new : Raw) (setting : Setting) (group : List Command) (answers : List Answer) (changes : List Change)
+    (copy : CoreView) (g : GroupDecided old setting group answers changes copy) (is : copy.setting ≡ setting)
+    (made : (t : Tables) → old ≡ cells_of_tables t → new ≡ cells_of_tables (tables_after_delta changes t)) where
+  shows_after : TablesOfState new setting.base g.state_after
+  shows_after = state_after_changes old new setting.base g.state_before g.state_after changes g.shows g.leads
+      (subst (λ (q : Setting). IsLegalState q.base g.state_after) is g.holds.legal) made
+
+  pub group_is_run : TablesAfterGroup setting.limits old group answers new
+  group_is_run = record {
+    goes_on = record {
+      base = setting.base;
+      state_before = g.state_before;
+      state_after = g.state_after;
+      tables_before = g.shows;
+      run = g.run;
+      shows = shows_after;
+      in_order = legal_is_consistent setting.base g.state_after shows_after.legal;
+    };
+    same = λ all. made g.shows.tables g.shows.rows
+        ∙ ap (λ (l : List Change). cells_of_tables (tables_after_delta l g.shows.tables)) (g.same all)
+        ∙ sym g.shows.rows;
+  }
+
+  pub copy_after_group : IsCopy new setting.limits copy
+  copy_after_group = record {
+    limits_are = ap (λ (q : Setting). q.limits) is;
+    state = g.state_after;
+    holds = g.holds;
+    shows = subst (λ (q : Setting). TablesOfState new q.base g.state_after) (sym is) shows_after;
+  }
+
+module _ {K : Type 0} (rows : K → Raw) (is_up : K → Type 0) where
+  -- A reload before a group changes nothing that its result states.
+  pub group_after_reload : (old mid new : OfficeView K) (group : List Command) (before last : List Answer)
+      (result : Result (Unit {0}) Fault) → mid.limits ≡ old.limits → SameTables rows is_up old mid
+      → (is_up new.keeper → is_up mid.keeper) → GroupResult rows is_up mid group before last result new
+      → GroupResult rows is_up old group before last result new
+  group_after_reload old mid new group before last (Ok done) limits same was x = record {
+    answers = x.answers;
+    each = x.each;
+    kept = x.kept;
+    goes_on = λ up. subst (λ (p : Limits × Raw). TablesAfterRun p.0 p.1 group x.answers (rows new.keeper))
+        (λ i. (limits i, same (was up) i)) (x.goes_on up);
+    same = λ up all. x.same up all ∙ same (was up);
+  }
+  group_after_reload old mid new group before last (Err fault) limits same was x =
+      (x.0, λ up. x.1 up ∙ same (was up))

@@ -1,0 +1,53 @@
+use Rattle.std.proofs.Common.{◌++◌, ◌∷◌, [], List, refl, rules, arith, take, length, sym, ap, ◌∙◌, subst, length-append}
+use Rattle.std.proofs.lemmas.List.{take_more, take_all}
+use Rattle.std.proofs.lemmas.Option.{slice_get_read}
+use Rattle.thes_base.specs.declared.request.Answer.{Answer}
+use Rattle.thes_base.specs.declared.request.Command.{Command}
+use Rattle.thes_office.specs.Groups.{GroupDecided}
+use Rattle.thes_office.proofs.GroupLemmas.{group_starts, decides_one_more}
+use Rattle.thes_office.proofs.group.decide_group.Goals as goal
+
+pub loop-command-init : goal.loop-command-init
+loop-command-init g c = record {
+  same = λ up. refl;
+  was = λ up. up;
+  count = refl;
+  unspent = c.requires.unspent;
+  setting = refl;
+  each = search rules;
+  decides = λ up. group_starts (g.K.Keeper.rows c.args.keeper.now) c.args.core.now.setting.limits c.args.core.now
+      (take 0 c.args.group.now) _ _ (c.requires.copies up) refl (search rules) (search rules);
+}
+
+pub loop-command-preserved : goal.loop-command-preserved
+loop-command-preserved g c =
+    let more = take_more c.args.group.now c.loop-command.command-index c.command-item.result (omega arith)
+    ∙ ap (λ (x : Command). take c.loop-command.command-index c.args.group.now ++ x ∷ []) (sym c.command-item.is) in
+    let asks = c.decide_next.ensures.asks in
+    let decided = c.in-Ok.ensures.decides in record {
+      same = λ up. asks.same up ∙ c.loop-command.invariant.same (asks.was up);
+      was = λ up. c.loop-command.invariant.was (asks.was up);
+      count = c.in-Ok.ensures.asks.cause ∙ c.loop-command.invariant.count;
+      unspent = c.in-Ok.ensures.usable.0;
+      setting = c.in-Ok.ensures.usable.1 ∙ c.loop-command.invariant.setting;
+      each = let grown = ap (λ (l : List Answer). length l) decided.1 in
+          let one = length-append c.loop-command.decided.answers.items (decided.0 ∷ []) in
+          let before = c.loop-command.invariant.each in
+          omega (arith, grown, one, before);
+      decides = λ up. let was = asks.was up in
+          decides_one_more (g.K.Keeper.rows c.args.keeper.now) (g.K.Keeper.rows c.loop-command.keeper)
+          c.args.core.now.setting (take c.loop-command.command-index c.args.group.now) _ c.command-item.result
+          c.loop-command.decided.answers.items c.decide_next.new.decided.answers.items decided.0
+          c.loop-command.decided.delta c.decide_next.new.decided.delta c.loop-command.core c.decide_next.new.core
+          (c.loop-command.invariant.decides was) c.loop-command.invariant.setting
+          (c.loop-command.invariant.same was)
+          (c.requires.group c.loop-command.command-index c.command-item.result
+          (slice_get_read c.args.group.now (length c.args.group.now) c.loop-command.command-index
+          c.command-item.result refl (omega arith) c.command-item.is)) (decided.2 up) decided.1 more;
+    }
+
+pub returns-clause-decides : goal.returns-clause-decides
+returns-clause-decides g c up =
+    subst (λ (l : List Command). GroupDecided (g.K.Keeper.rows c.args.keeper.now) c.args.core.now.setting l
+    c.loop-command.decided.answers.items c.loop-command.decided.delta c.loop-command.core)
+    (take_all c.loop-command.command-index c.args.group.now (omega arith)) (c.loop-command.invariant.decides up)

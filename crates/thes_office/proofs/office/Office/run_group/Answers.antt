@@ -1,0 +1,33 @@
+use Rattle.std.proofs.Common.{ap, sym, subst, ◌∙◌, refl, Bool}
+use Rattle.thes_base.specs.declared.data.Limits.{Limits}
+use Rattle.thes_office.specs.Office.{IsConsistent, IsCopy, OfficeView}
+use Rattle.thes_office.proofs.StepLemmas.{copies_own}
+use Rattle.thes_office.proofs.OfficeViewLemmas.{consistent_after_load, consistent_when_spent}
+use Rattle.thes_office.proofs.office.Office.run_group.Goals as goal
+
+pub invariant_of-self : goal.invariant_of-self
+invariant_of-self g c =
+    let fresh = ap (λ (d : OfficeView _). d.stale) c.self.view_is ∙ c.requires.fresh in
+    subst (λ (b : Bool). IsConsistent g.K.Keeper.rows g.K.Keeper.is_up g.K.Keeper.failed c.perform_group.new.keeper
+    c.perform_group.new.core c.self.inside.limits b) (sym fresh)
+    (consistent_after_load g.K.Keeper.rows g.K.Keeper.is_up g.K.Keeper.failed c.perform_group.new.keeper
+    c.perform_group.new.keeper c.perform_group.new.core c.self.inside.limits c.self.invariant.few
+    c.in-Ok.ensures.unspent
+    (λ up. subst (λ (l : Limits). IsCopy (g.K.Keeper.rows c.perform_group.new.keeper) l c.perform_group.new.core)
+    (c.self.invariant.copies fresh (c.perform_group.ensures.was up)).limits_are (c.in-Ok.ensures.copies up))
+    (λ up. refl))
+
+pub invariant_of-self-in-Err : goal.invariant_of-self-in-Err
+invariant_of-self-in-Err g c =
+    consistent_when_spent g.K.Keeper.rows g.K.Keeper.is_up g.K.Keeper.failed c.self.inside.keeper
+    c.perform_group.new.keeper c.self.inside.core c.perform_group.new.core c.self.inside.limits c.self.inside.stale
+    c.self.invariant c.perform_group.ensures.was c.in-Err.ensures.same c.in-Err.ensures.spent
+
+pub perform_group-requires-clause-unspent : goal.perform_group-requires-clause-unspent
+perform_group-requires-clause-unspent g c =
+    c.self.invariant.unspent (ap (λ (d : OfficeView _). d.stale) c.self.view_is ∙ c.requires.fresh)
+
+pub perform_group-requires-clause-copies : goal.perform_group-requires-clause-copies
+perform_group-requires-clause-copies g c up =
+    copies_own (g.K.Keeper.rows c.self.inside.keeper) c.self.inside.limits c.self.inside.core
+    (c.self.invariant.copies (ap (λ (d : OfficeView _). d.stale) c.self.view_is ∙ c.requires.fresh) up)

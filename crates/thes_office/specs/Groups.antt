@@ -1,0 +1,80 @@
+-- Groups of posts with different keys, which are performed in one transaction.
+use Rattle.std.specs.Prelude.{◌≡◌, ◌++◌, ℕ, List, [], Result, Ok, Err, Some, All, take, slice_get}
+use Rattle.std.specs.List.{AllByRecursion}
+use Rattle.thes_base.specs.Types.{Key, Number, RecordName}
+use Rattle.thes_base.specs.declared.data.Limits.{Limits}
+use Rattle.thes_base.specs.declared.fault.Fault.{Fault}
+use Rattle.thes_base.specs.declared.request.Answer.{Answer}
+use Rattle.thes_base.specs.declared.request.Command.{Command}
+use Rattle.thes_base.specs.declared.request.Command.TheVariants as request
+use Rattle.thes_base.specs.Machine.{Run, Step}
+use Rattle.thes_base.specs.Refusals.{Setting}
+use Rattle.thes_base.specs.State.{State}
+use Rattle.thes_tables.specs.declared.change.Change.{Change}
+use Rattle.thes_tables.specs.Cells.{Raw}
+use Rattle.thes_tables.specs.ChangeLaw.{AreChangesBetween}
+use Rattle.thes_core.specs.declared.facts.Facts.{Facts}
+use Rattle.thes_core.specs.CoreView.{CoreView, IsViewOf}
+use Rattle.thes_core.specs.Facts.{AreFacts}
+use Rattle.thes_office.specs.QueryFrames.{FactsInTables}
+use Rattle.thes_office.specs.TablesOfState.{TablesOfState}
+use Rattle.thes_office.specs.Office.{ChangesNothing, CompleteRun, OfficeView, SameTables, TablesAfterRun}
+
+-- The request is a Post with this key.
+abbrev pub IsPostOf : Key → Command → Type 0
+IsPostOf key (request.Post own rec concept) = own ≡ key
+IsPostOf key _ = ⊥
+
+-- The request is a Post, and none of the earlier requests is a Post with its key.
+pub record IsNewPost (earlier : List Command) (command : Command) : Type 0 where
+  pub key : Key
+  pub rec : RecordName
+  pub concept : Number
+  pub is : command ≡ request.Post key rec concept
+  pub fresh : All (λ other. ¬ IsPostOf key other) earlier
+
+-- Each request is a Post, with a key of its own.
+abbrev pub IsGroup : List Command → Type 0
+IsGroup commands =
+    (i : ℕ) (command : Command) → slice_get commands i ≡ Some command → IsNewPost (take i commands) command
+
+-- The facts that the tables have about the request are also those of this state.
+abbrev pub HasFactsOf : Raw → Command → State → Type 0
+HasFactsOf raw command s = (facts : Facts) → FactsInTables raw command facts → AreFacts command s.histories facts
+
+-- The request is decided in the state `s`, and applied to the core; its changes of rows are appended to the others.
+pub record IsDecided (setting : Setting) (s : State) (command : Command) (answer : Answer)
+    (before after : List Change) (copy : CoreView) : Type 0 where
+  pub state_after : State
+  pub step : Step setting s command answer state_after
+  pub holds : IsViewOf copy state_after
+  pub changes : List Change
+  pub more : after ≡ before ++ changes
+  pub leads : AreChangesBetween setting.base changes s state_after
+  pub same : ChangesNothing answer → changes ≡ []
+
+-- Requests of a group are decided on the state that the tables encode: their answers, their changes of rows, and the
+-- core, which holds the state after them. The tables have the facts about any new post that this state has.
+pub record GroupDecided (raw : Raw) (setting : Setting) (done : List Command) (answers : List Answer)
+    (changes : List Change) (copy : CoreView) : Type 0 where
+  pub state_before : State
+  pub state_after : State
+  pub shows : TablesOfState raw setting.base state_before
+  pub holds : IsViewOf copy state_after
+  pub run : Run setting state_before done answers state_after
+  pub leads : AreChangesBetween setting.base changes state_before state_after
+  pub facts : (command : Command) → IsNewPost done command → HasFactsOf raw command state_after
+  pub same : AllByRecursion ChangesNothing answers → changes ≡ []
+
+-- The answers and the tables are those of a run of the machine, and the tables are unchanged if no answer changes
+-- anything.
+pub record TablesAfterGroup (limits : Limits) (old : Raw) (commands : List Command) (answers : List Answer)
+    (new : Raw) : Type 0 where
+  pub goes_on : TablesAfterRun limits old commands answers new
+  pub same : AllByRecursion ChangesNothing answers → new ≡ old
+
+-- All requests of a group are performed and answered, or none.
+abbrev pub GroupResult : {K : Type 0} → (K → Raw) → (K → Type 0) → OfficeView K → List Command → List Answer
+    → List Answer → Result (Unit {0}) Fault → OfficeView K → Type 0
+GroupResult rows is_up old commands before after (Ok done) new = CompleteRun rows is_up old commands before after new
+GroupResult rows is_up old commands before after (Err fault) new = (after ≡ before) × SameTables rows is_up old new

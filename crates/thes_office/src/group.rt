@@ -1,0 +1,220 @@
+//! Groups of posts with different keys: each is decided on the state that those before it make, and
+//! the changes of all are committed in one transaction.
+ghost use Rattle.std.specs.Prelude.{◌≡◌, ◌⊎◌, ◌≤◌, ◌<◌, ◌↔◌, ◌++◌, ◌+◌, ◌∷◌, [], false, true};
+ghost use Rattle.std.specs.Prelude.{IsTrue, IfOk, OnOk, OnErr, take, length};
+ghost use Rattle.thes_base.specs.declared.request.Answer.{Answer};
+ghost use Rattle.thes_base.specs.State.{State};
+ghost use Rattle.thes_tables.specs.Cells.{cells_of_tables};
+ghost use Rattle.thes_tables.specs.Rows.{DeltaFits, tables_after_delta};
+ghost use Rattle.thes_tables.specs.Tables.{Tables};
+ghost use Rattle.thes_core.specs.CoreView.{IsViewOf};
+ghost use Rattle.thes_store.specs.Causes.{HasCause};
+ghost use Rattle.thes_office.specs.Groups.{GroupDecided, HasFactsOf, IsDecided, IsGroup, IsNewPost};
+ghost use Rattle.thes_office.specs.Groups.{IsPostOf, TablesAfterGroup};
+ghost use Rattle.thes_office.specs.Office.{IsCopy};
+ghost use Rattle.thes_office.specs.QueryFrames.{QueryFrame};
+
+use crate::facts::facts_of;
+use std::alloc::{AllocError, Global};
+use thes_base::fault::Fault;
+use thes_base::request::{Answer, Command};
+use thes_base::text::Key;
+use thes_core::{Core, Verdict};
+use thes_store::keeper::Keeper;
+use thes_tables::delta::Delta;
+
+// The greatest number of posts in a group.
+const GROUP_LIMIT: usize = 128;
+
+// The answers to the requests of a group that are decided so far, and their changes of rows.
+#[derive(Drop)]
+struct Decided {
+    answers: Vec<Answer>,
+    delta: Delta,
+}
+
+// Checks whether a request is a Post with the key.
+fn is_post_of(key: &Key, command: &Command) -> bool
+    ensures { IsTrue result ↔ IsPostOf key.now command.now }
+{
+    match command {
+        Command::Post(own, _, _) => *own == *key,
+        _ => false,
+    }
+}
+
+// Checks whether a request is a Post, and none of the earlier requests is a Post with its key.
+fn is_new_post(earlier: &[Command], command: &Command) -> bool
+    ensures { IsTrue result ↔ IsNewPost earlier.now command.now }
+{
+    match command {
+        Command::Post(key, _, _) => earlier.iter().all(|other| !is_post_of(key, other)),
+        _ => false,
+    }
+}
+
+// Checks whether the first `count` requests, which are a group, and the next one are a group.
+fn may_grow(commands: &[Command], count: usize) -> bool
+    requires { count ≤ length commands.now }
+    ensures { IsTrue result → (count < length commands.now) × (IsGroup (take count commands.now)
+        → IsGroup (take (count + 1) commands.now)) }
+{
+    let Some(command) = commands.get(count) else {
+        return false;
+    };
+    is_new_post(&commands[..count], command)
+}
+
+/// Returns the number of requests at the front of the list that make a group: at most 128 posts
+/// with different keys, or 1 if the first request isn't a Post.
+pub fn group_length(commands: &[Command]) -> usize
+    requires { 0 < length commands.now }
+    ensures some { 0 < result }
+    ensures fits { result ≤ length commands.now }
+    ensures group { IsGroup (take result commands.now) ⊎ (result ≡ 1) }
+{
+    let mut count = 0;
+    'growing: while count < GROUP_LIMIT && may_grow(commands, count) {
+        count += 1;
+    }
+    if count == 0 {
+        return 1;
+    }
+    count
+}
+
+// Appends changes to others.
+fn append_changes(delta: &mut Delta, more: Delta) -> Result<(), AllocError>
+    ensures { OnOk result (delta.new ≡ delta.old ++ more) }
+{
+    for change in more.into_changes() {
+        delta.push(change)?;
+    }
+    Ok(())
+}
+
+// Decides one more request of a group, and applies it to the core, which holds the state after the
+// requests before it. On a fault the core may be ahead of the tables.
+fn decide_next<K: Keeper>(
+    alloc: Global,
+    keeper: &mut K,
+    core: &mut Core,
+    command: &Command,
+    decided: &mut Decided,
+) -> Result<(), Fault>
+    requires { core.old.spent ≡ false }
+    ensures decides { OnOk result ((answer : Answer)
+        × (decided.new.answers.items ≡ decided.old.answers.items ++ answer ∷ [])
+        × (K.is_up keeper.new → (s : State) → IsViewOf core.old s
+        → HasFactsOf (K.rows keeper.old) command.now s → IsDecided core.old.setting s command.now
+        answer decided.old.delta decided.new.delta core.new)) }
+    ensures usable { OnOk result ((core.new.spent ≡ false)
+        × (core.new.setting ≡ core.old.setting)) }
+    ensures asks { QueryFrame K.rows K.is_up K.failed keeper.old keeper.new result }
+{
+    let facts = match facts_of(alloc, keeper, command) {
+        Ok(facts) => facts,
+        Err(fault) => return Err(fault),
+    };
+    match core.decide(command, &facts)? {
+        Verdict::Settled(answer) => {
+            decided.answers.push(answer)?;
+            Ok(())
+        }
+        Verdict::Accepted(answer, delta) => {
+            core.apply(command, &facts)?;
+            append_changes(&mut decided.delta, delta)?;
+            decided.answers.push(answer)?;
+            Ok(())
+        }
+    }
+}
+
+// Decides the requests of a group in order, and applies them to the core.
+fn decide_group<K: Keeper>(
+    alloc: Global,
+    keeper: &mut K,
+    core: &mut Core,
+    group: &[Command],
+) -> Result<Decided, Fault>
+    requires unspent { core.old.spent ≡ false }
+    requires copies { K.is_up keeper.old
+        → IsCopy (K.rows keeper.old) core.old.setting.limits core.old }
+    requires group { IsGroup group.now }
+    ensures decides { IfOk result (λ decided. K.is_up keeper.new
+        → GroupDecided (K.rows keeper.old) core.old.setting group.now decided.answers.items
+        decided.delta core.new) }
+    ensures each { IfOk result (λ decided. length decided.answers.items ≡ length group.now) }
+    ensures usable { OnOk result ((core.new.spent ≡ false)
+        × (core.new.setting ≡ core.old.setting)) }
+    ensures asks { QueryFrame K.rows K.is_up K.failed keeper.old keeper.new result }
+{
+    let mut decided = Decided {
+        answers: Vec::new(alloc),
+        delta: Delta::new(alloc),
+    };
+    for command in group {
+        match decide_next(alloc, keeper, core, command, &mut decided) {
+            Ok(()) => {}
+            Err(fault) => return Err(fault),
+        }
+    }
+    Ok(decided)
+}
+
+// Commits changes, if there are any.
+fn commit_changes<K: Keeper>(keeper: &mut K, delta: Delta) -> Result<(), Fault>
+    requires { K.is_up keeper.old → (t : Tables) → K.rows keeper.old ≡ cells_of_tables t
+        → DeltaFits delta t }
+    ensures ok { OnOk result (K.is_up keeper.new → (t : Tables)
+        → K.rows keeper.old ≡ cells_of_tables t
+        → K.rows keeper.new ≡ cells_of_tables (tables_after_delta delta t)) }
+    ensures err { OnErr result (K.is_up keeper.new → K.rows keeper.new ≡ K.rows keeper.old) }
+    ensures was { K.is_up keeper.new → K.is_up keeper.old }
+    ensures cause { HasCause (K.failed keeper.old) (K.failed keeper.new) result }
+{
+    if delta.as_slice().is_empty() {
+        return Ok(());
+    }
+    keeper.commit(delta)
+}
+
+/// Performs the requests of a group, and returns their answers: each is decided in the state that
+/// the core holds after those before it, and the changes of all are committed in one transaction.
+/// On a fault none is performed, and the core is unusable until reloaded.
+pub fn perform_group<K: Keeper>(
+    alloc: Global,
+    keeper: &mut K,
+    core: &mut Core,
+    group: &[Command],
+) -> Result<Vec<Answer>, Fault>
+    requires unspent { core.old.spent ≡ false }
+    requires copies { K.is_up keeper.old
+        → IsCopy (K.rows keeper.old) core.old.setting.limits core.old }
+    requires group { IsGroup group.now }
+    ensures performed { let limits = core.old.setting.limits in IfOk result (λ answers.
+        K.is_up keeper.new → TablesAfterGroup limits (K.rows keeper.old) group.now answers.items
+        (K.rows keeper.new)) }
+    ensures each { IfOk result (λ answers. length answers.items ≡ length group.now) }
+    ensures unspent { OnOk result (core.new.spent ≡ false) }
+    ensures copies { OnOk result (K.is_up keeper.new
+        → IsCopy (K.rows keeper.new) core.old.setting.limits core.new) }
+    ensures spent { OnErr result (core.new.spent ≡ true) }
+    ensures same { OnErr result (K.is_up keeper.new → K.rows keeper.new ≡ K.rows keeper.old) }
+    ensures was { K.is_up keeper.new → K.is_up keeper.old }
+    ensures cause { HasCause (K.failed keeper.old) (K.failed keeper.new) result }
+{
+    match decide_group(alloc, keeper, core, group) {
+        Ok(Decided { answers, delta }) => {
+            if let Err(fault) = commit_changes(keeper, delta) {
+                core.mark_spent();
+                return Err(fault);
+            }
+            Ok(answers)
+        }
+        Err(fault) => {
+            core.mark_spent();
+            Err(fault)
+        }
+    }
+}
