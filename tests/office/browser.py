@@ -11,6 +11,10 @@ PATIENCE = 120
 READ, WRITE = 3, 4
 
 
+class Navigated(Exception):
+    """Another page came while an expression was evaluated."""
+
+
 class Page:
     """A page of a browser, as a person uses it."""
 
@@ -29,6 +33,8 @@ class Page:
         while True:
             answer = json.loads(self.read())
             if answer.get("id") == self.number:
+                if "navigated" in answer.get("error", {}).get("message", ""):
+                    raise Navigated
                 assert "result" in answer, answer
                 return answer["result"]
 
@@ -45,12 +51,14 @@ class Page:
         return self.call("Runtime.evaluate", expression=script, returnByValue=True)["result"].get("value")
 
     def wait(self, script):
-        """Waits until an expression is true, and returns its value."""
+        """Waits until an expression is true, and returns its value. While another page comes, it has none."""
         end = time.monotonic() + PATIENCE
-        while not (found := self.value(script)):
-            assert time.monotonic() < end, f"{script} isn't true: {self.value('document.body.innerText')[:400]}"
+        while True:
+            with contextlib.suppress(Navigated):
+                if found := self.value(script):
+                    return found
+                assert time.monotonic() < end, f"{script} isn't true: {self.value('document.body.innerText')[:400]}"
             time.sleep(0.05)
-        return found
 
     def open(self, address):
         """Opens a page, and waits until it is whole."""
