@@ -2,7 +2,7 @@
 //! above.
 ghost use Rattle.std.specs.Prelude.{◌≡◌};
 ghost use Rattle.thes_base.specs.Links.{Holds};
-ghost use Rattle.thes_graph.specs.Local.{BreakNone};
+ghost use Rattle.thes_links.specs.Local.{BreakNone};
 
 use std::alloc::{AllocError, Global};
 use test_devices::numbers::Numbers;
@@ -10,7 +10,7 @@ use thes_base::data::{Link, LinkKind};
 use thes_base::fault::Refusal;
 use thes_base::number::ResNo;
 use thes_graph::graph::{Graph, Walk};
-use thes_graph::judge::{judge_add, judge_contract};
+use thes_walks::judge::{judge_add, judge_contract};
 
 fn link(kind: LinkKind, a: u32, b: u32) -> Link {
     Link {

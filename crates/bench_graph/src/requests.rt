@@ -5,7 +5,7 @@ use thes_base::data::{Link, LinkKind};
 use thes_base::fault::Refusal;
 use thes_base::number::ResNo;
 use thes_graph::graph::Graph;
-use thes_graph::judge::judge_add;
+use thes_walks::judge::judge_add;
 
 // Returns the link of this kind from `a` to `b`.
 fn link(kind: LinkKind, a: u32, b: u32) -> Link {

@@ -9,8 +9,8 @@ use thes_base::data::{Link, LinkKind};
 use thes_base::fault::Refusal;
 use thes_base::number::ResNo;
 use thes_graph::graph::Graph;
-use thes_graph::judge::{check_at, judge_add, judge_contract};
-use thes_graph::links::Links;
+use thes_links::links::Links;
+use thes_walks::judge::{check_at, judge_add, judge_contract};
 
 fn no(n: u32) -> ResNo {
     ResNo::new(n.max(1))

@@ -31,7 +31,7 @@ use Rattle.thes_base.proofs.RefusalRuleLemmas.{passed_unless, passed_if}
 use Rattle.thes_base.proofs.SoundStateLemmas.{IsSound}
 use Rattle.thes_vocab.specs.Vocabulary.{Vocabulary, empty_vocabulary}
 use Rattle.thes_vocab.specs.NewResources.{unless_new, vocabulary_after_add}
-use Rattle.thes_graph.specs.GraphView.{GraphView}
+use Rattle.thes_links.specs.GraphView.{GraphView}
 use Rattle.thes_post.specs.PostingCounts.{PostingCounts, ArePostingCounts, CountsAfterMoves}
 use Rattle.thes_post.proofs.PostingCountLemmas.{AllAssigned, all_assigned, both_fit, fewer_than, sums_moved, sums_none}
 use Rattle.thes_core.specs.declared.thesaurus.Thesaurus.{Thesaurus}

@@ -18,8 +18,8 @@ use Rattle.thes_base.specs.Machine.{next_state}
 use Rattle.thes_base.proofs.ForwardingLemmas.{along_led}
 use Rattle.thes_base.proofs.LinkSetLemmas.{links_total, links_exact, without_node_from, without_node_to}
 use Rattle.thes_base.proofs.ListMemberLemmas.{Contains-head, Contains-later, Contains-cons_cases, Contains-none}
-use Rattle.thes_graph.specs.Reading.{IsRow}
-use Rattle.thes_graph.proofs.NormLemmas.{ends_or_not}
+use Rattle.thes_links.specs.Reading.{IsRow}
+use Rattle.thes_links.proofs.NormLemmas.{ends_or_not}
 use Rattle.thes_tables.specs.declared.rows.MoveRow.{MoveRow}
 use Rattle.thes_tables.specs.declared.change.Change.{Change}
 use Rattle.thes_tables.specs.declared.change.Change.TheVariants as change

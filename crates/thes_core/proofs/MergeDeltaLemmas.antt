@@ -15,7 +15,7 @@ use Rattle.thes_base.specs.Postings.{is_assigned_to, assigned_count, move_count}
 use Rattle.thes_base.specs.Resources.{is_outside}
 use Rattle.thes_base.specs.Changes.{state_after_merge}
 use Rattle.thes_base.proofs.LinkSetLemmas.{links_total, links_exact}
-use Rattle.thes_graph.specs.Reading.{IsRow}
+use Rattle.thes_links.specs.Reading.{IsRow}
 use Rattle.thes_post.proofs.PostingCountLemmas.{all_assigned}
 use Rattle.thes_vocab.specs.OwnLabels.{AreLabelsOf}
 use Rattle.thes_tables.specs.declared.change.Change.{Change}

@@ -12,9 +12,9 @@ use Rattle.thes_base.specs.Links.{Links, Holds, normal_form, redirect, redirect_
 use Rattle.thes_base.specs.Links.{is_symmetric, reversed_link}
 use Rattle.thes_base.proofs.LinkSetLemmas.{links_total, links_exact, contracted_from, contracted_to}
 use Rattle.thes_base.proofs.LinkLemmas.{sent_never, sent_other, sent_stays}
-use Rattle.thes_graph.specs.GraphView.{GraphView, is_marked}
-use Rattle.thes_graph.specs.Reading.{IsRow}
-use Rattle.thes_graph.proofs.NormLemmas.{norm_ends, ends_or_not}
+use Rattle.thes_links.specs.GraphView.{GraphView, is_marked}
+use Rattle.thes_links.specs.Reading.{IsRow}
+use Rattle.thes_links.proofs.NormLemmas.{norm_ends, ends_or_not}
 use Rattle.thes_tables.specs.Tables.{IsIn, AreDistinct, IsUnsortedListing}
 use Rattle.thes_tables.proofs.RowSetLemmas.{clash, absent_of_never}
 use Rattle.thes_core.specs.Deltas.{link_added_by_merge}

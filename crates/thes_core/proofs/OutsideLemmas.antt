@@ -17,7 +17,7 @@ use Rattle.thes_base.proofs.ResourceLemmas.{marked_dead_at, passes_push, passes_
 use Rattle.thes_base.proofs.SetMemberLemmas.{inserted_cases, inserted_kept, inserted_new}
 use Rattle.thes_base.proofs.LegalLinkLemmas.{outside_test}
 use Rattle.thes_core.specs.declared.thesaurus.Thesaurus.{Thesaurus}
-use Rattle.thes_graph.specs.GraphView.{MarksOutside}
+use Rattle.thes_links.specs.GraphView.{MarksOutside}
 
 abbrev is_out : Resource → Bool
 is_out r = is_outside_kind r.kind

@@ -18,7 +18,7 @@ use Rattle.thes_base.specs.Changes.{state_after_creation, concept_resource}
 use Rattle.thes_base.specs.RuleParts.{unless_within_limits, unless_unique}
 use Rattle.thes_base.proofs.LinkLemmas.{row_of_first}
 use Rattle.thes_base.proofs.UniquePreferredLemmas.{scheme_at}
-use Rattle.thes_graph.specs.EditChecks.{checks_of_add}
+use Rattle.thes_walks.specs.EditChecks.{checks_of_add}
 use Rattle.thes_post.specs.PostingCounts.{ArePostingCounts}
 use Rattle.thes_vocab.specs.NewResources.{unless_new}
 use Rattle.thes_core.specs.declared.room.Growth.{Growth}

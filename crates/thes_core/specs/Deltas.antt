@@ -6,7 +6,7 @@ use Rattle.thes_base.specs.Data.{LabelData}
 use Rattle.thes_base.specs.Labels.{Label, Labels}
 use Rattle.thes_base.specs.Links.{normal_form, redirect, redirect_link}
 use Rattle.thes_base.specs.Machine.{owned_label}
-use Rattle.thes_graph.specs.GraphView.{GraphView, is_marked}
+use Rattle.thes_links.specs.GraphView.{GraphView, is_marked}
 use Rattle.thes_vocab.specs.CopiedLabels.{lacks_name, merged_label}
 use Rattle.thes_tables.specs.declared.rows.MoveRow.{MoveRow}
 use Rattle.thes_tables.specs.declared.change.Change.{Change}

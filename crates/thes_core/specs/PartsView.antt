@@ -4,7 +4,7 @@ use Rattle.thes_base.specs.declared.data.History.{History}
 use Rattle.thes_base.specs.State.{State}
 use Rattle.thes_base.specs.Refusals.{Setting, IsSetting}
 use Rattle.thes_base.specs.Legal.{IsLegalState}
-use Rattle.thes_graph.specs.GraphView.{MarksOutside}
+use Rattle.thes_links.specs.GraphView.{MarksOutside}
 use Rattle.thes_core.specs.CoreView.{CoreView}
 use Rattle.thes_core.specs.declared.thesaurus.Thesaurus.{Thesaurus}
 

@@ -13,7 +13,7 @@ use Rattle.thes_base.specs.Links.{Links, Holds, normal_form}
 use Rattle.thes_base.specs.RuleParts.{unless_links_consistent}
 use Rattle.thes_base.specs.State.{State}
 use Rattle.thes_base.specs.Machine.{next_state, refusal_rule_of}
-use Rattle.thes_graph.specs.GraphView.{MarksOutside}
+use Rattle.thes_links.specs.GraphView.{MarksOutside}
 use Rattle.thes_post.specs.PostingCounts.{ArePostingCounts}
 use Rattle.thes_core.specs.declared.thesaurus.Thesaurus.{Thesaurus}
 use Rattle.thes_core.specs.declared.facts.Facts.{Facts}

@@ -24,7 +24,7 @@ use thes_base::data::{Label, LabelValue, Link, LinkKind, Resource, ResourceKind}
 use thes_base::number::ResNo;
 use thes_base::request::Command;
 use thes_base::text::{Iri, Tag, Text};
-use thes_graph::judge::normalize_ends;
+use thes_links::normal_form::normalize_ends;
 use thes_tables::change::Change;
 use thes_tables::delta::Delta;
 use thes_tables::rows::{HierRow, HierType, LabelRow};

@@ -2,7 +2,7 @@
 ghost use Rattle.std.specs.Prelude.{◌≡◌, false};
 ghost use Rattle.thes_base.specs.State.{State};
 ghost use Rattle.thes_base.specs.Legal.{IsLegalState};
-ghost use Rattle.thes_graph.specs.GraphView.{MarksOutside};
+ghost use Rattle.thes_links.specs.GraphView.{MarksOutside};
 ghost use Rattle.thes_core.specs.CoreView.{IsViewOf};
 ghost use Rattle.thes_core.specs.Parts.{ArePartsOf};
 

@@ -12,10 +12,10 @@ use Rattle.thes_base.specs.Links.{Links, link_cmp, Holds, links_after_deprecatio
 use Rattle.thes_base.proofs.LinkSetLemmas.{links_total, link_inserted_cases, link_retained, without_node_from}
 use Rattle.thes_base.proofs.LinkSetLemmas.{without_node_to}
 use Rattle.thes_base.proofs.ListMemberLemmas.{Contains-none, Contains-head, Contains-later, Contains-cons_cases}
-use Rattle.thes_graph.specs.GraphView.{GraphView, ends_at}
+use Rattle.thes_links.specs.GraphView.{GraphView, ends_at}
 use Rattle.thes_graph.specs.MergeAdditions.{with_all, without_links}
-use Rattle.thes_graph.proofs.WeightLemmas.{past_of_none}
-use Rattle.thes_graph.proofs.SetLemmas.{same_links, inserted_held, insert_keeps, remove_keeps, removed_cases}
+use Rattle.thes_links.proofs.WeightLemmas.{past_of_none}
+use Rattle.thes_links.proofs.SetLemmas.{same_links, inserted_held, insert_keeps, remove_keeps, removed_cases}
 
 -- A read of the last item gives an item of the list, or shows that it is empty.
 pub last_of : {X : Type 0} (xs : List X) (o : Option X) → o ≡ slice_get xs (length xs - 1)

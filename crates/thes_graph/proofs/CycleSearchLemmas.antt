@@ -11,13 +11,13 @@ use Rattle.thes_base.specs.declared.data.Link.{Link}
 use Rattle.thes_base.specs.Links.{Path, Chain, IsNarrower}
 use Rattle.thes_base.proofs.ListMemberLemmas.{Contains-none, Contains-head, Contains-later, Contains-cons_cases}
 use Rattle.thes_graph.specs.declared.find_cycle.PathNode.{PathNode}
-use Rattle.thes_graph.specs.Steps.{GrowsBy}
-use Rattle.thes_graph.specs.Local.{NoCycleAt}
+use Rattle.thes_links.specs.Steps.{GrowsBy}
+use Rattle.thes_links.specs.Local.{NoCycleAt}
 use Rattle.thes_graph.specs.Whole.{HasCycle}
 use Rattle.thes_graph.specs.CycleSearch.{IsUpwardOrder, IsUpwardPath, IsCycleSearch, stack_measure, search_measure}
-use Rattle.thes_graph.proofs.ReachLemmas.{no_others}
-use Rattle.thes_graph.proofs.PivotLemmas.{Chain-join, Chain-one}
-use Rattle.thes_graph.proofs.WeightLemmas.{take_next, Contains-take}
+use Rattle.thes_links.proofs.ReachLemmas.{no_others}
+use Rattle.thes_links.proofs.PivotLemmas.{Chain-join, Chain-one}
+use Rattle.thes_links.proofs.WeightLemmas.{take_next, Contains-take}
 
 module _ (S : ℕ → ℕ → Type 0) where
   IsUpwardPath-push : (stack : List PathNode) (t : PathNode) → IsUpwardPath S stack

@@ -31,17 +31,16 @@ use Rattle.thes_lists.proofs.OrderLemmas.{remove_sorted, never_below_itself}
 use Rattle.thes_lists.proofs.OrderLemmas as order
 use Rattle.thes_lists.proofs.ListingLemmas.{insert_has, remove_apart, remove_keeps, listing_as, listing_insert}
 use Rattle.thes_lists.proofs.ListingLemmas.{listing_remove}
-use Rattle.thes_graph.specs.declared.side.SidedLink.{SidedLink}
-use Rattle.thes_graph.specs.Side.{sided_link_at, sided_link_cmp}
-use Rattle.thes_graph.specs.Reading.{HaveTwoEnds, IsRow}
-use Rattle.thes_graph.specs.GraphView.{GraphView, ends_at, insertion_sort, sorted_links, sorted_row, sided_links_at}
-use Rattle.thes_graph.specs.GraphView.{links_at}
-use Rattle.thes_graph.specs.Whole.{AreAll}
+use Rattle.thes_graph.specs.declared.sided_links.SidedLink.{SidedLink}
+use Rattle.thes_graph.specs.SidedLinks.{sided_link_at, sided_link_cmp, insertion_sort, sorted_links, sorted_row}
+use Rattle.thes_graph.specs.SidedLinks.{sided_links_at, links_at}
+use Rattle.thes_links.specs.Reading.{HaveTwoEnds, IsRow, AreAll}
+use Rattle.thes_links.specs.GraphView.{GraphView, ends_at}
 use Rattle.thes_graph.specs.Index.{IsIndexed}
 use Rattle.thes_graph.proofs.LinkOrderLemmas.{derived_link_cmp, derived_link_cmp_is, derived_sided_cmp}
 use Rattle.thes_graph.proofs.LinkOrderLemmas.{derived_sided_cmp_is, sided_links_total, sided_links_exact}
-use Rattle.thes_graph.proofs.SetLemmas.{same_links, held_from_list, listed_of_held, held_of_item, item_of_held}
-use Rattle.thes_graph.proofs.SetLemmas.{inserted_held, insert_keeps, remove_keeps as remove_keeps_link, removed_cases}
+use Rattle.thes_links.proofs.SetLemmas.{same_links, held_from_list, listed_of_held, held_of_item, item_of_held}
+use Rattle.thes_links.proofs.SetLemmas.{inserted_held, insert_keeps, remove_keeps as remove_keeps_link, removed_cases}
 
 abbrev net_of : Links → FinSet nat_cmp → GraphView
 net_of links outside = record { links = links; outside = outside }

@@ -22,12 +22,13 @@ use Rattle.thes_base.specs.contracts.data.LinkKindOrd.TheImpl as kind
 use Rattle.thes_base.specs.contracts.data.LinkOrd.TheImpl as link
 use Rattle.thes_base.specs.Links.{link_cmp, link_kind_no}
 use Rattle.thes_base.proofs.LinkSetLemmas.{links_total, links_exact}
-use Rattle.thes_graph.specs.declared.side.Side.{Side}
-use Rattle.thes_graph.specs.declared.side.Side.TheVariants.{Up, Sideways, Alike, Down, Apart}
-use Rattle.thes_graph.specs.declared.side.SidedLink.{SidedLink}
-use Rattle.thes_graph.specs.contracts.side.SideOrd.TheImpl as side
-use Rattle.thes_graph.specs.contracts.side.SidedLinkOrd.TheImpl as sided_link
-use Rattle.thes_graph.specs.Side.{side_no, sided_link_cmp}
+use Rattle.thes_links.specs.declared.side.Side.{Side}
+use Rattle.thes_links.specs.declared.side.Side.TheVariants.{Up, Sideways, Alike, Down, Apart}
+use Rattle.thes_graph.specs.declared.sided_links.SidedLink.{SidedLink}
+use Rattle.thes_links.specs.contracts.side.SideOrd.TheImpl as side
+use Rattle.thes_graph.specs.contracts.sided_links.SidedLinkOrd.TheImpl as sided_link
+use Rattle.thes_links.specs.Side.{side_no}
+use Rattle.thes_graph.specs.SidedLinks.{sided_link_cmp}
 
 same_kinds : (j k : LinkKind) → kind.ghosts.cmp j k ≡ nat_cmp (link_kind_no j) (link_kind_no k)
 same_kinds Broader Broader = refl

@@ -11,9 +11,8 @@ use Rattle.std.proofs.lemmas.List.{get_or_default}
 use Rattle.thes_base.specs.declared.data.Link.{Link}
 use Rattle.thes_base.specs.Links.{Links, Holds, HasEnd}
 use Rattle.thes_lists.proofs.OrderLemmas.{never_below_itself, sorted_by_index}
-use Rattle.thes_graph.specs.declared.side.SidedLink.{SidedLink}
-use Rattle.thes_graph.specs.Side.{sided_link_at, sided_link_cmp}
-use Rattle.thes_graph.specs.GraphView.{sided_links_at}
+use Rattle.thes_graph.specs.declared.sided_links.SidedLink.{SidedLink}
+use Rattle.thes_graph.specs.SidedLinks.{sided_link_at, sided_link_cmp, sided_links_at}
 use Rattle.thes_graph.proofs.LinkOrderLemmas.{derived_sided_cmp, derived_sided_cmp_is, sided_links_total}
 use Rattle.thes_graph.proofs.LinkOrderLemmas.{sided_links_exact}
 use Rattle.thes_graph.proofs.IndexLemmas.{sided_links_sorted, sided_links_from, sided_links_to}

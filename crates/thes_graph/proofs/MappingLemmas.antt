@@ -20,10 +20,10 @@ use Rattle.thes_base.specs.KindNames.{link_kind_name}
 use Rattle.thes_base.specs.Views.{HasLink, IsMapping, mapping_cmp, IsTypedLink}
 use Rattle.thes_base.proofs.KindNameOrderLemmas.{mapping_total}
 use Rattle.thes_lists.proofs.OrderLemmas.{sorted_by_index, insert_found, insert_missing}
-use Rattle.thes_graph.specs.Reading.{HaveTwoEnds}
+use Rattle.thes_links.specs.Reading.{HaveTwoEnds}
 use Rattle.thes_graph.specs.Mappings.{mapping_of_kind, mapping_seen_from, typed_link_of_kind, typed_link_seen_from}
 use Rattle.thes_graph.specs.Mappings.{kind_name_rank}
-use Rattle.thes_graph.proofs.NumberLemmas.{same_of, other_of}
+use Rattle.thes_links.proofs.NumberLemmas.{same_of, other_of}
 use Rattle.thes_graph.proofs.ReaderLemmas.{IsSeen}
 
 same_places : (j k : LinkKind) → nat_cmp (kind_name_rank j) (kind_name_rank k) ≡ slice_cmp nat_cmp (link_kind_name j)

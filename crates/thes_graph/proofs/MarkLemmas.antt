@@ -11,10 +11,10 @@ use Rattle.std.proofs.lemmas.Bool.{false_from_ne_true}
 use Rattle.thes_base.specs.declared.data.Link.{Link}
 use Rattle.thes_base.specs.Links.{Holds, is_symmetric, reversed_link, normal_form, HasEnd}
 use Rattle.thes_lists.specs.declared.lists.Lists.{Lists}
-use Rattle.thes_graph.specs.declared.side.SidedLink.{SidedLink}
+use Rattle.thes_graph.specs.declared.sided_links.SidedLink.{SidedLink}
 use Rattle.thes_graph.specs.Index.{IsIndexed}
-use Rattle.thes_graph.proofs.NumberLemmas.{same_of}
-use Rattle.thes_graph.proofs.SetLemmas.{cond-or}
+use Rattle.thes_links.proofs.NumberLemmas.{same_of}
+use Rattle.thes_links.proofs.SetLemmas.{cond-or}
 
 -- The set of marks after the insertion of a number has that number and the old ones.
 pub from_list_marked : (old new : List ℕ) (n : ℕ)

@@ -16,16 +16,16 @@ use Rattle.thes_base.specs.Links.{Links, Holds, normal_form, redirect, redirect_
 use Rattle.thes_base.specs.Links.{links_after_deprecation, HasEnd}
 use Rattle.thes_base.proofs.LinkSetLemmas.{without_node_from, without_node_to}
 use Rattle.thes_base.proofs.LinkLemmas.{sent_never, sent_other, sent_stays}
-use Rattle.thes_graph.specs.Reading.{HaveTwoEnds}
-use Rattle.thes_graph.specs.LinkEdit.{link_after_merge}
-use Rattle.thes_graph.specs.declared.side.SidedLink.{SidedLink}
-use Rattle.thes_graph.specs.Side.{sided_link_at}
-use Rattle.thes_graph.specs.GraphView.{GraphView, is_marked, sided_links_at}
+use Rattle.thes_links.specs.Reading.{HaveTwoEnds}
+use Rattle.thes_links.specs.LinkEdit.{link_after_merge}
+use Rattle.thes_graph.specs.declared.sided_links.SidedLink.{SidedLink}
+use Rattle.thes_graph.specs.SidedLinks.{sided_link_at, sided_links_at}
+use Rattle.thes_links.specs.GraphView.{GraphView, is_marked}
 use Rattle.thes_graph.specs.MergeAdditions.{AreNormal, AreMergeAdditions, AreNew, added_link, link_if_new, with_all}
-use Rattle.thes_graph.proofs.EditLemmas.{link_after_merge-ends, filter_map-from, filter_map-to}
-use Rattle.thes_graph.proofs.NormLemmas.{norm_ends, norm_two, norm_again, ends_or_not}
-use Rattle.thes_graph.proofs.SetLemmas.{same_links}
-use Rattle.thes_graph.proofs.ContractLemmas.{contracted_from, contracted_to}
+use Rattle.thes_links.proofs.EditLemmas.{link_after_merge-ends, filter_map-from, filter_map-to}
+use Rattle.thes_links.proofs.NormLemmas.{norm_ends, norm_two, norm_again, ends_or_not}
+use Rattle.thes_links.proofs.SetLemmas.{same_links}
+use Rattle.thes_links.proofs.ContractLemmas.{contracted_from, contracted_to}
 use Rattle.thes_graph.proofs.IndexLemmas.{sided_links_from, sided_links_to}
 use Rattle.thes_graph.proofs.ChangeLemmas.{with_from, with_keeps, with_has}
 

@@ -17,16 +17,14 @@ use Rattle.thes_base.specs.Links.{Links, Holds, LinkLeads, IsHierarchical, HasEn
 use Rattle.thes_base.specs.Listing.{IsListing}
 use Rattle.thes_base.specs.Views.{HasLink, HasBroader}
 use Rattle.thes_lists.proofs.ListingLemmas.{listing_as, listing_insert}
-use Rattle.thes_graph.specs.declared.side.SidedLink.{SidedLink}
+use Rattle.thes_graph.specs.declared.sided_links.SidedLink.{SidedLink}
 use Rattle.thes_graph.specs.declared.neighbours.NeighbourKind.{NeighbourKind}
 use Rattle.thes_graph.specs.declared.neighbours.NeighbourKind.TheVariants as list
-use Rattle.thes_graph.specs.Side.{sided_link_at}
-use Rattle.thes_graph.specs.Steps.{reverse_of}
-use Rattle.thes_graph.specs.GraphView.{sided_links_at}
+use Rattle.thes_graph.specs.SidedLinks.{sided_link_at, sided_links_at}
+use Rattle.thes_links.specs.Steps.{reverse_of}
 use Rattle.thes_graph.specs.Neighbours.{direction_by_form, neighbour_direction, IsNeighbour, neighbour_by_link}
-use Rattle.thes_graph.proofs.StepLemmas.{step_from_Leads, Leads-from_step, Leads-first}
-use Rattle.thes_graph.proofs.EditLemmas.{filter_map-from, filter_map-to}
-use Rattle.thes_graph.proofs.EditCheckLemmas.{link_same}
+use Rattle.thes_links.proofs.StepLemmas.{step_from_Leads, Leads-from_step, Leads-first}
+use Rattle.thes_links.proofs.EditLemmas.{filter_map-from, filter_map-to, link_same}
 use Rattle.thes_graph.proofs.IndexLemmas.{sided_links_from, sided_links_to}
 use Rattle.thes_graph.proofs.MergeAdditionLemmas.{filter_map_more}
 

@@ -14,15 +14,17 @@ use Rattle.thes_base.specs.declared.data.LinkKind.{LinkKind}
 use Rattle.thes_base.specs.declared.data.LinkKind.TheVariants.{Related, RelMatch}
 use Rattle.thes_base.specs.Links.{Links, Holds, LinkLeads, broader_direction, related_direction, IsNarrower, IsRelated}
 use Rattle.thes_base.specs.Links.{S27}
-use Rattle.thes_graph.specs.declared.relation.Relation.TheVariants as relation
+use Rattle.thes_links.specs.declared.relation.Relation.TheVariants as relation
 use Rattle.thes_graph.specs.declared.find_cycle.PathNode.{PathNode}
-use Rattle.thes_graph.specs.Reading.{HaveTwoEnds}
-use Rattle.thes_graph.specs.Local.{ReachesUp}
+use Rattle.thes_links.specs.Reading.{HaveTwoEnds}
+use Rattle.thes_links.specs.Local.{ReachesUp}
 use Rattle.thes_graph.specs.CycleSearch.{IsUpwardOrder}
-use Rattle.thes_graph.specs.UpperSets.{HasBit, IsRowNode, AreUpwardRows, AreUpperSets}
-use Rattle.thes_graph.specs.Whole.{HasDirection, HasAllEnds, KeepsS27Below, BreaksS27}
-use Rattle.thes_graph.proofs.PivotLemmas.{S27-witness}
-use Rattle.thes_graph.proofs.StepLemmas.{Leads-first}
+use Rattle.thes_links.specs.Words.{HasBit}
+use Rattle.thes_graph.specs.UpperSets.{IsRowNode, AreUpwardRows, AreUpperSets}
+use Rattle.thes_links.specs.Steps.{HasDirection}
+use Rattle.thes_graph.specs.Whole.{HasAllEnds, KeepsS27Below, BreaksS27}
+use Rattle.thes_links.proofs.PivotLemmas.{S27-witness}
+use Rattle.thes_links.proofs.StepLemmas.{Leads-first}
 use Rattle.thes_graph.proofs.WholeLemmas.{never, pair}
 
 -- Each row lists exactly the broader nodes of its node, and comes after their rows; each of the nodes has a row.

@@ -1,11 +1,10 @@
 -- One pass down the hierarchy finds which nodes of a block are at or above each node.
 use Rattle.std.proofs.Common.{◌≡◌, ◌⊎◌, inl, inr, ◌↔◌, ◌+◌, ◌*◌, ◌^◌, ◌%◌, ◌<◌, ◌≤◌, ℕ, zero, suc, List, [], ◌∷◌, ◌++◌}
-use Rattle.std.proofs.Common.{Contains, Some, length, take, get_or, slice_get, nat_eq, max, refl, sym, ap, subst, ◌∙◌}
-use Rattle.std.proofs.Common.{arith, w64, if◌then◌else◌}
+use Rattle.std.proofs.Common.{Contains, Some, length, take, get_or, slice_get, max, refl, sym, ap, subst, ◌∙◌}
+use Rattle.std.proofs.Common.{arith, w64}
 use Rattle.std.specs.Int.{bit_at}
 use Rattle.std.specs.Int.RustNames.{bit_or}
-use Rattle.std.proofs.lemmas.Bool.{cases_eq, false_from_ne_true}
-use Rattle.std.proofs.lemmas.Bool.Decides.{Decides-eqb}
+use Rattle.std.proofs.lemmas.Bool.{cases_eq}
 use Rattle.std.proofs.lemmas.List.{take_more, take_all}
 use Rattle.std.proofs.lemmas.List.Elements.{Contains-append_left, Contains-push, Contains-push_cases, Contains-get_or}
 use Rattle.std.proofs.lemmas.Nat.Bits.{bit_at-lt, bit_at-zero, bit_at_or, bit_at_set_same, bit_at_set_other}
@@ -13,10 +12,12 @@ use Rattle.std.proofs.lemmas.Option.{slice_get_within}
 use Rattle.thes_base.specs.Links.{Links, Holds, Chain, IsNarrower}
 use Rattle.thes_base.proofs.ListMemberLemmas.{Contains-none}
 use Rattle.thes_graph.specs.declared.find_cycle.PathNode.{PathNode}
-use Rattle.thes_graph.specs.Steps.{Reaches}
-use Rattle.thes_graph.specs.Local.{ReachesUp}
-use Rattle.thes_graph.specs.UpperSets.{word_at, HasBit, HasBitsSet, AreUpwardRows, AreUpperSets}
-use Rattle.thes_graph.proofs.PivotLemmas.{Chain-one, Chain-then_reach}
+use Rattle.thes_links.specs.Steps.{Reaches}
+use Rattle.thes_links.specs.Local.{ReachesUp}
+use Rattle.thes_links.specs.Words.{word_at, HasBit, HasBitsSet}
+use Rattle.thes_graph.specs.UpperSets.{AreUpwardRows, AreUpperSets}
+use Rattle.thes_links.proofs.PivotLemmas.{Chain-one, Chain-then_reach}
+use Rattle.thes_links.proofs.WordLemmas.{word_same, word_other}
 
 from_max : (a b : ℕ) → a < 2 → b < 2 → max a b ≡ 1 → (a ≡ 1) ⊎ (b ≡ 1)
 from_max (suc zero) b _ _ e = inl refl
@@ -46,32 +47,26 @@ module _ (v w j : ℕ) where
   or_bit-second has = bit_at_or v w j ∙ ap (λ (b : ℕ). max (bit_at v j) b) has ∙ max_second (bit_at v j) (bit_at-lt v j)
 
 module _ (old new : List ℕ) (n bits : ℕ) (set : HasBitsSet old new n bits) where
-  pub word_same : (m : ℕ) → m ≡ n → word_at new m ≡ bit_or (word_at old m) bits
-  word_same m same = set m ∙ ap (λ b. if b then bit_or (word_at old m) bits else word_at old m)
-      ((Decides-eqb m n).1 same)
-
-  pub word_other : (m : ℕ) → (m ≡ n → ⊥) → word_at new m ≡ word_at old m
-  word_other m other = set m ∙ ap (λ b. if b then bit_or (word_at old m) bits else word_at old m)
-      (false_from_ne_true (nat_eq m n) (λ e. other ((Decides-eqb m n).0 e)))
-
   bits_set-from : (m j : ℕ) → HasBit new m j → HasBit old m j ⊎ ((n ≡ m) × (bit_at bits j ≡ 1))
   bits_set-from m j has = elim (cases_eq m n) [
-    | inl same ↦ elim (or_bit-from (word_at old m) bits j (ap (λ (w : ℕ). bit_at w j) (sym (word_same m same)) ∙ has)) [
+    | inl same ↦ elim (or_bit-from (word_at old m) bits j
+        (ap (λ (w : ℕ). bit_at w j) (sym (word_same old new n bits set m same)) ∙ has)) [
       | inl before ↦ inl before
       | inr now ↦ inr (sym same, now)
     ]
-    | inr other ↦ inl (ap (λ (w : ℕ). bit_at w j) (sym (word_other m other)) ∙ has)
+    | inr other ↦ inl (ap (λ (w : ℕ). bit_at w j) (sym (word_other old new n bits set m other)) ∙ has)
   ]
 
   bits_set-keeps : (m j : ℕ) → HasBit old m j → HasBit new m j
   bits_set-keeps m j has = elim (cases_eq m n) [
-    | inl same ↦ ap (λ (w : ℕ). bit_at w j) (word_same m same) ∙ or_bit-first (word_at old m) bits j has
-    | inr other ↦ ap (λ (w : ℕ). bit_at w j) (word_other m other) ∙ has
+    | inl same ↦ ap (λ (w : ℕ). bit_at w j) (word_same old new n bits set m same)
+        ∙ or_bit-first (word_at old m) bits j has
+    | inr other ↦ ap (λ (w : ℕ). bit_at w j) (word_other old new n bits set m other) ∙ has
   ]
 
   bits_set-new : (m j : ℕ) → n ≡ m → bit_at bits j ≡ 1 → HasBit new m j
   bits_set-new m j same has =
-      ap (λ (w : ℕ). bit_at w j) (word_same m (sym same)) ∙ or_bit-second (word_at old m) bits j has
+      ap (λ (w : ℕ). bit_at w j) (word_same old new n bits set m (sym same)) ∙ or_bit-second (word_at old m) bits j has
 
 -- The state while the block is started: each of the first k nodes of the block has its own bit set in its word, and no
 -- other bit is set.

@@ -8,12 +8,11 @@ use Rattle.thes_base.specs.declared.data.Direction.{Direction}
 use Rattle.thes_base.specs.declared.data.Direction.TheVariants.{Forward, Backward, Either, Never}
 use Rattle.thes_base.specs.Links.{broader_direction, exact_direction, LinkLeads, Path, IsJoined}
 use Rattle.thes_base.specs.Links.{IsNarrower, IsBelow, IsDisjointMatch, NoCycle, S46}
-use Rattle.thes_graph.specs.declared.relation.Relation.TheVariants as relation
-use Rattle.thes_graph.specs.Steps.{Reaches, GrowsBy}
-use Rattle.thes_graph.specs.Local.{ReachesUp, InClassOf, NoCycleAt, KeepsS46At}
-use Rattle.thes_graph.specs.Whole.{HasDirection}
-use Rattle.thes_graph.proofs.PivotLemmas.{Reaches-then_chain, Chain-then_reach, exact_turns}
-use Rattle.thes_graph.proofs.StepLemmas.{GrowsBy-then}
+use Rattle.thes_links.specs.declared.relation.Relation.TheVariants as relation
+use Rattle.thes_links.specs.Steps.{Reaches, GrowsBy, HasDirection}
+use Rattle.thes_links.specs.Local.{ReachesUp, InClassOf, NoCycleAt, KeepsS46At}
+use Rattle.thes_links.proofs.PivotLemmas.{Reaches-then_chain, Chain-then_reach, exact_turns}
+use Rattle.thes_links.proofs.StepLemmas.{GrowsBy-then}
 
 pub never : (w : Direction) (a b x y : ℕ) → LinkLeads w a b x y → w ≢ Never
 never w a b x y leads same = subst (λ (d : Direction). LinkLeads d a b x y) same leads

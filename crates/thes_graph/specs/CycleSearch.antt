@@ -3,7 +3,7 @@ use Rattle.std.specs.Prelude.{◌≡◌, ◌⊎◌, ◌+◌, ◌*◌, ◌-◌, �
 use Rattle.thes_base.specs.declared.data.Link.{Link}
 use Rattle.thes_base.specs.Links.{Chain, IsNarrower}
 use Rattle.thes_graph.specs.declared.find_cycle.PathNode.{PathNode}
-use Rattle.thes_graph.specs.Local.{NoCycleAt}
+use Rattle.thes_links.specs.Local.{NoCycleAt}
 
 -- The nodes are in upward order: each comes after all nodes broader than it, and no cycle runs through any of them.
 pub record IsUpwardOrder (Held : Link → Type 0) (nodes : List ℕ) : Type 0 where

@@ -7,8 +7,8 @@ use Rattle.thes_base.specs.declared.data.Link.{Link}
 use Rattle.thes_base.specs.Links.{link_cmp, normal_form, Holds}
 use Rattle.thes_lists.specs.declared.lists.Lists.{Lists}
 use Rattle.thes_lists.specs.Lists.{listed_at}
-use Rattle.thes_graph.specs.declared.side.SidedLink.{SidedLink}
-use Rattle.thes_graph.specs.GraphView.{sorted_row}
+use Rattle.thes_graph.specs.declared.sided_links.SidedLink.{SidedLink}
+use Rattle.thes_graph.specs.SidedLinks.{sorted_row}
 
 -- The index is correct: the links are sorted and in normal form, each has two different ends, and each node has the
 -- links with an end there, sorted by side.

@@ -4,9 +4,10 @@ use Rattle.std.specs.List.{filter_map}
 use Rattle.std.specs.FinSet.{insert, remove, contains}
 use Rattle.thes_base.specs.declared.data.Link.{Link}
 use Rattle.thes_base.specs.Links.{Links, Holds, normal_form}
-use Rattle.thes_graph.specs.Reading.{HaveTwoEnds}
-use Rattle.thes_graph.specs.LinkEdit.{link_after_merge}
-use Rattle.thes_graph.specs.GraphView.{GraphView, is_marked, sided_links_at}
+use Rattle.thes_links.specs.Reading.{HaveTwoEnds}
+use Rattle.thes_links.specs.LinkEdit.{link_after_merge}
+use Rattle.thes_links.specs.GraphView.{GraphView, is_marked}
+use Rattle.thes_graph.specs.SidedLinks.{sided_links_at}
 
 -- Each link held is in normal form.
 abbrev pub AreNormal : GraphView → Type 0

@@ -9,7 +9,7 @@ use Rattle.thes_base.specs.declared.data.Direction.TheVariants.{Backward, Never}
 use Rattle.thes_base.specs.Links.{Links, Holds, form_of, broader_direction, related_direction, IsJoined}
 use Rattle.thes_graph.specs.declared.neighbours.NeighbourKind.{NeighbourKind}
 use Rattle.thes_graph.specs.declared.neighbours.NeighbourKind.TheVariants as list
-use Rattle.thes_graph.specs.Steps.{reverse_of, step_in}
+use Rattle.thes_links.specs.Steps.{reverse_of, step_in}
 
 -- The direction in which links of this form and kind lead to a neighbour of this sort.
 abbrev pub direction_by_form : LinkForm → NeighbourKind → LinkKind → Direction

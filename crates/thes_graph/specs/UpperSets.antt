@@ -1,23 +1,9 @@
 -- The nodes of a block that are at or above each node, as bits of the node's word.
-use Rattle.std.specs.Prelude.{◌≡◌, ◌<◌, ◌↔◌, ℕ, List, Contains, Some, get_or, slice_get, take, length, nat_eq}
-use Rattle.std.specs.Prelude.{if◌then◌else◌, bit_or}
-use Rattle.std.specs.Int.{bit_at}
+use Rattle.std.specs.Prelude.{◌≡◌, ◌<◌, ◌↔◌, ℕ, List, Contains, Some, get_or, slice_get, take, length}
 use Rattle.thes_base.specs.Links.{Links, Holds, IsNarrower}
 use Rattle.thes_graph.specs.declared.find_cycle.PathNode.{PathNode}
-use Rattle.thes_graph.specs.Local.{ReachesUp}
-
--- The word of the node n; 0 past the end.
-abbrev pub word_at : List ℕ → ℕ → ℕ
-word_at words n = get_or words n 0
-
--- Bit j is set in the word of n.
-abbrev pub HasBit : List ℕ → (n j : ℕ) → Type 0
-HasBit words n j = bit_at (word_at words n) j ≡ 1
-
--- The new words are the old ones with these bits set in the word of n.
-abbrev pub HasBitsSet : (old new : List ℕ) → (n bits : ℕ) → Type 0
-HasBitsSet old new n bits =
-    (m : ℕ) → word_at new m ≡ (if nat_eq m n then bit_or (word_at old m) bits else word_at old m)
+use Rattle.thes_links.specs.Local.{ReachesUp}
+use Rattle.thes_links.specs.Words.{HasBit}
 
 -- One of the rows is that of the node.
 abbrev pub IsRowNode : List PathNode → ℕ → Type 0

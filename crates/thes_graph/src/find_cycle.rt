@@ -5,12 +5,12 @@ ghost use Rattle.thes_base.specs.Links.{Holds, IsNarrower};
 ghost use Rattle.thes_graph.specs.Whole.{HasCycle};
 ghost use Rattle.thes_graph.specs.CycleSearch.{IsUpwardOrder, IsCycleSearch, search_measure};
 
-use crate::links::Links;
-use crate::nodes::Nodes;
-use crate::relation::Relation;
-use crate::walk::next_nodes;
 use std::alloc::{AllocError, Global};
 use thes_base::number::ResNo;
+use thes_links::links::Links;
+use thes_links::nodes::Nodes;
+use thes_links::relation::Relation;
+use thes_links::walk::next_nodes;
 
 /// A node on the stack of the search, with those of its broader nodes that are still to be searched from.
 #[derive(Drop)]

@@ -1,25 +1,22 @@
 //! A set of links, indexed by their ends, with its edits and its look-ups.
-ghost use Rattle.std.specs.Prelude.{◌≡◌, ◌≢◌, ◌↔◌, ◌⊎◌, ℕ, Contains, IfOk, OnOk, OnErr, MatchOption, slice_get};
+ghost use Rattle.std.specs.Prelude.{◌≡◌, ◌≢◌, ◌⊎◌, IfOk, OnOk, OnErr, MatchOption, slice_get};
 ghost use Rattle.std.specs.Ordering.{nat_cmp};
 ghost use Rattle.std.specs.FinSet.{empty, contains, insert, remove, len, items};
 ghost use Rattle.thes_base.specs.declared.data.Link.{Link};
 ghost use Rattle.thes_base.specs.declared.data.LinkKind.TheVariants as kinds;
 ghost use Rattle.thes_base.specs.Links.{Holds, normal_form, links_after_merge, links_after_deprecation, IsFirstBroken, HasEnd};
 ghost use Rattle.thes_base.specs.Listing.{IsListing};
-ghost use Rattle.thes_graph.specs.Reading.{HaveTwoEnds};
-ghost use Rattle.thes_graph.specs.Side.{IsPart};
-ghost use Rattle.thes_graph.specs.GraphView.{is_marked, sided_links_at, links_at};
+ghost use Rattle.thes_links.specs.Reading.{HaveTwoEnds};
+ghost use Rattle.thes_links.specs.Side.{IsPart};
+ghost use Rattle.thes_links.specs.GraphView.{is_marked};
+ghost use Rattle.thes_graph.specs.SidedLinks.{sided_links_at, links_at};
 ghost use Rattle.thes_base.specs.Views.{HasLink, HasBroader, IsMapping, mapping_cmp, IsTypedLink, typed_cmp};
 ghost use Rattle.thes_graph.specs.Neighbours.{IsNeighbour};
 ghost use Rattle.thes_graph.specs.MergeAdditions.{AreNormal, AreMergeAdditions, AreNew, added_link, with_all, without_links};
 
-use crate::edit::merge;
-use crate::judge::normalize_ends;
-use crate::links::Links;
 use crate::mappings::{list_mapping, mapping_from, typed_link_from};
 use crate::neighbours::{NeighbourKind, direction_to, list_in};
-use crate::relation::lead;
-use crate::side::{Part, Side, SidedLink, count_before, count_until, sided_link_of};
+use crate::sided_links::{SidedLink, count_before, count_until, sided_link_of};
 use crate::whole::check_listed_links;
 use std::alloc::{AllocError, Global};
 use std::collections::BTreeSet;
@@ -27,6 +24,11 @@ use std::marker::Model;
 use thes_base::data::{Link, LinkKind, TypedKind};
 use thes_base::fault::Refusal;
 use thes_base::number::ResNo;
+use thes_links::edit::merge;
+use thes_links::links::Links;
+use thes_links::normal_form::normalize_ends;
+use thes_links::relation::lead;
+use thes_links::side::{Part, Side};
 use thes_lists::Lists;
 
 /// A set of links, indexed by their ends, and the resources marked as outside concepts. Each link has two different
@@ -43,7 +45,7 @@ impl Model for Graph {
     ghost use Rattle.std.specs.Coded.{codes};
     ghost use Rattle.std.specs.FinSet as set;
     ghost use Rattle.std.specs.FinSet.{from_list};
-    ghost use Rattle.thes_graph.specs.GraphView.{GraphView};
+    ghost use Rattle.thes_links.specs.GraphView.{GraphView};
     ghost use Rattle.thes_graph.specs.Index.{IsIndexed};
 
     ghost Value = { GraphView };
@@ -421,7 +423,7 @@ pub struct Walk<'a> {
 impl<'a> Model for Walk<'a> {
     ghost use Rattle.std.specs.Coded.{codes};
     ghost use Rattle.std.specs.FinSet as set;
-    ghost use Rattle.thes_graph.specs.GraphView.{CountedGraphView};
+    ghost use Rattle.thes_links.specs.GraphView.{CountedGraphView};
 
     ghost Value = { CountedGraphView };
 

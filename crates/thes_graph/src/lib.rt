@@ -1,25 +1,12 @@
-//! A graph of links, with checks that a new link or a merge breaks none of the rules Cycle, S27 and S46.
+//! A graph of links, indexed by their ends: its edits, its look-ups, and the check of all its links for the rules Cycle,
+//! S27 and S46.
 #![tactic(auto)]
 
-mod addition;
-mod class;
-mod edit;
-mod ends;
 mod find_cycle;
 pub mod graph;
-pub mod judge;
-pub mod links;
 mod mappings;
-mod marks;
 mod neighbours;
-mod nodes;
-mod paired_search;
-mod relation;
 mod s27;
-mod side;
-mod side_search;
+mod sided_links;
 mod upper_sets;
-mod upward_link;
-mod walk;
 mod whole;
-mod words;

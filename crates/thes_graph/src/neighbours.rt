@@ -5,9 +5,9 @@ ghost use Rattle.std.specs.List.Sorted.{IsStrictlySortedBy};
 ghost use Rattle.thes_base.specs.Links as links;
 ghost use Rattle.thes_graph.specs.Neighbours.{neighbour_direction};
 
-use crate::relation::{Relation, direction};
 use std::alloc::AllocError;
 use thes_base::data::{Direction, LinkForm, LinkKind};
+use thes_links::relation::{Relation, direction};
 
 /// A sort of neighbour: broader, narrower or related concepts of the same scheme, or collections of
 /// which the concept is a member.

@@ -4,20 +4,22 @@
 ghost use Rattle.std.specs.Prelude.{◌≡◌, ◌<◌, ◌≤◌, ◌++◌, ℕ, Contains, OnOk, IfOk, MatchBool, length};
 ghost use Rattle.thes_base.specs.declared.data.Link.{Link};
 ghost use Rattle.thes_base.specs.Links.{Holds, S27};
-ghost use Rattle.thes_graph.specs.declared.relation.Relation.TheVariants as relation;
-ghost use Rattle.thes_graph.specs.Reading.{HaveTwoEnds};
-ghost use Rattle.thes_graph.specs.UpperSets.{HasBit, AreUpwardRows, AreUpperSets};
-ghost use Rattle.thes_graph.specs.Whole.{AreAll, HasDirection, IsWholeOrder, KeepsS27Below, BreaksS27};
+ghost use Rattle.thes_links.specs.declared.relation.Relation.TheVariants as relation;
+ghost use Rattle.thes_links.specs.Reading.{HaveTwoEnds, AreAll};
+ghost use Rattle.thes_links.specs.Words.{HasBit};
+ghost use Rattle.thes_graph.specs.UpperSets.{AreUpwardRows, AreUpperSets};
+ghost use Rattle.thes_links.specs.Steps.{HasDirection};
+ghost use Rattle.thes_graph.specs.Whole.{IsWholeOrder, KeepsS27Below, BreaksS27};
 
 use crate::find_cycle::{PathNode, path_node_at};
-use crate::links::Links;
-use crate::nodes::Nodes;
-use crate::relation::{Relation, has_direction};
 use crate::upper_sets::{BLOCK, find_upper_sets, is_set};
-use crate::walk::next_nodes;
 use std::alloc::{AllocError, Global};
 use thes_base::data::Link;
 use thes_base::number::ResNo;
+use thes_links::links::Links;
+use thes_links::nodes::Nodes;
+use thes_links::relation::{Relation, has_direction};
+use thes_links::walk::next_nodes;
 
 // Reads the broader nodes of each node of `order`, in the order of that list.
 fn read_upward_rows<L: Links>(

@@ -3,12 +3,13 @@
 //! down the hierarchy finds the words of all nodes.
 ghost use Rattle.std.specs.Prelude.{◌≡◌, ◌<◌, ◌≤◌, ◌⊎◌, ◌↔◌, ℕ, Contains, OnOk, MatchBool, Some, length, slice_get};
 ghost use Rattle.thes_base.specs.Links.{Links};
-ghost use Rattle.thes_graph.specs.UpperSets.{word_at, HasBit, HasBitsSet, AreUpwardRows, AreUpperSets};
+ghost use Rattle.thes_links.specs.Words.{word_at, HasBit, HasBitsSet};
+ghost use Rattle.thes_graph.specs.UpperSets.{AreUpwardRows, AreUpperSets};
 
 use crate::find_cycle::PathNode;
-use crate::words::{has_bit, set_bits, word_of};
 use std::alloc::AllocError;
 use thes_base::number::ResNo;
+use thes_links::words::{has_bit, set_bits, word_of};
 
 /// The maximum number of nodes in a block: the number of bits in a word.
 pub const BLOCK: usize = 64;

@@ -3,23 +3,23 @@
 ghost use Rattle.std.specs.Prelude.{◌≡◌, ℕ, true, false, Contains, Ok, IfOk, OnOk, MatchBool};
 ghost use Rattle.thes_base.specs.declared.data.Link.{Link};
 ghost use Rattle.thes_base.specs.Links.{Holds, NoCycle, S46, IsFirstBroken};
-ghost use Rattle.thes_graph.specs.Reading.{HaveTwoEnds};
-ghost use Rattle.thes_graph.specs.Steps.{GrowsBy};
-ghost use Rattle.thes_graph.specs.Local.{KeepsS46At};
-ghost use Rattle.thes_graph.specs.Whole.{AreAll, HasDirection, IsWholeOrder, HasCycle, BreaksS46};
+ghost use Rattle.thes_links.specs.Reading.{HaveTwoEnds, AreAll};
+ghost use Rattle.thes_links.specs.Steps.{GrowsBy};
+ghost use Rattle.thes_links.specs.Local.{KeepsS46At, BreaksS46};
+ghost use Rattle.thes_graph.specs.Whole.{IsWholeOrder, HasCycle};
 ghost use Rattle.thes_graph.specs.CycleSearch.{IsUpwardOrder};
 
-use crate::edit::LinkEdit;
 use crate::find_cycle::find_cycle;
-use crate::links::Links;
-use crate::nodes::Nodes;
-use crate::relation::{Relation, has_direction};
 use crate::s27::breaks_s27;
-use crate::walk::{gather, has_link_between};
 use std::alloc::{AllocError, Global};
 use thes_base::data::Link;
 use thes_base::fault::Refusal;
 use thes_base::number::ResNo;
+use thes_links::edit::LinkEdit;
+use thes_links::links::Links;
+use thes_links::nodes::Nodes;
+use thes_links::relation::{Relation, has_direction};
+use thes_links::walk::{gather, has_link_between};
 
 // Checks whether a chain of broader links leads from some node back to itself. If none does, `order` has the ends of
 // all links afterwards, each node after all nodes broader than it.

@@ -19,7 +19,7 @@ use Rattle.thes_base.specs.Legal.{IsLegalLink}
 use Rattle.thes_base.proofs.LinkSetLemmas.{links_total, links_exact}
 use Rattle.thes_base.proofs.SetMemberLemmas.{inserted_cases, inserted_new, inserted_kept}
 use Rattle.thes_base.proofs.NumberedLemmas.{numbered_bound}
-use Rattle.thes_graph.specs.GraphView.{GraphView, is_marked, MarksOutside}
+use Rattle.thes_links.specs.GraphView.{GraphView, is_marked, MarksOutside}
 use Rattle.thes_tables.specs.declared.rows.HierRow.{HierRow}
 use Rattle.thes_tables.specs.Tables.{hier_link, hier_type}
 use Rattle.thes_tables.proofs.RowSetLemmas.{once_push}

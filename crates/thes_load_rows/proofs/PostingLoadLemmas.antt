@@ -17,7 +17,7 @@ use Rattle.thes_tables.specs.declared.rows.PostingRow.{PostingRow}
 use Rattle.thes_tables.proofs.RowSetLemmas.{clash, in_any, any_in, in_map, map_in}
 use Rattle.thes_load_rules.specs.Rules.{PostingRule}
 use Rattle.thes_load_rules.proofs.RowListLemmas.{in_numbered, numbered_in}
-use Rattle.thes_graph.proofs.SetLemmas.{cond-or}
+use Rattle.thes_links.proofs.SetLemmas.{cond-or}
 use Rattle.thes_load_rows.specs.Forms.{HasPostingForm}
 use Rattle.thes_post.specs.PostingCounts.{PostingCounts, CountsAfterTally}
 use Rattle.thes_load_rows.specs.PostingCounts.{AreCountsOfRows}

@@ -9,7 +9,7 @@ use Rattle.thes_base.specs.Legal.{IsLegalLink}
 use Rattle.thes_base.specs.Refusals.{AreEnds, HaveSchemes}
 use Rattle.thes_tables.specs.declared.rows.HierRow.{HierRow}
 use Rattle.thes_tables.specs.Tables.{AreDistinct, hier_link}
-use Rattle.thes_graph.specs.GraphView.{GraphView, is_marked, MarksOutside}
+use Rattle.thes_links.specs.GraphView.{GraphView, is_marked, MarksOutside}
 use Rattle.thes_load_rules.specs.Rules.{EachRow, LinkRule, links_of}
 
 -- The link is legal, except that its ends may have to be swapped.

@@ -5,7 +5,7 @@ ghost use Rattle.thes_tables.specs.declared.rows.HierRow.{HierRow};
 ghost use Rattle.thes_tables.specs.Cells.{link_cells, hier_cells};
 ghost use Rattle.thes_load_rules.specs.Rules.{LinkRule, HierRule};
 ghost use Rattle.thes_load_rows.specs.ReadResults.{ReadResult};
-ghost use Rattle.thes_graph.specs.GraphView.{MarksOutside};
+ghost use Rattle.thes_links.specs.GraphView.{MarksOutside};
 ghost use Rattle.thes_load_rows.specs.LinksSoFar.{HasLinks};
 
 use crate::links::LinkLoad;

@@ -5,7 +5,7 @@ ghost use Rattle.thes_base.specs.declared.data.Link.{Link};
 ghost use Rattle.thes_base.specs.Links.{normal_form};
 ghost use Rattle.thes_tables.specs.declared.rows.HierRow.{HierRow};
 ghost use Rattle.thes_tables.specs.Tables.{hier_kind, hier_link};
-ghost use Rattle.thes_graph.specs.GraphView.{is_marked, MarksOutside};
+ghost use Rattle.thes_links.specs.GraphView.{is_marked, MarksOutside};
 ghost use Rattle.thes_load_rules.specs.Rules.{LinkRule, HierRule};
 ghost use Rattle.thes_load_rows.specs.Forms.{HasLinkForm};
 ghost use Rattle.thes_tables.specs.Cells.{link_cells, hier_cells};
@@ -19,7 +19,7 @@ use std::alloc::{AllocError, Global};
 use thes_base::data::{Link, LinkKind, Resource};
 use thes_base::number::ResNo;
 use thes_graph::graph::Graph;
-use thes_graph::judge::normalize_ends;
+use thes_links::normal_form::normalize_ends;
 use thes_tables::cells::Cell;
 use thes_tables::rows::{HierRow, HierType};
 

@@ -18,7 +18,7 @@ use std::alloc::AllocError;
 use thes_base::data::{Link, LinkKind};
 use thes_base::fault::Refusal;
 use thes_base::number::ResNo;
-use thes_graph::judge::{judge_add, judge_contract};
+use thes_walks::judge::{judge_add, judge_contract};
 
 impl Thesaurus {
     // Checks a Link request: its ends, the rules on links, and the limits.

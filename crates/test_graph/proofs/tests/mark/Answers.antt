@@ -1,6 +1,6 @@
 use Rattle.std.proofs.Common.{subst}
 use Rattle.thes_base.specs.Links.{Holds}
-use Rattle.thes_graph.specs.GraphView.{GraphView}
+use Rattle.thes_links.specs.GraphView.{GraphView}
 use Rattle.thes_base.proofs.LinkSetLemmas.{without_node_from}
 use Rattle.test_graph.proofs.tests.mark.Goals as goal
 

@@ -1,10 +1,9 @@
 use Rattle.std.proofs.Common.{◌≡◌, ◌-◌, ◌++◌, ◌∷◌, [], take, refl, ap, ◌∙◌, arith}
 use Rattle.thes_base.specs.Links.{Holds}
-use Rattle.thes_graph.proofs.CycleSearchLemmas.{GrowsBy-keeps, GrowsBy-longer, IsCycleSearch-done}
-use Rattle.thes_graph.proofs.CycleSearchLemmas.{IsCycleSearch-fewer, HasCycle-met, IsCycleSearch-more}
-use Rattle.thes_graph.proofs.CycleSearchLemmas.{search_measure-done, search_measure-fewer, search_measure-more}
-use Rattle.thes_graph.proofs.CycleSearchLemmas.{none_above, last_above, all_but_last, done_or_left, left_above}
-use Rattle.thes_graph.proofs.CycleSearchLemmas.{fewer_left}
+use Rattle.thes_graph.proofs.CycleSearchLemmas.{GrowsBy-keeps, GrowsBy-longer, IsCycleSearch-done, IsCycleSearch-fewer}
+use Rattle.thes_graph.proofs.CycleSearchLemmas.{HasCycle-met, IsCycleSearch-more, search_measure-done}
+use Rattle.thes_graph.proofs.CycleSearchLemmas.{search_measure-fewer, search_measure-more, none_above, last_above}
+use Rattle.thes_graph.proofs.CycleSearchLemmas.{all_but_last, done_or_left, left_above, fewer_left}
 use Rattle.thes_graph.proofs.find_cycle.advance_path.Given.{Over}
 use Rattle.thes_graph.proofs.find_cycle.advance_path.Goals as goal
 use Rattle.thes_graph.proofs.find_cycle.advance_path.Goals.{After-pop}

@@ -4,7 +4,7 @@ use Rattle.thes_base.specs.Links.{Holds}
 use Rattle.thes_base.proofs.ListMemberLemmas.{Contains-head}
 use Rattle.thes_graph.specs.CycleSearch.{IsCycleSearch}
 use Rattle.thes_graph.specs.declared.find_cycle.PathNode.{PathNode}
-use Rattle.thes_graph.specs.GraphView.{GraphView}
+use Rattle.thes_links.specs.GraphView.{GraphView}
 use Rattle.thes_graph.proofs.CycleSearchLemmas.{IsCycleSearch-start, IsCycleSearch-end}
 use Rattle.thes_graph.proofs.find_cycle.find_cycle.Goals as goal
 

@@ -2,7 +2,7 @@ use Rattle.std.proofs.Common.{ℕ, Contains, subst}
 use Rattle.std.specs.Bool.{MatchBool}
 use Rattle.thes_base.specs.Links.{Holds}
 use Rattle.thes_graph.specs.Whole.{KeepsS27Below, BreaksS27}
-use Rattle.thes_graph.specs.GraphView.{GraphView}
+use Rattle.thes_links.specs.GraphView.{GraphView}
 use Rattle.thes_graph.proofs.S27Lemmas.{s27_decided}
 use Rattle.thes_graph.proofs.s27.breaks_s27.Goals as goal
 

@@ -1,6 +1,6 @@
 use Rattle.std.proofs.Common.{◌↔◌, ℕ, Contains, subst, ◌∙◌}
 use Rattle.thes_base.specs.Links.{Holds, IsNarrower}
-use Rattle.thes_graph.specs.GraphView.{GraphView}
+use Rattle.thes_links.specs.GraphView.{GraphView}
 use Rattle.thes_graph.proofs.S27Lemmas.{AreRowsOf-next, AreRowsOf-end}
 use Rattle.thes_graph.proofs.s27.read_upward_rows.Goals as goal
 

@@ -1,7 +1,7 @@
 use Rattle.std.proofs.Common.{Contains}
 use Rattle.thes_base.specs.declared.data.Link.{Link}
-use Rattle.thes_graph.specs.declared.relation.Relation.TheVariants as relation
-use Rattle.thes_graph.specs.Whole.{HasDirection}
+use Rattle.thes_links.specs.declared.relation.Relation.TheVariants as relation
+use Rattle.thes_links.specs.Steps.{HasDirection}
 use Rattle.thes_graph.proofs.WholeLemmas.{holds_more, holds_all}
 use Rattle.thes_graph.proofs.s27.related_nodes.Goals as goal
 

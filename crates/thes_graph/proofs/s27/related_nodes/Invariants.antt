@@ -1,6 +1,6 @@
 use Rattle.std.proofs.Common.{Contains}
-use Rattle.thes_graph.specs.declared.relation.Relation.TheVariants as relation
-use Rattle.thes_graph.specs.Whole.{HasDirection}
+use Rattle.thes_links.specs.declared.relation.Relation.TheVariants as relation
+use Rattle.thes_links.specs.Steps.{HasDirection}
 use Rattle.thes_graph.proofs.WholeLemmas.{HoldsBelow}
 use Rattle.thes_graph.proofs.s27.related_nodes.Given as goal
 

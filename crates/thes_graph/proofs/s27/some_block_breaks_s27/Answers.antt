@@ -3,7 +3,7 @@ use Rattle.std.proofs.lemmas.Bool.Decides.{nat_tests}
 use Rattle.std.proofs.lemmas.List.Elements.{Contains-append_cases}
 use Rattle.thes_base.specs.Links.{Holds}
 use Rattle.thes_graph.specs.Whole.{KeepsS27Below}
-use Rattle.thes_graph.specs.GraphView.{GraphView}
+use Rattle.thes_links.specs.GraphView.{GraphView}
 use Rattle.thes_graph.proofs.s27.some_block_breaks_s27.Goals as goal
 
 pub passes-preserved : goal.passes-preserved

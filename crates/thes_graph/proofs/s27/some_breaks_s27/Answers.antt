@@ -1,7 +1,7 @@
 use Rattle.std.proofs.Common.{◌↔◌, ℕ, List, Contains, sym, subst, ◌∙◌}
 use Rattle.std.proofs.lemmas.List.{take_all}
 use Rattle.thes_base.specs.Links.{Holds, IsRelated}
-use Rattle.thes_graph.specs.GraphView.{GraphView}
+use Rattle.thes_links.specs.GraphView.{GraphView}
 use Rattle.thes_graph.proofs.S27Lemmas.{s27_found, s27_passed}
 use Rattle.thes_graph.proofs.s27.some_breaks_s27.Goals as goal
 

@@ -1,5 +1,5 @@
 use Rattle.std.proofs.Common.{ap, ◌∙◌}
-use Rattle.thes_graph.specs.UpperSets.{word_at}
+use Rattle.thes_links.specs.Words.{word_at}
 use Rattle.thes_graph.proofs.UpperSetLemmas.{AreSetAbove-none, AreSetAbove-more, AreSetAbove-end}
 use Rattle.thes_graph.proofs.upper_sets.set_bits_above.Goals as goal
 

@@ -1,6 +1,6 @@
 use Rattle.std.proofs.Common.{◌≡◌, ℕ, ◌∙◌, subst}
 use Rattle.std.proofs.lemmas.List.{get_or_default}
-use Rattle.thes_graph.specs.Steps.{GrowsBy}
+use Rattle.thes_links.specs.Steps.{GrowsBy}
 use Rattle.thes_graph.proofs.WholeLemmas.{GrowsBy-more}
 use Rattle.thes_graph.proofs.whole.add_done.Goals as goal
 

@@ -1,6 +1,6 @@
 use Rattle.std.proofs.Common.{◌≡◌, ℕ, Contains}
 use Rattle.thes_base.specs.Links.{Holds}
-use Rattle.thes_graph.specs.Local.{KeepsS46At}
+use Rattle.thes_links.specs.Local.{KeepsS46At}
 use Rattle.thes_graph.proofs.WholeLemmas.{HoldsBelow, IsDone}
 use Rattle.thes_graph.proofs.whole.breaks_s46.Given as goal
 

@@ -1,8 +1,8 @@
 use Rattle.std.proofs.Common.{inl, inr, refl}
 use Rattle.std.proofs.lemmas.List.Elements.{Contains-append_left}
 use Rattle.thes_base.specs.Links.{Holds}
-use Rattle.thes_graph.proofs.PivotLemmas.{S46-witness}
-use Rattle.thes_graph.proofs.ProbeLemmas.{s46_found, s46_none}
+use Rattle.thes_links.proofs.PivotLemmas.{S46-witness}
+use Rattle.thes_links.proofs.ClassLemmas.{s46_found, s46_none}
 use Rattle.thes_graph.proofs.WholeLemmas.{class_free}
 use Rattle.thes_graph.proofs.whole.breaks_s46_at.Goals as goal
 

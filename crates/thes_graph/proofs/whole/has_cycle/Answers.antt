@@ -2,7 +2,7 @@ use Rattle.std.proofs.Common.{ℕ, Contains, subst, ◌∙◌, arith}
 use Rattle.thes_base.specs.declared.data.Link.{Link}
 use Rattle.thes_base.specs.Links.{Holds}
 use Rattle.thes_graph.specs.CycleSearch.{IsUpwardOrder}
-use Rattle.thes_graph.specs.GraphView.{GraphView}
+use Rattle.thes_links.specs.GraphView.{GraphView}
 use Rattle.thes_graph.proofs.WholeLemmas.{holds_more, holds_all, no_cycle_all}
 use Rattle.thes_graph.proofs.whole.has_cycle.Goals as goal
 

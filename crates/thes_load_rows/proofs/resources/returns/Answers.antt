@@ -1,7 +1,7 @@
 use Rattle.std.proofs.Common.{◌≡◌, ◌+◌, ◌∙◌, ℕ, length, sym, ap, subst, arith}
 use Rattle.std.specs.Prelude.{Some, None}
 use Rattle.std.specs.FinSet.{insert}
-use Rattle.thes_graph.specs.GraphView.{GraphView}
+use Rattle.thes_links.specs.GraphView.{GraphView}
 use Rattle.thes_base.specs.Resources.{replacement_of}
 use Rattle.thes_load_rows.specs.ResourceChecks.{HasReplacements}
 use Rattle.thes_base.specs.Links.{Links}

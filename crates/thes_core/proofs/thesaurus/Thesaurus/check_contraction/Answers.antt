@@ -1,6 +1,6 @@
 use Rattle.std.proofs.Common.{[], subst}
 use Rattle.thes_base.specs.Links.{Holds, links_after_merge, IsFirstBroken}
-use Rattle.thes_graph.specs.GraphView.{CountedGraphView, is_marked}
+use Rattle.thes_links.specs.GraphView.{CountedGraphView, is_marked}
 use Rattle.thes_core.proofs.RequestCheckLemmas.{joined_row}
 use Rattle.thes_core.proofs.thesaurus.Thesaurus.check_contraction.Goals as goal
 

@@ -1,7 +1,7 @@
 use Rattle.std.proofs.Common.{[], subst}
 use Rattle.thes_base.specs.Links.{normal_form}
-use Rattle.thes_graph.specs.EditChecks.{checks_of_add}
-use Rattle.thes_graph.specs.GraphView.{CountedGraphView, is_marked}
+use Rattle.thes_walks.specs.EditChecks.{checks_of_add}
+use Rattle.thes_links.specs.GraphView.{CountedGraphView, is_marked}
 use Rattle.thes_core.proofs.RequestCheckLemmas.{held_row}
 use Rattle.thes_core.proofs.thesaurus.Thesaurus.check_link_fits.Goals as goal
 

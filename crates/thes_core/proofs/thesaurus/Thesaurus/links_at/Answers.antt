@@ -2,8 +2,9 @@ use Rattle.std.proofs.Common.{◌≡◌, ◌+◌, ◌++◌, ◌∷◌, [], ap, s
 use Rattle.std.specs.Prelude.{Some, None, slice_get}
 use Rattle.thes_base.specs.declared.data.Link.{Link}
 use Rattle.thes_base.specs.Links.{Links}
-use Rattle.thes_graph.specs.GraphView.{GraphView, links_at}
-use Rattle.thes_graph.specs.Reading.{IsRow}
+use Rattle.thes_links.specs.GraphView.{GraphView}
+use Rattle.thes_graph.specs.SidedLinks.{links_at}
+use Rattle.thes_links.specs.Reading.{IsRow}
 use Rattle.thes_core.proofs.DeltaLemmas.{take_got, take_none}
 use Rattle.thes_core.proofs.thesaurus.Thesaurus.links_at.Goals as goal
 

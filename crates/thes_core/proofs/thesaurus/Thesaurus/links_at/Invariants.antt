@@ -1,5 +1,5 @@
 use Rattle.std.proofs.Common.{◌≡◌, ◌-◌, length, take, vec_len}
-use Rattle.thes_graph.specs.GraphView.{links_at}
+use Rattle.thes_graph.specs.SidedLinks.{links_at}
 use Rattle.thes_core.proofs.thesaurus.Thesaurus.links_at.Given as goal
 
 -- The list has the links at the resource read so far, and the graph's links don't change.

@@ -3,8 +3,8 @@ use Rattle.std.specs.FinSet.{from_list}
 use Rattle.thes_base.specs.declared.data.Link.{Link}
 use Rattle.thes_base.specs.Links.{normal_form}
 use Rattle.thes_graph.specs.Index.{IsIndexed}
-use Rattle.thes_graph.specs.GraphView.{is_marked}
-use Rattle.thes_graph.proofs.NormLemmas.{norm_again, norm_two}
+use Rattle.thes_links.specs.GraphView.{is_marked}
+use Rattle.thes_links.proofs.NormLemmas.{norm_again, norm_two}
 use Rattle.thes_graph.proofs.IndexLemmas.{IsIndexed-same, row_sorted, other_sorted, IsIndexed-added, GraphView-added}
 use Rattle.thes_graph.proofs.graph.Graph.add.Goals as goal
 use Rattle.thes_graph.proofs.graph.Graph.add.Goals.{In_ok-make_room-2}

@@ -1,9 +1,9 @@
 use Rattle.std.proofs.Common.{ap, sym, ◌∙◌, take}
 use Rattle.thes_base.specs.Links.{Links, normal_form}
-use Rattle.thes_graph.specs.GraphView.{GraphView, is_marked}
+use Rattle.thes_links.specs.GraphView.{GraphView, is_marked}
 use Rattle.thes_graph.specs.MergeAdditions.{without_links}
 use Rattle.thes_graph.proofs.ChangeLemmas.{net_with, undo_additions}
-use Rattle.thes_graph.proofs.WeightLemmas.{Contains-take}
+use Rattle.thes_links.proofs.WeightLemmas.{Contains-take}
 use Rattle.thes_graph.proofs.graph.Graph.add_all.Goals as goal
 
 pub add-requires : goal.add-requires

@@ -1,7 +1,7 @@
 use Rattle.std.proofs.Common.{◌≡◌, sym, subst, ap, ◌∙◌, rules}
 use Rattle.thes_base.specs.Links.{Links}
-use Rattle.thes_graph.specs.GraphView.{GraphView, CountedGraphView}
-use Rattle.thes_graph.specs.Whole.{AreAll}
+use Rattle.thes_links.specs.GraphView.{GraphView, CountedGraphView}
+use Rattle.thes_links.specs.Reading.{AreAll}
 use Rattle.thes_graph.proofs.IndexLemmas.{AreAll-keys}
 use Rattle.thes_graph.proofs.graph.Graph.check_whole.Goals as goal
 

@@ -1,6 +1,6 @@
 use Rattle.std.proofs.Common.{ap, ◌∙◌}
 use Rattle.thes_base.specs.Links.{Links, links_after_deprecation}
-use Rattle.thes_graph.specs.GraphView.{GraphView}
+use Rattle.thes_links.specs.GraphView.{GraphView}
 use Rattle.thes_graph.proofs.MergeAdditionLemmas.{AreNew-merge_additions, merged_links}
 use Rattle.thes_graph.proofs.graph.Graph.contract.Goals as goal
 

@@ -2,10 +2,10 @@ use Rattle.std.proofs.Common.{true, ap, sym, ◌∙◌}
 use Rattle.std.specs.FinSet.{remove, from_list}
 use Rattle.std.proofs.lemmas.Bool.{both_ways}
 use Rattle.thes_base.specs.Links.{Links}
-use Rattle.thes_graph.specs.GraphView.{GraphView}
-use Rattle.thes_graph.proofs.SetLemmas.{remove_absent}
-use Rattle.thes_graph.proofs.IndexLemmas.{lookup_in_keys, row_sorted, other_sorted, IsIndexed-taken}
-use Rattle.thes_graph.proofs.IndexLemmas.{from_list_without, without_computed}
+use Rattle.thes_links.specs.GraphView.{GraphView}
+use Rattle.thes_links.proofs.SetLemmas.{remove_absent}
+use Rattle.thes_graph.proofs.IndexLemmas.{lookup_in_keys, row_sorted, other_sorted, IsIndexed-taken, from_list_without}
+use Rattle.thes_graph.proofs.IndexLemmas.{without_computed}
 use Rattle.thes_graph.proofs.graph.Graph.detach.Goals as goal
 
 pub remove-requires-then-remove : goal.remove-requires-then-remove

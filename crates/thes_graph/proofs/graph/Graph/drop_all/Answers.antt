@@ -2,7 +2,7 @@ use Rattle.std.proofs.Common.{ap, sym, ◌∙◌}
 use Rattle.std.specs.Ordering.{nat_cmp}
 use Rattle.std.specs.FinSet.{FinSet}
 use Rattle.thes_base.specs.Links.{Links, links_after_deprecation}
-use Rattle.thes_graph.specs.GraphView.{GraphView}
+use Rattle.thes_links.specs.GraphView.{GraphView}
 use Rattle.thes_graph.proofs.ChangeLemmas.{without_node_removed, without_node_none, fewer_links}
 use Rattle.thes_graph.proofs.graph.Graph.drop_all.Goals as goal
 

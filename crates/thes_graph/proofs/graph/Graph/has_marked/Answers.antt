@@ -2,7 +2,7 @@ use Rattle.std.proofs.Common.{ap, sym, ◌∙◌}
 use Rattle.std.specs.Ordering.{nat_cmp}
 use Rattle.std.specs.Cmp.{nat_cmp_total}
 use Rattle.std.specs.FinSet.{contains-from_list}
-use Rattle.thes_graph.specs.GraphView.{GraphView, is_marked}
+use Rattle.thes_links.specs.GraphView.{GraphView, is_marked}
 use Rattle.thes_graph.proofs.graph.Graph.has_marked.Goals as goal
 
 pub returns-clause-outside : goal.returns-clause-outside

@@ -1,7 +1,6 @@
 use Rattle.std.proofs.Common.{Some, None, Contains}
-use Rattle.thes_graph.specs.declared.side.SidedLink.{SidedLink}
-use Rattle.thes_graph.specs.Side.{sided_link_at}
-use Rattle.thes_graph.specs.GraphView.{sided_links_at}
+use Rattle.thes_graph.specs.declared.sided_links.SidedLink.{SidedLink}
+use Rattle.thes_graph.specs.SidedLinks.{sided_link_at, sided_links_at}
 use Rattle.thes_graph.proofs.ChangeLemmas.{last_of}
 use Rattle.thes_graph.proofs.IndexLemmas.{sided_links_from, sided_links_to}
 use Rattle.thes_graph.proofs.graph.Graph.last_at.Goals as goal

@@ -2,7 +2,7 @@ use Rattle.std.proofs.Common.{ap, subst, ◌∙◌}
 use Rattle.std.specs.Ordering.{nat_cmp}
 use Rattle.std.specs.FinSet.{FinSet, insert, from_list}
 use Rattle.thes_base.specs.Links.{Holds}
-use Rattle.thes_graph.specs.GraphView.{GraphView}
+use Rattle.thes_links.specs.GraphView.{GraphView}
 use Rattle.thes_graph.proofs.MarkLemmas.{from_list_marked, IsIndexed-marked}
 use Rattle.thes_graph.proofs.graph.Graph.mark_outside.Goals as goal
 

@@ -1,5 +1,5 @@
 use Rattle.std.proofs.Common.{◌∷◌, [], ◌++◌, Some, None, ap, sym, ◌∙◌, append-nil}
-use Rattle.thes_graph.specs.declared.side.SidedLink.{SidedLink}
+use Rattle.thes_graph.specs.declared.sided_links.SidedLink.{SidedLink}
 use Rattle.thes_graph.specs.MergeAdditions.{added_link}
 use Rattle.thes_graph.proofs.MergeAdditionLemmas.{filter_map_more}
 use Rattle.thes_graph.proofs.graph.Graph.merge_additions.Goals as goal

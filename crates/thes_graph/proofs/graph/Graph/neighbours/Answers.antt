@@ -1,6 +1,6 @@
 use Rattle.std.proofs.Common.{ap, ◌∙◌, arith}
 use Rattle.std.specs.Ordering.{nat_cmp}
-use Rattle.thes_graph.specs.Steps.{step_in}
+use Rattle.thes_links.specs.Steps.{step_in}
 use Rattle.thes_graph.specs.Neighbours.{neighbour_by_link}
 use Rattle.std.specs.Cmp.{nat_cmp_total}
 use Rattle.std.specs.FinSet.{nat_cmp-IsAntisymmetric}

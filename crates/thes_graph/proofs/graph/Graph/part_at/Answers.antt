@@ -1,4 +1,4 @@
-use Rattle.thes_graph.proofs.SideLemmas.{part_found}
+use Rattle.thes_graph.proofs.PartLemmas.{part_found}
 use Rattle.thes_graph.proofs.graph.Graph.part_at.Goals as goal
 
 pub returns-clause-part : goal.returns-clause-part

@@ -1,5 +1,6 @@
 use Rattle.std.proofs.Common.{ap, ◌∙◌}
-use Rattle.thes_graph.specs.GraphView.{GraphView, sided_links_at}
+use Rattle.thes_links.specs.GraphView.{GraphView}
+use Rattle.thes_graph.specs.SidedLinks.{sided_links_at}
 use Rattle.thes_graph.proofs.IndexLemmas.{row_is}
 use Rattle.thes_graph.proofs.graph.Graph.row_of_node.Goals as goal
 

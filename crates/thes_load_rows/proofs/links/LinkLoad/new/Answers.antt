@@ -2,7 +2,7 @@ use Rattle.std.proofs.Common.{◌≡◌, ◌∙◌, ◌+◌, ℕ, sym, ap, subst
 use Rattle.std.specs.FinSet.{contains, contains-empty, insert}
 use Rattle.thes_base.specs.Links.{Links, link_cmp}
 use Rattle.thes_base.specs.Resources.{is_outside}
-use Rattle.thes_graph.specs.GraphView.{GraphView}
+use Rattle.thes_links.specs.GraphView.{GraphView}
 use Rattle.thes_load_rows.specs.LinksSoFar.{MarksFirst}
 use Rattle.thes_load_rows.proofs.LinkLoadLemmas.{marks_none, marks_skip, marks_more, marked_all}
 use Rattle.thes_load_rows.proofs.links.LinkLoad.new.Goals as goal

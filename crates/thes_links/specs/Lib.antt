@@ -1,0 +1,8 @@
+pub mod Side
+pub mod Reading
+pub mod Steps
+pub mod LinkEdit
+pub mod Local
+pub mod NodeSet
+pub mod GraphView
+pub mod Words

@@ -1,0 +1,91 @@
+//! The nodes that a search has met, in the order in which it met them, with fast look-up.
+ghost use Rattle.std.specs.Prelude.{◌≡◌, ◌<◌, ◌^◌, ◌∷◌, [], Contains, IfOk, OnOk, MatchBool, length, slice_get};
+ghost use Rattle.thes_links.specs.Steps.{GrowsBy};
+
+use crate::marks::{FEW, has_mark, mark_more};
+use std::alloc::{AllocError, Global};
+use std::marker::Model;
+use thes_base::number::ResNo;
+
+/// The distinct nodes that a search has met, in the order in which it met them. A long list also
+/// has marks for fast look-up.
+#[derive(Drop)]
+pub struct Nodes {
+    list: Vec<ResNo>,
+    marks: Vec<u64>,
+}
+
+impl Model for Nodes {
+    ghost use Rattle.std.specs.Prelude.{List, ℕ};
+    ghost use Rattle.thes_links.specs.NodeSet.{IsNodeSet};
+
+    ghost Value = { List ℕ };
+
+    ghost view = { λ a. a.list.items };
+
+    ghost invariant = { λ a. IsNodeSet a.list.items a.marks.items };
+}
+
+impl Nodes {
+    /// Creates an empty list without allocating.
+    pub fn none(alloc: Global) -> Nodes
+        ensures { result ≡ [] }
+    {
+        Nodes {
+            list: Vec::new(alloc),
+            marks: Vec::new(alloc),
+        }
+    }
+
+    /// Creates a list of one node, from which a search starts.
+    pub fn singleton(alloc: Global, start: ResNo) -> Result<Nodes, AllocError>
+        ensures { IfOk result (λ nodes. nodes ≡ start ∷ []) }
+    {
+        let mut list = Vec::new(alloc);
+        list.reserve(FEW)?;
+        list.push(start)?;
+        Ok(Nodes {
+            list,
+            marks: Vec::new(alloc),
+        })
+    }
+
+    /// Returns the nodes in the order in which they were met.
+    pub fn as_slice(&self) -> &[ResNo]
+        ensures { result.now ≡ self.now }
+    {
+        self.list.as_slice()
+    }
+
+    /// Returns the i-th node that was met, counted from 0.
+    pub fn get(&self, i: usize) -> Option<ResNo>
+        ensures node { result ≡ slice_get self.now i }
+        ensures small { length self.now < 2 ^ 63 }
+    {
+        self.list.get(i).copied()
+    }
+
+    /// Checks whether the node was met, in constant time.
+    pub fn has(&self, n: ResNo) -> bool
+        ensures { MatchBool result (Contains self.now n) (Contains self.now n → ⊥) }
+    {
+        if self.list.len() <= FEW {
+            return self.list.contains(&n);
+        }
+        has_mark(&self.marks, n)
+    }
+
+    /// Appends the node, unless it was met before.
+    pub fn meet(&mut self, n: ResNo) -> Result<(), AllocError>
+        ensures grows { OnOk result (GrowsBy self.old self.new (λ m. n ≡ m)) }
+        ensures small { length self.new < 2 ^ 63 }
+    {
+        if self.has(n) {
+            return Ok(());
+        }
+        self.list.reserve(1)?;
+        mark_more(&mut self.marks, self.list.as_slice(), n)?;
+        self.list.push(n)?;
+        Ok(())
+    }
+}

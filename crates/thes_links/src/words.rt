@@ -1,0 +1,36 @@
+//! Bits in words of 64, in a list that is extended where it is written. A word past the end is 0.
+ghost use Rattle.std.specs.Prelude.{◌≡◌, ◌<◌, OnOk, OnErr, MatchBool};
+ghost use Rattle.thes_links.specs.Words.{word_at, HasBit, HasBitsSet};
+
+use std::alloc::AllocError;
+
+/// Returns the word at this place; 0 past the end.
+pub fn word_of(words: &[u64], place: u32) -> u64
+    ensures { result ≡ word_at words.now place }
+{
+    match words.get(place as usize) {
+        Some(word) => *word,
+        None => 0,
+    }
+}
+
+/// Checks whether bit j is set in the word at this place.
+pub fn has_bit(words: &[u64], place: u32, j: usize) -> bool
+    requires { j < 64 }
+    ensures { MatchBool result (HasBit words.now place j) (HasBit words.now place j → ⊥) }
+{
+    (word_of(words, place) >> j) & 1 == 1
+}
+
+/// Sets these bits in the word at this place, and extends the words if they end before it.
+pub fn set_bits(words: &mut Vec<u64>, place: u32, bits: u64) -> Result<(), AllocError>
+    ensures ok { OnOk result (HasBitsSet words.old.items words.new.items place bits) }
+    ensures err { OnErr result (words.new.items ≡ words.old.items) }
+{
+    let place = place as usize;
+    if words.len() <= place {
+        words.resize(place + 1, 0)?;
+    }
+    words[place] |= bits;
+    Ok(())
+}

@@ -1,0 +1,11 @@
+mod ProbeLemmas
+mod EditCheckLemmas
+mod NeighbourhoodLemmas
+mod SideLemmas
+mod KindLemmas
+mod SideSearchLemmas
+mod ReadCostLemmas
+mod AdvanceLemmas
+mod MergeStepLemmas
+mod UpwardLinkLemmas
+mod PairedSearchLemmas

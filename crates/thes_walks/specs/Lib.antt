@@ -1,0 +1,4 @@
+pub mod EditChecks
+pub mod Ends
+pub mod SideSearch
+pub mod PairedSearch

@@ -1,0 +1,319 @@
+//! A breadth-first search that reads the links on one side of each node, and can pause after each node.
+ghost use Rattle.std.specs.Prelude.{◌≡◌, ◌+◌, ◌-◌, ◌≤◌, ◌<◌, ◌^◌, ◌∷◌, [], ℕ, true, false, List, OnOk, IfOk, MatchBool, length, sum_by, slice_get, option_and_then};
+ghost use Rattle.thes_base.specs.declared.data.Link.{Link};
+ghost use Rattle.thes_links.specs.declared.edit.LinkEdit.TheVariants.{NoEdit, AfterMerge};
+ghost use Rattle.thes_links.specs.Side.{side_in};
+ghost use Rattle.thes_links.specs.Steps.{Steps};
+ghost use Rattle.thes_links.specs.LinkEdit.{HeldAfter, CoversAt};
+ghost use Rattle.thes_walks.specs.SideSearch.{link_after, step_after_edit, LeadsWithin, LeadsFrom, IsSearchResult, CoversSide, one_on_side, link_visits, IsHierarchySearch, IsPartAt, HasNextPart, CanFollow, CanAdvance, IsSideSearch, IsAdvanceResult};
+
+use std::alloc::{AllocError, Global};
+use thes_base::data::Link;
+use thes_base::number::ResNo;
+use thes_links::edit::{LinkEdit, merge};
+use thes_links::links::Links;
+use thes_links::nodes::Nodes;
+use thes_links::relation::{Relation, step};
+use thes_links::side::{Part, side_for};
+
+/// A breadth-first search: the nodes met so far, and the number of them whose links were read.
+#[derive(Drop)]
+pub struct SideSearch {
+    pub nodes: Nodes,
+    pub next: usize,
+}
+
+// Returns the held link as it is after the edit, or None if a merge drops it.
+fn edited_link(edit: &LinkEdit, link: &Link) -> Option<Link>
+    ensures { result ≡ link_after edit.now link.now }
+{
+    match edit {
+        LinkEdit::NoEdit => Some(*link),
+        LinkEdit::WithLink(_) => Some(*link),
+        LinkEdit::AfterMerge(source, target) => merge(link, *source, *target),
+    }
+}
+
+// Reads the i-th link at the node `at`, and returns the node to which it leads from `x` in the relation after the edit,
+// if any.
+fn step_at_place<L: Links>(
+    links: &mut L,
+    edit: &LinkEdit,
+    relation: Relation,
+    at: ResNo,
+    x: ResNo,
+    i: usize,
+) -> Option<ResNo>
+    ensures net { L.net links.new ≡ L.net links.old }
+    ensures step_after_edit { result ≡ option_and_then (step_after_edit edit.now relation x)
+        (slice_get (L.links_of (L.net links.old) at) i) }
+    ensures count { L.count links.new ≤ L.count links.old + 1 }
+{
+    let link = links.link_at(at, i)?;
+    let after = edited_link(edit, &link)?;
+    step(relation, &after, x)
+}
+
+// Appends the next node, if there is one, to the nodes met, unless it is a goal. Returns whether it
+// is a goal.
+fn take(nodes: &mut Nodes, next: Option<ResNo>, goals: &Nodes) -> Result<bool, AllocError>
+    ensures { IfOk result
+        (λ found. IsSearchResult found nodes.old nodes.new goals.now (λ y. next ≡ Some y)) }
+{
+    let Some(y) = next else {
+        return Ok(false);
+    };
+    if goals.has(y) {
+        return Ok(true);
+    }
+    nodes.meet(y)?;
+    Ok(false)
+}
+
+// Appends the nodes to which this range of the links at `at` leads from `x` in the relation after
+// the edit, up to the first goal. Returns whether there is a goal. The two nodes differ only if a
+// merge moves the links at its source, `at`, to its target, `x`.
+fn follow_part<L: Links>(
+    links: &mut L,
+    nodes: &mut Nodes,
+    edit: &LinkEdit,
+    relation: Relation,
+    at: ResNo,
+    part: Part,
+    x: ResNo,
+    goals: &Nodes,
+) -> Result<bool, AllocError>
+    ensures net { L.net links.new ≡ L.net links.old }
+    ensures finds { IfOk result (λ found. IsSearchResult found nodes.old nodes.new goals.now
+        (LeadsWithin edit.now relation x (L.links_of (L.net links.old) at) part.from part.to)) }
+    ensures count { L.count links.new ≤ L.count links.old + (part.to - part.from) }
+{
+    for i in part.from..part.to {
+        let next = step_at_place(links, edit, relation, at, x, i);
+        if take(nodes, next, goals)? {
+            return Ok(true);
+        }
+    }
+    Ok(false)
+}
+
+/// Returns the range of the node's held links that lie on the side of the relation, without reading them.
+pub fn part_along<L: Links>(links: &L, relation: Relation, n: ResNo) -> Part
+    ensures { IsPartAt (L.net links.now).links (L.links_of (L.net links.now) n) n (side_in relation)
+        result }
+{
+    links.part(n, side_for(relation))
+}
+
+// Appends the nodes to which this range of the links at `at`, which has those on the side of the relation, leads from
+// `x` after the edit, up to the first goal. Returns whether there is a goal.
+fn follow<L: Links>(
+    links: &mut L,
+    nodes: &mut Nodes,
+    edit: &LinkEdit,
+    relation: Relation,
+    at: ResNo,
+    part: Part,
+    x: ResNo,
+    goals: &Nodes,
+) -> Result<bool, AllocError>
+    requires { IsPartAt (L.net links.old).links (L.links_of (L.net links.old) at) at
+        (side_in relation) part }
+    ensures net { L.net links.new ≡ L.net links.old }
+    ensures finds { IfOk result (λ found. IsSearchResult found nodes.old nodes.new goals.now
+        (LeadsFrom edit.now (L.net links.old).links relation at x)) }
+    ensures count { OnOk result
+        ((ns : List Link) → CoversSide (L.net links.old).links at (side_in relation) ns
+        → L.count links.new ≤ L.count links.old + sum_by (one_on_side at (side_in relation)) ns) }
+{
+    let found = follow_part(links, nodes, edit, relation, at, part, x, goals)?;
+    Ok(found)
+}
+
+// Appends the nodes to which the target of a merge leads in the relation after it, up to the first
+// goal. Returns whether there is a goal. Reads this range of the links held at the target, and then
+// those held at the source.
+fn follow_merged<L: Links>(
+    links: &mut L,
+    nodes: &mut Nodes,
+    relation: Relation,
+    source: ResNo,
+    target: ResNo,
+    part: Part,
+    goals: &Nodes,
+) -> Result<bool, AllocError>
+    requires { CanFollow (AfterMerge source target) (L.net links.old).links
+        (L.links_of (L.net links.old)) relation target part }
+    ensures net { L.net links.new ≡ L.net links.old }
+    ensures finds { IfOk result (λ found. IsSearchResult found nodes.old nodes.new goals.now
+        (Steps relation (HeldAfter (AfterMerge source target) (L.net links.old).links) target)) }
+    ensures count { OnOk result
+        ((ns : List Link) → CoversAt (AfterMerge source target) (L.net links.old).links target ns
+        → L.count links.new ≤ L.count links.old
+        + sum_by (link_visits (AfterMerge source target) target (side_in relation)) ns) }
+{
+    let edit = LinkEdit::AfterMerge(source, target);
+    if follow(links, nodes, &edit, relation, target, part, target, goals)? {
+        return Ok(true);
+    }
+    let more = part_along(links, relation, source);
+    let found = follow(links, nodes, &edit, relation, source, more, target, goals)?;
+    Ok(found)
+}
+
+/// Appends the nodes to which `x` leads in the relation after the edit, up to the first goal, and returns whether there
+/// is a goal. The range has the links held at `x` on the side of the relation.
+pub fn follow_after_edit<L: Links>(
+    links: &mut L,
+    nodes: &mut Nodes,
+    edit: &LinkEdit,
+    relation: Relation,
+    x: ResNo,
+    part: Part,
+    goals: &Nodes,
+) -> Result<bool, AllocError>
+    requires { CanFollow edit.now (L.net links.old).links (L.links_of (L.net links.old)) relation x
+        part }
+    ensures net { L.net links.new ≡ L.net links.old }
+    ensures finds { IfOk result (λ found. IsSearchResult found nodes.old nodes.new goals.now
+        (Steps relation (HeldAfter edit.now (L.net links.old).links) x)) }
+    ensures count { OnOk result ((ns : List Link) → CoversAt edit.now (L.net links.old).links x ns
+        → L.count links.new
+        ≤ L.count links.old + sum_by (link_visits edit.now x (side_in relation)) ns) }
+{
+    match edit {
+        LinkEdit::NoEdit => {
+            let found = follow(links, nodes, edit, relation, x, part, x, goals)?;
+            Ok(found)
+        }
+        LinkEdit::WithLink(new) => {
+            if follow(links, nodes, edit, relation, x, part, x, goals)? {
+                return Ok(true);
+            }
+            let found = take(nodes, step(relation, new, x), goals)?;
+            Ok(found)
+        }
+        LinkEdit::AfterMerge(source, target) => {
+            if x == *source {
+                return Ok(false);
+            }
+            if x == *target {
+                let found = follow_merged(links, nodes, relation, *source, *target, part, goals)?;
+                return Ok(found);
+            }
+            let found = follow(links, nodes, edit, relation, x, part, x, goals)?;
+            Ok(found)
+        }
+    }
+}
+
+impl SideSearch {
+    /// Starts a search at the node, which is met but not yet read.
+    pub fn start(alloc: Global, start: ResNo) -> Result<SideSearch, AllocError>
+        ensures nodes { IfOk result (λ side_search. side_search.nodes ≡ start ∷ []) }
+        ensures unread { IfOk result (λ side_search. side_search.next ≡ 0) }
+    {
+        let nodes = Nodes::singleton(alloc, start)?;
+        Ok(SideSearch { nodes, next: 0 })
+    }
+
+    /// Checks whether the links of all nodes met were read, so that the search is at its end.
+    pub fn is_done(&self) -> bool
+        ensures done { MatchBool result (length self.now.nodes ≤ self.now.next)
+            (self.now.next < length self.now.nodes) }
+        ensures small { length self.now.nodes < 2 ^ 63 }
+    {
+        self.nodes.as_slice().len() <= self.next
+    }
+
+    /// Reads the links that lead from the next node in the relation after the edit, of which the
+    /// range has those held there. Appends the nodes to which they lead, up to the first goal, and
+    /// returns whether there is a goal.
+    pub fn advance<L: Links>(
+        &mut self,
+        links: &mut L,
+        edit: &LinkEdit,
+        relation: Relation,
+        part: Part,
+        goals: &Nodes,
+    ) -> Result<bool, AllocError>
+        requires { CanAdvance edit.now (L.net links.old).links (L.links_of (L.net links.old))
+            relation self.old part }
+        ensures net { L.net links.new ≡ L.net links.old }
+        ensures next { OnOk result (self.new.next ≡ self.old.next + 1) }
+        ensures advances { IfOk result (λ found. (start read : ℕ)
+            → IsSideSearch edit.now (L.net links.old).links relation goals.now start self.old read
+            → IsAdvanceResult edit.now (L.net links.old).links relation goals.now start self.new
+            (read + (L.count links.new - L.count links.old)) found) }
+    {
+        let x = self.nodes.as_slice()[self.next];
+        let found = follow_after_edit(links, &mut self.nodes, edit, relation, x, part, goals)?;
+        self.next += 1;
+        Ok(found)
+    }
+
+    /// Returns the range of the next node's held links on the side of the relation, without reading them; an empty
+    /// range if there is no next node.
+    pub fn next_part<L: Links>(&self, links: &L, relation: Relation) -> Part
+        ensures { HasNextPart (L.net links.now).links (L.links_of (L.net links.now)) relation
+            self.now result }
+    {
+        match self.nodes.get(self.next) {
+            Some(x) => part_along(links, relation, x),
+            None => Part { from: 0, to: 0 },
+        }
+    }
+
+    /// Reads this range of the next node's held links. Appends the nodes to which they lead, up to
+    /// the first goal, and returns whether there is a goal.
+    pub fn advance_at<L: Links>(
+        &mut self,
+        links: &mut L,
+        relation: Relation,
+        part: Part,
+        goals: &Nodes,
+    ) -> Result<bool, AllocError>
+        requires { CanAdvance NoEdit (L.net links.old).links (L.links_of (L.net links.old)) relation
+            self.old part }
+        ensures net { L.net links.new ≡ L.net links.old }
+        ensures next { OnOk result (self.new.next ≡ self.old.next + 1) }
+        ensures count { L.count links.new ≤ L.count links.old + (part.to - part.from) }
+        ensures advances { IfOk result (λ found. (start read : ℕ)
+            → IsSideSearch NoEdit (L.net links.old).links relation goals.now start self.old read
+            → IsAdvanceResult NoEdit (L.net links.old).links relation goals.now start self.new
+            (read + (part.to - part.from)) found) }
+    {
+        let x = self.nodes.as_slice()[self.next];
+        let edit = LinkEdit::NoEdit;
+        let found = follow_part(links, &mut self.nodes, &edit, relation, x, part, x, goals)?;
+        self.next += 1;
+        Ok(found)
+    }
+
+    /// Advances the search until all nodes are read or one leads to a goal. Returns whether one
+    /// does.
+    pub fn finish<L: Links>(
+        &mut self,
+        links: &mut L,
+        edit: &LinkEdit,
+        relation: Relation,
+        goals: &Nodes,
+    ) -> Result<bool, AllocError>
+        requires { IsHierarchySearch edit.now relation }
+        ensures net { L.net links.new ≡ L.net links.old }
+        ensures done { IfOk result
+            (λ found. found ≡ false → length self.new.nodes ≤ self.new.next) }
+        ensures advances { IfOk result (λ found. (start read : ℕ)
+            → IsSideSearch edit.now (L.net links.old).links relation goals.now start self.old read
+            → IsAdvanceResult edit.now (L.net links.old).links relation goals.now start self.new
+            (read + (L.count links.new - L.count links.old)) found) }
+    {
+        'reading: while !self.is_done() {
+            let part = self.next_part(links, relation);
+            if self.advance(links, edit, relation, part, goals)? {
+                return Ok(true);
+            }
+        }
+        Ok(false)
+    }
+}

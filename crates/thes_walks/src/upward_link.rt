@@ -1,0 +1,232 @@
+//! Checks a link from a low node up to a high one by two searches that take turns, up from the high node and down from
+//! the low one. The search that ends first has met all nodes of its side; the other one is finished only if a related
+//! link may lead from one of these nodes.
+ghost use Rattle.std.specs.Prelude.{◌≡◌, ◌+◌, ◌-◌, ◌*◌, ◌≤◌, ◌<◌, ℕ, true, false, List, Contains, OnOk, IfOk, MatchBool, length};
+ghost use Rattle.thes_base.specs.declared.data.Link.{Link};
+ghost use Rattle.thes_links.specs.declared.relation.Relation.TheVariants.{Broader, Narrower, Related};
+ghost use Rattle.thes_links.specs.declared.side.Side.TheVariants.{Sideways};
+ghost use Rattle.thes_links.specs.Steps.{Steps, Reaches};
+ghost use Rattle.thes_links.specs.LinkEdit.{HeldAfter, IsValidEdit, CoversAt};
+ghost use Rattle.thes_walks.specs.SideSearch.{read_cost, CanAdvance, HaveNextParts, IsHierarchySearch, IsSideSearch, AreAlternating, HasEitherFoundGoal, AreTied, IsSecondResult, IsBrokenBetween, CoversBetween};
+
+use crate::ends::is_end_after;
+use crate::side_search::{SideSearch, follow_after_edit, part_along};
+use std::alloc::{AllocError, Global};
+use thes_base::fault::Refusal;
+use thes_base::number::ResNo;
+use thes_links::edit::LinkEdit;
+use thes_links::links::Links;
+use thes_links::nodes::Nodes;
+use thes_links::relation::Relation;
+use thes_links::side::Part;
+
+// Advances the search that will have read less after its next node, and returns whether it found a
+// goal. The number of nodes that a search has met estimates what it has read, so that neither reads
+// a node with many links while the other has few to read. The ranges have the links held at the
+// next nodes.
+fn advance_in_turn<L: Links>(
+    links: &mut L,
+    edit: &LinkEdit,
+    up: &mut SideSearch,
+    up_part: &mut Part,
+    down: &mut SideSearch,
+    down_part: &mut Part,
+    lows: &Nodes,
+    highs: &Nodes,
+) -> Result<bool, AllocError>
+    requires up { CanAdvance edit.now (L.net links.old).links (L.links_of (L.net links.old)) Broader
+        up.old up_part.old }
+    requires down { CanAdvance edit.now (L.net links.old).links (L.links_of (L.net links.old))
+        Narrower down.old down_part.old }
+    ensures net { L.net links.new ≡ L.net links.old }
+    ensures parts { OnOk result (HaveNextParts (L.net links.old).links
+        (L.links_of (L.net links.old)) up.new up_part.new down.new down_part.new) }
+    ensures next { OnOk result (up.new.next + down.new.next ≡ up.old.next + down.old.next + 1) }
+    ensures advances { IfOk result (λ found. (low high from : ℕ)
+        → AreAlternating edit.now (L.net links.old).links lows.now highs.now low high up.old
+        down.old from (L.count links.old)
+        → MatchBool found
+        (HasEitherFoundGoal edit.now (L.net links.old).links lows.now highs.now low high from
+        (L.count links.new))
+        (AreAlternating edit.now (L.net links.old).links lows.now highs.now low high up.new
+        down.new from (L.count links.new))) }
+{
+    let up_read = up.nodes.as_slice().len().saturating_add(up_part.size());
+    let down_read = down.nodes.as_slice().len().saturating_add(down_part.size());
+    if up_read <= down_read {
+        let found = up.advance(links, edit, Relation::Broader, *up_part, lows)?;
+        *up_part = up.next_part(links, Relation::Broader);
+        return Ok(found);
+    }
+    let found = down.advance(links, edit, Relation::Narrower, *down_part, highs)?;
+    *down_part = down.next_part(links, Relation::Narrower);
+    Ok(found)
+}
+
+// Advances the two searches, each time the one that will have read less, until one is done or has found a goal, and
+// returns whether a goal was found.
+fn search_in_turns<L: Links>(
+    links: &mut L,
+    edit: &LinkEdit,
+    up: &mut SideSearch,
+    down: &mut SideSearch,
+    lows: &Nodes,
+    highs: &Nodes,
+) -> Result<bool, AllocError>
+    requires { IsValidEdit edit.now }
+    ensures net { L.net links.new ≡ L.net links.old }
+    ensures done { IfOk result (λ found. found ≡ false → up.new.next < length up.new.nodes
+        → length down.new.nodes ≤ down.new.next) }
+    ensures advances { IfOk result (λ found. (low high from : ℕ)
+        → AreAlternating edit.now (L.net links.old).links lows.now highs.now low high up.old
+        down.old from (L.count links.old)
+        → MatchBool found
+        (HasEitherFoundGoal edit.now (L.net links.old).links lows.now highs.now low high from
+        (L.count links.new))
+        (AreAlternating edit.now (L.net links.old).links lows.now highs.now low high up.new
+        down.new from (L.count links.new))) }
+{
+    let mut up_part = up.next_part(links, Relation::Broader);
+    let mut down_part = down.next_part(links, Relation::Narrower);
+    'turns: while !up.is_done() && !down.is_done() {
+        if advance_in_turn(
+            links,
+            edit,
+            up,
+            &mut up_part,
+            down,
+            &mut down_part,
+            lows,
+            highs,
+        )? {
+            return Ok(true);
+        }
+    }
+    Ok(false)
+}
+
+// Returns true only if no related link leads from any of the nodes after the edit. Reads no link,
+// so a false result decides nothing.
+fn have_none<L: Links>(links: &L, edit: &LinkEdit, xs: &Nodes) -> bool
+    ensures { result ≡ true → (x y : ℕ) → Contains xs.now x
+        → Steps Related (HeldAfter edit.now (L.net links.now).links) x y → ⊥ }
+{
+    for x in xs.as_slice() {
+        if !is_end_after(links, edit, *x, Relation::Related) {
+            return false;
+        }
+    }
+    true
+}
+
+// Checks whether a related link joins one of `xs` to one of `ys` after the edit.
+fn are_tied<L: Links>(
+    alloc: Global,
+    links: &mut L,
+    edit: &LinkEdit,
+    xs: &Nodes,
+    ys: &Nodes,
+) -> Result<bool, AllocError>
+    requires { IsValidEdit edit.now }
+    ensures net { L.net links.new ≡ L.net links.old }
+    ensures tied { IfOk result
+        (λ found. MatchBool found (AreTied edit.now (L.net links.old).links xs.now ys.now)
+        (AreTied edit.now (L.net links.old).links xs.now ys.now → ⊥)) }
+    ensures count { OnOk result ((ns : List Link)
+        → ((n : ℕ) → Contains xs.now n → CoversAt edit.now (L.net links.old).links n ns)
+        → L.count links.new ≤ L.count links.old + read_cost edit.now Sideways xs.now ns) }
+{
+    let mut met = Nodes::none(alloc);
+    for x in xs.as_slice() {
+        let part = part_along(links, Relation::Related, *x);
+        if follow_after_edit(links, &mut met, edit, Relation::Related, *x, part, ys)? {
+            return Ok(true);
+        }
+    }
+    Ok(false)
+}
+
+// Returns which of Cycle and S27 would be broken, given `ended`, all nodes that the first search could reach. Finishes
+// the other search only if a related link may lead from one of them.
+fn check_second_search<L: Links>(
+    alloc: Global,
+    links: &mut L,
+    edit: &LinkEdit,
+    ended: &Nodes,
+    other: &mut SideSearch,
+    relation: Relation,
+    goals: &Nodes,
+) -> Result<Option<Refusal>, AllocError>
+    requires { IsHierarchySearch edit.now relation }
+    ensures net { L.net links.new ≡ L.net links.old }
+    ensures rest { IfOk result (λ answer. (start read : ℕ)
+        → IsSideSearch edit.now (L.net links.old).links relation goals.now start other.old read
+        → IsSecondResult edit.now (L.net links.old).links relation goals.now ended.now start
+        answer) }
+    ensures count { OnOk result ((start read : ℕ) (ns : List Link)
+        → IsSideSearch edit.now (L.net links.old).links relation goals.now start other.old read
+        → ((n : ℕ) → Reaches (Steps relation (HeldAfter edit.now (L.net links.old).links)) start n
+        → CoversAt edit.now (L.net links.old).links n ns)
+        → ((n : ℕ) → Contains ended.now n → CoversAt edit.now (L.net links.old).links n ns)
+        → read + L.count links.new
+        ≤ L.count links.old + 2 * length ns + read_cost edit.now Sideways ended.now ns) }
+{
+    if have_none(links, edit, ended) {
+        return Ok(None);
+    }
+    if other.finish(links, edit, relation, goals)? {
+        return Ok(Some(Refusal::Cycle));
+    }
+    if are_tied(alloc, links, edit, ended, &other.nodes)? {
+        return Ok(Some(Refusal::S27));
+    }
+    Ok(None)
+}
+
+/// Returns the first of Cycle and S27 that a link from the low node up to the high one would break, together with the
+/// links after the edit.
+pub fn check_upward_link<L: Links>(
+    alloc: Global,
+    links: &mut L,
+    edit: &LinkEdit,
+    low: ResNo,
+    high: ResNo,
+) -> Result<Option<Refusal>, AllocError>
+    requires { IsValidEdit edit.now }
+    ensures net { L.net links.new ≡ L.net links.old }
+    ensures broken { IfOk result
+        (IsBrokenBetween (HeldAfter edit.now (L.net links.old).links) low high) }
+    ensures count { OnOk result
+        ((ns : List Link) → CoversBetween edit.now (L.net links.old).links low high ns
+        → L.count links.new ≤ L.count links.old + 4 * length ns) }
+{
+    let lows = Nodes::singleton(alloc, low)?;
+    let highs = Nodes::singleton(alloc, high)?;
+    let mut up = SideSearch::start(alloc, high)?;
+    let mut down = SideSearch::start(alloc, low)?;
+    if search_in_turns(links, edit, &mut up, &mut down, &lows, &highs)? {
+        return Ok(Some(Refusal::Cycle));
+    }
+    if up.is_done() {
+        let rest = check_second_search(
+            alloc,
+            links,
+            edit,
+            &up.nodes,
+            &mut down,
+            Relation::Narrower,
+            &highs,
+        )?;
+        return Ok(rest);
+    }
+    let rest = check_second_search(
+        alloc,
+        links,
+        edit,
+        &down.nodes,
+        &mut up,
+        Relation::Broader,
+        &lows,
+    )?;
+    Ok(rest)
+}
