@@ -1,5 +1,6 @@
 -- The links after an edit break the same rules as the set that has their normal forms.
-use Rattle.std.proofs.Common.{◌≡◌, ◌≢◌, inl, inr, ℕ, Bool, true, false, ◌==◌, Option, Some, None, refl, sym, ap}
+use Rattle.std.proofs.lemmas.Grind.{common_steps}
+use Rattle.std.proofs.Common.{◌≡◌, ◌≢◌, inl, inr, ℕ, Bool, Option, Some, None, sym, ap, arith}
 use Rattle.std.proofs.Common.{subst, if◌then◌else◌}
 use Rattle.std.specs.FinSet.{insert}
 use Rattle.std.proofs.lemmas.Bool.{eqb-false, ne_eqb}
@@ -42,13 +43,7 @@ module _ (is_outside : ℕ → Bool) (source target : ℕ) (held : Links) where
 
   two_of_becomes : (l n : Link) → link_after_merge source target l ≡ Some n
       → (redirect source target l.a ≢ redirect source target l.b) × (redirect_link source target l ≡ n)
-  two_of_becomes l n e = go (redirect source target l.a == redirect source target l.b) refl e
-    where
-      go : (b : Bool) → (redirect source target l.a == redirect source target l.b) ≡ b
-          → (if b then None else Some (redirect_link source target l)) ≡ Some n
-          → (redirect source target l.a ≢ redirect source target l.b) × (redirect_link source target l ≡ n)
-      go true is e = absurd (none-some n e)
-      go false is e = (eqb-false _ _ is, same_Some (redirect_link source target l) n e)
+  two_of_becomes l n e = grind (arith, common_steps, eqb-false, none-some, same_Some)
 
   -- Each link of a merged set is the normal form of what the merge makes of a held link.
   pub contracted_from : (m : Link) → Holds (links_after_merge is_outside source target held) m

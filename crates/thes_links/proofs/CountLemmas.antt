@@ -1,5 +1,6 @@
 -- At most two of a list of distinct nodes are ends of a given link, and at most one is its first or its second end.
-use Rattle.std.proofs.Common.{◌≡◌, ◌==◌, ◌+◌, ◌*◌, ◌≤◌, ℕ, List, [], ◌∷◌, length, get_or, ap, ◌∙◌, arith, refl}
+use Rattle.std.proofs.lemmas.Grind.{common_steps}
+use Rattle.std.proofs.Common.{◌≡◌, ◌==◌, ◌+◌, ◌*◌, ◌≤◌, ℕ, List, [], ◌∷◌, length, ap, ◌∙◌, arith, refl}
 use Rattle.std.proofs.Common.{sum_by, true, false, nat_eq, if◌then◌else◌}
 use Rattle.std.specs.List.{IsDistinct, AllByRecursion}
 use Rattle.std.proofs.lemmas.List.Sums.{sum_by-cons, sum_by-le}
@@ -66,13 +67,7 @@ module _ (nodes : List ℕ) (weight : ℕ → Link → ℕ) where
   -- A bound for each link bounds the sum over all links.
   pub met_at_most : (most : ℕ) → ((l : Link) → sum_by (λ n. weight n l) nodes ≤ most) → (ns : List Link)
       → sum_by (λ n. sum_by (weight n) ns) nodes ≤ length ns * most
-  met_at_most most each ns =
-      omega (
-        arith,
-        swapped ns,
-        sum_by-le (λ l. sum_by (λ n. weight n l) nodes) most ns
-            (λ k d lt. each (get_or ns k d)),
-      )
+  met_at_most most each ns = grind (arith, common_steps, sum_by-le, swapped)
 
 module _ (edit : LinkEdit) (nodes : List ℕ) (distinct : IsDistinct nat_eq nodes) where
   link_twice : (l : Link) → sum_by (λ n. ends_at_node edit n l) nodes ≤ 2

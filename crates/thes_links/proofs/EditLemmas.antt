@@ -1,7 +1,8 @@
 -- The links read at a node, mapped to the links after the edit, are those with an end there after the edit.
-use Rattle.std.proofs.Common.{◌≡◌, ◌≢◌, ◌==◌, ◌⊎◌, inl, inr, ℕ, List, [], ◌∷◌, ◌++◌, ap, sym, subst, ◌∙◌, arith, refl}
-use Rattle.std.proofs.Common.{Contains, true, false, if◌then◌else◌, Option, Some, None}
-use Rattle.std.specs.List.{filter_map, cons_option}
+use Rattle.std.proofs.lemmas.Grind.{common_steps}
+use Rattle.std.proofs.Common.{◌≡◌, ◌≢◌, ◌⊎◌, inl, inr, ℕ, List, [], ◌∷◌, ◌++◌, ap, sym, subst, ◌∙◌, arith}
+use Rattle.std.proofs.Common.{Contains, Option, Some, None}
+use Rattle.std.specs.List.{filter_map}
 use Rattle.std.proofs.lemmas.List.Elements.{Contains-append_left, Contains-push, Contains-push_cases}
 use Rattle.thes_base.specs.declared.data.Link.{Link}
 use Rattle.thes_base.specs.declared.data.LinkKind.{LinkKind}
@@ -17,12 +18,7 @@ module _ {X Y : Type 0} (h : X → Option Y) where
   -- The first item of a list adds one item or none to the filtered and mapped list.
   pub map_head : (x : X) (xs : List X) → ((y : Y) × (h x ≡ Some y) × (filter_map h (x ∷ xs) ≡ y ∷ filter_map h xs))
       ⊎ ((h x ≡ None) × (filter_map h (x ∷ xs) ≡ filter_map h xs))
-  map_head x xs =
-      elim (h x) as (λ o. ((y : Y) × (o ≡ Some y) × (cons_option o (filter_map h xs) ≡ y ∷ filter_map h xs))
-      ⊎ ((o ≡ None) × (cons_option o (filter_map h xs) ≡ filter_map h xs))) [
-        | None ↦ inr (refl, refl)
-        | Some y ↦ inl (y, refl, refl)
-      ]
+  map_head x xs = grind (arith, common_steps)
 
   pub filter_map-from : (xs : List X) (y : Y) → Contains (filter_map h xs) y → (x : X) × Contains xs x × (h x ≡ Some y)
   filter_map-from [] y has = absurd (Contains-none y has)
@@ -73,33 +69,7 @@ module _ {X Y : Type 0} (h : X → Option Y) where
 pub link_after_merge-ends : (source target : ℕ) (l m : Link) → link_after_merge source target l ≡ Some m
     → (m.kind ≡ l.kind) × (m.a ≡ node_after (AfterMerge source target) l.a)
     × (m.b ≡ node_after (AfterMerge source target) l.b) × (m.a ≢ m.b)
-link_after_merge-ends source target l m e = go (node_after (AfterMerge source target) l.a)
-    (node_after (AfterMerge source target) l.b) e
-  where
-    none_some : None ≡ Some m → ⊥
-    none_some e = cc
-
-    some_same : (w : Link) → Some w ≡ Some m → w ≡ m
-    some_same w e = cc
-
-    differ : (a b : ℕ) → (a == b) ≡ false → a ≡ b → ⊥
-    differ a b off same = grind arith
-
-    go : (a b : ℕ) → (if a == b then None else Some (record { kind = l.kind; a = a; b = b })) ≡ Some m
-        → (m.kind ≡ l.kind) × (m.a ≡ a) × (m.b ≡ b) × (m.a ≢ m.b)
-    go a b e =
-        elim (a == b) as (λ t. (a == b) ≡ t → (if t then None else Some (record { kind = l.kind; a = a; b = b }))
-        ≡ Some m → (m.kind ≡ l.kind) × (m.a ≡ a) × (m.b ≡ b) × (m.a ≢ m.b)) [
-          | true ↦ λ _ e. absurd (none_some e)
-          | false ↦ λ off e.
-              let same : record { kind = l.kind; a = a; b = b } ≡ m = some_same (record { kind = l.kind; a = a; b = b })
-              e in (
-                sym (ap (λ (w : Link). w.kind) same),
-                sym (ap (λ (w : Link). w.a) same),
-                sym (ap (λ (w : Link). w.b) same),
-                λ ends. differ a b off (ap (λ (w : Link). w.a) same ∙ ends ∙ sym (ap (λ (w : Link). w.b) same)),
-              )
-        ] refl e
+link_after_merge-ends source target l m e = grind (arith, common_steps)
 
 module _ (held : Links) (node : ℕ) (row : List Link) where
   pub row_after_edit-sound : (edit : LinkEdit) → IsReadOf edit held node row → (m : Link)

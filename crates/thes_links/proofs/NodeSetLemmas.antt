@@ -1,5 +1,6 @@
 -- A node is in a list of nodes exactly when the test for equality with it succeeds for some node of the list.
-use Rattle.std.proofs.Common.{◌≡◌, ℕ, List, Bool, true, false, nat_eq, Contains, refl, sym, ◌∙◌}
+use Rattle.std.proofs.lemmas.Grind.{common_steps}
+use Rattle.std.proofs.Common.{◌≡◌, ℕ, List, Bool, true, false, nat_eq, Contains, sym, ◌∙◌, arith}
 use Rattle.std.specs.Bool.{MatchBool}
 use Rattle.std.specs.List.{list_any}
 use Rattle.std.specs.Cmp.{nat_eq_equiv}
@@ -20,8 +21,4 @@ has_met nodes n true e = has_of_test nodes n (sym e)
 has_met nodes n false e = λ has. true≢false (sym (test_of_has nodes n has) ∙ sym e)
 
 pub no_test_of_none : (nodes : List ℕ) (n : ℕ) → (Contains nodes n → ⊥) → list_any (nat_eq n) nodes ≡ false
-no_test_of_none nodes n none = falls (list_any (nat_eq n) nodes) refl
-  where
-    falls : (b : Bool) → b ≡ list_any (nat_eq n) nodes → b ≡ false
-    falls true e = absurd (none (has_of_test nodes n (sym e)))
-    falls false e = refl
+no_test_of_none nodes n none = grind (arith, common_steps, has_of_test)

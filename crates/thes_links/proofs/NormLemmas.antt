@@ -1,6 +1,7 @@
 -- A link and its normal form entail the same relations, so that links and their normal forms break the same rules.
-use Rattle.std.proofs.Common.{◌≡◌, ◌≢◌, ◌⊎◌, inl, inr, ℕ, Option, Some, None, refl, sym, subst, ap, ◌∙◌, Bool, true}
-use Rattle.std.proofs.Common.{false, ◌&&◌, ◌||◌, nat_lt, if◌then◌else◌}
+use Rattle.std.proofs.lemmas.Grind.{common_steps}
+use Rattle.std.proofs.Common.{◌≡◌, ◌≢◌, ◌⊎◌, inl, inr, ℕ, Option, Some, None, subst, Bool, true, arith}
+use Rattle.std.proofs.Common.{nat_lt}
 use Rattle.thes_base.specs.declared.data.Link.{Link}
 use Rattle.thes_base.specs.declared.data.LinkKind.{LinkKind}
 use Rattle.thes_base.specs.declared.data.Direction.TheVariants.{Either}
@@ -19,10 +20,7 @@ use Rattle.std.specs.FinSet.{insert}
 use Rattle.std.proofs.lemmas.Bool.{cases_eq}
 
 pub ends_or_not : (n : ℕ) (l : Link) → HasEnd n l ⊎ (HasEnd n l → ⊥)
-ends_or_not n l = elim (cases_eq l.a n) [
-  | inl a ↦ inl (inl a)
-  | inr a ↦ elim (cases_eq l.b n) [ inl b ↦ inl (inr b) | inr b ↦ inr (λ at. elim at [ inl e ↦ a e | inr e ↦ b e ]) ]
-]
+ends_or_not n l = grind (arith, common_steps, cases_eq)
 
 -- The link m entails each relation between nodes that the link l entails.
 pub record IsEntailedBy (l m : Link) : Type 0 where
@@ -76,24 +74,7 @@ IsEntailedBy-itself l = record { broader = λ x y r. r; related = λ x y r. r; e
 -- A link and its normal form entail the same relations.
 pub norm-says : (is_outside : ℕ → Bool) (l : Link) → IsEntailedBy l (normal_form is_outside l)
     × IsEntailedBy (normal_form is_outside l) l
-norm-says is_outside l =
-    elim (is_symmetric (is_outside l.a || is_outside l.b) l.kind) as
-    (λ o. is_symmetric (is_outside l.a || is_outside l.b) l.kind ≡ o → IsEntailedBy l (chosen o)
-    × IsEntailedBy (chosen o) l) [
-      | false ↦ λ _. (IsEntailedBy-itself l, IsEntailedBy-itself l)
-      | true ↦ λ e. by_less e (nat_lt l.b l.a)
-    ] refl
-  where
-    chosen : Bool → Link
-    chosen o = if o && nat_lt l.b l.a then reversed_link l else l
-
-    by_less : is_symmetric (is_outside l.a || is_outside l.b) l.kind ≡ true → (t : Bool)
-        → IsEntailedBy l (if t then reversed_link l else l) × IsEntailedBy (if t then reversed_link l else l) l
-    by_less e true = (
-      IsEntailedBy-exchanged l.kind (is_outside l.a || is_outside l.b) e l.a l.b,
-      IsEntailedBy-exchanged l.kind (is_outside l.a || is_outside l.b) e l.b l.a,
-    )
-    by_less e false = (IsEntailedBy-itself l, IsEntailedBy-itself l)
+norm-says is_outside l = grind (arith, common_steps, IsEntailedBy-exchanged, IsEntailedBy-itself)
 
 -- Sets of links that entail the same relations break the same rules.
 module _ (P Q : Link → Type 0) (to : (l : Link) → P l → (m : Link) × Q m × IsEntailedBy l m) where
@@ -138,63 +119,20 @@ IsFirstBroken-same P Q to back (Some _) h = absurd h
 
 pub norm_cases : (f : ℕ → Bool) (l : Link) → (normal_form f l ≡ l)
     ⊎ ((normal_form f l ≡ reversed_link l) × (nat_lt l.b l.a ≡ true))
-norm_cases f l = go (is_symmetric (f l.a || f l.b) l.kind) (nat_lt l.b l.a)
-  where
-    go : (s t : Bool) → ((if s && t then reversed_link l else l) ≡ l)
-        ⊎ (((if s && t then reversed_link l else l) ≡ reversed_link l) × (t ≡ true))
-    go true true = inr (refl, refl)
-    go true false = inl refl
-    go false t = inl refl
+norm_cases f l = grind (arith, common_steps)
 
 pub norm_again : (f : ℕ → Bool) (l : Link) → normal_form f (normal_form f l) ≡ normal_form f l
-norm_again f l = go (norm_cases f l)
-  where
-    stays : (s : Bool) → (if s && false then reversed_link (reversed_link l) else reversed_link l) ≡ reversed_link l
-    stays true = refl
-    stays false = refl
-
-    go : (normal_form f l ≡ l) ⊎ ((normal_form f l ≡ reversed_link l) × (nat_lt l.b l.a ≡ true))
-        → normal_form f (normal_form f l) ≡ normal_form f l
-    go (inl same) = ap (normal_form f) same
-    go (inr (is, lt)) =
-        ap (normal_form f) is
-        ∙ ap (λ t. if is_symmetric (f l.b || f l.a) l.kind && t then reversed_link (reversed_link l) else
-        reversed_link l) (two_lts l.a l.b lt)
-        ∙ stays (is_symmetric (f l.b || f l.a) l.kind)
-        ∙ sym is
+norm_again f l = grind (arith, common_steps, norm_cases, two_lts)
 
 pub norm_two : (f : ℕ → Bool) (l : Link) → l.a ≢ l.b → (normal_form f l).a ≢ (normal_form f l).b
-norm_two f l two = go (norm_cases f l)
-  where
-    go : (normal_form f l ≡ l) ⊎ ((normal_form f l ≡ reversed_link l) × (nat_lt l.b l.a ≡ true)) → (normal_form f l).a
-        ≢ (normal_form f l).b
-    go (inl same) = subst (λ (w : Link). w.a ≢ w.b) (sym same) two
-    go (inr (is, _)) = subst (λ (w : Link). w.a ≢ w.b) (sym is) (λ e. two (sym e))
+norm_two f l two = grind (arith, common_steps, norm_cases)
 
 -- A link and its normal form have the same ends.
 pub norm_ends : (f : ℕ → Bool) (l : Link) (n : ℕ) → HasEnd n (normal_form f l) → HasEnd n l
-norm_ends f l n = go (norm_cases f l)
-  where
-    turn : HasEnd n (reversed_link l) → HasEnd n l
-    turn (inl at) = inr at
-    turn (inr at) = inl at
-
-    go : (normal_form f l ≡ l) ⊎ ((normal_form f l ≡ reversed_link l) × (nat_lt l.b l.a ≡ true))
-        → HasEnd n (normal_form f l) → HasEnd n l
-    go (inl same) at = subst (HasEnd n) same at
-    go (inr (is, _)) at = turn (subst (HasEnd n) is at)
+norm_ends f l n = grind (arith, common_steps, norm_cases)
 
 pub ends_norm : (f : ℕ → Bool) (l : Link) (n : ℕ) → HasEnd n l → HasEnd n (normal_form f l)
-ends_norm f l n = go (norm_cases f l)
-  where
-    turn : HasEnd n l → HasEnd n (reversed_link l)
-    turn (inl at) = inr at
-    turn (inr at) = inl at
-
-    go : (normal_form f l ≡ l) ⊎ ((normal_form f l ≡ reversed_link l) × (nat_lt l.b l.a ≡ true)) → HasEnd n l
-        → HasEnd n (normal_form f l)
-    go (inl same) at = subst (HasEnd n) (sym same) at
-    go (inr (is, _)) at = subst (HasEnd n) (sym is) (turn at)
+ends_norm f l n = grind (arith, common_steps, norm_cases)
 
 -- If the links break no rule and one with an end at p is added, those without an end at p break none, as `check_at`
 -- requires.

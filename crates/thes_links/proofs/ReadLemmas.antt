@@ -1,4 +1,5 @@
 -- Reading a node takes at most one visit for each end that a link has there.
+use Rattle.std.proofs.lemmas.Grind.{common_steps}
 use Rattle.std.proofs.Common.{◌≡◌, ◌≢◌, ◌==◌, ◌+◌, ◌≤◌, ◌⊎◌, inl, inr, ℕ, List, [], ◌∷◌, ◌++◌, length, ap, sym, ◌∙◌}
 use Rattle.std.proofs.Common.{arith, Contains, sum_by, if◌then◌else◌}
 use Rattle.std.proofs.lemmas.Bool.Decides.{Decides-eqb}
@@ -30,14 +31,7 @@ either_end edit n m l moves (inr b) = inr (moves l.b b)
 
 module _ (edit : LinkEdit) (held : Links) (node : ℕ) (row : List Link) (is : IsRow held node row) where
   pub IsReadOf-plain : ((x : ℕ) → node_after edit x ≡ node → x ≡ node) → IsReadOf edit held node row
-  IsReadOf-plain plain = record {
-    sound = λ l has. (is.sound l has).0;
-    complete = λ l has at. is.complete l has (ends l at);
-  }
-    where
-      ends : (l : Link) → TouchesAt edit node l → HasEnd node l
-      ends l (inl a) = inl (plain l.a a)
-      ends l (inr b) = inr (plain l.b b)
+  IsReadOf-plain plain = grind (arith, common_steps)
 
   pub read_few : ((x : ℕ) → x ≡ node → node_after edit x ≡ node) → (ns : List Link) → CoversAt edit held node ns
       → length row ≤ sum_by (ends_at_node edit node) ns

@@ -1,19 +1,15 @@
 -- Sets of links are equal exactly when they have the same members.
-use Rattle.std.proofs.Common.{◌≡◌, ◌≢◌, ◌||◌, List, Bool, true, false, cond, Contains, refl, subst}
-use Rattle.std.specs.Ordering.{eq_by_cmp}
-use Rattle.std.specs.Cmp.{Equal-is}
+use Rattle.std.proofs.lemmas.Grind.{common_steps}
+use Rattle.std.proofs.Common.{◌≡◌, ◌≢◌, ◌||◌, List, Bool, true, false, cond, Contains, refl, arith}
 use Rattle.std.specs.FinSet.{insert, remove, items, from_list}
 use Rattle.thes_base.specs.declared.data.Link.{Link}
-use Rattle.thes_base.specs.Links.{Links, link_cmp, Holds}
+use Rattle.thes_base.specs.Links.{Links, Holds}
 use Rattle.thes_base.proofs.LinkSetLemmas.{links_total, links_exact}
 use Rattle.thes_base.proofs.SetMemberLemmas as set
 
 pub cond-or : (a b : Bool) → cond a true b ≡ (a || b)
 cond-or true b = refl
 cond-or false b = refl
-
-pub same_of_equal_order : (x y : Link) → eq_by_cmp link_cmp x y ≡ true → x ≡ y
-same_of_equal_order x y e = links_exact x y ((Equal-is (link_cmp x y)).0 e)
 
 pub same_links : (s t : Links) → ((m : Link) → Holds s m → Holds t m) → ((m : Link) → Holds t m → Holds s m) → s ≡ t
 same_links = set.same_members links_total links_exact
@@ -43,7 +39,4 @@ pub removed_cases : (links : Links) (l m : Link) → Holds (remove links l) m �
 removed_cases = set.removed_cases links_total links_exact
 
 pub remove_absent : (links : Links) (l : Link) → (Holds links l → ⊥) → remove links l ≡ links
-remove_absent links l absent =
-    same_links (remove links l) links
-    (λ m is. (removed_cases links l m is).1)
-    (λ m is. remove_keeps links l m (λ same. absent (subst (Holds links) same is)) is)
+remove_absent links l absent = grind (arith, common_steps, remove_keeps, removed_cases, same_links)

@@ -1,6 +1,7 @@
 -- The list of nodes grows by exactly the nodes to which one link leads.
+use Rattle.std.proofs.lemmas.Grind.{common_steps}
 use Rattle.std.proofs.Common.{◌≡◌, ℕ, ◌+◌, ◌<◌, ◌⊎◌, inl, inr, List, [], ◌∷◌, ◌++◌, length, take, get_or, Contains}
-use Rattle.std.proofs.Common.{nat_eq, false, Some, None, refl, sym, ap, subst, ◌∙◌, append_assoc, append-nil, arith}
+use Rattle.std.proofs.Common.{nat_eq, false, Some, None, sym, ap, subst, ◌∙◌, append_assoc, arith}
 use Rattle.std.specs.List.{list_any}
 use Rattle.std.proofs.lemmas.Cmp.{nat_eq_equiv}
 use Rattle.std.proofs.lemmas.List.Elements.{Contains-append_left, Contains-push, Contains-push_cases}
@@ -16,20 +17,10 @@ use Rattle.thes_links.specs.Steps.{direction_of, Steps, step_in, step_along, Ext
 
 -- Appending a new node grows the list by it.
 pub GrowsBy-push : (xs : List ℕ) (y : ℕ) → list_any (nat_eq y) xs ≡ false → GrowsBy xs (xs ++ y ∷ []) (λ z. y ≡ z)
-GrowsBy-push xs y fresh = record {
-  extends = (y ∷ [], refl);
-  has_new = λ z same. subst (λ (w : ℕ). Contains (xs ++ y ∷ []) w) same (Contains-push xs y);
-  no_others = λ z has. Contains-push_cases xs y z has;
-  distinct = λ d. IsDistinct-push nat_eq_equiv xs y d (fresh);
-}
+GrowsBy-push xs y fresh = grind (arith, common_steps, Contains-push, Contains-push_cases, IsDistinct-push, nat_eq_equiv)
 
 pub GrowsBy-none : (xs : List ℕ) (P : ℕ → Type 0) → ((y : ℕ) → P y → ⊥) → GrowsBy xs xs P
-GrowsBy-none xs P none = record {
-  extends = ([], sym (append-nil xs));
-  has_new = λ y p. absurd (none y p);
-  no_others = λ y has. inl has;
-  distinct = λ d. d;
-}
+GrowsBy-none xs P none = grind (arith, common_steps)
 
 Extends-trans : (xs ys zs : List ℕ) → Extends xs ys → Extends ys zs → Extends xs zs
 Extends-trans xs ys zs (m, e) (n, f) = (m ++ n, f ∙ ap (λ l. l ++ n) e ∙ append_assoc xs m n)

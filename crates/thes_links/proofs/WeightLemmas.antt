@@ -1,4 +1,5 @@
 -- The length of a list of distinct items is at most the sum of their weights, if each weighs one or more.
+use Rattle.std.proofs.lemmas.Grind.{common_steps}
 use Rattle.std.proofs.Common.{◌≡◌, ◌≢◌, ◌+◌, ◌≤◌, inl, inr, ℕ, zero, suc, List, [], ◌∷◌, ◌++◌, length, take, drop}
 use Rattle.std.proofs.Common.{◌<◌, ap, sym, subst, ◌∙◌, arith, Some, None, slice_get, Contains, AllPairs, sum_by}
 use Rattle.std.proofs.lemmas.Option.{slice_get_within, slice_get_cases, get_or_from_slice_get, none-some}
@@ -16,10 +17,7 @@ take_next xs i x e =
 
 -- A read at an index finds no item only if the index is past the end.
 pub past_of_none : {X : Type 0} (xs : List X) (i : ℕ) → slice_get xs i ≡ None → length xs ≤ i
-past_of_none xs i none = elim (slice_get_cases xs i).1 [
-  | inl (x, inside, is, _) ↦ absurd (none-some x (sym none ∙ is))
-  | inr (past, _) ↦ past
-]
+past_of_none xs i none = grind (arith, common_steps, none-some, slice_get_cases)
 
 module _ {X : Type 0} where
   -- A list with an item is the items before it, the item, and those after it.
