@@ -1,5 +1,6 @@
 -- A set of links has the expected members after links are added and removed.
-use Rattle.std.proofs.Common.{◌≡◌, ◌≢◌, ◌+◌, ◌-◌, ◌<◌, ◌≤◌, ◌⊎◌, inl, inr, ℕ, List, [], ◌∷◌, ◌++◌, cond, not}
+use Rattle.std.proofs.lemmas.Grind.{common_steps}
+use Rattle.std.proofs.Common.{◌≡◌, ◌≢◌, ◌+◌, ◌-◌, ◌<◌, ◌≤◌, ◌⊎◌, inl, inr, ℕ, List, [], ◌∷◌, ◌++◌, cond}
 use Rattle.std.proofs.Common.{Contains, length, take, get_or, Option, Some, None, slice_get, refl, sym, ap, subst}
 use Rattle.std.proofs.Common.{◌∙◌, arith}
 use Rattle.std.specs.Option.{MatchOption}
@@ -12,7 +13,7 @@ use Rattle.thes_base.specs.Links.{Links, link_cmp, Holds, links_after_deprecatio
 use Rattle.thes_base.proofs.LinkSetLemmas.{links_total, link_inserted_cases, link_retained, without_node_from}
 use Rattle.thes_base.proofs.LinkSetLemmas.{without_node_to}
 use Rattle.thes_base.proofs.ListMemberLemmas.{Contains-none, Contains-head, Contains-later, Contains-cons_cases}
-use Rattle.thes_links.specs.GraphView.{GraphView, ends_at}
+use Rattle.thes_links.specs.GraphView.{GraphView}
 use Rattle.thes_graph.specs.MergeAdditions.{with_all, without_links}
 use Rattle.thes_links.proofs.WeightLemmas.{past_of_none}
 use Rattle.thes_links.proofs.SetLemmas.{same_links, inserted_held, insert_keeps, remove_keeps, removed_cases}
@@ -33,18 +34,11 @@ last_of xs (Some x) e = (
 pub without_node_removed : (n : ℕ) (links : Links) (l : Link) → HasEnd n l → links_after_deprecation n
     (remove links l) ≡ links_after_deprecation n links
 without_node_removed n links l at =
-    same_links (links_after_deprecation n (remove links l)) (links_after_deprecation n links)
-    (λ m held. let r = without_node_from n (remove links l) m held in
-    without_node_to n links m ((removed_cases links l m r.0).1, r.1))
-    (λ m held. let r = without_node_from n links m held in without_node_to n (remove links l) m
-    (remove_keeps links l m (λ same. r.1 (subst (HasEnd n) (sym same) at)) r.0, r.1))
+    grind (arith, common_steps, remove_keeps, removed_cases, same_links, without_node_from, without_node_to)
 
 pub without_node_none : (n : ℕ) (links : Links) → ((l : Link) → Holds links l → HasEnd n l → ⊥)
     → links_after_deprecation n links ≡ links
-without_node_none n links none =
-    same_links (links_after_deprecation n links) links
-    (λ m held. (link_retained links (λ l. not (ends_at n l)) m held).0)
-    (λ m held. without_node_to n links m (held, none m held))
+without_node_none n links none = grind (arith, common_steps, link_retained, same_links, without_node_to)
 
 pub fewer_links : (links : Links) (l : Link) → Holds links l → len (remove links l) < len links
 fewer_links links l held =
@@ -134,10 +128,7 @@ pub net_with : (links : Links) (xs : List Link) (i : ℕ) (x y : Link) (before a
     → (outside : GraphView) → before ≡ record { links = with_all links (take i xs); outside = outside.outside } → after
     ≡ record { links = insert before.links y; outside = before.outside }
     → after ≡ record { links = with_all links (take (i + 1) xs); outside = outside.outside }
-net_with links xs i x y before after within is same outside e f =
-    f ∙ ap (λ (n : GraphView). record { links = insert n.links y; outside = n.outside }) e
-    ∙ ap (λ (s : Links). record { links = s; outside = outside.outside })
-    (ap (insert (with_all links (take i xs))) same ∙ sym (with_more links xs i x within is))
+net_with links xs i x y before after within is same outside e f = grind (arith, common_steps, with_more)
 
 pub net_without : (links : Links) (xs : List Link) (i : ℕ) (x : Link) (before after : GraphView) → i < length xs → x
     ≡ get_or xs i x

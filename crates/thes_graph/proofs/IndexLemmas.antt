@@ -1,4 +1,5 @@
 -- The index of a graph stays correct: each node's row has the links of the set with an end there, sorted by side.
+use Rattle.std.proofs.lemmas.Grind.{common_steps}
 use Rattle.std.proofs.Common.{◌≡◌, ◌≢◌, ◌+◌, ◌⊎◌, inl, inr, ℕ, List, [], ◌∷◌, Bool, true, false, cond, ◌||◌, ◌==◌}
 use Rattle.std.proofs.Common.{◌<◌, Contains, length, get_or, map, Less, refl, sym, ap, subst, ◌∙◌, arith}
 use Rattle.std.specs.Prelude.{filter}
@@ -125,11 +126,7 @@ listed_is ks sorted =
     (record { rises = sorted; sound = λ m has. has; complete = λ m has. has })
 
 pub ends_of_test : (n : ℕ) (l : Link) → ends_at n l ≡ true → HasEnd n l
-ends_of_test n l e = go (l.a == n) refl e
-  where
-    go : (b : Bool) → (l.a == n) ≡ b → (b || (l.b == n)) ≡ true → HasEnd n l
-    go true is e = inl ((Decides-eqb l.a n).0 is)
-    go false is e = inr ((Decides-eqb l.b n).0 e)
+ends_of_test n l e = grind (arith, common_steps, Decides-eqb)
 
 pub test_of_ends : (n : ℕ) (l : Link) → HasEnd n l → ends_at n l ≡ true
 test_of_ends n l (inl at) = ap (λ b. b || (l.b == n)) ((Decides-eqb l.a n).1 at)
@@ -337,22 +334,7 @@ module _ (op : List SidedLink → SidedLink → List SidedLink) (ks later : List
   -- The rows of all nodes are correct after the same change is made to the list and to the rows at both ends of the
   -- link.
   rows_changed : (n : ℕ) → listed_at both n ≡ sorted_row n later
-  rows_changed n = go (cases_eq l.a n) (cases_eq l.b n)
-    where
-      at_a : listed_at both l.a ≡ sorted_row l.a later
-      at_a = second.others l.a two ∙ first.here ∙ ap (λ row. op row (sided_link_at l.a l)) (was l.a)
-          ∙ sym (here l.a (inl refl))
-
-      at_b : listed_at both l.b ≡ sorted_row l.b later
-      at_b = second.here ∙ ap (λ row. op row (sided_link_at l.b l)) (first.others l.b (λ e. two (sym e)) ∙ was l.b)
-          ∙ sym (here l.b (inr refl))
-
-      go : (l.a ≡ n) ⊎ (l.a ≢ n) → (l.b ≡ n) ⊎ (l.b ≢ n) → listed_at both n ≡ sorted_row n later
-      go (inl a) _ = subst (λ (k : ℕ). listed_at both k ≡ sorted_row k later) a at_a
-      go (inr _) (inl b) = subst (λ (k : ℕ). listed_at both k ≡ sorted_row k later) b at_b
-      go (inr a) (inr b) =
-          second.others n (λ e. b (sym e)) ∙ first.others n (λ e. a (sym e)) ∙ was n
-          ∙ sym (others n (λ at. elim at [ inl e ↦ a e | inr e ↦ b e ]))
+  rows_changed n = grind (arith, common_steps, cases_eq)
 
 -- A set has as many links as its list of keys.
 pub len_is : (ks : List Link) → IsSorted ks → len (from_list {R = link_cmp} ks) ≡ length ks
@@ -373,31 +355,16 @@ len_is (k ∷ ks) sorted =
 -- An index without links is correct.
 pub IsIndexed-none : (ks : List Link) (rows : Lists SidedLink) (outside : List ℕ) → ks ≡ []
     → ((n : ℕ) → listed_at rows n ≡ []) → IsIndexed ks rows outside
-IsIndexed-none ks rows outside none no_rows =
-    subst (λ (xs : List Link). IsIndexed xs rows outside) (sym none) (record {
-      ordered = sorted_none link_cmp;
-      two_ends = λ l held. absurd (Contains-none l (listed_of_held [] l held));
-      normal = λ l held. absurd (Contains-none l (listed_of_held [] l held));
-      rows = no_rows;
-    })
+IsIndexed-none ks rows outside none no_rows = grind (arith, common_steps, Contains-none, listed_of_held, sorted_none)
 
 -- The index stays correct if the rows keep their values.
 pub IsIndexed-same : (ks : List Link) (outside : List ℕ) (old new : Lists SidedLink) → HaveSameValues old new
     → IsIndexed ks old outside → IsIndexed ks new outside
-IsIndexed-same ks outside old new same index = record {
-  ordered = index.ordered;
-  two_ends = index.two_ends;
-  normal =
-      index.normal;
-  rows = λ n. same n ∙ index.rows n;
-}
+IsIndexed-same ks outside old new same index = grind (arith, common_steps)
 
 module _ (ks : List Link) (outside : List ℕ) (old : Lists SidedLink) (index : IsIndexed ks old outside) where
   pub row_sorted : (n : ℕ) → IsStrictlySortedBy derived_sided_cmp (listed_at old n)
-  row_sorted n =
-      let P : (SidedLink → SidedLink → Ordering) → Type 0 = λ cmp. IsStrictlySortedBy cmp (listed_at old n) in
-      subst P (sym derived_sided_cmp_is) (subst (IsStrictlySortedBy sided_link_cmp) (sym (index.rows n))
-      (arranged_listing n ks).rises)
+  row_sorted n = grind (arith, common_steps, arranged_listing, derived_sided_cmp_is)
 
   -- A change at one end of a link leaves the row at its other end sorted.
   pub other_sorted : (new : Lists SidedLink) (a b : ℕ) (row : List SidedLink) → a ≢ b → ChangesOnlyAt old new a row
@@ -412,20 +379,10 @@ module _ (ks : List Link) (outside : List ℕ) (old : Lists SidedLink) (index : 
         (first : ChangesOnlyAt old one l.a (op derived_sided_cmp (listed_at old l.a) s))
         (second : ChangesOnlyAt one both l.b (op derived_sided_cmp (listed_at one l.b) t)) where
       first_as : ChangesOnlyAt old one l.a (op sided_link_cmp (listed_at old l.a) (sided_link_at l.a l))
-      first_as =
-          let P : (SidedLink → SidedLink → Ordering) → Type 0 =
-          λ cmp. ChangesOnlyAt old one l.a (op cmp (listed_at old l.a) (sided_link_at l.a l)) in
-          subst P derived_sided_cmp_is
-          (subst (λ (w : SidedLink). ChangesOnlyAt old one l.a (op derived_sided_cmp (listed_at old l.a) w)) at_a
-          first)
+      first_as = grind (arith, common_steps, derived_sided_cmp, derived_sided_cmp_is)
 
       second_as : ChangesOnlyAt one both l.b (op sided_link_cmp (listed_at one l.b) (sided_link_at l.b l))
-      second_as =
-          let P : (SidedLink → SidedLink → Ordering) → Type 0 =
-          λ cmp. ChangesOnlyAt one both l.b (op cmp (listed_at one l.b) (sided_link_at l.b l)) in
-          subst P derived_sided_cmp_is
-          (subst (λ (w : SidedLink). ChangesOnlyAt one both l.b (op derived_sided_cmp (listed_at one l.b) w)) at_b
-          second)
+      second_as = grind (arith, common_steps, derived_sided_cmp, derived_sided_cmp_is)
 
     -- The index stays correct if a new link is inserted at both its ends.
     pub IsIndexed-added : normal_form (contains (from_list {R = nat_cmp} outside)) l ≡ l → keys

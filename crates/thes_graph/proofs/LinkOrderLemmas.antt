@@ -1,6 +1,7 @@
 -- The orders that `cmp` computes for links, sides and typed kinds are the defined ones, and are total and
 -- antisymmetric.
-use Rattle.std.proofs.Common.{◌≡◌, ℕ, List, refl, sym, ap, subst, Equal}
+use Rattle.std.proofs.lemmas.Grind.{common_steps}
+use Rattle.std.proofs.Common.{◌≡◌, ℕ, List, refl, sym, ap, subst, Equal, arith}
 use Rattle.std.specs.List.Sorted.{IsStrictlySortedBy}
 use Rattle.std.specs.BTreeSet.{insert_key}
 use Rattle.std.specs.Cmp.Lexicographic.{slice_cmp}
@@ -68,10 +69,7 @@ same_side Apart Apart e = refl
 same_side _ _ e = cc
 
 pub sided_links_exact : IsAntisymmetric sided_link_cmp
-sided_links_exact x y e =
-    ap (λ (p : Side × Link). record { side = p.0; link = p.1 })
-    (exact_pairs (λ j k. nat_cmp (side_no j) (side_no k)) link_cmp same_side links_exact (x.side, x.link)
-    (y.side, y.link) e)
+sided_links_exact x y e = grind (arith, common_steps, exact_pairs, links_exact, same_side)
 
 same_words : (j k : TypedKind) → typed_kind.ghosts.cmp j k ≡ slice_cmp nat_cmp (typed_kind_name j) (typed_kind_name k)
 same_words typed.BroaderGeneric typed.BroaderGeneric = refl

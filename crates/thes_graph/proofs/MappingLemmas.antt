@@ -1,6 +1,7 @@
 -- The mappings and typed links of a concept are the links with an end at it, as seen from it.
+use Rattle.std.proofs.lemmas.Grind.{common_steps}
 use Rattle.std.proofs.Common.{◌≡◌, ◌≢◌, inl, inr, ◌==◌, ◌<◌, ◌≤◌, ℕ, List, Bool, true, false, length, Some, Ordering}
-use Rattle.std.proofs.Common.{if◌then◌else◌, Result, Ok, Err, refl, sym, ap, subst, ◌∙◌}
+use Rattle.std.proofs.Common.{if◌then◌else◌, Result, Ok, Err, refl, sym, ap, subst, ◌∙◌, arith}
 use Rattle.std.specs.List.{insert}
 use Rattle.std.specs.List.Sorted.{IsStrictlySortedBy, IsBinarySearchResult}
 use Rattle.std.specs.Ordering.{nat_cmp, ordering_then}
@@ -77,19 +78,7 @@ module _ (links : Links) (n : ℕ) where
 
   pub seen_from : (l : Link) (p : LinkKind × ℕ) → Holds links l → HasEnd n l → mapping_seen_from n l ≡ Some p
       → IsMapping links n p
-  seen_from l p held at e = go (l.a == n) refl e
-    where
-      second : l.a ≢ n → HasEnd n l → l.b ≡ n
-      second other (inl a) = absurd (other a)
-      second other (inr b) = b
-
-      go : (t : Bool) → (l.a == n) ≡ t → mapping_of_kind t l.kind (if t then l.b else l.a) ≡ Some p
-          → IsMapping links n p
-      go true first e = seen_forward l.kind l.b p (subst (λ (k : ℕ). HasLink links l.kind k l.b) (same_of l.a n first)
-          held) e
-      go false other e =
-          seen_backward l.kind l.a p (subst (λ (k : ℕ). HasLink links l.kind l.a k) (second (other_of l.a n other) at)
-          held) e
+  seen_from l p held at e = grind (arith, common_steps, other_of, same_of, seen_backward, seen_forward)
 
   -- A link with n as its first end is seen from n in its own direction, and one with n as its second end in the
   -- opposite one.
@@ -109,12 +98,7 @@ module _ (links : Links) (n : ℕ) where
 
     second : (k : LinkKind) (m : ℕ) (p : LinkKind × ℕ) → HasLink links k m n → mapping_of_kind false k m ≡ Some p
         → (l : Link) × Holds links l × HasEnd n l × (mapping_seen_from n l ≡ Some p)
-    second k m p held gives = (
-      record { kind = k; a = m; b = n },
-      held,
-      inr refl,
-      seen_as_second k m (two_ends (record { kind = k; a = m; b = n }) held) ∙ gives,
-    )
+    second k m p held gives = grind (arith, common_steps, seen_as_second)
 
     -- Each mapping of the concept is a held link with an end there, seen from it.
     pub seen_to : (p : LinkKind × ℕ) → IsMapping links n p → (l : Link) × Holds links l × HasEnd n l
@@ -167,24 +151,11 @@ module _ (links : Links) (n : ℕ) where
   module _ (two_ends : HaveTwoEnds (Holds links)) where
     typed_up : (k : LinkKind) (m : ℕ) (p : TypedKind × ℕ) → HasLink links k n m → typed_link_of_kind true k m ≡ Some p
         → IsSeen links n (typed_link_seen_from n) p
-    typed_up k m p held gives = (
-      record { kind = k; a = n; b = m },
-      held,
-      inl refl,
-      ap (λ t. typed_link_of_kind t k (if t then m else n))
-          ((Decides-eqb n n).1 refl) ∙ gives,
-    )
+    typed_up k m p held gives = grind (arith, common_steps, Decides-eqb)
 
     typed_down : (k : LinkKind) (m : ℕ) (p : TypedKind × ℕ) → HasLink links k m n → typed_link_of_kind false k m
         ≡ Some p → IsSeen links n (typed_link_seen_from n) p
-    typed_down k m p held gives =
-        let other = two_ends (record { kind = k; a = m; b = n }) held in (
-          record { kind = k; a = m; b = n },
-          held,
-          inr refl,
-          ap (λ t. typed_link_of_kind t k (if t then n else m))
-              (false_from_ne_true (m == n) (λ e. other (same_of m n e))) ∙ gives,
-        )
+    typed_down k m p held gives = grind (arith, common_steps, false_from_ne_true, same_of)
 
     pub typed_to : (p : TypedKind × ℕ) → IsTypedLink links n p → IsSeen links n (typed_link_seen_from n) p
     typed_to (typed.BroaderGeneric, m) held = typed_up BroaderGeneric m (typed.BroaderGeneric, m) held refl

@@ -1,5 +1,6 @@
 -- The index stays correct after an outside concept without links is marked.
-use Rattle.std.proofs.Common.{◌≡◌, ◌≢◌, inl, inr, ℕ, List, Bool, true, cond, ◌&&◌, ◌||◌, nat_lt, if◌then◌else◌, sym}
+use Rattle.std.proofs.lemmas.Grind.{common_steps}
+use Rattle.std.proofs.Common.{◌≡◌, ◌≢◌, ℕ, List, Bool, true, cond, ◌&&◌, ◌||◌, nat_lt, if◌then◌else◌, sym, arith}
 use Rattle.std.proofs.Common.{ap, ◌∙◌}
 use Rattle.std.specs.List.{list_any}
 use Rattle.std.specs.Ordering.{nat_cmp, eq_by_cmp}
@@ -46,15 +47,4 @@ norm_same f g l a b =
 pub IsIndexed-marked : (ks : List Link) (rows : Lists SidedLink) (old new : List ℕ) (n : ℕ) → IsIndexed ks rows old
     → from_list {R = nat_cmp} new ≡ insert (from_list old) n
     → ((l : Link) → Holds (from_list ks) l → HasEnd n l → ⊥) → IsIndexed ks rows new
-IsIndexed-marked ks rows old new n index is free = record {
-  ordered = index.ordered;
-  two_ends = index.two_ends;
-  normal = λ l held.
-      norm_same (contains (from_list {R = nat_cmp} new)) (contains (from_list {R = nat_cmp} old)) l
-      (same l.a (λ e. free l held (inl e))) (same l.b (λ e. free l held (inr e)))
-      ∙ index.normal l held;
-  rows = index.rows;
-}
-  where
-    same : (q : ℕ) → q ≢ n → contains (from_list {R = nat_cmp} new) q ≡ contains (from_list {R = nat_cmp} old) q
-    same q other = ap (λ (s : FinSet nat_cmp). contains s q) is ∙ still_marked (from_list old) n q other
+IsIndexed-marked ks rows old new n index is free = grind (arith, common_steps, norm_same, still_marked)

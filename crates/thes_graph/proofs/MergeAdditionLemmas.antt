@@ -1,5 +1,6 @@
 -- Adding a merge's new links and removing the source's links gives the merged set.
-use Rattle.std.proofs.Common.{◌≡◌, ◌≢◌, ◌⊎◌, ◌+◌, ◌<◌, ◌++◌, length, get_or, inl, inr, ℕ, List, [], ◌∷◌, Bool, true}
+use Rattle.std.proofs.lemmas.Grind.{common_steps}
+use Rattle.std.proofs.Common.{◌≡◌, ◌≢◌, ◌⊎◌, ◌+◌, ◌<◌, ◌++◌, length, get_or, inl, inr, ℕ, List, [], ◌∷◌, true, arith}
 use Rattle.std.proofs.Common.{false, ◌==◌, Contains, take, Option, Some, None, if◌then◌else◌, refl, sym, ap, subst}
 use Rattle.std.proofs.Common.{◌∙◌}
 use Rattle.std.specs.Prelude.{option_and_then}
@@ -30,11 +31,7 @@ use Rattle.thes_graph.proofs.IndexLemmas.{sided_links_from, sided_links_to}
 use Rattle.thes_graph.proofs.ChangeLemmas.{with_from, with_keeps, with_has}
 
 link_if_new-some : (links : Links) (l m : Link) → link_if_new links l ≡ Some m → (l ≡ m) × (Holds links l → ⊥)
-link_if_new-some links l m e = go (contains links l) refl e
-  where
-    go : (b : Bool) → contains links l ≡ b → (if b then None else Some l) ≡ Some m → (l ≡ m) × (Holds links l → ⊥)
-    go true is e = absurd (none-some m e)
-    go false is e = (same_Some l m e, both_ways (contains links l) is)
+link_if_new-some links l m e = grind (arith, common_steps, both_ways, none-some, same_Some)
 
 link_if_new-new : (links : Links) (l : Link) → (Holds links l → ⊥) → link_if_new links l ≡ Some l
 link_if_new-new links l new = ap (λ b. if b then None else Some l) (false_from_ne_true (contains links l) new)
@@ -42,16 +39,7 @@ link_if_new-new links l new = ap (λ b. if b then None else Some l) (false_from_
 module _ (net : GraphView) (source target : ℕ) where
   merged_from : (l m : Link) → added_link net source target l ≡ Some m → (n : Link)
       × (link_after_merge source target l ≡ Some n) × (m ≡ normal_form (is_marked net) n) × (Holds net.links m → ⊥)
-  merged_from l m e = go (link_after_merge source target l) refl e
-    where
-      go : (o : Option Link) → link_after_merge source target l ≡ o
-          → option_and_then (λ n. link_if_new net.links (normal_form (is_marked net) n)) o ≡ Some m
-          → (n : Link) × (link_after_merge source target l ≡ Some n) × (m ≡ normal_form (is_marked net) n)
-          × (Holds net.links m → ⊥)
-      go None is e = absurd (none-some m e)
-      go (Some n) is e =
-          let new = link_if_new-some net.links (normal_form (is_marked net) n) m e in
-          (n, is, sym new.0, λ held. new.1 (subst (Holds net.links) (sym new.0) held))
+  merged_from l m e = grind (arith, common_steps, link_if_new-some, none-some)
 
   merged_to : (l n : Link) → link_after_merge source target l ≡ Some n
       → (Holds net.links (normal_form (is_marked net) n) → ⊥) → added_link net source target l
@@ -105,10 +93,7 @@ module _ (net : GraphView) (source target : ℕ) where
 
       apart : (l : Link) → Holds net.links l → (HasEnd source l → ⊥)
           → (redirect source target l.a == redirect source target l.b) ≡ false
-      apart l held off = false_from_ne_true (redirect source target l.a == redirect source target l.b)
-          (λ e. two_ends l held (sym (sent_other source target l.a (off_a l off))
-          ∙ (Decides-eqb (redirect source target l.a) (redirect source target l.b)).0 e ∙ sent_other source target
-          l.b (off_b l off)))
+      apart l held off = grind (arith, common_steps, Decides-eqb, false_from_ne_true, off_a, off_b, sent_other)
 
       becomes_itself : (l : Link) → Holds net.links l → (HasEnd source l → ⊥) → link_after_merge source target l
           ≡ Some l
@@ -117,13 +102,7 @@ module _ (net : GraphView) (source target : ℕ) where
 
       never_source : (l n : Link) → link_after_merge source target l ≡ Some n
           → HasEnd source (normal_form (is_marked net) n) → ⊥
-      never_source l n gives at = go (norm_ends (is_marked net) n source at)
-        where
-          go : HasEnd source n → ⊥
-          go (inl a) = sent_never source target different l.a (sym (link_after_merge-ends source target l n gives).1
-              ∙ a)
-          go (inr b) = sent_never source target different l.b (sym (link_after_merge-ends source target l n gives).2
-              ∙ b)
+      never_source l n gives at = grind (arith, common_steps, link_after_merge-ends, norm_ends, sent_never)
 
       held_or_not : (l : Link) → Holds net.links l ⊎ (Holds net.links l → ⊥)
       held_or_not l = elim (contains net.links l) as (λ b. (b ≡ true) ⊎ (b ≡ true → ⊥))

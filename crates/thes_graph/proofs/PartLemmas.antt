@@ -1,11 +1,11 @@
 -- The range of a row between two partition points has exactly the links on one side.
+use Rattle.std.proofs.lemmas.Grind.{common_steps}
 use Rattle.std.proofs.Common.{◌≡◌, ◌⊎◌, inl, inr, ◌-◌, ◌<◌, ◌≤◌, ℕ, Bool, List, true, false, length}
-use Rattle.std.proofs.Common.{get_or, Less, Equal, Greater, Option, Some, None, slice_get, refl, sym}
+use Rattle.std.proofs.Common.{get_or, Less, Some, slice_get, refl, sym}
 use Rattle.std.proofs.Common.{ap, subst, ◌∙◌, arith}
-use Rattle.std.specs.Prelude.{option_map}
 use Rattle.std.specs.List.Sorted.{IsNonDecreasingBy, IsPartitionedBy, IsPartitionPoint}
 use Rattle.std.proofs.lemmas.List.Sorted.{IsPartitionedBy-ltb, IsPartitionedBy-leb}
-use Rattle.std.specs.Ordering.{nat_cmp, ordering_then, MatchOrdering}
+use Rattle.std.specs.Ordering.{nat_cmp, ordering_then}
 use Rattle.std.specs.declared.cmp.Ordering.{Ordering}
 use Rattle.std.proofs.Math.Dec.{ltb, leb}
 use Rattle.std.proofs.lemmas.Bool.{leb-true, le-leb, false_from_ne_true, both_ways}
@@ -26,12 +26,7 @@ use Rattle.thes_graph.specs.SidedLinks.{sided_link_cmp, IsPartitionIndex, sided_
 use Rattle.thes_graph.proofs.IndexLemmas.{sided_links_sorted, sided_links_from}
 
 lower_side : (a b : ℕ) (o : Ordering) → ordering_then (nat_cmp a b) o ≡ Less → a ≤ b
-lower_side a b o less = go (nat_cmp a b) (ranked a b (nat_cmp a b) refl) less
-  where
-    go : (r : Ordering) → MatchOrdering r (a < b) (a ≡ b) (b < a) → ordering_then r o ≡ Less → a ≤ b
-    go Less lt e = omega arith
-    go Equal same e = omega arith
-    go Greater gt e = cc
+lower_side a b o less = grind (arith, common_steps, ranked)
 
 abbrev pub number_of : SidedLink → ℕ
 number_of s = side_no s.side
@@ -87,19 +82,7 @@ module _ (links : Links) (n : ℕ) (side : Side) (part : Part) (in_range : part.
   -- The row of links and the row of sided links have the same link at each index.
   stands : (k : ℕ) (l : Link) → slice_get (links_at links n) k ≡ Some l → (s : SidedLink)
       × (slice_get (sided_links_at links n) k ≡ Some s) × (s.link ≡ l)
-  stands k l at = go (slice_get (sided_links_at links n) k) refl
-      (sym (slice_get-map link_of (sided_links_at links n) k) ∙ at)
-    where
-      none_some : None ≡ Some l → ⊥
-      none_some e = cc
-
-      some_same : (m : Link) → Some m ≡ Some l → m ≡ l
-      some_same m e = cc
-
-      go : (o : Option SidedLink) → slice_get (sided_links_at links n) k ≡ o → option_map link_of o ≡ Some l
-          → (s : SidedLink) × (slice_get (sided_links_at links n) k ≡ Some s) × (s.link ≡ l)
-      go None is e = absurd (none_some e)
-      go (Some s) is e = (s, is, some_same s.link e)
+  stands k l at = grind (arith, common_steps, slice_get-map)
 
   side_is : (k : ℕ) (s : SidedLink) → slice_get (sided_links_at links n) k ≡ Some s → side_at n s.link ≡ s.side
   side_is k s at =

@@ -1,4 +1,5 @@
 -- The results for the blocks of related concepts decide whether all links satisfy S27.
+use Rattle.std.proofs.lemmas.Grind.{common_steps}
 use Rattle.std.proofs.Common.{◌≡◌, inl, inr, ◌↔◌, ◌+◌, ◌<◌, ◌≤◌, ℕ, Bool, true, false, List, []}
 use Rattle.std.proofs.Common.{◌∷◌, ◌++◌, Contains, Some, length}
 use Rattle.std.proofs.Common.{take, get_or, slice_get, refl, sym, ap, subst, ◌∙◌, arith}
@@ -12,7 +13,7 @@ use Rattle.std.proofs.lemmas.List.Elements.{Contains-append_left, Contains-push,
 use Rattle.thes_base.specs.declared.data.Link.{Link}
 use Rattle.thes_base.specs.declared.data.LinkKind.{LinkKind}
 use Rattle.thes_base.specs.declared.data.LinkKind.TheVariants.{Related, RelMatch}
-use Rattle.thes_base.specs.Links.{Links, Holds, LinkLeads, broader_direction, related_direction, IsNarrower, IsRelated}
+use Rattle.thes_base.specs.Links.{Links, Holds, LinkLeads, related_direction, IsNarrower, IsRelated}
 use Rattle.thes_base.specs.Links.{S27}
 use Rattle.thes_links.specs.declared.relation.Relation.TheVariants as relation
 use Rattle.thes_graph.specs.declared.find_cycle.PathNode.{PathNode}
@@ -75,15 +76,7 @@ AreRowsOf-next held rows order i r n within at same broader upward before =
 
 pub AreRowsOf-end : (held : Links) (rows : List PathNode) (nodes : List ℕ) (k : ℕ) → length nodes ≤ k
     → HasAllEnds (Holds held) nodes → AreRowsOf held rows (take k nodes) → AreUpwardRows held rows
-AreRowsOf-end held rows nodes k past ends all = record {
-  broader = all.broader;
-  above_first = all.above_first;
-  complete = λ n h (l, has, leads). all.covers n (subst (λ (ns : List ℕ). Contains ns n) (sym (take_all k nodes past))
-      (elim (Leads-first (broader_direction l.kind) l.a l.b n h leads) [
-        | inl first ↦ subst (λ (m : ℕ). Contains nodes m) first (ends l has).0
-        | inr second ↦ subst (λ (m : ℕ). Contains nodes m) second (ends l has).1
-      ]));
-}
+AreRowsOf-end held rows nodes k past ends all = grind (arith, common_steps, Leads-first, take_all)
 
 related_turns : (kind : LinkKind) (a b x y : ℕ) → LinkLeads (related_direction kind) a b x y
     → LinkLeads (related_direction kind) a b y x

@@ -1,4 +1,5 @@
 -- One pass down the hierarchy finds which nodes of a block are at or above each node.
+use Rattle.std.proofs.lemmas.Grind.{common_steps}
 use Rattle.std.proofs.Common.{◌≡◌, ◌⊎◌, inl, inr, ◌↔◌, ◌+◌, ◌*◌, ◌^◌, ◌%◌, ◌<◌, ◌≤◌, ℕ, zero, suc, List, [], ◌∷◌, ◌++◌}
 use Rattle.std.proofs.Common.{Contains, Some, length, take, get_or, slice_get, max, refl, sym, ap, subst, ◌∙◌}
 use Rattle.std.proofs.Common.{arith, w64}
@@ -48,21 +49,10 @@ module _ (v w j : ℕ) where
 
 module _ (old new : List ℕ) (n bits : ℕ) (set : HasBitsSet old new n bits) where
   bits_set-from : (m j : ℕ) → HasBit new m j → HasBit old m j ⊎ ((n ≡ m) × (bit_at bits j ≡ 1))
-  bits_set-from m j has = elim (cases_eq m n) [
-    | inl same ↦ elim (or_bit-from (word_at old m) bits j
-        (ap (λ (w : ℕ). bit_at w j) (sym (word_same old new n bits set m same)) ∙ has)) [
-      | inl before ↦ inl before
-      | inr now ↦ inr (sym same, now)
-    ]
-    | inr other ↦ inl (ap (λ (w : ℕ). bit_at w j) (sym (word_other old new n bits set m other)) ∙ has)
-  ]
+  bits_set-from m j has = grind (arith, common_steps, cases_eq, or_bit-from, word_other, word_same)
 
   bits_set-keeps : (m j : ℕ) → HasBit old m j → HasBit new m j
-  bits_set-keeps m j has = elim (cases_eq m n) [
-    | inl same ↦ ap (λ (w : ℕ). bit_at w j) (word_same old new n bits set m same)
-        ∙ or_bit-first (word_at old m) bits j has
-    | inr other ↦ ap (λ (w : ℕ). bit_at w j) (word_other old new n bits set m other) ∙ has
-  ]
+  bits_set-keeps m j has = grind (arith, common_steps, cases_eq, or_bit-first, word_other, word_same)
 
   bits_set-new : (m j : ℕ) → n ≡ m → bit_at bits j ≡ 1 → HasBit new m j
   bits_set-new m j same has =
@@ -74,11 +64,7 @@ abbrev pub AreStarted : (words block : List ℕ) → ℕ → Type 0
 AreStarted words block k = (m i : ℕ) → HasBit words m i ↔ ((i < k) × (slice_get block i ≡ Some m))
 
 pub AreStarted-none : (words block : List ℕ) → words ≡ [] → AreStarted words block 0
-AreStarted-none words block none m i = (
-  (λ has. let e : bit_at 0 i ≡ 1 = ap (λ (ws : List ℕ). bit_at (word_at ws m) i) (sym none) ∙ has in
-      absurd (omega (arith, bit_at-zero i))),
-  (λ both. absurd (omega arith)),
-)
+AreStarted-none words block none m i = grind (arith, common_steps, bit_at-zero)
 
 pub AreStarted-more : (old new block : List ℕ) (k n : ℕ) → k < 64 → slice_get block k ≡ Some n
     → HasBitsSet old new n (1 * 2 ^ k % 2 ^ 64) → AreStarted old block k → AreStarted new block (k + 1)
@@ -110,10 +96,7 @@ AreStarted-more old new block k n small at set before m i =
 
 pub AreStarted-end : (words block : List ℕ) (k : ℕ) → length block ≤ k → AreStarted words block k → (n j : ℕ)
     → HasBit words n j ↔ (slice_get block j ≡ Some n)
-AreStarted-end words block k past started n j = (
-  (λ has. ((started n j).0 has).1),
-  (λ at. let lt : j < length block = slice_get_within block j n at in (started n j).1 (omega arith, at)),
-)
+AreStarted-end words block k past started n j = grind (arith, common_steps, slice_get_within)
 
 -- The new words are the old ones, with the bits of these nodes' words set in the word of n.
 abbrev pub AreSetAbove : (old new : List ℕ) → (n : ℕ) → (above : List ℕ) → Type 0
@@ -121,10 +104,7 @@ AreSetAbove old new n above =
     (m j : ℕ) → HasBit new m j ↔ (HasBit old m j ⊎ ((n ≡ m) × ((h : ℕ) × Contains above h × HasBit old h j)))
 
 pub AreSetAbove-none : (old : List ℕ) (n : ℕ) → AreSetAbove old old n []
-AreSetAbove-none old n m j = (
-  (λ has. inl has),
-  (λ either. elim either [ inl has ↦ has | inr new ↦ absurd (Contains-none new.1.0 new.1.1) ]),
-)
+AreSetAbove-none old n m j = grind (arith, common_steps, Contains-none)
 
 pub AreSetAbove-more : (old now new : List ℕ) (n : ℕ) (above : List ℕ) (k h bits : ℕ) → k < length above
     → h ≡ get_or above k h → bits ≡ word_at now h → HasBitsSet now new n bits → AreSetAbove old now n (take k above)
@@ -186,11 +166,7 @@ module _ (held : Links) (block : List ℕ) where
 
   pub AreFoundBelow-start : (words : List ℕ) → ((n j : ℕ) → HasBit words n j ↔ (slice_get block j ≡ Some n))
       → AreFoundBelow held [] block words
-  AreFoundBelow-start words own = record {
-    sound = λ n j x at has. let e : Some n ≡ Some x = sym ((own n j).0 has) ∙ at in inl cc;
-    starts = λ n j at. (own n j).1 at;
-    complete = λ r has. absurd (Contains-none r has);
-  }
+  AreFoundBelow-start words own = grind (arith, common_steps, Contains-none)
 
   module _ (rows : List PathNode) (all : AreUpwardRows held rows) where
     pub AreFoundBelow-more : (old new : List ℕ) (k : ℕ) (r : PathNode) → k < length rows → r ≡ get_or rows k r

@@ -1,4 +1,5 @@
 -- A step keeps the invariant of a search, and a search that is done has met exactly the nodes that its start reaches.
+use Rattle.std.proofs.lemmas.Grind.{common_steps}
 use Rattle.std.proofs.Common.{◌≡◌, ◌+◌, ◌≤◌, ◌<◌, ℕ, List, [], ◌∷◌, ◌++◌, length, take, get_or, ap, sym, subst, ◌∙◌}
 use Rattle.std.proofs.Common.{arith, Contains, sum_by, below_more, length-append, append-nil, ◌≢◌, Bool, true, false}
 use Rattle.std.proofs.Common.{nat_eq}
@@ -146,13 +147,7 @@ module _ (edit : LinkEdit) (held : Links) where
   pub IsSideSearch-less : (relation : Relation) (goals : List ℕ) (start : ℕ) (side_search : SideSearch) (a b : ℕ) → a
       ≤ b → IsSideSearch edit held relation goals start side_search b → IsSideSearch edit held relation goals start
       side_search a
-  IsSideSearch-less relation goals start side_search a b less is =
-      record {
-        closed = is.closed;
-        no_goal = is.no_goal;
-        cost = λ ns covers. omega (arith, less, is.cost ns covers);
-        in_range = is.in_range;
-      }
+  IsSideSearch-less relation goals start side_search a b less is = grind (arith, common_steps)
 
   pub IsAdvanceResult-less : (relation : Relation) (goals : List ℕ) (start : ℕ) (side_search : SideSearch) (a b : ℕ)
       → a ≤ b → (found : Bool) → IsAdvanceResult edit held relation goals start side_search b found

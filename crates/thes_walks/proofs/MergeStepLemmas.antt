@@ -1,6 +1,7 @@
 -- After a merge, the links held at a node, or at source and target, lead to all nodes to which the node then leads;
 -- reading them takes a bounded number of visits.
-use Rattle.std.proofs.Common.{◌≢◌, ◌+◌, ◌≤◌, ◌⊎◌, inl, inr, ℕ, List, sym, subst, arith, sum_by}
+use Rattle.std.proofs.lemmas.Grind.{common_steps}
+use Rattle.std.proofs.Common.{◌≢◌, ◌+◌, ◌≤◌, ◌⊎◌, ℕ, List, sym, arith, sum_by}
 use Rattle.std.proofs.lemmas.List.Sums.{sum_by-le-sum_by}
 use Rattle.thes_base.specs.declared.data.Link.{Link}
 use Rattle.thes_base.specs.Links.{Links, Holds}
@@ -26,30 +27,16 @@ module _ (held : Links) (source target : ℕ) (two : source ≢ target) where
     pub Steps-target : (y : ℕ) → Steps relation (HeldAfter (AfterMerge source target) held) target y
         → LeadsFrom (AfterMerge source target) held relation target target y ⊎ LeadsFrom (AfterMerge source target)
         held relation source target y
-    Steps-target y steps =
-        let back = Steps-merged held relation walked two_ends source target target y steps in
-        let P : ℕ → Type 0 = λ at. LeadsFrom (AfterMerge source target) held relation at target y in
-        elim (node_after-target source target two back.0 back.1) [
-          | inl at ↦ inl (subst P at back.2)
-          | inr at ↦ inr (subst P at back.2)
-        ]
+    Steps-target y steps = grind (arith, common_steps, Steps-merged, node_after-target)
 
     pub Steps-other : (x y : ℕ) → x ≢ target → Steps relation (HeldAfter (AfterMerge source target) held) x y
         → LeadsFrom (AfterMerge source target) held relation x x y
-    Steps-other x y away steps =
-        let back = Steps-merged held relation walked two_ends source target x y steps in
-        let P : ℕ → Type 0 = λ at. LeadsFrom (AfterMerge source target) held relation at x y in
-        subst P (node_after-at source target two x back.0 away back.1) back.2
+    Steps-other x y away steps = grind (arith, common_steps, Steps-merged, node_after-at)
 
   module _ (side : Side) (ns : List Link) where
     pub CoversSide-target : CoversAt (AfterMerge source target) held target ns → CoversSide held target side ns
         × CoversSide held source side ns
-    CoversSide-target covers = (
-      λ l has ends _. covers l has (either_end (AfterMerge source target) target target l
-          (λ x. node_after-stays source target two target x off) ends),
-      λ l has ends _. covers l has (either_end (AfterMerge source target) target source l
-          (node_after-source source target two) ends),
-    )
+    CoversSide-target covers = grind (arith, common_steps, either_end, node_after-source, node_after-stays, off)
 
     pub CoversSide-other : (x : ℕ) → x ≢ source → CoversAt (AfterMerge source target) held x ns
         → CoversSide held x side ns

@@ -1,6 +1,7 @@
 -- The neighbourhood that thes_base defines for a check, an addition or a merge has all links that the searches may
 -- read.
-use Rattle.std.proofs.Common.{◌≡◌, ◌⊎◌, inl, inr, ℕ, List, Bool, Contains, refl, sym}
+use Rattle.std.proofs.lemmas.Grind.{common_steps}
+use Rattle.std.proofs.Common.{◌≡◌, ◌⊎◌, inl, inr, ℕ, List, Bool, Contains, refl, sym, arith}
 use Rattle.std.specs.FinSet.{insert}
 use Rattle.thes_base.specs.declared.data.Link.{Link}
 use Rattle.thes_base.specs.Links.{Links, Holds, HasEnd, IsBelow, IsExactMatch, links_after_merge}
@@ -24,19 +25,7 @@ near_to Would After to p n (inr (inr alike)) = inr (inr (inr (exact_to Would Aft
 
 module _ (is_outside : ℕ → Bool) (held : Links) (ns : List Link) where
   pub check_neighbourhood : (p : ℕ) → edit.HasNeighbourhood is_outside (Recheck p) held ns → CoversEdit NoEdit held p ns
-  check_neighbourhood p has l there n near at = has l (there, near_one near)
-    where
-      near_one : IsChanged NoEdit p n ⊎ IsNearPivot (Holds held) p n → (e : ℕ) × (m : ℕ) × (e ≡ p)
-          × edit.IsNear is_outside (Recheck p) held e m × HasEnd m l
-      near_one (inl same) = (p, n, refl, inl (sym same), at)
-      near_one (inr close) = (
-        p,
-        n,
-        refl,
-        near_to (Holds held) (Holds held) (λ l h. (l, h, IsEntailedBy-itself l)) p
-            n close,
-        at,
-      )
+  check_neighbourhood p has l there n near at = grind (arith, common_steps, IsEntailedBy-itself, near_to)
 
   pub add_neighbourhood : (new : Link) → edit.HasNeighbourhood is_outside (Add new) held ns → Contains ns new
       × CoversEdit (WithLink new) held new.a ns

@@ -1,5 +1,6 @@
 -- Reading two sides of distinct nodes takes at most two visits for each link; reading one side, up or down, takes at
 -- most one.
+use Rattle.std.proofs.lemmas.Grind.{common_steps}
 use Rattle.std.proofs.Common.{◌≡◌, ◌≢◌, ◌==◌, ◌+◌, ◌*◌, ◌≤◌, inl, inr, ℕ, List, length, sym, subst, ◌∙◌, arith}
 use Rattle.std.proofs.Common.{sum_by, Bool, true, false, refl, ◌&&◌, ◌||◌, if◌then◌else◌, nat_eq}
 use Rattle.std.specs.List.{IsDistinct}
@@ -16,7 +17,7 @@ use Rattle.thes_links.specs.declared.side.Side.TheVariants.{Sideways, Alike, Apa
 use Rattle.thes_links.specs.declared.edit.LinkEdit.{LinkEdit}
 use Rattle.thes_links.specs.declared.edit.LinkEdit.TheVariants.{NoEdit, WithLink, AfterMerge}
 use Rattle.thes_links.specs.GraphView.{ends_at}
-use Rattle.thes_links.specs.Side.{side_no, side_at, side_in, side_by_directions, if_either}
+use Rattle.thes_links.specs.Side.{side_no, side_in, side_by_directions, if_either}
 use Rattle.thes_links.specs.LinkEdit.{node_after, ends_at_node}
 use Rattle.thes_walks.specs.SideSearch.{one_on_side, link_visits, read_cost, IsHierarchy}
 use Rattle.thes_links.specs.Steps.{reverse_of}
@@ -29,12 +30,7 @@ one_end n l = if ends_at n l then 1 else 0
 
 -- A link lies on at most one of two different sides of a node.
 on_two : (n : ℕ) (j k : Side) (l : Link) → side_no j ≢ side_no k → one_on_side n j l + one_on_side n k l ≤ one_end n l
-on_two n j k l differ = go (ends_at n l) (side_no (side_at n l)) (side_no j) (side_no k) differ
-  where
-    go : (e : Bool) (s j k : ℕ) → j ≢ k → (if e && (s == j) then 1 else 0) + (if e && (s == k) then 1 else 0)
-        ≤ (if e then 1 else 0)
-    go true s j k differ = grind arith
-    go false s j k differ = omega arith
+on_two n j k l differ = grind (arith, common_steps)
 
 either_one : (a b : Bool) → (if a || b then 1 else 0) ≤ (if a then 1 else 0) + (if b then 1 else 0)
 either_one true b = omega arith
@@ -151,41 +147,21 @@ module _ (source target : ℕ) where
   -- The visits to a link at the target of a merge are those at the target and at the source.
   pub weight_target : target ≢ source → (side : Side) (l : Link) → link_visits (AfterMerge source target) target side l
       ≡ one_on_side target side l + one_on_side source side l
-  weight_target off side l = go (one_on_side target side l) (one_on_side source side l) (one_on_side target side l)
-    where
-      go : (p q r : ℕ) → (if target == source then 0 else if target == target then p + q else r) ≡ p + q
-      go p q r = grind arith
+  weight_target off side l = grind (arith, common_steps)
 
   pub weight_other : (n : ℕ) → n ≢ source → n ≢ target → (side : Side) (l : Link)
       → link_visits (AfterMerge source target)
       n side l ≡ one_on_side n side l
-  weight_other n off away side l = go (one_on_side target side l) (one_on_side source side l) (one_on_side n side l)
-    where
-      go : (p q r : ℕ) → (if n == source then 0 else if n == target then p + q else r) ≡ r
-      go p q r = grind arith
+  weight_other n off away side l = grind (arith, common_steps)
 
   weight_source : (side : Side) (l : Link) → link_visits (AfterMerge source target) source side l ≡ 0
-  weight_source side l = go (one_on_side target side l) (one_on_side source side l) (one_on_side source side l)
-    where
-      go : (p q r : ℕ) → (if source == source then 0 else if source == target then p + q else r) ≡ 0
-      go p q r = grind arith
+  weight_source side l = grind (arith, common_steps)
 
   -- After a merge a link lies on the side of a hierarchical relation at no more than one node.
   merged_one : (n : ℕ) (side : Side) (l : Link) (p : ℕ) → ((m : ℕ) → one_on_side m side l ≤ one_at p m)
       → link_visits (AfterMerge source target) n side l ≤ one_at (node_after (AfterMerge source target) p) n
-  merged_one n side l p at = elim (cases_eq n source) [
-    | inl is ↦ subst IsWithin (sym is) (omega (arith, weight_source side l))
-    | inr off ↦ elim (cases_eq n target) [
-      | inl is ↦ subst IsWithin (sym is) (at_target (λ e. off (is ∙ e)))
-      | inr away ↦ omega (arith, weight_other n off away side l, at n, other_one n p off)
-    ]
-  ]
-    where
-      IsWithin : ℕ → Type 0
-      IsWithin m = link_visits (AfterMerge source target) m side l ≤ one_at (node_after (AfterMerge source target) p) m
-
-      at_target : target ≢ source → IsWithin target
-      at_target off = omega (arith, weight_target off side l, at target, at source, target_one (λ e. off (sym e)) p)
+  merged_one n side l p at =
+      grind (arith, common_steps, cases_eq, one_at, other_one, target_one, weight_other, weight_source, weight_target)
 
   -- After a merge, reading two sides of a node takes at most one visit for each end that a link has there.
   merged_two : (n : ℕ) (j k : Side) (l : Link) → side_no j ≢ side_no k → link_visits (AfterMerge source target) n j l
@@ -226,15 +202,7 @@ module _ (source target : ℕ) where
 
 module _ (edit : LinkEdit) (j k : Side) (differ : side_no j ≢ side_no k) where
   weight_two : (n : ℕ) (l : Link) → link_visits edit n j l + link_visits edit n k l ≤ ends_at_node edit n l
-  weight_two n l = go edit
-    where
-      plain : one_on_side n j l + one_on_side n k l ≤ one_at l.a n + one_at l.b n
-      plain = omega (arith, on_two n j k l differ, end_one n l)
-
-      go : (edit : LinkEdit) → link_visits edit n j l + link_visits edit n k l ≤ ends_at_node edit n l
-      go NoEdit = plain
-      go (WithLink new) = plain
-      go (AfterMerge source target) = merged_two source target n j k l differ
+  weight_two n l = grind (arith, common_steps, end_one, merged_two, on_two, one_at)
 
   -- Reading two sides of distinct nodes takes at most two visits for each link.
   pub spent_two : (nodes : List ℕ) → IsDistinct nat_eq nodes → (ns : List Link) → read_cost edit j nodes ns

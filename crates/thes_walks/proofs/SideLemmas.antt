@@ -1,6 +1,7 @@
 -- The links of a relation lie on its side of a node.
+use Rattle.std.proofs.lemmas.Grind.{common_steps}
 use Rattle.std.proofs.Common.{◌≡◌, ◌≢◌, ◌==◌, ◌-◌, ◌<◌, ◌≤◌, ℕ, List, true, false}
-use Rattle.std.proofs.Common.{Some, slice_get, if◌then◌else◌, refl, sym}
+use Rattle.std.proofs.Common.{Some, slice_get, refl, sym}
 use Rattle.std.proofs.Common.{ap, ◌∙◌, arith}
 use Rattle.std.proofs.lemmas.Bool.{false_from_ne_true}
 use Rattle.std.proofs.lemmas.Bool.Decides.{Decides-eqb}
@@ -8,8 +9,7 @@ use Rattle.std.proofs.lemmas.Option.{slice_get-get_or}
 use Rattle.thes_base.specs.declared.data.Link.{Link}
 use Rattle.thes_base.specs.declared.data.LinkKind.{LinkKind}
 use Rattle.thes_base.specs.declared.data.LinkKind.TheVariants.{Broader, Related, Exact, RelMatch}
-use Rattle.thes_base.specs.declared.data.Direction.{Direction}
-use Rattle.thes_base.specs.declared.data.Direction.TheVariants.{Forward, Backward, Either, Never}
+use Rattle.thes_base.specs.declared.data.Direction.TheVariants.{Either}
 use Rattle.thes_base.specs.Links.{Links, Holds, broader_direction, related_direction, exact_direction, LinkLeads}
 use Rattle.thes_links.specs.declared.relation.Relation.{Relation}
 use Rattle.thes_links.specs.declared.relation.Relation.TheVariants as relation
@@ -34,27 +34,12 @@ module _ (a b n y : ℕ) (two : a ≢ b) where
 
   up_side : (k : LinkKind) → LinkLeads (broader_direction k) a b n y → side_by_directions (broader_direction k) (a == n)
       (related_direction k) (exact_direction k) ≡ Up
-  up_side k leads = go (broader_direction k) leads (never_either k)
-    where
-      go : (d : Direction) → LinkLeads d a b n y → (d ≡ Either → ⊥)
-          → side_by_directions d (a == n) (related_direction k)
-          (exact_direction k) ≡ Up
-      go Forward (e, f) one = ap (λ t. if t then Up else Down) (first_here e)
-      go Backward (e, f) one = ap (λ t. if t then Down else Up) (second_here e)
-      go Either h one = absurd (one refl)
-      go Never h one = absurd h
+  up_side k leads = grind (arith, common_steps, first_here, never_either, second_here)
 
   down_side : (k : LinkKind) → LinkLeads (reverse_of (broader_direction k)) a b n y
       → side_by_directions (broader_direction k)
       (a == n) (related_direction k) (exact_direction k) ≡ Down
-  down_side k leads = go (broader_direction k) leads (never_either k)
-    where
-      go : (d : Direction) → LinkLeads (reverse_of d) a b n y → (d ≡ Either → ⊥)
-          → side_by_directions d (a == n) (related_direction k) (exact_direction k) ≡ Down
-      go Forward (e, f) one = ap (λ t. if t then Up else Down) (second_here e)
-      go Backward (e, f) one = ap (λ t. if t then Down else Up) (first_here e)
-      go Either h one = absurd (one refl)
-      go Never h one = absurd h
+  down_side k leads = grind (arith, common_steps, first_here, never_either, second_here)
 
   beside_side : (k : LinkKind) → LinkLeads (related_direction k) a b n y
       → side_by_directions (broader_direction k) (a == n)

@@ -1,8 +1,9 @@
 -- Reading one side of a node finds exactly the nodes to which it leads after the edit, in at most one visit for each
 -- link there.
-use Rattle.std.proofs.Common.{◌≡◌, ◌==◌, ◌+◌, ◌-◌, ◌≤◌, ◌<◌, ◌⊎◌, inl, inr, ℕ, List, length, take, drop, get_or, ap}
+use Rattle.std.proofs.lemmas.Grind.{common_steps}
+use Rattle.std.proofs.Common.{◌≡◌, ◌+◌, ◌-◌, ◌≤◌, ◌<◌, ◌⊎◌, inl, inr, ℕ, List, length, take, drop, get_or, ap}
 use Rattle.std.proofs.Common.{sym, subst, ◌∙◌, arith, refl, Contains, sum_by, Bool, true, false, Option, Some, None}
-use Rattle.std.proofs.Common.{slice_get, if◌then◌else◌}
+use Rattle.std.proofs.Common.{slice_get}
 use Rattle.std.specs.Prelude.{option_and_then}
 use Rattle.std.proofs.lemmas.List.{get_or-take, get_or-drop, length-take, length-drop, get_or_default}
 use Rattle.std.proofs.lemmas.Option.{slice_get_within, slice_get-get_or, get_or_from_slice_get, option_and_then_some}
@@ -16,16 +17,14 @@ use Rattle.thes_links.specs.declared.side.Part.{Part}
 use Rattle.thes_links.specs.declared.edit.LinkEdit.{LinkEdit}
 use Rattle.thes_links.specs.declared.edit.LinkEdit.TheVariants.{NoEdit, WithLink, AfterMerge}
 use Rattle.thes_links.specs.Reading.{HaveTwoEnds, IsRow}
-use Rattle.thes_links.specs.Side.{side_no, side_at, side_in, IsPart, IsOneSided}
+use Rattle.thes_links.specs.Side.{side_at, side_in, IsPart, IsOneSided}
 use Rattle.thes_links.specs.LinkEdit.{node_after, link_after_merge, HeldAfter}
 use Rattle.thes_links.specs.Steps.{direction_of, step_along, Steps}
 use Rattle.thes_walks.specs.SideSearch.{link_after, step_after_edit, LeadsWithin, LeadsFrom, IsSearchResult, CoversSide}
 use Rattle.thes_walks.specs.SideSearch.{one_on_side}
-use Rattle.std.specs.Cmp.Derive.{both_true}
 use Rattle.std.proofs.lemmas.Bool.{or_left, or_right}
 use Rattle.std.proofs.lemmas.Bool.Decides.{Decides-eqb}
 use Rattle.thes_links.specs.declared.side.Side.{Side}
-use Rattle.thes_links.specs.GraphView.{ends_at}
 use Rattle.thes_links.proofs.WeightLemmas.{length-once, once_from_pairs, once_take, once_drop}
 use Rattle.thes_links.proofs.StepLemmas.{GrowsBy-then, Leads-first, Leads-from_step, step_from_Leads}
 use Rattle.thes_links.proofs.EditLemmas.{link_after_merge-ends}
@@ -172,13 +171,7 @@ module _ (held : Links) (relation : Relation) where
           → LinkLeads (direction_of relation m.kind) m.a m.b x y
           → LinkLeads (direction_of relation l.kind) (node_after (AfterMerge source target) l.a)
           (node_after (AfterMerge source target) l.b) x y
-      led_same x y l m is leads =
-          let ends = link_after_merge-ends source target l m is in
-          let P : Direction → ℕ → ℕ → Type 0 = λ d a b. LinkLeads d a b x y in
-          subst (λ d. P d (node_after (AfterMerge source target) l.a) (node_after (AfterMerge source target) l.b))
-          (ap (direction_of relation) ends.0)
-          (subst (λ b. P (direction_of relation m.kind) (node_after (AfterMerge source target) l.a) b) ends.2
-          (subst (λ a. P (direction_of relation m.kind) a m.b) ends.1 leads))
+      led_same x y l m is leads = grind (arith, common_steps, link_after_merge-ends)
 
       pub Steps-merged_held : (x y : ℕ) → Steps relation (HeldAfter (AfterMerge source target) held) x y
           → (at : ℕ) × (z : ℕ) × (node_after (AfterMerge source target) at ≡ x) × Steps relation (Holds held) at z
@@ -222,13 +215,7 @@ module _ (held : Links) (relation : Relation) where
           )
 
 pub on_one : (at : ℕ) (side : Side) (l : Link) → HasEnd at l → side_at at l ≡ side → one_on_side at side l ≡ 1
-on_one at side l ends is =
-    ap (λ b. if b then 1 else 0)
-    (both_true (ends_true ends) ((Decides-eqb (side_no (side_at at l)) (side_no side)).1 (ap side_no is)))
-  where
-    ends_true : HasEnd at l → ends_at at l ≡ true
-    ends_true (inl a) = or_left (l.a == at) (l.b == at) ((Decides-eqb l.a at).1 a)
-    ends_true (inr b) = or_right (l.a == at) (l.b == at) ((Decides-eqb l.b at).1 b)
+on_one at side l ends is = grind (arith, common_steps, Decides-eqb, or_left, or_right)
 
 module _ (held : Links) (at : ℕ) (side : Side) (row : List Link) (part : Part) (is_row : IsRow held at row)
     (is_part : IsPart row at side part) where
