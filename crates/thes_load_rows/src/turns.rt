@@ -55,7 +55,12 @@ pub fn run_out(stage: &mut Stage)
 }
 
 /// Adds a row of a table to the stage.
-pub fn add_row(stage: &mut Stage, alloc: Global, table: Table, row: &[Cell]) -> Result<(), AllocError>
+pub fn add_row(
+    stage: &mut Stage,
+    alloc: Global,
+    table: Table,
+    row: &[Cell],
+) -> Result<(), AllocError>
     requires { IsOfRows stage.old }
     ensures follows { OnOk result (NextStage table (Some row.now) stage.old stage.new) }
     ensures rows { OnOk result (IsOfRows stage.new) }
