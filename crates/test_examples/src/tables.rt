@@ -6,7 +6,7 @@ use thes_base::data::Limits;
 use thes_base::fault::Fault;
 use thes_base::number::ResNo;
 use thes_core::Core;
-use thes_office::{CellRow, CellRows, from_rows};
+use thes_row_lists::{CellRow, CellRows, from_rows};
 use thes_tables::cells::{Cell, CellText};
 
 /// Rows of tables, with the expected verdict of their load.

@@ -5,7 +5,7 @@ use Rattle.thes_base.specs.declared.fault.PipeFault.{PipeFault}
 use Rattle.thes_base.specs.declared.fault.PipeFault.TheVariants as faults
 use Rattle.thes_core.specs.declared.reading.Sizes.{Sizes}
 use Rattle.thes_requests.specs.declared.script.ScriptEnd.{ScriptEnd}
-use Rattle.thes_import.specs.declared.report.Counts.{Counts}
+use Rattle.thes_posting_files.specs.declared.report.Counts.{Counts}
 
 -- The fault that stopped the script, or else the last fault among its answers.
 abbrev pub last_fault : Result ScriptEnd PipeFault → Option PipeFault

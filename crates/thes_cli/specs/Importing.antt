@@ -9,7 +9,7 @@ use Rattle.thes_import.specs.ImportEngine.{ImportsFile, StopsImport, import_stre
 use Rattle.thes_import.specs.declared.import.ImportEnd.{ImportEnd}
 use Rattle.thes_import.specs.declared.import.ImportEnd.TheVariants.{Rows, Malformed}
 use Rattle.thes_import.specs.declared.import.ImportStop.{ImportStop}
-use Rattle.thes_import.specs.declared.report.Counts.{Counts}
+use Rattle.thes_posting_files.specs.declared.report.Counts.{Counts}
 use Rattle.thes_command_line.specs.Printing.{Prints, fault_line, form_line}
 use Rattle.thes_cli.specs.Ending.{counts_line}
 

@@ -8,7 +8,6 @@ use Rattle.thes_base.specs.declared.fault.Fault.{Fault}
 use Rattle.thes_base.specs.declared.fault.FormFault.{FormFault}
 use Rattle.thes_base.specs.declared.request.Answer.{Answer}
 use Rattle.thes_base.specs.declared.request.Command.{Command}
-use Rattle.thes_base.specs.declared.request.Command.TheVariants as request
 use Rattle.thes_base.specs.Headline.{IsConsistentState}
 use Rattle.thes_base.specs.State.{State}
 use Rattle.thes_tables.specs.Cells.{Raw}
@@ -18,86 +17,17 @@ use Rattle.thes_office.specs.TablesOfState.{TablesOfState}
 use Rattle.thes_office.proofs.OfficeViewLemmas.{empty_run}
 use Rattle.thes_import.specs.Imports.{ImportsBlock, PerformsRows, PerformsSomeWith, PerformsWith, ReportsBlock}
 use Rattle.thes_import.specs.Imports.{ReportsRows, StopsInBlock}
-use Rattle.thes_import.specs.Outcomes.{AddsOutcomes, IsOutcome, answers_of, fault_of_row, outcomes_of}
-use Rattle.thes_import.specs.Outcomes.{posts_of}
-use Rattle.thes_import.specs.PostingFile.{IsPostingFile}
-use Rattle.thes_import.specs.RowReading.{HasReadRows}
-use Rattle.thes_import.specs.declared.csv_row.CsvRow.{CsvRow}
-use Rattle.thes_import.specs.declared.csv_row.CsvRow.TheVariants as row
-use Rattle.thes_import.specs.declared.outcome.Outcome.{Outcome}
-use Rattle.thes_import.specs.declared.reading.RowReader.{RowReader}
-use Rattle.thes_import.specs.declared.report.Report.{Report}
-use Rattle.thes_import.proofs.ReportLemmas.{adds_none}
-use Rattle.thes_import.proofs.RowReadingLemmas.{others_left}
-
--- The rows of a block, split before the first posting without an answer.
-record RowsAnswered (rows : List CsvRow) (done unread : List Command) (answers : List Answer) : Type 0 where
-  first : List CsvRow
-  others : List CsvRow
-  all : rows ≡ first ++ others
-  posts : posts_of first ≡ done
-  left_posts : posts_of others ≡ unread
-  each : AllZip IsOutcome first (outcomes_of (map fault_of_row rows) answers)
-  given : answers_of (outcomes_of (map fault_of_row rows) answers) ≡ answers
-  none : unread ≡ [] → others ≡ []
-
-rows_answered : (rows : List CsvRow) (done unread : List Command) (answers : List Answer) → posts_of rows ≡ done
-    ++ unread → length answers ≡ length done → RowsAnswered rows done unread answers
-rows_answered [] [] unread [] e n = record {
-  first = [];
-  others = [];
-  all = refl;
-  posts = refl;
-  left_posts = e;
-  each = tt;
-  given = refl;
-  none = λ z. refl;
-}
-rows_answered [] [] unread (a ∷ answers) e n = absurd (omega (arith, n))
-rows_answered [] (d ∷ done) unread answers e n = absurd (let bad : [] ≡ d ∷ (done ++ unread) = e in cc)
-rows_answered (row.Bad fault ∷ rows) done unread answers e n =
-    let r = rows_answered rows done unread answers e n in record {
-      first = row.Bad fault ∷ r.first;
-      others = r.others;
-      all = ap (λ (l : List CsvRow). row.Bad fault ∷ l) r.all;
-      posts = r.posts;
-      left_posts = r.left_posts;
-      each = (refl, r.each);
-      given = r.given;
-      none = r.none;
-    }
-rows_answered (row.Post key rec concept ∷ rows) [] unread [] e n = record {
-  first = [];
-  others = row.Post key rec concept ∷ rows;
-  all = refl;
-  posts = refl;
-  left_posts = e;
-  each = tt;
-  given = refl;
-  none = λ z. absurd (let bad : request.Post key rec concept ∷ posts_of rows ≡ [] = e ∙ z in cc);
-}
-rows_answered (row.Post key rec concept ∷ rows) [] unread (a ∷ answers) e n = absurd (omega (arith, n))
-rows_answered (row.Post key rec concept ∷ rows) (d ∷ done) unread [] e n = absurd (omega (arith, n))
-rows_answered (row.Post key rec concept ∷ rows) (d ∷ done) unread (a ∷ answers) e n =
-    let both : request.Post key rec concept ∷ posts_of rows ≡ d ∷ (done ++ unread) = e in
-    let head : request.Post key rec concept ≡ d = cc in
-    let tail : posts_of rows ≡ done ++ unread = cc in
-    let r = rows_answered rows done unread answers tail (omega (arith, n)) in record {
-      first = row.Post key rec concept ∷ r.first;
-      others = r.others;
-      all = ap (λ (l : List CsvRow). row.Post key rec concept ∷ l) r.all;
-      posts = (λ i. head i ∷ r.posts i);
-      left_posts = r.left_posts;
-      each = (tt, r.each);
-      given = ap (λ (l : List Answer). a ∷ l) r.given;
-      none = r.none;
-    }
-
-some_left : (others : List CsvRow) (unread : List Command) → posts_of others ≡ unread → 0 < length unread
-    → 0 < length others
-some_left [] unread e some = let n : 0 ≡ length unread = ap (λ (l : List Command). length l) e in absurd
-    (omega (arith, n, some))
-some_left (x ∷ others) unread e some = omega arith
+use Rattle.thes_posting_files.specs.Outcomes.{AddsOutcomes, IsOutcome, answers_of, fault_of_row, outcomes_of}
+use Rattle.thes_posting_files.specs.Outcomes.{posts_of}
+use Rattle.thes_posting_files.specs.PostingFile.{IsPostingFile}
+use Rattle.thes_posting_files.specs.RowReading.{HasReadRows}
+use Rattle.thes_posting_files.specs.declared.csv_row.CsvRow.{CsvRow}
+use Rattle.thes_posting_files.specs.declared.outcome.Outcome.{Outcome}
+use Rattle.thes_posting_files.specs.declared.reading.RowReader.{RowReader}
+use Rattle.thes_posting_files.specs.declared.report.Report.{Report}
+use Rattle.thes_posting_files.proofs.AnsweredRowLemmas.{rows_answered, some_left}
+use Rattle.thes_posting_files.proofs.ReportLemmas.{adds_none}
+use Rattle.thes_posting_files.proofs.RowReadingLemmas.{others_left}
 
 performs_none : (limits : Limits) (raw : Raw) (base : List ℕ) (s : State) → TablesOfState raw base s
     → IsConsistentState base s → PerformsRows limits raw [] [] raw
@@ -131,8 +61,8 @@ module _ {K : Type 0} (view : K → StorageView) where
             (sym all) r.each;
         performs = λ up. record {
           goes_on = subst (λ (l : List Answer). TablesAfterRun old.limits (view old.keeper).rows (posts_of rows) l
-              (view new.keeper).rows) (sym r.given) (ran.goes_on up);
-          same = λ nothing. ran.same up (subst (AllByRecursion ChangesNothing) r.given nothing);
+              (view new.keeper).rows) (sym r.answers_are) (ran.goes_on up);
+          same = λ nothing. ran.same up (subst (AllByRecursion ChangesNothing) r.answers_are nothing);
         };
       }
 
@@ -152,8 +82,8 @@ module _ {K : Type 0} (view : K → StorageView) where
             goes_on = subst (λ (p : List Command). TablesAfterRun old.limits (view old.keeper).rows p
                 (answers_of (outcomes_of (map fault_of_row rows) ran.answers)) (view new.keeper).rows) (sym r.posts)
                 (subst (λ (l : List Answer). TablesAfterRun old.limits (view old.keeper).rows ran.commands_done l
-                (view new.keeper).rows) (sym r.given) (ran.goes_on up));
-            same = λ nothing. ran.same up (subst (AllByRecursion ChangesNothing) r.given nothing);
+                (view new.keeper).rows) (sym r.answers_are) (ran.goes_on up));
+            same = λ nothing. ran.same up (subst (AllByRecursion ChangesNothing) r.answers_are nothing);
           };
         };
       }

@@ -14,18 +14,18 @@ use Rattle.thes_store.specs.Storage.{StorageView}
 use Rattle.thes_office.specs.Office.{ChangesNothing, FaultBehaviour, OfficeView, TablesAfterRun}
 use Rattle.thes_office.proofs.OfficeViewLemmas.{all_parts, run_of_more}
 use Rattle.thes_import.specs.Imports.{PerformsRows, PerformsWith, ReportsBlock, StopsInBlock}
-use Rattle.thes_import.specs.Outcomes.{AddsOutcomes, IsOutcome, answer_in, answers_of, counts_of, outcome_lines}
-use Rattle.thes_import.specs.Outcomes.{outcomes_text, post_in, posts_of, row_count}
-use Rattle.thes_import.specs.PostingFile.{IsPostingFile}
-use Rattle.thes_import.specs.RowReading.{HasReadRows}
-use Rattle.thes_import.specs.declared.csv_row.CsvRow.{CsvRow}
-use Rattle.thes_import.specs.declared.outcome.Outcome.{Outcome}
-use Rattle.thes_import.specs.declared.reading.RowReader.{RowReader}
-use Rattle.thes_import.specs.declared.report.Counts.{Counts}
-use Rattle.thes_import.specs.declared.report.Report.{Report}
+use Rattle.thes_posting_files.specs.Outcomes.{AddsOutcomes, IsOutcome, answer_in, answers_of, counts_of, outcome_lines}
+use Rattle.thes_posting_files.specs.Outcomes.{outcomes_text, post_in, posts_of, row_count}
+use Rattle.thes_posting_files.specs.PostingFile.{IsPostingFile}
+use Rattle.thes_posting_files.specs.RowReading.{HasReadRows}
+use Rattle.thes_posting_files.specs.declared.csv_row.CsvRow.{CsvRow}
+use Rattle.thes_posting_files.specs.declared.outcome.Outcome.{Outcome}
+use Rattle.thes_posting_files.specs.declared.reading.RowReader.{RowReader}
+use Rattle.thes_posting_files.specs.declared.report.Counts.{Counts}
+use Rattle.thes_posting_files.specs.declared.report.Report.{Report}
 use Rattle.thes_import.proofs.BlockLemmas.{ShowsState, performs_nothing}
-use Rattle.thes_import.proofs.ReportLemmas.{row_count_all, text_of_more}
-use Rattle.thes_import.proofs.RowReadingLemmas.{others_left}
+use Rattle.thes_posting_files.proofs.ReportLemmas.{row_count_all, text_of_more}
+use Rattle.thes_posting_files.proofs.RowReadingLemmas.{others_left}
 
 zip_joined : (rows more : List CsvRow) (os qs : List Outcome) → AllZip IsOutcome rows os → AllZip IsOutcome more qs
     → AllZip IsOutcome (rows ++ more) (os ++ qs)

@@ -1,10 +1,4 @@
-pub mod RecordLemmas
-pub mod RecordReadingLemmas
-pub mod RowReadingLemmas
-pub mod ReportLemmas
-pub mod BlockLemmas
-pub mod ImportLemmas
-pub mod LaterPostingLemmas
-pub mod RepeatedImportLemmas
-pub mod WholeInputLemmas
-pub mod WritingLemmas
+mod BlockLemmas
+mod ImportLemmas
+mod RepeatedImportLemmas
+mod WritingLemmas

@@ -19,15 +19,15 @@ use Rattle.thes_store.specs.Storage.{StorageView}
 use Rattle.thes_import.specs.ImportEngine.{IsReportCut, IsWriterFault, PerformsFirst, StopsAfterRows, WritesPartOf}
 use Rattle.thes_import.specs.ImportEngine.{WritesWhole}
 use Rattle.thes_import.specs.Imports.{ImportsBlock, PerformsWith}
-use Rattle.thes_import.specs.Outcomes.{IsOutcome, counts_of, outcome_lines, outcomes_text}
-use Rattle.thes_import.specs.declared.csv_row.CsvRow.{CsvRow}
+use Rattle.thes_posting_files.specs.Outcomes.{IsOutcome, counts_of, outcome_lines, outcomes_text}
+use Rattle.thes_posting_files.specs.declared.csv_row.CsvRow.{CsvRow}
 use Rattle.thes_import.specs.declared.import.ImportStop.{ImportStop}
-use Rattle.thes_import.specs.declared.outcome.Outcome.{Outcome}
-use Rattle.thes_import.specs.declared.reading.RowReader.{RowReader}
-use Rattle.thes_import.specs.declared.report.Report.{Report}
+use Rattle.thes_posting_files.specs.declared.outcome.Outcome.{Outcome}
+use Rattle.thes_posting_files.specs.declared.reading.RowReader.{RowReader}
+use Rattle.thes_posting_files.specs.declared.report.Report.{Report}
 use Rattle.thes_import.proofs.ImportLemmas.{ImportInvariant, halted_in, importing_more}
-use Rattle.thes_import.proofs.ReportLemmas.{text_of_more}
-use Rattle.thes_import.proofs.RowReadingLemmas.{others_left}
+use Rattle.thes_posting_files.proofs.ReportLemmas.{text_of_more}
+use Rattle.thes_posting_files.proofs.RowReadingLemmas.{others_left}
 
 module _ {W : Type 0} (contents : W → Option (List ℕ)) where
   -- A prefix of the heading is part of the text of no outcomes.

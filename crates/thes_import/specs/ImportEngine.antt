@@ -12,15 +12,15 @@ use Rattle.thes_tables.specs.Cells.{Raw}
 use Rattle.thes_store.specs.Storage.{StorageView}
 use Rattle.thes_office.specs.Office.{FaultBehaviour, OfficeView}
 use Rattle.thes_import.specs.Imports.{PerformsWith}
-use Rattle.thes_import.specs.Outcomes.{counts_of, no_counts, outcomes_text}
-use Rattle.thes_import.specs.PostingFile.{HasNoHeader, IsPostingFile}
-use Rattle.thes_import.specs.WholeInput.{IsInputFault, IsWhole}
-use Rattle.thes_import.specs.declared.csv_row.CsvRow.{CsvRow}
+use Rattle.thes_posting_files.specs.Outcomes.{counts_of, no_counts, outcomes_text}
+use Rattle.thes_posting_files.specs.PostingFile.{HasNoHeader, IsPostingFile}
+use Rattle.thes_posting_files.specs.WholeInput.{IsInputFault, IsWhole}
+use Rattle.thes_posting_files.specs.declared.csv_row.CsvRow.{CsvRow}
 use Rattle.thes_import.specs.declared.import.ImportEnd.{ImportEnd}
 use Rattle.thes_import.specs.declared.import.ImportEnd.TheVariants as ended
 use Rattle.thes_import.specs.declared.import.ImportStop.{ImportStop}
-use Rattle.thes_import.specs.declared.outcome.Outcome.{Outcome}
-use Rattle.thes_import.specs.declared.report.Counts.{Counts}
+use Rattle.thes_posting_files.specs.declared.outcome.Outcome.{Outcome}
+use Rattle.thes_posting_files.specs.declared.report.Counts.{Counts}
 
 -- The greatest size of a file, in bytes: 16 MiB.
 abbrev pub file_limit : ℕ

@@ -6,17 +6,17 @@ use Rattle.thes_base.specs.declared.fault.Fault.{Fault}
 use Rattle.thes_base.specs.declared.fault.Fault.TheVariants as faults
 use Rattle.thes_tables.specs.Cells.{Raw}
 use Rattle.thes_store.specs.Storage.{StorageView}
-use Rattle.thes_import.specs.PostingFile.{HasNoHeader, IsPostingFile}
-use Rattle.thes_import.specs.declared.csv_row.CsvRow.{CsvRow}
+use Rattle.thes_posting_files.specs.PostingFile.{HasNoHeader, IsPostingFile}
+use Rattle.thes_posting_files.specs.declared.csv_row.CsvRow.{CsvRow}
 use Rattle.thes_office.specs.Office.{ChangesNothing, TablesAfterRun, OfficeView}
-use Rattle.thes_import.specs.Outcomes.{AddsOutcomes, IsBlankReport, IsOutcome, ReportsOutcomes, answers_of, posts_of}
-use Rattle.thes_import.specs.declared.outcome.Outcome.{Outcome}
+use Rattle.thes_posting_files.specs.Outcomes.{AddsOutcomes, IsBlankReport, IsOutcome, ReportsOutcomes, answers_of, posts_of}
+use Rattle.thes_posting_files.specs.declared.outcome.Outcome.{Outcome}
 use Rattle.thes_import.specs.declared.postings.ImportHalt.{ImportHalt}
 use Rattle.thes_import.specs.declared.postings.FileImport.{FileImport}
 use Rattle.thes_import.specs.declared.postings.FileImport.TheVariants.{Rows, Malformed}
-use Rattle.thes_import.specs.RowReading.{HasReadRows}
-use Rattle.thes_import.specs.declared.reading.RowReader.{RowReader}
-use Rattle.thes_import.specs.declared.report.Report.{Report}
+use Rattle.thes_posting_files.specs.RowReading.{HasReadRows}
+use Rattle.thes_posting_files.specs.declared.reading.RowReader.{RowReader}
+use Rattle.thes_posting_files.specs.declared.report.Report.{Report}
 
 -- A run of the machine over the requests of the rows has the answers in these outcomes, and leads
 -- to the new tables. The tables are unchanged if no answer changes anything.

@@ -2,17 +2,17 @@
 ghost use Rattle.std.specs.Prelude.{◌≡◌, [], IfErr, OnOk};
 ghost use Rattle.thes_base.specs.Pipe.{IsFresh, KeepsSharedCallLimit, PaysCalls};
 ghost use Rattle.thes_import.specs.ImportEngine.{ImportsBytes, ImportsFile, IsReportCut, StopsImport, WritesWhole, import_streams};
-ghost use Rattle.thes_import.specs.Outcomes.{no_counts};
+ghost use Rattle.thes_posting_files.specs.Outcomes.{no_counts};
 
 use crate::perform::import_block;
-use crate::reading::open_rows;
-use crate::report::{Counts, Report};
-use crate::whole_input::read_whole;
 use std::alloc::Global;
 use std::io::{Read, Write};
 use thes_base::fault::{Fault, PipeFault, ReadStop};
 use thes_base::pipe::{Budget, Pipe};
 use thes_office::Office;
+use thes_posting_files::reading::open_rows;
+use thes_posting_files::report::{Counts, Report};
+use thes_posting_files::whole_input::read_whole;
 use thes_store::keeper::Keeper;
 
 /// The end of an import that no fault stopped.

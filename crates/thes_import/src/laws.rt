@@ -1,15 +1,11 @@
 //! Laws of an import, whatever code performs it.
-ghost use Rattle.thes_import.specs.RepeatedImport.{AnswersAgain, ImportsAgain};
+ghost use Rattle.thes_import.specs.RepeatedImport.{ImportsAgain};
+
+pub use thes_posting_files::laws::answers_again;
 
 /// No effect; states for the proof that importing a file again, with no other request between,
 /// changes no table: accepted rows are answered with the same postings' numbers, refused rows
 /// change nothing, and other rows have the same faults.
 pub fn imports_again()
     ensures { ImportsAgain }
-{}
-
-/// No effect; states for the proof that an accepted posting sent again is answered with its number,
-/// whatever requests come between.
-pub fn answers_again()
-    ensures { AnswersAgain }
 {}

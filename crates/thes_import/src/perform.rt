@@ -1,62 +1,17 @@
 //! Performs the rows of a posting file, block by block.
-ghost use Rattle.std.specs.Prelude.{◌≡◌, ◌<◌, ◌≤◌, ◌+◌, ◌++◌, ◌∷◌, [], ◌^◌, IfOk, OnOk, length, map};
-ghost use Rattle.thes_import.specs.Imports.{ImportsBlock, ReportsRows};
-ghost use Rattle.thes_import.specs.Outcomes.{fault_of_row, posts_of, row_count};
+ghost use Rattle.std.specs.Prelude.{◌<◌, ◌≤◌, ◌+◌, ◌^◌, length};
+ghost use Rattle.thes_posting_files.specs.Outcomes.{row_count};
 ghost use Rattle.thes_office.specs.Office.{FaultBehaviour};
+ghost use Rattle.thes_import.specs.Imports.{ImportsBlock, ReportsRows};
 
-use crate::csv_row::CsvRow;
-use crate::reading::{RowReader, read_block};
-use crate::report::Report;
-use std::alloc::{AllocError, Global};
-use thes_base::fault::{Fault, FormFault};
-use thes_base::request::Command;
+use std::alloc::Global;
+use thes_base::fault::Fault;
 use thes_office::Office;
+use thes_posting_files::block::block_of;
+use thes_posting_files::csv_row::CsvRow;
+use thes_posting_files::reading::{RowReader, read_block};
+use thes_posting_files::report::Report;
 use thes_store::keeper::Keeper;
-
-/// A block of rows: the requests of the rows that are postings, and for each row its fault, or None
-/// if it is a posting.
-#[derive(Drop)]
-struct Block {
-    posts: Vec<Command>,
-    faults: Vec<Option<FormFault>>,
-}
-
-impl Block {
-    // Appends a row: its request, or its fault.
-    fn push(&mut self, row: CsvRow) -> Result<(), AllocError>
-        ensures posts { OnOk result
-            (self.new.posts.items ≡ self.old.posts.items ++ posts_of (row ∷ [])) }
-        ensures faults { OnOk result
-            (self.new.faults.items ≡ self.old.faults.items ++ fault_of_row row ∷ []) }
-    {
-        match row {
-            CsvRow::Post(key, rec, concept) => {
-                self.posts.push(Command::Post(key, rec, concept))?;
-                self.faults.push(None)?;
-                Ok(())
-            }
-            CsvRow::Bad(fault) => {
-                self.faults.push(Some(fault))?;
-                Ok(())
-            }
-        }
-    }
-}
-
-// Collects the requests and the faults of rows in a block.
-fn block_of(alloc: Global, rows: Vec<CsvRow>) -> Result<Block, AllocError>
-    ensures posts { IfOk result (λ block. block.posts.items ≡ posts_of rows.items) }
-    ensures faults { IfOk result (λ block. block.faults.items ≡ map fault_of_row rows.items) }
-{
-    let mut block = Block {
-        posts: Vec::new(alloc),
-        faults: Vec::new(alloc),
-    };
-    for row in rows {
-        block.push(row)?;
-    }
-    Ok(block)
-}
 
 // Performs rows and appends their outcomes to the report, allocates the memory for their lines
 // first.

@@ -1,15 +1,15 @@
 //! Performs the postings of a file over an office.
 ghost use Rattle.std.specs.Prelude.{◌≡◌};
 ghost use Rattle.thes_import.specs.Imports.{Imports, fault_in};
-ghost use Rattle.thes_import.specs.Outcomes.{IsBlankReport};
+ghost use Rattle.thes_posting_files.specs.Outcomes.{IsBlankReport};
 ghost use Rattle.thes_office.specs.Office.{FaultBehaviour};
 
 use crate::perform::import_block;
-use crate::reading::open_rows;
-use crate::report::Report;
 use std::alloc::Global;
 use thes_base::fault::{Fault, ReadStop};
 use thes_office::Office;
+use thes_posting_files::reading::open_rows;
+use thes_posting_files::report::Report;
 use thes_store::keeper::Keeper;
 
 /// The result of an import that no fault halted.

@@ -14,3 +14,4 @@ pub mod StageCloseLemmas
 pub mod TableOrderLemmas
 pub mod LostTableLemmas
 pub mod LoadResultLemmas
+pub mod TurnLemmas

@@ -10,3 +10,4 @@ pub mod NamesSoFar
 pub mod Version
 pub mod Progress
 pub mod LoadResults
+pub mod Turns

@@ -14,3 +14,4 @@ mod resources;
 pub mod rows;
 pub mod stage;
 mod stage_steps;
+pub mod turns;

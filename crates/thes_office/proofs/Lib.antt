@@ -9,8 +9,3 @@ pub mod LoadLemmas
 pub mod LoadedCoreLemmas
 pub mod TableFeedLemmas
 pub mod StoreFeedLemmas
-pub mod TurnLemmas
-pub mod PermutationLemmas
-pub mod RisingNumberLemmas
-pub mod RowOrderLemmas
-pub mod ArrangedRowLemmas

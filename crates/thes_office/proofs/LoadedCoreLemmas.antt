@@ -17,7 +17,7 @@ use Rattle.thes_load_rows.specs.declared.stage.Stage.{Stage}
 use Rattle.thes_load_rows.specs.Progress.{HasRead, HasNames, is_stopped}
 use Rattle.thes_load_rows.specs.LinksSoFar.{HasLinks}
 use Rattle.thes_load_rows.specs.LoadResults.{LoadResult}
-use Rattle.thes_office.specs.LoaderView.{IsOfRows}
+use Rattle.thes_load_rows.specs.Turns.{IsOfRows}
 use Rattle.thes_office.specs.LoadedCore.{IsLoaded}
 
 -- The state that the rows encode has these parts, and is legal.

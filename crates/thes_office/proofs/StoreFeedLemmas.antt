@@ -12,7 +12,8 @@ use Rattle.thes_store.specs.Sinks as yields
 use Rattle.thes_store.proofs.SinkLemmas.{accepts_then}
 use Rattle.thes_load_rows.specs.Progress.{table_no, empty_raw}
 use Rattle.thes_office.specs.declared.loader.Loader.{Loader}
-use Rattle.thes_office.specs.LoaderFeed.{IsBegun, KnowsRows, FeedResult, IsInTurn}
+use Rattle.thes_load_rows.specs.Turns.{IsInTurn}
+use Rattle.thes_office.specs.LoaderFeed.{IsBegun, KnowsRows, FeedResult}
 use Rattle.thes_office.specs.LoaderLaw.{LoaderReadsStore}
 use Rattle.thes_office.proofs.TableFeedLemmas.{with_rows, table_taken}
 

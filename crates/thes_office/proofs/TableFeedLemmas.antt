@@ -10,7 +10,8 @@ use Rattle.thes_store.specs.Sinks.{sink_rows_of_table}
 use Rattle.thes_store.specs.Sinks as yields
 use Rattle.thes_load_rows.specs.Progress.{table_no, raw_with_row, raw_without_table}
 use Rattle.thes_office.specs.declared.loader.Loader.{Loader}
-use Rattle.thes_office.specs.LoaderFeed.{KnowsRows, FeedResult, IsInTurn}
+use Rattle.thes_load_rows.specs.Turns.{IsInTurn}
+use Rattle.thes_office.specs.LoaderFeed.{KnowsRows, FeedResult}
 
 -- The rows of a store, with those of one table replaced.
 abbrev pub with_rows : Table → RawTable → Raw → Raw

@@ -8,5 +8,3 @@ pub mod LoaderView
 pub mod LoadedCore
 pub mod LoaderFeed
 pub mod LoaderLaw
-pub mod SortedRows
-pub mod RowOrder

@@ -10,8 +10,6 @@ mod loader;
 pub mod numbers;
 mod office;
 mod reading;
-mod row_lists;
 
 pub use loader::Loader;
 pub use office::Office;
-pub use row_lists::{CellRow, CellRows, from_rows};

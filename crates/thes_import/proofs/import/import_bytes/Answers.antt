@@ -3,8 +3,8 @@ use Rattle.std.proofs.Common.{rules}
 use Rattle.std.specs.Io.KnownBytes.{Appends}
 use Rattle.thes_base.specs.Pipe.{AppendsPrefix, written_bytes}
 use Rattle.thes_import.specs.ImportEngine.{ImportsBytes}
-use Rattle.thes_import.specs.Outcomes.{outcome_lines}
-use Rattle.thes_import.specs.PostingFile.{IsPostingFile}
+use Rattle.thes_posting_files.specs.Outcomes.{outcome_lines}
+use Rattle.thes_posting_files.specs.PostingFile.{IsPostingFile}
 use Rattle.thes_import.proofs.BlockLemmas.{performs_nothing}
 use Rattle.thes_import.proofs.ImportLemmas.{all_read, counts_fit, halted_in, importing_more, importing_none}
 use Rattle.thes_import.proofs.WritingLemmas.{block_whole, faults_of_last, heading_cut, no_faults, stopped_by_writer}

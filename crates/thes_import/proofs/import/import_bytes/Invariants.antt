@@ -1,7 +1,7 @@
 use Rattle.std.proofs.Common.{◌≡◌, []}
 use Rattle.std.specs.Io.KnownBytes.{Appends}
 use Rattle.thes_base.specs.Pipe.{IsFresh, PaysCalls, written_bytes}
-use Rattle.thes_import.specs.Outcomes.{outcomes_text}
+use Rattle.thes_posting_files.specs.Outcomes.{outcomes_text}
 use Rattle.thes_import.proofs.ImportLemmas.{ImportInvariant}
 use Rattle.thes_import.proofs.import.import_bytes.Given as goal
 

@@ -2,9 +2,9 @@ use Rattle.std.proofs.Common.{◌≡◌, List, [], map, refl, rules, subst, sym}
 use Rattle.thes_base.specs.declared.fault.Fault.TheVariants as faults
 use Rattle.thes_base.specs.declared.request.Answer.{Answer}
 use Rattle.thes_office.specs.Office.{RunResult}
-use Rattle.thes_import.specs.Outcomes.{fault_of_row, outcomes_of, posts_of}
+use Rattle.thes_posting_files.specs.Outcomes.{fault_of_row, outcomes_of, posts_of}
 use Rattle.thes_import.proofs.BlockLemmas.{rows_reported, rows_unread}
-use Rattle.thes_import.proofs.ReportLemmas.{adds_same}
+use Rattle.thes_posting_files.proofs.ReportLemmas.{adds_same}
 use Rattle.thes_import.proofs.perform.perform_rows.Goals as goal
 
 pub returns-clause-reports : goal.returns-clause-reports

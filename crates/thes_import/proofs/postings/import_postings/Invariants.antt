@@ -1,5 +1,5 @@
 use Rattle.std.proofs.Common.{◌≡◌}
-use Rattle.thes_import.specs.Outcomes.{outcomes_text}
+use Rattle.thes_posting_files.specs.Outcomes.{outcomes_text}
 use Rattle.thes_import.proofs.ImportLemmas.{ImportInvariant}
 use Rattle.thes_import.proofs.postings.import_postings.Given as goal
 

@@ -8,7 +8,7 @@ use Rattle.thes_load_rows.specs.Progress.{HasRead}
 use Rattle.thes_load_rows.proofs.LoadResultLemmas.{stopped_end}
 use Rattle.thes_office.specs.LoaderView.{LoaderView}
 use Rattle.thes_office.proofs.LoadedCoreLemmas.{core_is_loaded, parts_legal}
-use Rattle.thes_office.proofs.TurnLemmas.{not_stopped}
+use Rattle.thes_load_rows.proofs.TurnLemmas.{not_stopped}
 use Rattle.thes_office.proofs.loader.Loader.finish.Goals as goal
 
 pub of_parts-core-requires-clause-legal : goal.of_parts-core-requires-clause-legal

@@ -1,0 +1,6 @@
+pub mod PostingFile
+pub mod RecordReading
+pub mod RowReading
+pub mod Outcomes
+pub mod WholeInput
+pub mod RepeatedPost

@@ -1,0 +1,11 @@
+//! Reads the rows of posting files, and makes the reports of their outcomes.
+#![tactic(auto)]
+
+pub mod block;
+pub mod csv_row;
+pub mod laws;
+pub mod outcome;
+pub mod reading;
+mod records;
+pub mod report;
+pub mod whole_input;

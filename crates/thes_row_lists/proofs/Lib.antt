@@ -1,0 +1,4 @@
+mod PermutationLemmas
+mod RisingNumberLemmas
+mod RowOrderLemmas
+mod ArrangedRowLemmas

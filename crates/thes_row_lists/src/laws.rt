@@ -1,0 +1,8 @@
+//! The law of the order of rows.
+ghost use Rattle.thes_row_lists.specs.RowOrder.{AnyOrder};
+
+/// No effect; states for the proof that the verdict doesn't depend on the order of rows within a
+/// table, once numbered tables are sorted by number.
+pub fn any_order()
+    ensures { AnyOrder }
+{}

@@ -1,0 +1,167 @@
+//! Builds a core from lists of rows, in any order within each table.
+ghost use Rattle.std.specs.Prelude.{◌≡◌, ◌⊎◌, false, IfOk, IfErr, OnOk, Err};
+ghost use Rattle.thes_base.specs.declared.fault.Fault.TheVariants as faults;
+ghost use Rattle.thes_tables.specs.Cells.{Raw};
+ghost use Rattle.thes_load_rules.specs.Verdicts.{HasVerdict};
+ghost use Rattle.thes_store.specs.Sinks.{SinkAcceptsAll, sink_rows_of_table};
+ghost use Rattle.thes_office.specs.LoaderFeed.{KnowsRows, FeedResult};
+ghost use Rattle.thes_office.specs.LoadedCore.{IsLoaded};
+ghost use Rattle.thes_row_lists.specs.RowOrder.{HoldsRows, AreRefused};
+ghost use Rattle.thes_row_lists.specs.SortedRows.{first_number, table_of, raw_of, IsSortedCopy, AreSorted};
+
+use std::alloc::{AllocError, Global};
+use std::marker::Model;
+use thes_base::data::Limits;
+use thes_base::fault::{Fault, Table};
+use thes_core::Core;
+use thes_office::Loader;
+use thes_store::row_output::{AsCells, yield_rows};
+use thes_store::sink::RowSink;
+use thes_tables::cells::Cell;
+
+/// A row of a table, as a list of untyped cells.
+#[derive(Debug, Drop)]
+pub struct CellRow {
+    cells: Vec<Cell>,
+}
+
+impl Model for CellRow {
+    ghost use Rattle.std.specs.Prelude.{List};
+    ghost use Rattle.thes_tables.specs.declared.cells.Cell.{Cell};
+
+    ghost Value = { List Cell };
+
+    ghost view = { λ a. a.cells.items };
+}
+
+impl CellRow {
+    /// Returns the row with these cells.
+    pub fn new(cells: Vec<Cell>) -> CellRow
+        ensures { result ≡ cells.items }
+    {
+        CellRow { cells }
+    }
+
+    // Returns the number in the first cell, by which numbered tables are sorted, or 0 if that cell
+    // isn't a natural number.
+    fn number(&self) -> u64
+        ensures { result ≡ first_number self.now }
+    {
+        match self.cells.first() {
+            Some(Cell::Int(number)) if 0 <= *number => *number as u64,
+            _ => 0,
+        }
+    }
+}
+
+impl AsCells for CellRow {
+    ghost cells_of = { λ row. row };
+
+    fn yield_to<S: RowSink>(&self, _alloc: Global, name: Table, sink: &mut S) -> Result<(), Fault> {
+        match sink.row(name, self.cells.as_slice()) {
+            Ok(()) => Ok(()),
+            Err(fault) => Err(fault),
+        }
+    }
+}
+
+/// The rows of the eight tables of a store, in any order within a table; None for a table that
+/// can't be queried.
+#[derive(Debug, Drop)]
+pub struct CellRows {
+    pub meta: Option<Vec<CellRow>>,
+    pub resource: Option<Vec<CellRow>>,
+    pub outside: Option<Vec<CellRow>>,
+    pub label: Option<Vec<CellRow>>,
+    pub link: Option<Vec<CellRow>>,
+    pub hier: Option<Vec<CellRow>>,
+    pub posting: Option<Vec<CellRow>>,
+    pub steps: Option<Vec<CellRow>>,
+}
+
+// Sorts the rows of a table by the number in their first cell; leaves a table that can't be queried
+// unchanged.
+fn sort_table(table: &mut Option<Vec<CellRow>>) -> Result<(), AllocError>
+    ensures { OnOk result (IsSortedCopy (table_of table.old) (table_of table.new)) }
+{
+    if let Some(rows) = table {
+        rows.sort_by_key(
+            |row: &CellRow| -> u64
+                ensures { result ≡ first_number row.now }
+            { row.number() },
+        )?;
+    }
+    Ok(())
+}
+
+// Passes the rows of a table to a loader, or the report that the table can't be queried.
+fn feed_table(
+    alloc: Global,
+    name: Table,
+    table: &Option<Vec<CellRow>>,
+    loader: &mut Loader,
+) -> Result<(), Fault>
+    ensures takes { OnOk result
+        (SinkAcceptsAll FeedResult loader.old (sink_rows_of_table name (table_of table.now))
+        loader.new) }
+    ensures err { IfErr result (λ fault. fault ≡ faults.OutOfMemory) }
+{
+    match table {
+        Some(rows) => yield_rows(alloc, name, rows.as_slice(), loader),
+        None => loader.report_unqueried(name),
+    }
+}
+
+impl CellRows {
+    // Sorts the rows of the tables numbered in their first column: resource, outside, posting and
+    // move.
+    fn sort(&mut self) -> Result<(), AllocError>
+        ensures { OnOk result (AreSorted (raw_of self.old) (raw_of self.new)) }
+    {
+        sort_table(&mut self.resource)?;
+        sort_table(&mut self.outside)?;
+        sort_table(&mut self.posting)?;
+        sort_table(&mut self.steps)
+    }
+}
+
+// Passes all rows to a loader, table by table, in the order in which a store yields them.
+fn read_rows(alloc: Global, rows: &CellRows, limits: Limits) -> Result<Loader, Fault>
+    ensures knows { IfOk result (λ loader. KnowsRows loader (raw_of rows.now)
+        × (loader.limits ≡ limits)) }
+    ensures err { IfErr result (λ fault. fault ≡ faults.OutOfMemory) }
+{
+    let mut loader = Loader::new(alloc, limits);
+    feed_table(alloc, Table::Meta, &rows.meta, &mut loader)?;
+    feed_table(alloc, Table::Resource, &rows.resource, &mut loader)?;
+    feed_table(alloc, Table::Outside, &rows.outside, &mut loader)?;
+    feed_table(alloc, Table::Label, &rows.label, &mut loader)?;
+    feed_table(alloc, Table::Link, &rows.link, &mut loader)?;
+    feed_table(alloc, Table::Hier, &rows.hier, &mut loader)?;
+    feed_table(alloc, Table::Posting, &rows.posting, &mut loader)?;
+    feed_table(alloc, Table::Move, &rows.steps, &mut loader)?;
+    Ok(loader)
+}
+
+/// Builds a core from lists of rows; any fault but OutOfMemory is the verdict on them. Sorts
+/// numbered tables first, so the result doesn't depend on the order of rows within a list. Only
+/// tests call it.
+pub fn from_rows(alloc: Global, rows: CellRows, limits: Limits) -> Result<Core, Fault>
+    ensures ok { IfOk result (λ core. (sorted : Raw) × AreSorted (raw_of rows) sorted
+        × IsLoaded sorted core) }
+    ensures legal { IfOk result (HoldsRows (raw_of rows)) }
+    ensures limits { IfOk result (λ core. core.setting.limits ≡ limits) }
+    ensures spent { IfOk result (λ core. core.spent ≡ false) }
+    ensures err { IfErr result (λ fault. (fault ≡ faults.OutOfMemory)
+        ⊎ ((sorted : Raw) × AreSorted (raw_of rows) sorted × HasVerdict sorted (Err fault))) }
+    ensures refused { IfErr result (λ fault. (fault ≡ faults.OutOfMemory)
+        ⊎ AreRefused (raw_of rows) fault) }
+{
+    let mut sorted = rows;
+    sorted.sort()?;
+    let loader = read_rows(alloc, &sorted, limits)?;
+    match loader.finish() {
+        Ok(core) => Ok(core),
+        Err(fault) => Err(fault),
+    }
+}
