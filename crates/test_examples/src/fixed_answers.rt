@@ -54,9 +54,7 @@ fn answer_to(number: u32) -> Result<Answer, Fault> {
 }
 
 impl RequestHandler for FixedAnswers {
-    ghost performs = { λ _ _ _ _. Unit {0} };
-
-    ghost shows = { λ _ _ _ _. Unit {0} };
+    ghost requests = { record { performs = λ _ _ _ _. Unit {0}; shows = λ _ _ _ _. Unit {0} } };
 
     ghost is_open = { λ handler. not handler.is_closed };
 

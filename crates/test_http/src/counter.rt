@@ -21,9 +21,7 @@ pub struct CountingService {
 }
 
 impl RequestHandler for CountingService {
-    ghost performs = { λ _ _ _ _. Unit {0} };
-
-    ghost shows = { λ _ _ _ _. Unit {0} };
+    ghost requests = { record { performs = λ _ _ _ _. Unit {0}; shows = λ _ _ _ _. Unit {0} } };
 
     ghost is_open = { λ _. true };
 
@@ -54,11 +52,17 @@ impl RequestHandler for CountingService {
 }
 
 impl Service for CountingService {
-    ghost imports = { λ _ _ _ _. Unit {0} };
+    ghost behaviour = { record {
+      requests = Self.requests;
+      imports = λ _ _ _ _. Unit {0};
+      exports = λ _ _ _. Unit {0};
+      displays = λ _ _ _ _ _ _. Unit {0};
+    } };
 
-    ghost exports = { λ _ _ _. Unit {0} };
-
-    ghost displays = { λ _ _ _ _ _ _. Unit {0} };
+    ghost does_requests = { record {
+      performs = λ _ _ _ _ does. does;
+      shows = λ _ _ _ _ does. does;
+    } };
 
     fn import(&mut self, alloc: Global, file: &[u8]) -> Result<ImportAnswer, Fault> {
         if file.is_empty() {

@@ -74,9 +74,9 @@ pub fn has_fault(answers: &str) -> bool {
 }
 
 /// Checks whether the lines, apart from the fault Store, are the expected answers.
-pub fn are_answers(told: &str, wanted: &str) -> bool {
+pub fn are_answers(answers: &str, wanted: &str) -> bool {
     let mut wanted = wanted.lines();
-    for answer in told.lines() {
+    for answer in answers.lines() {
         if is_answer(answer) && wanted.next() != Some(answer) {
             return false;
         }
@@ -106,13 +106,13 @@ fn key_of(line: &str) -> &str {
     }
 }
 
-// Returns the number of lines of a posting file, after the first `told`, that are committed
+// Returns the number of lines of a posting file, after the first `answered`, that are committed
 // together: up to a line whose key an earlier one of them has. A row that isn't a posting is in no
 // group, so it must have a key of its own.
-fn lines_of_group(postings: &str, told: usize) -> usize {
+fn lines_of_group(postings: &str, answered: usize) -> usize {
     let mut count = 0;
-    for line in postings.lines().skip(told).take(GROUP_LIMIT) {
-        let mut earlier = postings.lines().skip(told).take(count);
+    for line in postings.lines().skip(answered).take(GROUP_LIMIT) {
+        let mut earlier = postings.lines().skip(answered).take(count);
         if earlier.any(|other| key_of(other) == key_of(line)) {
             break;
         }
@@ -166,11 +166,11 @@ impl ExamplePrefix {
         rows: &str,
         with_next: bool,
     ) -> Result<(), AllocError> {
-        let told = rows.lines().count();
-        let lines = if with_next && told > 0 {
-            told.saturating_add(lines_of_group(postings, told))
+        let answered = rows.lines().count();
+        let lines = if with_next && answered > 0 {
+            answered.saturating_add(lines_of_group(postings, answered))
         } else {
-            told
+            answered
         };
         for line in postings.split_inclusive('\n').take(lines) {
             self.postings.push_str(line)?;

@@ -17,7 +17,8 @@ use Rattle.thes_core.specs.CoreView.{IsViewOf}
 use Rattle.thes_core.specs.declared.reading.Sizes.{Sizes}
 use Rattle.thes_office.specs.Office.{FaultBehaviour, IsCopy, OfficeView, ReadyResult}
 use Rattle.thes_office.proofs.StateTableLemmas.{state_is_unique}
-use Rattle.thes_service.proofs.StateViewLemmas.{goes_on_to, holds_in_encoded_states}
+use Rattle.thes_office.proofs.OfficeViewLemmas.{behaviour_with_value}
+use Rattle.thes_service.proofs.StateViewLemmas.{holds_in_encoded_states}
 use Rattle.thes_export.specs.ExportWrites as export
 use Rattle.thes_display.specs.DisplayWrites as display
 use Rattle.thes_display.specs.declared.writing.DisplayOutcome.{DisplayOutcome}
@@ -63,7 +64,7 @@ module _ {K : Type 0} (view : K → StorageView) where
       → ((s : State) → IsViewOf copy.now s → z ≡ sizes_of s) → FindsSizes view old (Ok z) new
   sizes_found old new result copy z ready is so =
       let here = handed old new result copy ready is in record {
-        fault_behaviour = goes_on_to view old new copy z here.fault_behaviour;
+        fault_behaviour = behaviour_with_value view old new copy z here.fault_behaviour;
         same = here.same;
         sizes = λ up. holds_in_encoded_states (view new.keeper).rows new.limits copy.now (λ s. z ≡ sizes_of s)
             (here.shown.copies up) so;
@@ -103,7 +104,7 @@ module _ {K : Type 0} (view : K → StorageView) where
     export_written old new result copy (Ok done) ready is ok err calls =
         let here = handed old new result copy ready is in record {
           ready = Ok tt;
-          fault_behaviour = goes_on_to view old new copy tt here.fault_behaviour;
+          fault_behaviour = behaviour_with_value view old new copy tt here.fault_behaviour;
           same = here.same;
           writes = (
             λ up. held_in_store (view new.keeper).rows new.limits copy.now
@@ -114,7 +115,7 @@ module _ {K : Type 0} (view : K → StorageView) where
     export_written old new result copy (Err fault) ready is ok err calls =
         let here = handed old new result copy ready is in record {
           ready = Ok tt;
-          fault_behaviour = goes_on_to view old new copy tt here.fault_behaviour;
+          fault_behaviour = behaviour_with_value view old new copy tt here.fault_behaviour;
           same = here.same;
           writes = (
             λ up. held_in_store (view new.keeper).rows new.limits copy.now
@@ -138,7 +139,7 @@ module _ {K : Type 0} (view : K → StorageView) where
     display_written kind scheme tag old new result copy (Ok shown) ready is ok err calls =
         let here = handed old new result copy ready is in record {
           ready = Ok tt;
-          fault_behaviour = goes_on_to view old new copy tt here.fault_behaviour;
+          fault_behaviour = behaviour_with_value view old new copy tt here.fault_behaviour;
           same = here.same;
           shows = (
             λ up. held_in_store (view new.keeper).rows new.limits copy.now
@@ -150,7 +151,7 @@ module _ {K : Type 0} (view : K → StorageView) where
     display_written kind scheme tag old new result copy (Err fault) ready is ok err calls =
         let here = handed old new result copy ready is in record {
           ready = Ok tt;
-          fault_behaviour = goes_on_to view old new copy tt here.fault_behaviour;
+          fault_behaviour = behaviour_with_value view old new copy tt here.fault_behaviour;
           same = here.same;
           shows = (
             λ up. held_in_store (view new.keeper).rows new.limits copy.now

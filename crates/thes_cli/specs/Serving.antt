@@ -7,9 +7,8 @@ use Rattle.thes_base.specs.declared.pipe.Pipe.{Pipe}
 use Rattle.thes_store.specs.Storage.{StorageView}
 use Rattle.thes_office.specs.Office.{OfficeView}
 use Rattle.thes_http.specs.Server.{LeadsBy}
-use Rattle.thes_http.specs.Serving.{effects}
-use Rattle.thes_service.specs.OfficeRequests.{IsReachedByRun, OfficePerforms, OfficeShows}
-use Rattle.thes_service.specs.Service.{OfficeDisplays, OfficeExports, OfficeImports}
+use Rattle.thes_service.specs.OfficeRequests.{IsReachedByRun}
+use Rattle.thes_service.specs.Service.{office_behaviour}
 use Rattle.thes_command_line.specs.Printing.{Prints, PrintsPrefix, fault_line, net_line}
 
 -- The line that names the address, with its line feed.
@@ -28,9 +27,7 @@ module _ {K E : Type 0} (view : K → StorageView) (err : E → Option (List ℕ
   -- At most `count` connections were served, one after another; the requests of their clients are a run of the machine.
   pub record ServesAll (count : ℕ) (old_office : OfficeView K) (errors errors' : Pipe E) (status : ℕ)
       (new_office : OfficeView K) : Type 0 where
-    pub served : LeadsBy (effects (OfficePerforms view) (OfficeShows view)
-        (OfficeImports view) (OfficeExports view) (OfficeDisplays view))
-        count old_office new_office
+    pub served : LeadsBy (office_behaviour view) count old_office new_office
     pub reached : IsReachedByRun view old_office new_office
     pub ends : EndsWell errors errors' status ⊎ EndsUnserved err errors errors' status
 

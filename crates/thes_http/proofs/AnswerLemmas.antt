@@ -31,7 +31,8 @@ use Rattle.thes_http.specs.declared.service.Display.{Display}
 use Rattle.thes_http.specs.declared.service.Display.TheVariants as display
 use Rattle.thes_http.specs.Responses.{problem_response, form_response, fault_response, command_response}
 use Rattle.thes_http.specs.Responses.{query_response, import_response, export_response, display_response}
-use Rattle.thes_http.specs.Serving.{ServiceEffects, RespondsUnchanged, CommandEffect, QueryEffect, WithNumber}
+use Rattle.thes_http.specs.ServiceBehaviour.{ServiceBehaviour}
+use Rattle.thes_http.specs.Serving.{RespondsUnchanged, CommandEffect, QueryEffect, WithNumber}
 use Rattle.thes_http.specs.Serving.{DisplayEffect, DisplayQueryEffect, EndpointEffect, AnswersHead, Answers}
 use Rattle.thes_http.specs.Serving.{IsCutRequest}
 use Rattle.thes_http.specs.Laws.{AnswerOneCall, command_answers, query_answers, import_answers, export_answers}
@@ -42,7 +43,7 @@ whole_is_not_bad : (bytes rest : List ℕ) (h : RequestHead) → HasHead bytes h
 whole_is_not_bad bytes rest h has bad =
     head_is_whole.not_bad bytes [] rest h (subst (λ (t : List ℕ). HasHead t h rest) (sym (append-nil bytes)) has) bad
 
-module _ {S : Type 0} (d : ServiceEffects S) where
+module _ {S : Type 0} (d : ServiceBehaviour S) where
   module _ (old x y : S) (r q : Response) where
     same_response : (p : Response) → RespondsUnchanged d old r x p → RespondsUnchanged d old q y p
         → AnswerOneCall d old r x q y
@@ -53,7 +54,7 @@ module _ {S : Type 0} (d : ServiceEffects S) where
     same_command body (inl a) (inl b) =
         let one = one_outcome (request_of body) (Ok (Do a.0)) (Ok (Do b.0)) a.2 b.2 in
         let same : b.0 ≡ a.0 = cc in
-        command_answers a.0 a.1 b.1 a.3 (subst (λ (c : Command). d.performs old c b.1 y) same b.3) a.4 b.4
+        command_answers a.0 a.1 b.1 a.3 (subst (λ (c : Command). d.requests.performs old c b.1 y) same b.3) a.4 b.4
     same_command body (inl a) (inr (inl b)) =
         let one = one_outcome (request_of body) (Ok (Do a.0)) (Ok (Get b.0)) a.2 b.1 in absurd (cc)
     same_command body (inl a) (inr (inr b)) =
@@ -163,9 +164,9 @@ module _ {S : Type 0} (d : ServiceEffects S) where
       → Determined x r y q
   unfolding Determined
   same_call old x y r q one (command_answers command a b p p' e e') = same_results command_response
-      (λ c. d.performs old command c) x y r q (λ f. refl) (λ a' b'. one.performs command a' b' x y) a b p p' e e'
+      (λ c. d.requests.performs old command c) x y r q (λ f. refl) (λ a' b'. one.performs command a' b' x y) a b p p' e e'
   same_call old x y r q one (query_answers query a b p p' e e') = same_results query_response
-      (λ c. d.shows old query c) x y r q (λ f. refl) (λ a' b'. one.shows query a' b' x y) a b p p' e e'
+      (λ c. d.requests.shows old query c) x y r q (λ f. refl) (λ a' b'. one.shows query a' b' x y) a b p p' e e'
   same_call old x y r q one (import_answers file a b p p' e e') = same_results import_response
       (λ c. d.imports old file c) x y r q (λ f. refl) (λ a' b'. one.imports file a' b' x y) a b p p' e e'
   same_call old x y r q one (export_answers a b p p' e e') = same_results export_response

@@ -13,7 +13,8 @@ use Rattle.thes_http_request.specs.Heads.{head_limit, HasHead, IsBadHead}
 use Rattle.thes_http_request.specs.Inbox.{ConsumesSome, ReadsBody, CutsBody, HeadOutcome}
 use Rattle.thes_http_request.specs.HeadRequests.{HeadRequest}
 use Rattle.thes_http.specs.Responses.{problem_response, fault_response}
-use Rattle.thes_http.specs.Serving.{ServiceEffects, EndpointEffectOrFailure}
+use Rattle.thes_http.specs.ServiceBehaviour.{ServiceBehaviour}
+use Rattle.thes_http.specs.Serving.{EndpointEffectOrFailure}
 use Rattle.thes_http.specs.Connection.{IsConnectionAnswer, IsCutOff}
 
 -- A head at the beginning of bytes remains one when more bytes follow.
@@ -25,15 +26,15 @@ has_more bytes h rest more has = record {
   few = has.few;
 }
 
-pub answer_bad : {S : Type 0} (d : ServiceEffects S) (known left : Option (List ℕ)) (old : S) (bytes : List ℕ)
+pub answer_bad : {S : Type 0} (d : ServiceBehaviour S) (known left : Option (List ℕ)) (old : S) (bytes : List ℕ)
     → Consumes known left bytes → IsBadHead bytes → IsConnectionAnswer d known left old (problem_response BadHead) old
 answer_bad d known left old bytes t b = record { bytes = bytes; taken = t; answers = inl (b, (refl, refl)) }
 
-pub answer_memory : {S : Type 0} (d : ServiceEffects S) (known left : Option (List ℕ)) (old : S) (bytes : List ℕ)
+pub answer_memory : {S : Type 0} (d : ServiceBehaviour S) (known left : Option (List ℕ)) (old : S) (bytes : List ℕ)
     → Consumes known left bytes → IsConnectionAnswer d known left old (fault_response OutOfMemory) old
 answer_memory d known left old bytes t = record { bytes = bytes; taken = t; answers = inr (inr (refl, refl)) }
 
-pub answer_memory_more : {S : Type 0} (d : ServiceEffects S) (known mid left : Option (List ℕ)) (old : S)
+pub answer_memory_more : {S : Type 0} (d : ServiceBehaviour S) (known mid left : Option (List ℕ)) (old : S)
     (bytes : List ℕ) → Consumes known mid bytes → ConsumesSome mid left → IsConnectionAnswer d known left old
     (fault_response OutOfMemory) old
 answer_memory_more d known mid left old bytes t k = answer_memory d known left old (bytes ++ k.more)
@@ -69,14 +70,14 @@ front_short bytes front e = let len = ap length e ∙ length-take head_limit byt
 pub len_within : (bytes : List ℕ) (len : ℕ) → len ≤ length (take head_limit bytes) → len ≤ length bytes
 len_within bytes len h = let is = length-take head_limit bytes in omega (arith, is, h)
 
-pub answer_problem : {S : Type 0} (d : ServiceEffects S) (known left : Option (List ℕ)) (old : S)
+pub answer_problem : {S : Type 0} (d : ServiceBehaviour S) (known left : Option (List ℕ)) (old : S)
     (bytes rest : List ℕ) (p : Problem) → Consumes known left bytes → HeadOutcome bytes rest (Err p)
     → IsConnectionAnswer d known left old (problem_response p) old
 answer_problem d known left old bytes rest p t a =
     record { bytes = bytes; taken = t; answers = inr (inl (a.head, rest, a.has, rw a.wants (refl, refl))) }
 
 -- A head with its complete body is answered by the effect of its endpoint.
-pub answer_done : {S : Type 0} (d : ServiceEffects S) (known mid left : Option (List ℕ)) (old new : S)
+pub answer_done : {S : Type 0} (d : ServiceBehaviour S) (known mid left : Option (List ℕ)) (old new : S)
     (bytes rest body : List ℕ) (w : HeadRequest) (r : Response)
     → Consumes known mid bytes → HeadOutcome bytes rest (Ok w) → ReadsBody mid left rest w.body body
     → EndpointEffectOrFailure d old r new w.endpoint w.number w.query body → IsConnectionAnswer d known left old r new
@@ -108,7 +109,7 @@ cut_body known mid left bytes rest w t a c = record {
 
 -- A head and its complete body, as the program's buffers hold them, are answered by the effect of
 -- the endpoint.
-pub answer_all : {S : Type 0} (d : ServiceEffects S) (known mid left : Option (List ℕ)) (old new : S)
+pub answer_all : {S : Type 0} (d : ServiceBehaviour S) (known mid left : Option (List ℕ)) (old new : S)
     (bytes front start body text : List ℕ) (len : ℕ) (w : HeadRequest) (r : Response)
     → Consumes known mid bytes → front ≡ take head_limit bytes → len ≤ length (take head_limit bytes)
     → HeadOutcome front (drop len front) (Ok w) → start ≡ drop len bytes → text ≡ body

@@ -1,21 +1,20 @@
 -- Proves that consecutive connections lead from the first state to the last.
-use Rattle.std.proofs.Common.{◌≡◌, Option, ap, true, subst, refl, sym, ℕ, ◌+◌, ◌≤◌, List, [], ◌∷◌, ◌++◌, length-append, arith}
+use Rattle.std.proofs.Common.{◌≡◌, Option, ap, subst, refl, sym, ℕ, ◌+◌, ◌≤◌, List, [], ◌∷◌, ◌++◌, length-append, arith}
 use Rattle.thes_http.specs.declared.response.Response.{Response}
 use Rattle.std.specs.Io.KnownBytes.{Appends}
-use Rattle.thes_base.specs.Pipe.{AppendsPrefix, ended_of, unread_bytes}
+use Rattle.thes_base.specs.Pipe.{AppendsPrefix}
 use Rattle.thes_base.specs.declared.pipe.Pipe.{Pipe}
 use Rattle.thes_requests.specs.Script.{Session, session}
-use Rattle.thes_http_request.specs.Inbox.{HasStopped}
-use Rattle.thes_http.specs.Connection.{IsConnectionAnswer, IsCutOff, IsAnsweredWith, IsAnsweredInPart, IsUntouched}
+use Rattle.thes_http.specs.Connection.{IsConnectionAnswer, IsCutOff, IsUntouched, EndsAs}
 use Rattle.thes_http.specs.declared.serve.ConnectionEnd.{ConnectionEnd}
 use Rattle.thes_http.specs.declared.serve.ConnectionEnd.TheVariants.{Answered, Cut, ReadFault, WriteFault}
 use Rattle.thes_http.specs.declared.server.ServedStream.{ServedStream}
 use Rattle.thes_http.specs.Server.{Exchange, AreAnswered, HasOutcome, LeadsBy, LeavesOutput}
-use Rattle.thes_http.specs.declared.response.Status.{Status}
 use Rattle.thes_http.specs.Responses.{response_text}
-use Rattle.thes_http.specs.Serving.{ServiceEffects, Answers}
+use Rattle.thes_http.specs.ServiceBehaviour.{ServiceBehaviour}
+use Rattle.thes_http.specs.Serving.{Answers}
 
-module _ {S : Type 0} (d : ServiceEffects S) where
+module _ {S : Type 0} (d : ServiceBehaviour S) where
   -- A state leads to itself by no connection.
   pub leads_nowhere : (most : ℕ) (old new : S) → new ≡ old → LeadsBy d most old new
   leads_nowhere most old new same = record { exchanges = []; few = omega arith; answered = same }
@@ -87,27 +86,18 @@ module _ {S : Type 0} (d : ServiceEffects S) where
       untouched : IsUntouched before after → LeavesOutput remaining contents d input output old served new
       untouched same = (same.0, ends_written (λ x y. contents y ≡ contents x) (ap (λ (p : Pipe D). given p.device) same.1))
 
-      pub outcome_of : (end : ConnectionEnd)
-          → ((status : Status) → end ≡ Answered status → IsAnsweredWith taken given d before after status)
-          → (end ≡ Cut → IsCutOff (unread_bytes taken reader) (unread_bytes taken reader') × (ended_of reader' ≡ true)
-          × IsUntouched before after)
-          → (end ≡ ReadFault → HasStopped reader' × IsUntouched before after)
-          → (end ≡ WriteFault → HasStopped writer' × IsAnsweredInPart taken given d before after)
+      pub outcome_of : (end : ConnectionEnd) → EndsAs taken given d before after end
           → HasOutcome remaining contents d input output old served new end
-      outcome_of (Answered status) answered cut read write =
-          let a = answered status refl in (
-            a.response,
-            ends_read (λ x y. IsConnectionAnswer d (remaining x) (remaining y) old a.response new) a.answer,
-            a.is_status,
-            ends_written (λ x y. Appends (contents x) (contents y) (response_text a.response)) a.text,
-          )
-      outcome_of WriteFault answered cut read write =
-          let a = (write refl).1 in (
-            a.response,
-            ends_read (λ x y. IsConnectionAnswer d (remaining x) (remaining y) old a.response new) a.answer,
-            ends_written (λ x y. AppendsPrefix (contents x) (contents y) (response_text a.response)) a.text,
-          )
-      outcome_of Cut answered cut read write =
-          let c = cut refl in
-          (ends_read (λ x y. IsCutOff (remaining x) (remaining y)) c.0, untouched c.2)
-      outcome_of ReadFault answered cut read write = untouched (read refl).1
+      outcome_of (Answered status) a = (
+        a.response,
+        ends_read (λ x y. IsConnectionAnswer d (remaining x) (remaining y) old a.response new) a.answer,
+        a.is_status,
+        ends_written (λ x y. Appends (contents x) (contents y) (response_text a.response)) a.text,
+      )
+      outcome_of WriteFault (_, a) = (
+        a.response,
+        ends_read (λ x y. IsConnectionAnswer d (remaining x) (remaining y) old a.response new) a.answer,
+        ends_written (λ x y. AppendsPrefix (contents x) (contents y) (response_text a.response)) a.text,
+      )
+      outcome_of Cut (cut, _, same) = (ends_read (λ x y. IsCutOff (remaining x) (remaining y)) cut, untouched same)
+      outcome_of ReadFault (_, same) = untouched same

@@ -1,15 +1,19 @@
 -- The outcome of one connection: the bytes consumed, the response, and the bytes written.
-use Rattle.std.specs.Prelude.{ℕ, ◌≡◌, List, Option}
+use Rattle.std.specs.Prelude.{ℕ, ◌≡◌, true, List, Option}
 use Rattle.std.specs.Io.KnownBytes.{Consumes, IsAtEnd}
-use Rattle.thes_base.specs.Pipe.{unread_bytes}
+use Rattle.thes_base.specs.Pipe.{ended_of, unread_bytes}
 use Rattle.thes_requests.specs.Script.{Session}
+use Rattle.thes_http_request.specs.Inbox.{HasStopped}
 use Rattle.thes_http.specs.declared.response.Status.{Status}
 use Rattle.thes_http.specs.declared.response.Response.{Response}
+use Rattle.thes_http.specs.declared.serve.ConnectionEnd.{ConnectionEnd}
+use Rattle.thes_http.specs.declared.serve.ConnectionEnd.TheVariants.{Answered, Cut, ReadFault, WriteFault}
 use Rattle.thes_http.specs.Responses.{WritesPrefix, WritesResponse}
-use Rattle.thes_http.specs.Serving.{ServiceEffects, Answers, IsCutRequest}
+use Rattle.thes_http.specs.ServiceBehaviour.{ServiceBehaviour}
+use Rattle.thes_http.specs.Serving.{Answers, IsCutRequest}
 
 -- The service answers the bytes consumed with this response.
-pub record IsConnectionAnswer {S : Type 0} (d : ServiceEffects S) (known left : Option (List ℕ))
+pub record IsConnectionAnswer {S : Type 0} (d : ServiceBehaviour S) (known left : Option (List ℕ))
     (old : S) (response : Response) (new : S) : Type 0 where
   pub bytes : List ℕ
   pub taken : Consumes known left bytes
@@ -22,9 +26,13 @@ pub record IsCutOff (known left : Option (List ℕ)) : Type 0 where
   pub at_end : IsAtEnd left
   pub cut : IsCutRequest bytes
 
+-- Nothing was performed or written.
+abbrev pub IsUntouched : {R W S : Type 0} → Session R W S → Session R W S → Type 0
+IsUntouched old new = (new.handler ≡ old.handler) × (new.writer ≡ old.writer)
+
 -- One connection, with its reader, writer and service before and after.
 module _ {R W S : Type 0} (remaining : R → Option (List ℕ)) (contents : W → Option (List ℕ))
-    (d : ServiceEffects S) (old new : Session R W S) where
+    (d : ServiceBehaviour S) (old new : Session R W S) where
   -- The service answers the bytes consumed with this response.
   abbrev pub IsAnsweredBy : Response → Type 0
   IsAnsweredBy response =
@@ -44,6 +52,12 @@ module _ {R W S : Type 0} (remaining : R → Option (List ℕ)) (contents : W �
     pub answer : IsAnsweredBy response
     pub text : WritesPrefix contents response old.writer new.writer
 
--- Nothing was performed or written.
-abbrev pub IsUntouched : {R W S : Type 0} → Session R W S → Session R W S → Type 0
-IsUntouched old new = (new.handler ≡ old.handler) × (new.writer ≡ old.writer)
+  -- What each outcome means: the response was written; the input ended inside the request, or the reader stopped, and
+  -- nothing was performed or written; or the writer stopped, and a prefix of the response was written.
+  abbrev pub EndsAs : ConnectionEnd → Type 0
+  EndsAs (Answered status) = IsAnsweredWith status
+  EndsAs Cut =
+      IsCutOff (unread_bytes remaining old.reader) (unread_bytes remaining new.reader)
+      × (ended_of new.reader ≡ true) × IsUntouched old new
+  EndsAs ReadFault = HasStopped new.reader × IsUntouched old new
+  EndsAs WriteFault = HasStopped new.writer × IsAnsweredInPart

@@ -12,17 +12,18 @@ use Rattle.thes_http.specs.declared.service.Display.{Display}
 use Rattle.thes_http.specs.declared.service.DisplayAnswer.{DisplayAnswer}
 use Rattle.thes_http.specs.Responses.{fault_response, command_response, query_response, import_response}
 use Rattle.thes_http.specs.Responses.{export_response, display_response}
-use Rattle.thes_http.specs.Serving.{ServiceEffects, Answers, IsCutRequest}
+use Rattle.thes_http.specs.ServiceBehaviour.{ServiceBehaviour}
+use Rattle.thes_http.specs.Serving.{Answers, IsCutRequest}
 
-module _ {S : Type 0} (d : ServiceEffects S) (old : S) where
+module _ {S : Type 0} (d : ServiceBehaviour S) (old : S) where
   -- Two responses, each with the state after it, answer one call of the service, or are the same
   -- response and leave the state unchanged.
   pub data AnswerOneCall (r : Response) (x : S) (q : Response) (y : S) : Type 0 where
     command_answers : (command : Command) (a b : Result Answer Fault)
-        → d.performs old command a x → d.performs old command b y
+        → d.requests.performs old command a x → d.requests.performs old command b y
         → r ≡ command_response a → q ≡ command_response b → AnswerOneCall r x q y
     query_answers : (query : Query) (a b : Result QueryAnswer Fault)
-        → d.shows old query a x → d.shows old query b y
+        → d.requests.shows old query a x → d.requests.shows old query b y
         → r ≡ query_response a → q ≡ query_response b → AnswerOneCall r x q y
     import_answers : (file : List ℕ) (a b : Result ImportAnswer Fault)
         → d.imports old file a x → d.imports old file b y
@@ -41,9 +42,9 @@ module _ {S : Type 0} (d : ServiceEffects S) (old : S) where
   -- Each call has one answer and one state after it, faults aside.
   pub record HasOneAnswerToACall : Type 0 where
     pub performs : (command : Command) (a b : Answer) (x y : S)
-        → d.performs old command (Ok a) x → d.performs old command (Ok b) y → (a ≡ b) × (x ≡ y)
+        → d.requests.performs old command (Ok a) x → d.requests.performs old command (Ok b) y → (a ≡ b) × (x ≡ y)
     pub shows : (query : Query) (a b : QueryAnswer) (x y : S)
-        → d.shows old query (Ok a) x → d.shows old query (Ok b) y → (a ≡ b) × (x ≡ y)
+        → d.requests.shows old query (Ok a) x → d.requests.shows old query (Ok b) y → (a ≡ b) × (x ≡ y)
     pub imports : (file : List ℕ) (a b : ImportAnswer) (x y : S)
         → d.imports old file (Ok a) x → d.imports old file (Ok b) y → (a ≡ b) × (x ≡ y)
     pub exports : (a b : List ℕ) (x y : S)
@@ -56,7 +57,7 @@ module _ {S : Type 0} (d : ServiceEffects S) (old : S) where
 abbrev pub IsFaultResponse : Response → Type 0
 IsFaultResponse response = (fault : Fault) × (response ≡ fault_response fault)
 
-module _ {S : Type 0} (d : ServiceEffects S) where
+module _ {S : Type 0} (d : ServiceBehaviour S) where
   -- Two answers to the same bytes in the same state answer one call of the service, unless memory
   -- ran out before the call. More bytes may have been read for one answer than for the other.
   abbrev pub HasOneCall : Type 0

@@ -1,4 +1,5 @@
 pub mod Responses
+pub mod ServiceBehaviour
 pub mod Serving
 pub mod Connection
 pub mod Server

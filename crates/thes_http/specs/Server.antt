@@ -12,7 +12,8 @@ use Rattle.thes_http.specs.declared.serve.ConnectionEnd.{ConnectionEnd}
 use Rattle.thes_http.specs.declared.serve.ConnectionEnd.TheVariants.{Answered, Cut, ReadFault, WriteFault}
 use Rattle.thes_http.specs.declared.server.ServedStream.{ServedStream}
 use Rattle.thes_http.specs.Responses.{response_text}
-use Rattle.thes_http.specs.Serving.{ServiceEffects, Answers}
+use Rattle.thes_http.specs.ServiceBehaviour.{ServiceBehaviour}
+use Rattle.thes_http.specs.Serving.{Answers}
 
 -- Whether the error of a read says that the time to wait was over, or that the read was interrupted.
 abbrev pub is_wait : ErrorKind → Bool
@@ -28,7 +29,7 @@ IsAcceptOutcome (Err e) result =
     (error_kind e ≡ ConnectionAborted → result ≡ Ok None)
     × (¬ (error_kind e ≡ ConnectionAborted) → result ≡ Err e)
 
-module _ {T S : Type 0} (remaining contents : T → Option (List ℕ)) (d : ServiceEffects S) (input output : T) (old : S)
+module _ {T S : Type 0} (remaining contents : T → Option (List ℕ)) (d : ServiceBehaviour S) (input output : T) (old : S)
     (served : ServedStream T) (new : S) where
   -- The service answers the bytes read from the one end with this response.
   abbrev pub AnswersInput : Response → Type 0
@@ -59,13 +60,13 @@ pub record Exchange : Type 0 where
 
 -- The exchanges, the latest first, take the service from the state `old` to the state `new`, and
 -- nothing else changes it.
-abbrev pub AreAnswered : {S : Type 0} → ServiceEffects S → S → List Exchange → S → Type 0
+abbrev pub AreAnswered : {S : Type 0} → ServiceBehaviour S → S → List Exchange → S → Type 0
 AreAnswered d old [] new = new ≡ old
 AreAnswered {S} d old (e ∷ before) new =
     (mid : S) × AreAnswered d old before mid × Answers d mid e.response new e.bytes
 
 -- At most `most` exchanges take the service from the state `old` to `new`.
-pub record LeadsBy {S : Type 0} (d : ServiceEffects S) (most : ℕ) (old new : S) : Type 0 where
+pub record LeadsBy {S : Type 0} (d : ServiceBehaviour S) (most : ℕ) (old new : S) : Type 0 where
   pub exchanges : List Exchange
   pub few : length exchanges ≤ most
   pub answered : AreAnswered d old exchanges new

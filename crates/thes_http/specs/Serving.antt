@@ -9,7 +9,6 @@ use Rattle.thes_base.specs.declared.fault.FormFault.{FormFault}
 use Rattle.thes_base.specs.declared.fault.FormFault.TheVariants.{BadShape, BadNumber, BadTag}
 use Rattle.thes_base.specs.declared.request.Command.{Command}
 use Rattle.thes_base.specs.declared.request.Answer.{Answer}
-use Rattle.thes_requests.specs.Serving.{CommandBehaviour, QueryBehaviour}
 use Rattle.thes_requests.specs.Readings.{ReadsAs}
 use Rattle.thes_requests.specs.Requests.{request_of}
 use Rattle.thes_requests.specs.declared.handler.QueryAnswer.{QueryAnswer}
@@ -28,41 +27,15 @@ use Rattle.thes_http.specs.declared.service.DisplayAnswer.{DisplayAnswer}
 use Rattle.thes_http_request.specs.Heads.{parts_of, HasHead, IsCutHead, IsBadHead}
 use Rattle.thes_http_request.specs.HeadRequests.{HeadRequest, head_request_of}
 use Rattle.thes_http_request.specs.Queries.{DisplayQuery, display_query_of}
+use Rattle.thes_http.specs.ServiceBehaviour.{ServiceBehaviour}
 use Rattle.thes_http.specs.Responses.{problem_response, form_response, fault_response, command_response}
 use Rattle.thes_http.specs.Responses.{query_response, import_response, export_response, display_response}
-
--- The behaviour of a service for imports: the state before, the file, the answer, and the state
--- after.
-abbrev pub ImportBehaviour : Type 0 → Type 1
-ImportBehaviour S = S → List ℕ → Result ImportAnswer Fault → S → Type 0
-
--- The behaviour of a service for exports: the state before, the answer, and the state after.
-abbrev pub ExportBehaviour : Type 0 → Type 1
-ExportBehaviour S = S → Result (List ℕ) Fault → S → Type 0
-
--- The behaviour of a service for displays: the state before, the kind of display, the scheme, the
--- language tag, the answer, and the state after.
-abbrev pub DisplayBehaviour : Type 0 → Type 1
-DisplayBehaviour S = S → Display → ℕ → List ℕ → Result DisplayAnswer Fault → S → Type 0
-
--- The behaviour of a service: a relation for each kind of request.
-pub record ServiceEffects (S : Type 0) : Type 1 where
-  pub performs : CommandBehaviour S
-  pub shows : QueryBehaviour S
-  pub imports : ImportBehaviour S
-  pub exports : ExportBehaviour S
-  pub displays : DisplayBehaviour S
-
--- The behaviour of a service, from its relations.
-abbrev pub effects : {S : Type 0} → CommandBehaviour S → QueryBehaviour S → ImportBehaviour S → ExportBehaviour S
-    → DisplayBehaviour S → ServiceEffects S
-effects p s i e d = record { performs = p; shows = s; imports = i; exports = e; displays = d }
 
 -- The text isn't the numeral of a resource's or posting's number.
 abbrev pub IsNoNumeral : List ℕ → Type 0
 IsNoNumeral text = (n : ℕ) → IsNumber n → IsNumeral text n → ⊥
 
-module _ {S : Type 0} (d : ServiceEffects S) (old : S) (r : Response) (new : S) where
+module _ {S : Type 0} (d : ServiceBehaviour S) (old : S) (r : Response) (new : S) where
   -- The response is this one, and the state is unchanged.
   abbrev pub RespondsUnchanged : Response → Type 0
   RespondsUnchanged response = (r ≡ response) × (new ≡ old)
@@ -76,7 +49,7 @@ module _ {S : Type 0} (d : ServiceEffects S) (old : S) (r : Response) (new : S) 
   CommandEffect body =
       ((command : Command) × (answer : Result Answer Fault)
       × ReadsAs (request_of body) (Ok (Do command))
-      × d.performs old command answer new × (r ≡ command_response answer))
+      × d.requests.performs old command answer new × (r ≡ command_response answer))
       ⊎ (((query : Query) × ReadsAs (request_of body) (Ok (Get query)) × RespondsUnchanged (form_response BadShape))
       ⊎ ((f : FormFault) × ReadsAs (request_of body) (Err f) × RespondsUnchanged (form_response f)))
 
@@ -92,7 +65,7 @@ module _ {S : Type 0} (d : ServiceEffects S) (old : S) (r : Response) (new : S) 
   -- The effect of a query, and its response.
   abbrev pub QueryEffect : Query → Type 0
   QueryEffect query =
-      (answer : Result QueryAnswer Fault) × d.shows old query answer new × (r ≡ query_response answer)
+      (answer : Result QueryAnswer Fault) × d.requests.shows old query answer new × (r ≡ query_response answer)
 
   -- The effect for the number whose numeral is the text; if the text is no numeral of a number,
   -- `BadNumber` and no effect.

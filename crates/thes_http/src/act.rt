@@ -1,6 +1,6 @@
 //! Performs the request of a head, with its body.
 ghost use Rattle.std.specs.Prelude.{◌≡◌, if◌then◌else◌, true};
-ghost use Rattle.thes_http.specs.Serving.{effects, CommandEffect, QueryEffect, NumberQueryEffect, DisplayEffect, DisplayQueryEffect, OrOutOfMemory, EndpointEffectOrFailure};
+ghost use Rattle.thes_http.specs.Serving.{CommandEffect, QueryEffect, NumberQueryEffect, DisplayEffect, DisplayQueryEffect, OrOutOfMemory, EndpointEffectOrFailure};
 ghost use Rattle.thes_http_request.specs.Queries.{display_query_of};
 
 use crate::response::Response;
@@ -23,8 +23,7 @@ pub fn act<S: Service>(
     body: &[u8],
 ) -> Response
     requires { S.is_open service.old ≡ true }
-    ensures { EndpointEffectOrFailure (effects S.performs S.shows S.imports S.exports S.displays)
-        service.old result service.new
+    ensures { EndpointEffectOrFailure S.behaviour service.old result service.new
         want.entry.endpoint want.entry.number.now want.entry.query.now body.now }
 {
     match want.endpoint {
@@ -43,10 +42,8 @@ pub fn act<S: Service>(
 // Performs the command in a body; a query in a body is `BadShape`.
 fn perform<S: Service>(alloc: Global, service: &mut S, body: &[u8]) -> Response
     requires { S.is_open service.old ≡ true }
-    ensures { OrOutOfMemory (effects S.performs S.shows S.imports S.exports S.displays)
-        service.old result service.new
-        (CommandEffect (effects S.performs S.shows S.imports S.exports S.displays)
-        service.old result service.new body.now) }
+    ensures { OrOutOfMemory S.behaviour service.old result service.new
+        (CommandEffect S.behaviour service.old result service.new body.now) }
 {
     match read_request(&mut RequestScratch::new(alloc), body) {
         Ok(Request::Do(command)) => Response::for_command(service.perform(&command)),
@@ -59,8 +56,7 @@ fn perform<S: Service>(alloc: Global, service: &mut S, body: &[u8]) -> Response
 // Passes a query to the service, and returns the response.
 fn show<S: Service>(alloc: Global, service: &mut S, query: Query) -> Response
     requires { S.is_open service.old ≡ true }
-    ensures { QueryEffect (effects S.performs S.shows S.imports S.exports S.displays)
-        service.old result service.new query }
+    ensures { QueryEffect S.behaviour service.old result service.new query }
 {
     Response::for_query(service.show(alloc, &query))
 }
@@ -73,8 +69,7 @@ fn show_resource<S: Service>(
     postings: bool,
 ) -> Response
     requires { S.is_open service.old ≡ true }
-    ensures { NumberQueryEffect (effects S.performs S.shows S.imports S.exports S.displays)
-        service.old result service.new
+    ensures { NumberQueryEffect S.behaviour service.old result service.new
         (λ n. if postings then Query.Postings n else Query.Concept n) number.now }
 {
     match ResNo::read(number) {
@@ -94,8 +89,8 @@ fn show_resource<S: Service>(
 // Answers the query for a posting by the number in the path.
 fn show_posting<S: Service>(alloc: Global, service: &mut S, number: &str) -> Response
     requires { S.is_open service.old ≡ true }
-    ensures { NumberQueryEffect (effects S.performs S.shows S.imports S.exports S.displays)
-        service.old result service.new Query.Posting number.now }
+    ensures { NumberQueryEffect S.behaviour service.old result service.new
+        Query.Posting number.now }
 {
     match PostNo::read(number) {
         Ok(n) => show(alloc, service, Query::Posting(n)),
@@ -107,10 +102,9 @@ fn show_posting<S: Service>(alloc: Global, service: &mut S, number: &str) -> Res
 // is checked before that of the tag.
 fn display<S: Service>(alloc: Global, service: &mut S, which: Display, query: &str) -> Response
     requires { S.is_open service.old ≡ true }
-    ensures { OrOutOfMemory (effects S.performs S.shows S.imports S.exports S.displays)
-        service.old result service.new
-        (DisplayQueryEffect (effects S.performs S.shows S.imports S.exports S.displays)
-        service.old result service.new which (display_query_of query.now)) }
+    ensures { OrOutOfMemory S.behaviour service.old result service.new
+        (DisplayQueryEffect S.behaviour service.old result service.new which
+        (display_query_of query.now)) }
 {
     let asked = match read_query(alloc, query) {
         Ok(Some(asked)) => asked,
@@ -132,10 +126,8 @@ fn display_in<S: Service>(
     lang: &str,
 ) -> Response
     requires { S.is_open service.old ≡ true }
-    ensures { OrOutOfMemory (effects S.performs S.shows S.imports S.exports S.displays)
-        service.old result service.new
-        (DisplayEffect (effects S.performs S.shows S.imports S.exports S.displays)
-        service.old result service.new which scheme lang.now) }
+    ensures { OrOutOfMemory S.behaviour service.old result service.new
+        (DisplayEffect S.behaviour service.old result service.new which scheme lang.now) }
 {
     match Tag::read(alloc, lang) {
         Ok(tag) => Response::for_display(service.display(alloc, which, scheme, &tag)),

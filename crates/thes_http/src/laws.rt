@@ -1,6 +1,5 @@
 //! Laws of the answers to connections, whichever code serves them.
 ghost use Rattle.thes_http.specs.Laws.{HasOneCall, HasOneAnswer, CutHasNoAnswer};
-ghost use Rattle.thes_http.specs.Serving.{effects};
 
 use crate::service::Service;
 
@@ -8,17 +7,17 @@ use crate::service::Service;
 /// and have the same response, unless memory runs out. It doesn't matter how the bytes are cut into
 /// reads.
 pub fn one_call<S: Service>()
-    ensures { HasOneCall (effects S.performs S.shows S.imports S.exports S.displays) }
+    ensures { HasOneCall S.behaviour }
 {}
 
 /// No effect; states for the proof that the bytes and the state before determine the response and
 /// the state after it, faults aside, if they do so for each call of the service.
 pub fn one_answer<S: Service>()
-    ensures { HasOneAnswer (effects S.performs S.shows S.imports S.exports S.displays) }
+    ensures { HasOneAnswer S.behaviour }
 {}
 
 /// No effect; states for the proof that a request which was cut off has no answer, unless memory
 /// ran out.
 pub fn no_answer_to_a_cut<S: Service>()
-    ensures { CutHasNoAnswer (effects S.performs S.shows S.imports S.exports S.displays) }
+    ensures { CutHasNoAnswer S.behaviour }
 {}

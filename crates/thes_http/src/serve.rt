@@ -4,8 +4,7 @@ ghost use Rattle.std.specs.Io.KnownBytes.{Consumes, IsAtEnd};
 ghost use Rattle.thes_base.specs.Pipe.{failed_of, ended_of, denied_of, IsFresh, PaysCalls, KeepsSharedCallLimit, unread_bytes, written_bytes};
 ghost use Rattle.thes_requests.specs.Script.{session};
 ghost use Rattle.thes_http_request.specs.Inbox.{HasStopped};
-ghost use Rattle.thes_http.specs.Connection.{IsConnectionAnswer, IsCutOff, IsAnsweredWith, IsAnsweredInPart, IsUntouched};
-ghost use Rattle.thes_http.specs.Serving.{effects};
+ghost use Rattle.thes_http.specs.Connection.{IsConnectionAnswer, IsCutOff, EndsAs};
 
 use crate::act::act;
 use crate::response::{Response, Status};
@@ -46,9 +45,8 @@ fn answer<R: Read, S: Service>(
     requires reader { IsFresh reader.old }
     requires open { S.is_open service.old ≡ true }
     ensures answered { IfOk result (λ response.
-        IsConnectionAnswer (effects S.performs S.shows S.imports S.exports S.displays)
-        (unread_bytes R.remaining reader.old) (unread_bytes R.remaining reader.new)
-        service.old response service.new) }
+        IsConnectionAnswer S.behaviour (unread_bytes R.remaining reader.old)
+        (unread_bytes R.remaining reader.new) service.old response service.new) }
     ensures cut { IsErrOf result InputFault.Cut →
         IsCutOff (unread_bytes R.remaining reader.old) (unread_bytes R.remaining reader.new)
         × (ended_of reader.new ≡ true) }
@@ -90,23 +88,9 @@ pub(crate) fn serve_routed<R: Read, W: Write, S: Service>(
     requires reader { IsFresh reader.old }
     requires writer { IsFresh writer.old }
     requires open { S.is_open service.old ≡ true }
-    ensures answered { (status : _) → result ≡ ConnectionEnd.Answered status →
-        IsAnsweredWith R.remaining W.contents
-        (effects S.performs S.shows S.imports S.exports S.displays)
-        (session reader.old writer.old service.old)
-        (session reader.new writer.new service.new) status }
-    ensures cut { result ≡ ConnectionEnd.Cut →
-        IsCutOff (unread_bytes R.remaining reader.old) (unread_bytes R.remaining reader.new)
-        × (ended_of reader.new ≡ true)
-        × IsUntouched (session reader.old writer.old service.old)
-        (session reader.new writer.new service.new) }
-    ensures read_fault { result ≡ ConnectionEnd.ReadFault → HasStopped reader.new
-        × IsUntouched (session reader.old writer.old service.old)
-        (session reader.new writer.new service.new) }
-    ensures write_fault { result ≡ ConnectionEnd.WriteFault → HasStopped writer.new
-        × IsAnsweredInPart R.remaining W.contents
-        (effects S.performs S.shows S.imports S.exports S.displays)
-        (session reader.old writer.old service.old) (session reader.new writer.new service.new) }
+    ensures outcome { EndsAs R.remaining W.contents S.behaviour
+        (session reader.old writer.old service.old) (session reader.new writer.new service.new)
+        result }
     ensures calls { KeepsSharedCallLimit reader.old reader.new writer.old writer.new }
 {
     let mut budget = Budget::new();
@@ -134,23 +118,9 @@ pub fn serve_one<R: Read, W: Write, S: Service>(
     requires reader { IsFresh reader.old }
     requires writer { IsFresh writer.old }
     requires open { S.is_open service.old ≡ true }
-    ensures answered { (status : _) → result ≡ ConnectionEnd.Answered status →
-        IsAnsweredWith R.remaining W.contents
-        (effects S.performs S.shows S.imports S.exports S.displays)
-        (session reader.old writer.old service.old)
-        (session reader.new writer.new service.new) status }
-    ensures cut { result ≡ ConnectionEnd.Cut →
-        IsCutOff (unread_bytes R.remaining reader.old) (unread_bytes R.remaining reader.new)
-        × (ended_of reader.new ≡ true)
-        × IsUntouched (session reader.old writer.old service.old)
-        (session reader.new writer.new service.new) }
-    ensures read_fault { result ≡ ConnectionEnd.ReadFault → HasStopped reader.new
-        × IsUntouched (session reader.old writer.old service.old)
-        (session reader.new writer.new service.new) }
-    ensures write_fault { result ≡ ConnectionEnd.WriteFault → HasStopped writer.new
-        × IsAnsweredInPart R.remaining W.contents
-        (effects S.performs S.shows S.imports S.exports S.displays)
-        (session reader.old writer.old service.old) (session reader.new writer.new service.new) }
+    ensures outcome { EndsAs R.remaining W.contents S.behaviour
+        (session reader.old writer.old service.old) (session reader.new writer.new service.new)
+        result }
     ensures calls { KeepsSharedCallLimit reader.old reader.new writer.old writer.new }
 {
     let routes = Routes::new(alloc).ok();

@@ -1,7 +1,6 @@
 //! Serves connections, one after another.
 ghost use Rattle.std.specs.Prelude.{◌≡◌, true, OnOk};
 ghost use Rattle.thes_http.specs.Server.{IsServedBy, LeadsBy, is_wait};
-ghost use Rattle.thes_http.specs.Serving.{effects};
 
 use crate::accepting::Accepting;
 use crate::deadline::TimedStream;
@@ -87,8 +86,8 @@ fn serve_ends<C: Clock, T: Read + Write + OpenStream + Drop, S: Service>(
     service: &mut S,
 ) -> ServedStream<T>
     requires { S.is_open service.old ≡ true }
-    ensures { let d = effects S.performs S.shows S.imports S.exports S.displays in
-        IsServedBy T.remaining T.contents d input output service.old result service.new }
+    ensures { IsServedBy T.remaining T.contents S.behaviour input output service.old result
+        service.new }
 {
     let mut reader = Pipe::new(TimedStream::new(input, clock));
     let mut writer = Pipe::new(TimedStream::new(output, clock));
@@ -109,8 +108,7 @@ fn serve_stream<C: Clock, T: Read + Write + OpenStream + Drop, S: Service>(
     service: &mut S,
 )
     requires { S.is_open service.old ≡ true }
-    ensures { LeadsBy (effects S.performs S.shows S.imports S.exports S.displays) 1
-        service.old service.new }
+    ensures { LeadsBy S.behaviour 1 service.old service.new }
 {
     let Ok(input) = stream.try_clone() else {
         return;
@@ -147,8 +145,7 @@ pub fn serve<N: Net + Clock, S: Service>(
     requires fresh { connections.old ≡ 0 }
     requires open { S.is_open service.old ≡ true }
     ensures all { OnOk result (connections.new ≡ count) }
-    ensures leads { LeadsBy (effects S.performs S.shows S.imports S.exports S.displays) count
-        service.old service.new }
+    ensures leads { LeadsBy S.behaviour count service.old service.new }
     ensures open { OnOk result (S.is_open service.new ≡ true) }
 {
     let Ok(routes) = Routes::new(alloc) else {

@@ -1,9 +1,6 @@
 //! The trait of a service for HTTP requests.
-ghost use Rattle.std.specs.Prelude.{◌≡◌, true, ℕ, List, Result};
-ghost use Rattle.thes_base.specs.declared.fault.Fault.{Fault};
-ghost use Rattle.thes_http.specs.declared.service.ImportAnswer.{ImportAnswer};
-ghost use Rattle.thes_http.specs.declared.service.Display.{Display};
-ghost use Rattle.thes_http.specs.declared.service.DisplayAnswer.{DisplayAnswer};
+ghost use Rattle.std.specs.Prelude.{◌≡◌, true};
+ghost use Rattle.thes_http.specs.ServiceBehaviour.{ServiceBehaviour, DoesRequests};
 
 use std::alloc::Global;
 use std::marker::Model;
@@ -67,21 +64,18 @@ pub enum DisplayAnswer {
 
 /// A request handler that also imports posting files, exports the vocabulary, and displays schemes.
 pub trait Service: RequestHandler {
-    ghost imports: { Self → List ℕ → Result ImportAnswer Fault → Self → Type 0 };
-
-    ghost exports: { Self → Result (List ℕ) Fault → Self → Type 0 };
-
-    ghost displays: { Self → Display → ℕ → List ℕ → Result DisplayAnswer Fault → Self → Type 0 };
+    // What each call does, those of a request handler included.
+    ghost behaviour: { ServiceBehaviour Self };
 
     /// Imports a posting file, and returns the outcomes of its rows.
     fn import(&mut self, alloc: Global, file: &[u8]) -> Result<ImportAnswer, Fault>
         requires { Self.is_open self.old ≡ true }
-        ensures { imports self.old file.now result self.new };
+        ensures { behaviour.imports self.old file.now result self.new };
 
     /// Exports the vocabulary as N-Triples.
     fn export(&mut self, alloc: Global) -> Result<Page, Fault>
         requires { Self.is_open self.old ≡ true }
-        ensures { exports self.old result self.new };
+        ensures { behaviour.exports self.old result self.new };
 
     /// Displays a scheme in the language of this tag.
     fn display(
@@ -92,5 +86,7 @@ pub trait Service: RequestHandler {
         tag: &Tag,
     ) -> Result<DisplayAnswer, Fault>
         requires { Self.is_open self.old ≡ true }
-        ensures { displays self.old display scheme tag.now result self.new };
+        ensures { behaviour.displays self.old display scheme tag.now result self.new };
+
+    ghost does_requests: { DoesRequests Self.requests behaviour };
 }

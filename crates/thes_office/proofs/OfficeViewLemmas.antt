@@ -130,6 +130,20 @@ module _ {K : Type 0} (view : K → StorageView) where
       only up (inr (inr faulty)) = let x = kept.shows (read.was up) in
           absurd (faulty_has_no_state (view old).rows fault faulty x.0 x.1 x.2)
 
+  -- A call without a fault has the same effects, whatever value it returns.
+  pub behaviour_with_value : {A B : Type 0} (old new : OfficeView K) (a : A) (b : B) → FaultBehaviour view old new
+      (let x : Result A Fault = Ok a in x) → FaultBehaviour view old new (let x : Result B Fault = Ok b in x)
+  behaviour_with_value old new a b fault_behaviour = record {
+    limits = fault_behaviour.limits;
+    was = fault_behaviour.was;
+    later = fault_behaviour.later;
+    count = fault_behaviour.count;
+    store = tt;
+    other_faults = tt;
+    stale = tt;
+    fault = λ up. tt;
+  }
+
   -- After a reload, `ready` returns a current copy.
   pub ready_core : (old : OfficeView K) (keeper : K) (copy : core.CoreView) (limits : Limits) (stale : Bool)
       (office_view : OfficeView K) (lent : Bor core.CoreView) → IsConsistent view keeper copy limits
@@ -139,16 +153,7 @@ module _ {K : Type 0} (view : K → StorageView) where
       → ReadyResult view old (Ok lent) (record { keeper = keeper; limits = limits; stale = stale })
   ready_core old keeper copy limits stale office_view lent kept is fault_behaviour same fresh lends =
       subst (ReadyResult view old (Ok lent)) (sym is) record {
-        fault_behaviour = record {
-          limits = fault_behaviour.limits;
-          was = fault_behaviour.was;
-          later = fault_behaviour.later;
-          count = fault_behaviour.count;
-          store = tt;
-          other_faults = tt;
-          stale = tt;
-          fault = λ up. tt;
-        };
+        fault_behaviour = behaviour_with_value old office_view tt lent fault_behaviour;
         same = same;
         fresh = fresh;
         shown = record {

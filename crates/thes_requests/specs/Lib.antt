@@ -6,6 +6,7 @@ pub mod Requests
 pub mod MemberReadings
 pub mod AnswerTexts
 pub mod LineBuffer
+pub mod RequestBehaviour
 pub mod Serving
 pub mod Script
 pub mod ScriptSteps

@@ -15,16 +15,8 @@ use Rattle.thes_requests.specs.declared.serve.LineAnswer.{LineAnswer}
 use Rattle.thes_requests.specs.declared.serve.LineAnswer.TheVariants.{Reply, View}
 use Rattle.thes_requests.specs.AnswerTexts.{reply_text}
 use Rattle.thes_requests.specs.Readings.{ReadsAs}
+use Rattle.thes_requests.specs.RequestBehaviour.{RequestBehaviour}
 use Rattle.thes_requests.specs.Requests.{request_of}
-
--- The behaviour of a handler for commands: a relation of the state before, the command, the answer
--- and the state after.
-abbrev pub CommandBehaviour : Type 0 → Type 1
-CommandBehaviour S = S → Command → Result Answer Fault → S → Type 0
-
--- The behaviour of a handler for queries; the state may change, since a handler may reload.
-abbrev pub QueryBehaviour : Type 0 → Type 1
-QueryBehaviour S = S → Query → Result QueryAnswer Fault → S → Type 0
 
 -- The behaviour of a handler for the lines of a script.
 abbrev pub LineBehaviour : Type 0 → Type 1
@@ -44,19 +36,19 @@ IsQueryLine line query = ReadsAs (request_of line) (Ok (Get query))
 
 -- The effect of a line on a handler, by the kind of its answer: an answer or refusal, a form fault,
 -- a fault, or a view.
-abbrev pub Serves : {S : Type 0} → CommandBehaviour S → QueryBehaviour S → LineBehaviour S
-Serves performs shows old line (Reply (reply.Answer a)) new =
-    ((command : Command) × IsCommandLine line command × performs old command (Ok a) new)
+abbrev pub Serves : {S : Type 0} → RequestBehaviour S → LineBehaviour S
+Serves d old line (Reply (reply.Answer a)) new =
+    ((command : Command) × IsCommandLine line command × d.performs old command (Ok a) new)
     ⊎ ((query : Query) × (r : Refusal) × IsQueryLine line query
-    × shows old query (Ok (view.No r)) new × (a ≡ answer.No r))
-Serves performs shows old line (Reply (reply.Bad f)) new =
+    × d.shows old query (Ok (view.No r)) new × (a ≡ answer.No r))
+Serves d old line (Reply (reply.Bad f)) new =
     ReadsAs (request_of line) (Err f) × (new ≡ old)
-Serves performs shows old line (Reply (reply.Fault f)) new =
+Serves d old line (Reply (reply.Fault f)) new =
     ((f ≡ OutOfMemory) × (new ≡ old))
-    ⊎ (((command : Command) × IsCommandLine line command × performs old command (Err f) new)
-    ⊎ ((query : Query) × IsQueryLine line query × shows old query (Err f) new))
-Serves performs shows old line (View text) new =
-    (query : Query) × IsQueryLine line query × shows old query (Ok (view.Line text)) new
+    ⊎ (((command : Command) × IsCommandLine line command × d.performs old command (Err f) new)
+    ⊎ ((query : Query) × IsQueryLine line query × d.shows old query (Err f) new))
+Serves d old line (View text) new =
+    (query : Query) × IsQueryLine line query × d.shows old query (Ok (view.Line text)) new
 
 -- The answer to the line of a command with this result.
 abbrev pub command_answer : Result Answer Fault → LineAnswer

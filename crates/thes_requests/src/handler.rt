@@ -1,10 +1,6 @@
 //! The trait of an object that performs commands and answers queries.
-ghost use Rattle.std.specs.Prelude.{◌≡◌, true, Bool, Result};
-ghost use Rattle.thes_base.specs.declared.fault.Fault.{Fault};
-ghost use Rattle.thes_base.specs.declared.request.Command.{Command};
-ghost use Rattle.thes_base.specs.declared.request.Answer.{Answer};
-ghost use Rattle.thes_requests.specs.declared.request.Query.{Query};
-ghost use Rattle.thes_requests.specs.declared.handler.QueryAnswer.{QueryAnswer};
+ghost use Rattle.std.specs.Prelude.{◌≡◌, true, Bool};
+ghost use Rattle.thes_requests.specs.RequestBehaviour.{RequestBehaviour};
 
 use crate::request::Query;
 use std::alloc::Global;
@@ -52,21 +48,20 @@ pub enum QueryAnswer {
 /// A handler of requests: it performs commands and answers queries, over a state in memory or over
 /// shared storage.
 pub trait RequestHandler {
-    ghost performs: { Self → Command → Result Answer Fault → Self → Type 0 };
-
-    ghost shows: { Self → Query → Result QueryAnswer Fault → Self → Type 0 };
+    // What each call does.
+    ghost requests: { RequestBehaviour Self };
 
     ghost is_open: { Self → Bool };
 
     /// Performs a command, and returns its answer, which may be a refusal.
     fn perform(&mut self, command: &Command) -> Result<Answer, Fault>
         requires { is_open self.old ≡ true }
-        ensures { performs self.old command.now result self.new };
+        ensures { requests.performs self.old command.now result self.new };
 
     /// Answers a query with the line of a view, or with a refusal.
     fn show(&mut self, alloc: Global, query: &Query) -> Result<QueryAnswer, Fault>
         requires { is_open self.old ≡ true }
-        ensures { shows self.old query.now result self.new };
+        ensures { requests.shows self.old query.now result self.new };
 
     /// Returns whether the handler still accepts calls: running out of memory in a call can close
     /// it for good.

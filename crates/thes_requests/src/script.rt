@@ -98,10 +98,10 @@ pub fn script<R: Read, W: Write, D: RequestHandler>(
     requires writer { IsFresh writer.old }
     requires open { D.is_open handler.old ≡ true }
     ensures completed { IfOk result
-        (Completes R.remaining W.contents (Serves D.performs D.shows) D.is_open
+        (Completes R.remaining W.contents (Serves D.requests) D.is_open
         (session reader.old writer.old handler.old) (session reader.new writer.new handler.new)) }
     ensures stopped { IfErr result
-        (Stops R.remaining W.contents (Serves D.performs D.shows) D.is_open
+        (Stops R.remaining W.contents (Serves D.requests) D.is_open
         (session reader.old writer.old handler.old) (session reader.new writer.new handler.new)) }
     ensures calls { KeepsSharedCallLimit reader.old reader.new writer.old writer.new }
 {

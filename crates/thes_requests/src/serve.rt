@@ -102,7 +102,7 @@ pub fn serve_line<D: RequestHandler>(
 ) -> LineOutcome
     requires { D.is_open handler.old ≡ true }
     ensures { (text : List ℕ) → (found ≡ LineSearch.Line → text ≡ line.now) →
-        StepLine (Serves D.performs D.shows) handler.old text result handler.new }
+        StepLine (Serves D.requests) handler.old text result handler.new }
 {
     if found != LineSearch::Line {
         return LineOutcome::Unheld;

@@ -26,10 +26,10 @@ use Rattle.thes_http.specs.declared.service.Display.{Display}
 use Rattle.thes_http.specs.declared.service.Display.TheVariants as display
 use Rattle.thes_http.specs.Server.{AreAnswered, Exchange, LeadsBy}
 use Rattle.thes_http.specs.Serving.{Answers, AnswersHead, DisplayQueryEffect, DisplayEffect, EndpointEffect}
-use Rattle.thes_http.specs.Serving.{ServiceEffects, CommandEffect, QueryEffect as ShowsView, NumberQueryEffect}
-use Rattle.thes_http.specs.Serving.{effects}
-use Rattle.thes_service.specs.OfficeRequests.{IsReachedByRun, OfficePerforms, OfficeShows}
-use Rattle.thes_service.specs.Service.{OfficeDisplays, OfficeExports, OfficeImports}
+use Rattle.thes_http.specs.Serving.{CommandEffect, QueryEffect as ShowsView, NumberQueryEffect}
+use Rattle.thes_http.specs.ServiceBehaviour.{ServiceBehaviour}
+use Rattle.thes_service.specs.OfficeRequests.{IsReachedByRun, OfficePerforms}
+use Rattle.thes_service.specs.Service.{office_behaviour}
 use Rattle.thes_service.proofs.ScriptRunLemmas.{led_kept, led_same, led_start, led_step}
 
 module _ {K : Type 0} (view : K → StorageView) where
@@ -37,9 +37,8 @@ module _ {K : Type 0} (view : K → StorageView) where
   IsReached old new = IsReachedByRun view old new
 
   -- The behaviour of an office as a service.
-  abbrev Office : ServiceEffects (OfficeView K)
-  Office = effects (OfficePerforms view) (OfficeShows view)
-      (OfficeImports view) (OfficeExports view) (OfficeDisplays view)
+  abbrev Office : ServiceBehaviour (OfficeView K)
+  Office = office_behaviour view
 
   -- A run of several requests extends the run before it.
   led_run : {T : Type 0} (old mid new : OfficeView K) (result : Result T Fault) (commands : List Command)

@@ -21,6 +21,7 @@ use Rattle.thes_office.specs.QueryFrames.{InStateOfTables}
 use Rattle.thes_office.specs.AssignedPostings.{AssignedPostingsResult, rows_assigned_to}
 use Rattle.thes_office.specs.Office.{FaultBehaviour, IsCopy, OfficeView, ReadyResult}
 use Rattle.thes_office.specs.TablesOfState.{TablesOfState}
+use Rattle.thes_office.proofs.OfficeViewLemmas.{behaviour_with_value}
 use Rattle.thes_office.proofs.StateTableLemmas.{state_is_unique}
 use Rattle.thes_requests.specs.declared.handler.QueryAnswer.{QueryAnswer}
 use Rattle.thes_requests.specs.declared.handler.QueryAnswer.TheVariants as viewed
@@ -73,11 +74,11 @@ listed_at s concept old new none took =
     ∙ map-map entry_of posting_row (assigned_histories concept s.histories))
 
 -- The line of the list is the view of the postings assigned to the concept.
-pub listing_viewed : (raw : Raw) (concept : ℕ) (old new : PostingLister) (told : Option Refusal) (text : List ℕ)
-    → told ≡ None → AssignedPostingsResult ListsRow raw concept old (Ok told) new → entries old.listing ≡ [] → text
+pub listing_viewed : (raw : Raw) (concept : ℕ) (old new : PostingLister) (answer : Option Refusal) (text : List ℕ)
+    → answer ≡ None → AssignedPostingsResult ListsRow raw concept old (Ok answer) new → entries old.listing ≡ [] → text
     ≡ line_text (listing_data (entries new.listing))
     → InStateOfTables raw (λ s. IsQueryAnswer s (asked.Postings concept) (Ok (viewed.Line text)))
-listing_viewed raw concept old new told text none lists empty is base s x =
+listing_viewed raw concept old new answer text none lists empty is base s x =
     let so = subst (λ (o : Option Refusal). AssignedPostingsResult ListsRow raw concept old (Ok o) new) none lists base
     s x in (
       views.Postings (assigned_histories concept s.histories),
@@ -87,54 +88,39 @@ listing_viewed raw concept old new told text none lists empty is base s x =
     )
 
 -- If the number isn't a concept's, the refusal of its list of postings is the refusal of the view.
-pub refusal_viewed : (raw : Raw) (concept : ℕ) (old new : PostingLister) (told : Option Refusal) (refusal : Refusal)
-    → told ≡ Some refusal → AssignedPostingsResult ListsRow raw concept old (Ok told) new
+pub refusal_viewed : (raw : Raw) (concept : ℕ) (old new : PostingLister) (answer : Option Refusal) (refusal : Refusal)
+    → answer ≡ Some refusal → AssignedPostingsResult ListsRow raw concept old (Ok answer) new
     → InStateOfTables raw (λ s. IsQueryAnswer s (asked.Postings concept) (Ok (viewed.No refusal)))
-refusal_viewed raw concept old new told refusal some lists =
+refusal_viewed raw concept old new answer refusal some lists =
     let so = subst (λ (o : Option Refusal). AssignedPostingsResult ListsRow raw concept old (Ok o) new) some lists in
     so.1
 
 module _ {K : Type 0} (view : K → StorageView) where
-  -- A call without a fault has the same effects, whatever value it returns.
-  pub goes_on_to : {A B : Type 0} (old new : OfficeView K) (a : A) (b : B) → FaultBehaviour view old new
-      (let x : Result A Fault = Ok a in x) → FaultBehaviour view old new (let x : Result B Fault =
-      Ok b in x)
-  goes_on_to old new a b fault_behaviour = record {
-    limits = fault_behaviour.limits;
-    was = fault_behaviour.was;
-    later = fault_behaviour.later;
-    count = fault_behaviour.count;
-    store = tt;
-    other_faults = tt;
-    stale = tt;
-    fault = λ up. tt;
-  }
-
   -- The view of a concept from the core of an office is a view of the state that the tables encode.
   pub concept_ready : (old new : OfficeView K) (result : Result (Bor core.CoreView) Fault) (copy : Bor core.CoreView)
-      (n : ℕ) (told : QueryAnswer) → ReadyResult view old result new → result ≡ Ok copy
-      → ((s : State) → IsViewOf copy.now s → IsQueryAnswer s (asked.Concept n) (Ok told))
-      → OfficeShows view old (asked.Concept n) (Ok told) new
-  concept_ready old new result copy n told ready is so =
+      (n : ℕ) (answer : QueryAnswer) → ReadyResult view old result new → result ≡ Ok copy
+      → ((s : State) → IsViewOf copy.now s → IsQueryAnswer s (asked.Concept n) (Ok answer))
+      → OfficeShows view old (asked.Concept n) (Ok answer) new
+  concept_ready old new result copy n answer ready is so =
       let here = subst (λ (r : Result (Bor core.CoreView) Fault). ReadyResult view old r new) is ready in
       record {
-        fault_behaviour = goes_on_to old new copy told here.fault_behaviour;
+        fault_behaviour = behaviour_with_value view old new copy answer here.fault_behaviour;
         same = here.same;
         viewed = λ up. holds_in_encoded_states (view new.keeper).rows new.limits copy.now
-            (λ s. IsQueryAnswer s (asked.Concept n) (Ok told)) (here.shown.copies up) so;
+            (λ s. IsQueryAnswer s (asked.Concept n) (Ok answer)) (here.shown.copies up) so;
       }
 
   -- A result that is right for each state that the core holds is right for the state that the tables encode.
-  pub told_ready : {A : Type 0} (IsSo : List ℕ → State → A → Type 0) (old new : OfficeView K)
-      (result : Result (Bor core.CoreView) Fault) (copy : Bor core.CoreView) (told : A)
+  pub result_ready : {A : Type 0} (IsSo : List ℕ → State → A → Type 0) (old new : OfficeView K)
+      (result : Result (Bor core.CoreView) Fault) (copy : Bor core.CoreView) (answer : A)
       → ReadyResult view old result new → result ≡ Ok copy
-      → ((s : State) → IsViewOf copy.now s → IsLegalState copy.now.setting.base s → IsSo copy.now.setting.base s told)
-      → HoldsOfState view IsSo old (Ok told) new
-  told_ready IsSo old new result copy told ready is so =
+      → ((s : State) → IsViewOf copy.now s → IsLegalState copy.now.setting.base s → IsSo copy.now.setting.base s answer)
+      → HoldsOfState view IsSo old (Ok answer) new
+  result_ready IsSo old new result copy answer ready is so =
       let here = subst (λ (r : Result (Bor core.CoreView) Fault). ReadyResult view old r new) is ready in
       record {
-        fault_behaviour = goes_on_to old new copy told here.fault_behaviour;
+        fault_behaviour = behaviour_with_value view old new copy answer here.fault_behaviour;
         same = here.same;
-        told = λ up. held_based (view new.keeper).rows new.limits copy.now (λ base s. IsSo base s told)
+        holds = λ up. held_based (view new.keeper).rows new.limits copy.now (λ base s. IsSo base s answer)
             (here.shown.copies up) so;
       }

@@ -9,6 +9,7 @@ use Rattle.thes_office.specs.Office.{FaultBehaviour, TablesAfterRun, OfficeView,
 use Rattle.thes_requests.specs.declared.handler.QueryAnswer.{QueryAnswer}
 use Rattle.thes_requests.specs.declared.request.Query.{Query}
 use Rattle.thes_exchange.specs.Viewing.{IsQueryAnswer}
+use Rattle.thes_requests.specs.RequestBehaviour.{RequestBehaviour}
 use Rattle.thes_requests.specs.Serving.{LineBehaviour, Serves}
 
 -- An office accepts calls at any time, since it reloads a stale copy of its tables.
@@ -32,10 +33,14 @@ module _ {K : Type 0} (view : K → StorageView) where
     pub viewed : IfOk result (λ v. (view new.keeper).is_up →
         InStateOfTables (view new.keeper).rows (λ s. IsQueryAnswer s query (Ok v)))
 
+  -- The behaviour of an office as a request handler.
+  abbrev pub office_requests : RequestBehaviour (OfficeView K)
+  office_requests = record { performs = OfficePerforms; shows = OfficeShows }
+
   -- A line is answered by a step of the machine, or by a view of the state; the answer may also be
   -- a form fault or a fault.
   abbrev pub OfficeServes : LineBehaviour (OfficeView K)
-  OfficeServes = Serves OfficePerforms OfficeShows
+  OfficeServes = Serves office_requests
 
   -- A run of the machine leads from the old tables to the new ones. The new tables encode a
   -- consistent state: each posting that isn't withdrawn is assigned to exactly one live concept,

@@ -14,6 +14,8 @@ use Rattle.thes_import.specs.Imports as importer
 use Rattle.thes_import.specs.declared.postings.ImportHalt.{ImportHalt}
 use Rattle.thes_import.specs.declared.postings.FileImport as performed
 use Rattle.thes_import.specs.declared.postings.FileImport.TheVariants as ends
+use Rattle.thes_service.specs.OfficeRequests.{office_requests}
+use Rattle.thes_http.specs.ServiceBehaviour.{ServiceBehaviour}
 use Rattle.thes_http.specs.declared.service.Display.{Display}
 use Rattle.thes_http.specs.declared.service.Display.TheVariants as which
 use Rattle.thes_http.specs.declared.service.DisplayAnswer.{DisplayAnswer}
@@ -48,7 +50,7 @@ module _ {K : Type 0} (view : K → StorageView) where
       (result : Result A Fault) (new : OfficeView K) : Type 0 where
     pub fault_behaviour : FaultBehaviour view old new result
     pub same : SameTables view old new
-    pub told : IfOk result (λ a. (view new.keeper).is_up →
+    pub holds : IfOk result (λ a. (view new.keeper).is_up →
         (base : List ℕ) (s : State) → TablesOfState (view new.keeper).rows base s → IsSo base s a)
 
   -- The export of the state that the tables encode.
@@ -67,4 +69,13 @@ module _ {K : Type 0} (view : K → StorageView) where
     pub fault_behaviour : FaultBehaviour view old new result
     pub done : Result performed.FileImport ImportHalt
     pub imports : importer.Imports view old file done new
-    pub told : result ≡ import_answer done
+    pub reports : result ≡ import_answer done
+
+  -- The behaviour of an office as a service.
+  abbrev pub office_behaviour : ServiceBehaviour (OfficeView K)
+  office_behaviour = record {
+    requests = office_requests view;
+    imports = OfficeImports;
+    exports = OfficeExports;
+    displays = OfficeDisplays;
+  }

@@ -3,10 +3,9 @@
 ghost use Rattle.std.specs.Prelude.{◌≡◌, IfOk, IfErr};
 ghost use Rattle.thes_base.specs.Pipe.{IsFresh, KeepsSharedCallLimit};
 ghost use Rattle.thes_http.specs.Server.{LeadsBy};
-ghost use Rattle.thes_http.specs.Serving.{effects};
 ghost use Rattle.thes_requests.specs.Script.{session, Completes, Stops};
-ghost use Rattle.thes_service.specs.OfficeRequests.{OfficePerforms, OfficeServes, OfficeShows, is_always_open, IsReachedByRun};
-ghost use Rattle.thes_service.specs.Service.{OfficeDisplays, OfficeExports, OfficeImports};
+ghost use Rattle.thes_service.specs.OfficeRequests.{OfficeServes, is_always_open, IsReachedByRun};
+ghost use Rattle.thes_service.specs.Service.{office_behaviour};
 
 use crate::displaying::display_of_core;
 use crate::viewing::{view_concept, view_posting, view_postings, view_totals};
@@ -73,11 +72,9 @@ impl<K: Keeper> OfficeHandler<K> {
 /// is of the state that they encode. A stale copy is reloaded first; a fault leaves the tables
 /// unchanged.
 impl<K: Keeper> RequestHandler for OfficeHandler<K> {
-    ghost use Rattle.thes_service.specs.OfficeRequests.{OfficePerforms, OfficeShows, is_always_open};
+    ghost use Rattle.thes_service.specs.OfficeRequests.{office_requests, is_always_open};
 
-    ghost performs = { OfficePerforms K.view };
-
-    ghost shows = { OfficeShows K.view };
+    ghost requests = { office_requests K.view };
 
     ghost is_open = { is_always_open };
 
@@ -111,13 +108,14 @@ fn page_of(report: Report) -> Page
 /// before it stay performed. Exports and displays are of the state that the tables encode, and
 /// leave the tables unchanged. A stale copy is reloaded first.
 impl<K: Keeper> Service for OfficeHandler<K> {
-    ghost use Rattle.thes_service.specs.Service.{OfficeDisplays, OfficeExports, OfficeImports};
+    ghost use Rattle.thes_service.specs.Service.{office_behaviour};
 
-    ghost imports = { OfficeImports K.view };
+    ghost behaviour = { office_behaviour K.view };
 
-    ghost exports = { OfficeExports K.view };
-
-    ghost displays = { OfficeDisplays K.view };
+    ghost does_requests = { record {
+      performs = λ old command result new does. does;
+      shows = λ old query result new does. does;
+    } };
 
     fn import(&mut self, alloc: Global, file: &[u8]) -> Result<ImportAnswer, Fault> {
         match import_postings(alloc, file, &mut self.office) {
@@ -190,10 +188,7 @@ pub fn office_serve<N: Net + Clock, K: Keeper>(
     count: u32,
     handler: &mut OfficeHandler<K>,
 ) -> io::Result<()>
-    ensures served { LeadsBy (effects (OfficePerforms K.view)
-        (OfficeShows K.view) (OfficeImports K.view)
-        (OfficeExports K.view) (OfficeDisplays K.view)) count
-        handler.old handler.new }
+    ensures served { LeadsBy (office_behaviour K.view) count handler.old handler.new }
     ensures reached { IsReachedByRun K.view handler.old handler.new }
 {
     // No effect; states for the proof that the tables encode a state.

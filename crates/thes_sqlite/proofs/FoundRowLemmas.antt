@@ -50,7 +50,7 @@ found_rows db raw (p ∷ names) items h is = h.2.2
     ∙ (λ i. sink_rows_of_table p (sym is.0 i) ++ found_rows db raw names h.2.0 h.2.1 is.1 i)
 
 module _ {R : Type 0} (gives : R → Table × Option (List Cell) → Result (Unit {0}) Fault → R → Type 0) where
-  -- A sink that is told that a table can't be queried has what a load finds of it.
+  -- A sink that receives no rows of a table that can't be queried has received what a load finds of it.
   pub none_passed : (p : Table) (db : Database) (old new : R) (r : Result (Unit {0}) Fault) → gives old (p, None) r new
       → FindsTable p db None → OnOk r (PassesTable gives p db old new)
   none_passed p db old new (Ok done) took found = (None, found, (new, took, refl))

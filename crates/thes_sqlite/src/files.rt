@@ -10,8 +10,8 @@ use sqlite::{Connection, Error, FileFrom, FileStore, Leftover};
 use sqlite_disk::{Disk, Files, Start};
 
 /// Opens the database in the files at a path; if they hold a store, it is this store. `start`
-/// stands for their contents, which may be anything. An error comes with what is left of the files,
-/// once they were opened.
+/// represents their contents, which may be anything. Returns an error with what is left of the
+/// files, if they were opened.
 pub fn open_files<S: Start>(
     rt: &HostRuntime,
     path: &str,
@@ -24,8 +24,8 @@ pub fn open_files<S: Start>(
     Connection::open_from(rt, path, false, start)
 }
 
-/// Closes a database and returns its files, which hold its store. A crash leaves it in them. An
-/// error comes with the database.
+/// Closes a database and returns its files, which hold its store. A crash leaves it in them.
+/// Returns an error with the database.
 pub fn close_files<D: Disk + Drop>(
     conn: Connection<FileStore<D>>,
 ) -> Result<Files<D>, (Error, FileStore<D>)>

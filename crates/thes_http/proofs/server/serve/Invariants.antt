@@ -1,12 +1,10 @@
 use Rattle.std.proofs.Common.{◌≡◌, true}
 use Rattle.thes_http.specs.Server.{LeadsBy}
-use Rattle.thes_http.specs.Serving.{effects}
 use Rattle.thes_http.proofs.server.serve.Given as goal
 
 abbrev pub invariant-loop : goal.invariant-loop
 invariant-loop g l = record {
-  led : LeadsBy (effects g.S.RequestHandler.performs g.S.RequestHandler.shows g.S.Service.imports g.S.Service.exports
-      g.S.Service.displays) l.counter l.fn.service l.service;
+  led : LeadsBy g.S.Service.behaviour l.counter l.fn.service l.service;
   stays_open : g.S.RequestHandler.is_open l.service ≡ true;
   counted : l.connections ≡ l.counter;
 }

@@ -1,12 +1,10 @@
 use Rattle.std.proofs.Common.{◌∙◌, ap}
-use Rattle.thes_http.specs.Serving.{effects}
 use Rattle.thes_http.specs.declared.deadline.TimedStream.{TimedStream}
 use Rattle.thes_http.proofs.ServerLemmas.{outcome_of}
 use Rattle.thes_http.proofs.server.serve_ends.Goals as goal
 
 pub returns : goal.returns
-returns g c = outcome_of (effects g.S.RequestHandler.performs g.S.RequestHandler.shows g.S.Service.imports
-    g.S.Service.exports g.S.Service.displays) g.T.Read.remaining g.T.Write.contents c.args.input c.args.output
+returns g c = outcome_of g.S.Service.behaviour g.T.Read.remaining g.T.Write.contents c.args.input c.args.output
     (record {
       end = c.serve_routed-end.result;
       input = c.into_stream.result;
@@ -17,5 +15,4 @@ returns g c = outcome_of (effects g.S.RequestHandler.performs g.S.RequestHandler
     (ap (λ s. s.stream) c.new-writer.ensures.device ∙ c.new-2.ensures)
     (c.into_stream.ensures ∙ ap (λ s. s.stream) c.into_device.ensures)
     (c.into_stream-2.ensures ∙ ap (λ s. s.stream) c.into_device-2.ensures)
-    c.serve_routed-end.result c.serve_routed-end.ensures.answered c.serve_routed-end.ensures.cut
-    c.serve_routed-end.ensures.read_fault c.serve_routed-end.ensures.write_fault
+    c.serve_routed-end.result c.serve_routed-end.ensures.outcome

@@ -14,13 +14,13 @@ pub returns-in_err-lines-clause-stopped : goal.returns-in_err-lines-clause-stopp
 returns-in_err-lines-clause-stopped g c =
     let p = err_from_is_err_and c.from_residual.result c.from_residual.ensures.1 in
     rw (p.1, p.2) (stops_before_lines g.R.Read.remaining g.W.Write.contents
-    (Serves g.D.RequestHandler.performs g.D.RequestHandler.shows) g.D.RequestHandler.is_open
+    (Serves g.D.RequestHandler.requests) g.D.RequestHandler.is_open
     c.args.reader.now c.args.writer.now c.args.handler.now c.requires.reader.0 c.requires.writer.0)
 
 pub loop-ended-init : goal.loop-ended-init
 loop-ended-init g c = let fresh = c.in_ok-lines.ensures in record {
   served = progress_start g.R.Read.remaining g.W.Write.contents
-      (Serves g.D.RequestHandler.performs g.D.RequestHandler.shows) g.D.RequestHandler.is_open
+      (Serves g.D.RequestHandler.requests) g.D.RequestHandler.is_open
       c.args.reader.now c.args.writer.now c.args.handler.now c.in_ok-lines.lines.line_buffer c.in_ok-lines.lines.count
       c.new-ended.result c.requires.reader.1 fresh.0 fresh.1 c.new-ended.ensures;
   reader = search rules;
@@ -34,7 +34,7 @@ pub returns-in-Err-clause-stopped : goal.returns-in-Err-clause-stopped
 returns-in-Err-clause-stopped g c =
     let goes : ended_of c.loop-ended.reader ≡ false = search rules in
     rw c.reader_fault.ensures (stops_at_read g.R.Read.remaining g.W.Write.contents
-    (Serves g.D.RequestHandler.performs g.D.RequestHandler.shows) g.D.RequestHandler.is_open
+    (Serves g.D.RequestHandler.requests) g.D.RequestHandler.is_open
     c.loop-ended.invariant.served c.next_line.new.reader c.next_line.new.self.line_buffer c.in-Err.stop goes
     (c.in-Err.ensures.broken, c.in-Err.ensures.failed, c.in-Err.ensures.too_long) c.loop-ended.invariant.writer.0)
 
@@ -46,7 +46,7 @@ returns-then-eq-clause-completed g c =
     let at_end : c.in-Ok.found ≡ End = search rules in
     let fine : failed_of c.next_line.new.reader ≡ false = search rules in
     completes_at_end g.R.Read.remaining g.W.Write.contents
-    (Serves g.D.RequestHandler.performs g.D.RequestHandler.shows) g.D.RequestHandler.is_open
+    (Serves g.D.RequestHandler.requests) g.D.RequestHandler.is_open
     c.loop-ended.invariant.served c.next_line.new.reader c.next_line.new.self.line_buffer (c.in-Ok.ensures.end at_end)
     fine
     c.loop-ended.invariant.writer.0 c.loop-ended.invariant.stays_open
@@ -67,7 +67,7 @@ loop-ended-preserved g c =
     let written = c.in_ok-write_outcome.ensures.ok in record {
       served =
           rw count.0 (progress_line g.R.Read.remaining g.W.Write.contents
-          (Serves g.D.RequestHandler.performs g.D.RequestHandler.shows) g.D.RequestHandler.is_open
+          (Serves g.D.RequestHandler.requests) g.D.RequestHandler.is_open
           c.loop-ended.invariant.served
           c.next_line.new.reader c.write_outcome.new.writer c.serve_line-outcome.new.handler
           c.next_line.new.self.line_buffer c.write_outcome.new.ended taken.0 c.serve_line-outcome.result goes few
@@ -90,7 +90,7 @@ returns-in_err-write_outcome-clause-stopped g c =
     let few : c.loop-ended.lines.count < lines_limit = omega (arith, count.0, count.1) in
     let p = err_from_is_err_and c.from_residual-in_err-write_outcome.result c.from_residual-in_err-write_outcome.ensures.1 in
     rw (p.1, p.2) (stops_at_line g.R.Read.remaining g.W.Write.contents
-    (Serves g.D.RequestHandler.performs g.D.RequestHandler.shows) g.D.RequestHandler.is_open
+    (Serves g.D.RequestHandler.requests) g.D.RequestHandler.is_open
     c.loop-ended.invariant.served c.next_line.new.reader c.write_outcome.new.writer c.serve_line-outcome.new.handler
     c.next_line.new.self.line_buffer _ taken.0 c.serve_line-outcome.result goes few taken.1 fine
     (c.serve_line-outcome.ensures (line_content taken.0 (ended_of c.next_line.new.reader))
@@ -106,6 +106,6 @@ pub returns-clause-completed : goal.returns-clause-completed
 returns-clause-completed g c =
     let at_end : ended_of c.loop-ended.reader ≡ true = search rules in
     completes_after_last g.R.Read.remaining g.W.Write.contents
-    (Serves g.D.RequestHandler.performs g.D.RequestHandler.shows) g.D.RequestHandler.is_open
+    (Serves g.D.RequestHandler.requests) g.D.RequestHandler.is_open
     c.loop-ended.invariant.served at_end c.loop-ended.invariant.reader.0 c.loop-ended.invariant.writer.0
     c.loop-ended.invariant.stays_open

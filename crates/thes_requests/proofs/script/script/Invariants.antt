@@ -9,7 +9,7 @@ use Rattle.thes_requests.proofs.script.script.Given as goal
 abbrev pub invariant-loop-ended : goal.invariant-loop-ended
 invariant-loop-ended g l = record {
   served : ScriptProgress g.R.Read.remaining g.W.Write.contents
-      (Serves g.D.RequestHandler.performs g.D.RequestHandler.shows)
+      (Serves g.D.RequestHandler.requests)
       (session l.fn.reader l.fn.writer l.fn.handler) (session l.reader l.writer l.handler) l.lines.line_buffer
       l.lines.count l.ended;
   reader : (failed_of l.reader ≡ false) × (denied_of l.reader ≡ false);

@@ -6,7 +6,7 @@ use Rattle.thes_base.specs.Refusals.{IsKnownPosting}
 use Rattle.thes_base.specs.Resources.{entry_at}
 use Rattle.thes_base.specs.RefusalRules.{accepted, refused_unless}
 use Rattle.thes_requests.specs.declared.request.Query.TheVariants as asked
-use Rattle.thes_service.proofs.StateViewLemmas.{goes_on_to}
+use Rattle.thes_office.proofs.OfficeViewLemmas.{behaviour_with_value}
 use Rattle.thes_service.proofs.viewing.view_posting.Goals as goal
 
 -- A number without a history is refused as `UnknownPosting`.
@@ -16,7 +16,7 @@ unknown hs n none = search (rules, sym none)
 
 pub returns-in_ok-query_answer-in-Ok-Some : goal.returns-in_ok-query_answer-in-Ok-Some
 returns-in_ok-query_answer-in-Ok-Some g c = record {
-  fault_behaviour = goes_on_to g.K.Keeper.view c.args.office.now c.posting.new.self
+  fault_behaviour = behaviour_with_value g.K.Keeper.view c.args.office.now c.posting.new.self
       c.in-Ok-Some.field-0 c.in_ok-query_answer-in-Ok-Some.field-0 c.in-Ok-Some.ensures.fault_behaviour;
   same = c.in-Ok-Some.ensures.same;
   viewed = λ up base s x. c.in_ok-query_answer-in-Ok-Some.ensures s (asked.Posting c.args.number)
@@ -25,7 +25,7 @@ returns-in_ok-query_answer-in-Ok-Some g c = record {
 
 pub returns-in-Ok-None : goal.returns-in-Ok-None
 returns-in-Ok-None g c = record {
-  fault_behaviour = goes_on_to g.K.Keeper.view c.args.office.now c.posting.new.self
+  fault_behaviour = behaviour_with_value g.K.Keeper.view c.args.office.now c.posting.new.self
       c.in-Ok-None.field-0 _ c.in-Ok-None.ensures.fault_behaviour;
   same = c.in-Ok-None.ensures.same;
   viewed = λ up base s x. unknown s.histories c.args.number (sym c.in-Ok-None.field-0-is

@@ -1,10 +1,11 @@
 use Rattle.std.proofs.Common.{◌∙◌}
-use Rattle.thes_service.proofs.StateViewLemmas.{goes_on_to, listing_viewed, refusal_viewed}
+use Rattle.thes_office.proofs.OfficeViewLemmas.{behaviour_with_value}
+use Rattle.thes_service.proofs.StateViewLemmas.{listing_viewed, refusal_viewed}
 use Rattle.thes_service.proofs.viewing.view_postings.Goals as goal
 
 pub returns-in_ok-into_line-in-Ok-None : goal.returns-in_ok-into_line-in-Ok-None
 returns-in_ok-into_line-in-Ok-None g c = record {
-  fault_behaviour = goes_on_to g.K.Keeper.view c.args.office.now c.postings.new.self
+  fault_behaviour = behaviour_with_value g.K.Keeper.view c.args.office.now c.postings.new.self
       c.in-Ok-None.field-0 _ c.in-Ok-None.ensures.fault_behaviour;
   same = c.in-Ok-None.ensures.same;
   viewed = λ up.
@@ -15,7 +16,7 @@ returns-in_ok-into_line-in-Ok-None g c = record {
 
 pub returns-in-Ok-Some : goal.returns-in-Ok-Some
 returns-in-Ok-Some g c = record {
-  fault_behaviour = goes_on_to g.K.Keeper.view c.args.office.now c.postings.new.self
+  fault_behaviour = behaviour_with_value g.K.Keeper.view c.args.office.now c.postings.new.self
       c.in-Ok-Some.field-0 _ c.in-Ok-Some.ensures.fault_behaviour;
   same = c.in-Ok-Some.ensures.same;
   viewed = λ up.
