@@ -74,11 +74,7 @@ fn standing<K: Keeper>(
 }
 
 // Looks up the numbers of the postings assigned to a concept, and appends their line.
-fn numbers<K: Keeper>(
-    keeper: &mut K,
-    concept: ResNo,
-    lines: &mut Lines,
-) -> Result<(), AllocError> {
+fn numbers<K: Keeper>(keeper: &mut K, concept: ResNo, lines: &mut Lines) -> Result<(), AllocError> {
     lines.push_line("numbers")?;
     match keeper.standing_numbers(concept) {
         Ok(numbers) => lines.push_numbers(numbers.as_slice()),
