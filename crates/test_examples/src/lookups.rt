@@ -2,6 +2,7 @@
 ghost use Rattle.std.specs.Prelude.{◌≡◌, false};
 
 use crate::list::command_in;
+use crate::numbers::Numbers;
 use std::alloc::{AllocError, Global};
 use test_office::Store;
 use thes_base::data::{History, Label, Link};
@@ -11,7 +12,6 @@ use thes_base::request::Command;
 use thes_base::text::{Iri, Tag, Text};
 use thes_core::Core;
 use thes_core::reading::Sizes;
-use thes_office::numbers::Numbers;
 use thes_requests::request::{RequestScratch, read_request};
 
 /// Performs the look-up that a line gives by its name and arguments. Returns the result as a text,
@@ -80,7 +80,7 @@ fn postings_at(alloc: Global, store: &mut Store, words: &str) -> Option<String> 
     let mut numbers = Numbers::new(alloc);
     let concept = ResNo::read(words).ok()?;
     match store.office().postings(concept, &mut numbers) {
-        Ok(None) => numbers_text(alloc, numbers.into_list().as_slice()).ok(),
+        Ok(None) => numbers_text(alloc, numbers.list.as_slice()).ok(),
         _ => None,
     }
 }

@@ -2,6 +2,7 @@
 use std::alloc::{AllocError, Global};
 use std::fmt::Write;
 use thes_base::fault::{Fault, Table};
+use thes_base::number::PostNo;
 use thes_store::keeper::Posting;
 use thes_store::sink::{PostingSink, RowSink};
 use thes_tables::cells::Cell;
@@ -80,6 +81,14 @@ impl Lines {
             writeln!(self.text, " {number} {source} {}", step.target.get())?;
         }
         Ok(())
+    }
+
+    /// Appends a line with these numbers.
+    pub fn push_numbers(&mut self, numbers: &[PostNo]) -> Result<(), AllocError> {
+        for number in numbers {
+            write!(self.text, " {}", number.get())?;
+        }
+        self.push_line("")
     }
 
     // Appends a line that reports that the table can't be queried.

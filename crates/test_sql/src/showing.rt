@@ -50,6 +50,38 @@ fn posting<K: Keeper>(keeper: &mut K, number: PostNo, lines: &mut Lines) -> Resu
     }
 }
 
+// Looks up the row of a posting by its number, and appends its line.
+fn row<K: Keeper>(keeper: &mut K, number: PostNo, lines: &mut Lines) -> Result<(), AllocError> {
+    lines.push_line("row")?;
+    match keeper.row(number) {
+        Ok(Some(row)) => lines.push_posting(&row),
+        Ok(None) => lines.push_line(" none"),
+        Err(fault) => push_fault(lines, fault),
+    }
+}
+
+// Looks up the postings assigned to a concept, and appends their lines.
+fn standing<K: Keeper>(
+    keeper: &mut K,
+    concept: ResNo,
+    lines: &mut Lines,
+) -> Result<(), AllocError> {
+    lines.push_line("standing")?;
+    match keeper.standing(concept, lines) {
+        Ok(_) => Ok(()),
+        Err(fault) => push_fault(lines, fault),
+    }
+}
+
+// Looks up the numbers of the postings assigned to a concept, and appends their line.
+fn numbers<K: Keeper>(keeper: &mut K, concept: ResNo, lines: &mut Lines) -> Result<(), AllocError> {
+    lines.push_line("numbers")?;
+    match keeper.standing_numbers(concept) {
+        Ok(numbers) => lines.push_numbers(numbers.as_slice()),
+        Err(fault) => push_fault(lines, fault),
+    }
+}
+
 /// Looks up postings by a key, by the same key in upper case, by number and by concept, and appends
 /// their lines.
 pub fn look_up<K: Keeper>(
@@ -61,9 +93,9 @@ pub fn look_up<K: Keeper>(
     find(alloc, keeper, "K3", lines)?;
     posting(keeper, PostNo::new(3), lines)?;
     posting(keeper, PostNo::new(4), lines)?;
-    lines.push_line("standing")?;
-    match keeper.standing(ResNo::new(3), lines) {
-        Ok(_) => Ok(()),
-        Err(fault) => push_fault(lines, fault),
-    }
+    row(keeper, PostNo::new(3), lines)?;
+    row(keeper, PostNo::new(4), lines)?;
+    standing(keeper, ResNo::new(3), lines)?;
+    numbers(keeper, ResNo::new(3), lines)?;
+    numbers(keeper, ResNo::new(2), lines)
 }

@@ -56,6 +56,44 @@ pub fn report<K: Keeper>(alloc: Global, keeper: &mut K, number: PostNo) -> Resul
     }
 }
 
+/// Looks up the row of a posting by its number, and returns a line with its key and its record.
+pub fn row_report<K: Keeper>(
+    alloc: Global,
+    keeper: &mut K,
+    number: PostNo,
+) -> Result<String, Failure> {
+    match keeper.row(number) {
+        Ok(Some(row)) => {
+            let (key, rec) = (row.key.as_str(), row.rec.as_str());
+            Ok(format!(in alloc; "row: {key} {rec}\n")?)
+        }
+        Ok(None) => Ok(String::from_str(alloc, "row: none\n")?),
+        Err(fault) => Ok(call_fault_line(alloc, "row", fault)?),
+    }
+}
+
+// Returns a line with these numbers.
+fn numbers_line(alloc: Global, numbers: &[PostNo]) -> Result<String, AllocError> {
+    let mut text = String::from_str(alloc, "standing_numbers:")?;
+    for number in numbers {
+        write!(text, " {}", number.get())?;
+    }
+    text.push('\n')?;
+    Ok(text)
+}
+
+/// Returns a line with the numbers of the postings assigned to a concept.
+pub fn numbers_report<K: Keeper>(
+    alloc: Global,
+    keeper: &mut K,
+    concept: ResNo,
+) -> Result<String, Failure> {
+    match keeper.standing_numbers(concept) {
+        Ok(numbers) => Ok(numbers_line(alloc, numbers.as_slice())?),
+        Err(fault) => Ok(call_fault_line(alloc, "standing_numbers", fault)?),
+    }
+}
+
 /// Returns lines with the postings assigned to a concept.
 pub fn standing<K: Keeper>(
     alloc: Global,
@@ -97,9 +135,11 @@ pub fn answers<K: Keeper>(alloc: Global, keeper: &mut K) -> Result<String, Failu
     text.push_str(find_reports(alloc, keeper)?.as_str())?;
     for number in [PostNo::new(1), PostNo::new(2), PostNo::new(11)] {
         text.push_str(report(alloc, keeper, number)?.as_str())?;
+        text.push_str(row_report(alloc, keeper, number)?.as_str())?;
     }
     for concept in [ResNo::new(2), ResNo::new(3)] {
         text.push_str(standing(alloc, keeper, concept)?.as_str())?;
+        text.push_str(numbers_report(alloc, keeper, concept)?.as_str())?;
     }
     Ok(text)
 }

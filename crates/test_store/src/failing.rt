@@ -1,5 +1,8 @@
 //! A storage of which one call fails once.
-use crate::answers::{answers, find_report, load_report, report, standing, withdraw_report};
+use crate::answers::{
+    answers, find_report, load_report, numbers_report, report, row_report, standing,
+    withdraw_report,
+};
 use std::alloc::Global;
 use std::fmt::Write;
 use test_keeper::failure::Failure;
@@ -27,7 +30,9 @@ fn call_report(alloc: Global, keeper: &mut FailOnce, kind: Next) -> Result<Strin
         Next::Commit => withdraw_report(alloc, keeper, PostNo::new(1)),
         Next::Find => find_report(alloc, keeper, "k2"),
         Next::Posting => report(alloc, keeper, PostNo::new(1)),
+        Next::Row => row_report(alloc, keeper, PostNo::new(1)),
         Next::Standing => standing(alloc, keeper, ResNo::new(3)),
+        Next::StandingNumbers => numbers_report(alloc, keeper, ResNo::new(3)),
     }
 }
 

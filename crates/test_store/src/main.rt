@@ -22,7 +22,9 @@ fn full_report(alloc: Global) -> Result<String, Failure> {
         Next::Load,
         Next::Find,
         Next::Posting,
+        Next::Row,
         Next::Standing,
+        Next::StandingNumbers,
         Next::Commit,
     ];
     for next in kinds {

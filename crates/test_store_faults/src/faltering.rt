@@ -109,10 +109,24 @@ impl Keeper for Faltering {
         self.keeper.posting(number)
     }
 
+    fn row(&mut self, number: PostNo) -> Result<Option<PostingRow>, Fault> {
+        if self.is_due(Next::Row) {
+            return Err(self.fail());
+        }
+        self.keeper.row(number)
+    }
+
     fn standing<S: PostingSink>(&mut self, concept: ResNo, sink: &mut S) -> Result<(), Fault> {
         if self.is_due(Next::Standing) {
             return Err(self.fail());
         }
         self.keeper.standing(concept, sink)
+    }
+
+    fn standing_numbers(&mut self, concept: ResNo) -> Result<Vec<PostNo>, Fault> {
+        if self.is_due(Next::StandingNumbers) {
+            return Err(self.fail());
+        }
+        self.keeper.standing_numbers(concept)
     }
 }

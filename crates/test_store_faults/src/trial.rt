@@ -63,7 +63,9 @@ fn name_of(call: Next) -> &'static str {
         Next::Commit => "commit",
         Next::Find => "find",
         Next::Posting => "posting",
+        Next::Row => "row",
         Next::Standing => "standing",
+        Next::StandingNumbers => "standing_numbers",
     }
 }
 

@@ -1,6 +1,5 @@
 -- Proves that the facts queried from the storage are those of the histories of the state.
 use Rattle.std.proofs.Common.{◌≡◌, ℕ, zero, suc, List, [], ◌∷◌, ◌++◌, refl, sym, ap, subst, ◌∙◌, inl, inr, map}
-use Rattle.std.proofs.Common.{append_assoc, append-nil}
 use Rattle.std.specs.Prelude.{Option, None, Some, Result, Ok, slice_get, option_map, filter, Bool, true, false, cond}
 use Rattle.std.proofs.lemmas.List.{map-append}
 use Rattle.std.proofs.lemmas.Option.{same_Some}
@@ -17,11 +16,10 @@ use Rattle.thes_tables.specs.Cells.{Raw}
 use Rattle.thes_tables.specs.Tables.{IsIn, posting_row}
 use Rattle.thes_core.specs.declared.facts.Facts.{Facts}
 use Rattle.thes_core.specs.Facts.{AreFacts, IsRowOfKey, posting_row_at, assigned_posting_numbers}
-use Rattle.thes_store.specs.Sinks.{SinkAcceptsAll}
-use Rattle.thes_store.specs.Reading.{IsPostingOfKey, assigned_posting_rows}
+use Rattle.thes_store.specs.Reading.{IsPostingOfKey, assigned_posting_rows, row_number, assigned_row_numbers}
 use Rattle.thes_store.specs.Storage.{KeepsStorage, QueryFrame, StorageView}
 use Rattle.thes_store.proofs.StorageLemmas.{kept_after}
-use Rattle.thes_office.specs.QueryFrames.{PushesNumber, RowInTables, RowsInTables}
+use Rattle.thes_office.specs.QueryFrames.{RowInTables, RowsInTables}
 use Rattle.thes_office.specs.TablesOfState.{TablesOfState}
 
 -- Each row of the posting table is that of a history.
@@ -76,29 +74,15 @@ assigned_rows concept (h ∷ hs) = go (is_assigned_to concept h) (assigned_rows 
     go true e = ap (λ (rows : List PostingRow). posting_row h ∷ rows) e
     go false e = e
 
-pub numbers_taken : (old new : List ℕ) (rows : List PostingRow) → SinkAcceptsAll PushesNumber old rows new → new ≡ old
-    ++ map (λ (r : PostingRow). r.number) rows
-numbers_taken old new [] took = took ∙ sym (append-nil old)
-numbers_taken old new (row ∷ rows) (mid, first, rest) =
-    numbers_taken mid new rows rest ∙ ap (λ (l : List ℕ). l ++ map (λ (r : PostingRow). r.number) rows) first
-    ∙ append_assoc old (row.number ∷ []) (map (λ (r : PostingRow). r.number) rows)
-
-numbers_of : (hs : List History) → map (λ (r : PostingRow). r.number) (map posting_row hs)
-    ≡ map (λ (h : History). h.number) hs
+numbers_of : (hs : List History) → map row_number (map posting_row hs) ≡ map (λ (h : History). h.number) hs
 numbers_of [] = refl
 numbers_of (h ∷ hs) = ap (λ (l : List ℕ). h.number ∷ l) (numbers_of hs)
 
--- The numbers collected are those of the postings assigned to the concept.
-pub assigned_numbers : (s : State) (rows : List PostingRow) (concept : ℕ) (old new : List ℕ) → rows
-    ≡ map posting_row s.histories → old ≡ [] → SinkAcceptsAll PushesNumber old (assigned_posting_rows concept rows) new
-    → new
-    ≡ assigned_posting_numbers concept s.histories
-assigned_numbers s rows concept old new is none took =
-    numbers_taken old new (assigned_posting_rows concept rows) took
-    ∙ ap (λ (l : List ℕ). l ++ map (λ (r : PostingRow). r.number) (assigned_posting_rows concept rows)) none
-    ∙ ap (λ (l : List PostingRow). map (λ (r : PostingRow). r.number) (assigned_posting_rows concept l)) is
-    ∙ ap (map (λ (r : PostingRow). r.number)) (assigned_rows concept s.histories)
-    ∙ numbers_of (filter (is_assigned_to concept) s.histories)
+-- The numbers of the rows assigned to a concept are those of the histories assigned to it.
+pub assigned_numbers : (concept : ℕ) (rows : List PostingRow) (hs : List History) → rows ≡ map posting_row hs
+    → assigned_row_numbers concept rows ≡ assigned_posting_numbers concept hs
+assigned_numbers concept rows hs is = ap (assigned_row_numbers concept) is
+    ∙ ap (map row_number) (assigned_rows concept hs) ∙ numbers_of (filter (is_assigned_to concept) hs)
 
 -- The rows found so far, while postings are queried in order.
 pub record RowsReadSoFar (old now : StorageView)

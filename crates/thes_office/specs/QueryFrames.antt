@@ -1,5 +1,5 @@
 -- The effects and results of queries of the storage.
-use Rattle.std.specs.Prelude.{◌≡◌, ◌≢◌, ◌⊎◌, ◌<◌, ◌≤◌, ◌++◌, ℕ, List, [], ◌∷◌, map, Option, Result, Ok, Err, OnOk, IfErr}
+use Rattle.std.specs.Prelude.{◌≡◌, ◌≢◌, ◌⊎◌, ◌<◌, ◌≤◌, ℕ, List, map, Option, Result, OnOk, IfErr}
 use Rattle.thes_base.specs.declared.fault.Fault.{Fault}
 use Rattle.thes_base.specs.declared.fault.Fault.TheVariants as faults
 use Rattle.thes_base.specs.declared.data.History.{History}
@@ -51,8 +51,3 @@ RowsInTables raw ns rows = InStateOfTables raw (λ s. rows ≡ map (posting_row_
 -- The numbers are those of the postings assigned to the concept, in increasing order.
 abbrev pub AssignedInTables : Raw → ℕ → List ℕ → Type 0
 AssignedInTables raw concept numbers = InStateOfTables raw (λ s. numbers ≡ assigned_posting_numbers concept s.histories)
-
--- The sink appends the number of the row, or nothing on a fault.
-abbrev pub PushesNumber : List ℕ → PostingRow → Result (Unit {0}) Fault → List ℕ → Type 0
-PushesNumber old row (Ok done) new = new ≡ old ++ row.number ∷ []
-PushesNumber old row (Err fault) new = new ≡ old

@@ -3,14 +3,13 @@ ghost use Rattle.std.specs.Prelude.{◌≡◌, [], None, IfOk};
 ghost use Rattle.thes_store.specs.Storage.{QueryFrame};
 ghost use Rattle.thes_office.specs.QueryFrames.{FactsInTables, KeyInTables, RowInTables, RowsInTables, AssignedInTables};
 
-use crate::numbers::Numbers;
 use std::alloc::Global;
 use thes_base::fault::Fault;
 use thes_base::number::{PostNo, ResNo};
 use thes_base::request::Command;
 use thes_base::text::Key;
 use thes_core::Facts;
-use thes_store::keeper::{Keeper, Posting};
+use thes_store::keeper::Keeper;
 use thes_tables::rows::PostingRow;
 
 /// Queries the storage for the facts about postings that the check of the request needs. A post
@@ -39,7 +38,7 @@ pub fn facts_of<K: Keeper>(alloc: Global, keeper: &mut K, command: &Command) -> 
             Ok(named_facts(alloc, named_postings))
         }
         Command::Merge(source, _) => {
-            let standing = numbers_assigned_to(alloc, keeper, *source)?;
+            let standing = numbers_assigned_to(keeper, *source)?;
             Ok(Facts {
                 known: None,
                 named_postings: Vec::new(alloc),
@@ -72,7 +71,7 @@ fn posting_of_key<K: Keeper>(keeper: &mut K, key: &Key) -> Result<Option<Posting
     keeper.find(key)
 }
 
-// Looks up the row of the posting with this number, without its moves.
+// Looks up the row of the posting with this number.
 fn posting_of_number<K: Keeper>(
     keeper: &mut K,
     posting: PostNo,
@@ -81,14 +80,7 @@ fn posting_of_number<K: Keeper>(
         → RowInTables (K.view keeper.old).rows posting row) }
     ensures asks { QueryFrame (K.view keeper.old) (K.view keeper.new) result }
 {
-    match keeper.posting(posting) {
-        Ok(Some(told)) => {
-            let Posting { row, moves: _ } = told;
-            Ok(Some(row))
-        }
-        Ok(None) => Ok(None),
-        Err(fault) => Err(fault),
-    }
+    keeper.row(posting)
 }
 
 // Looks up the rows of the postings with these numbers, in that order; None for a number without a
@@ -112,19 +104,11 @@ fn postings_of_numbers<K: Keeper>(
     Ok(rows)
 }
 
-// Collects the numbers of the postings assigned to a concept, in increasing order.
-fn numbers_assigned_to<K: Keeper>(
-    alloc: Global,
-    keeper: &mut K,
-    concept: ResNo,
-) -> Result<Vec<PostNo>, Fault>
+// Looks up the numbers of the postings assigned to a concept, in increasing order.
+fn numbers_assigned_to<K: Keeper>(keeper: &mut K, concept: ResNo) -> Result<Vec<PostNo>, Fault>
     ensures in_tables { IfOk result (λ numbers. (K.view keeper.new).is_up
         → AssignedInTables (K.view keeper.old).rows concept numbers.items) }
     ensures asks { QueryFrame (K.view keeper.old) (K.view keeper.new) result }
 {
-    let mut numbers = Numbers::new(alloc);
-    match keeper.standing(concept, &mut numbers) {
-        Ok(()) => Ok(numbers.into_list()),
-        Err(fault) => Err(fault),
-    }
+    keeper.standing_numbers(concept)
 }

@@ -7,7 +7,6 @@ mod group;
 mod keeper_load;
 pub mod laws;
 mod loader;
-pub mod numbers;
 mod office;
 mod reading;
 

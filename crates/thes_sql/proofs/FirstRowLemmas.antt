@@ -13,8 +13,10 @@ use Rattle.thes_base.specs.declared.fault.Table.{Table}
 use Rattle.thes_tables.specs.Tables.{Tables}
 use Rattle.thes_sql.specs.Schema.{store_schema}
 use Rattle.thes_sql.specs.StoredRows.{Keeps, values}
-use Rattle.thes_sql.specs.Reads.{read_text, assigned_text, cells_at_concept, rows_in_trees, IsReadable}
+use Rattle.thes_sql.specs.Reads.{read_text, assigned_text, assigned_numbers_text, cells_at_concept}
+use Rattle.thes_sql.specs.Reads.{number_cells_at_concept, rows_in_trees, IsReadable}
 use Rattle.thes_sql.proofs.SelectLemmas.{IsQueryText, rows_of_any_table, rows_at_concept, table_query_text, standing_is}
+use Rattle.thes_sql.proofs.SelectLemmas.{numbers_at_concept, standing_numbers_is}
 
 -- A query without recursion has an answer that begins with these rows.
 begun_shown : (text : List ℕ) (params : Row) (q : Query) → IsQueryText text q → (s : State) (rows : List Row)
@@ -39,3 +41,11 @@ pub rows_begin_assigned : (concept : ℕ) (s : State) (t : Tables) (rows : List 
 rows_begin_assigned concept s t rows keeps same h =
     let more = begun_shown assigned_text (Int (pos concept) ∷ []) _ standing_is s rows keeps.schema same h in
     (more.0, rows_at_concept concept s s t (rows ++ more.0) keeps more.1)
+
+pub rows_begin_numbers : (concept : ℕ) (s : State) (t : Tables) (rows : List Row) → Keeps s.now t → IsUnchanged s s
+    → Begins assigned_numbers_text (Int (pos concept) ∷ []) s rows
+    → (tail : List Row) × (rows ++ tail ≡ map values (number_cells_at_concept concept t))
+rows_begin_numbers concept s t rows keeps same h =
+    let more = begun_shown assigned_numbers_text (Int (pos concept) ∷ []) _ standing_numbers_is s rows keeps.schema same
+    h in
+    (more.0, numbers_at_concept concept s s t (rows ++ more.0) keeps more.1)

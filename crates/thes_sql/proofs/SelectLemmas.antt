@@ -46,7 +46,8 @@ use Rattle.thes_sql.specs.StoredRows.{stored_meta, stored_resource, stored_outsi
 use Rattle.thes_sql.specs.OldStore.{old_schema, IsStoreOfVersion, stored_version, version_row}
 use Rattle.thes_tables.specs.declared.cells.Cell.TheVariants as cells
 use Rattle.thes_sql.specs.Reads.{cells_of_table, read_text, cells_with_key, cells_with_number, cells_at_concept}
-use Rattle.thes_sql.specs.Reads.{assigned_text, cells_of_moves, tree_of, places_of, rows_in_trees, IsReadable}
+use Rattle.thes_sql.specs.Reads.{assigned_text, assigned_numbers_text, number_cells_at_concept, cells_of_moves}
+use Rattle.thes_sql.specs.Reads.{tree_of, places_of, rows_in_trees, IsReadable}
 use Rattle.thes_sql.specs.Queries.{IsQuery, Finds}
 use Rattle.thes_sql.proofs.StatementTextLemmas.{plain_query, whole_program, equal_terms}
 use Rattle.thes_sql.proofs.KeyedRowLemmas.{int_value_less, rising_filter}
@@ -276,6 +277,15 @@ pub standing_is_query : IsQuery assigned_text
 unfolding everything
 standing_is_query = refl
 
+pub standing_numbers_is : IsQueryText assigned_numbers_text (ordered_query 8
+    (equal_terms (col 1 5) (col 0 0) ∷ equal_terms (col 1 6) (lit (Int (pos 0))) ∷ []) (col 1 0 ∷ []))
+unfolding understood everything
+standing_numbers_is = (_, refl, refl, (refl, refl))
+
+pub standing_numbers_is_query : IsQuery assigned_numbers_text
+unfolding everything
+standing_numbers_is_query = refl
+
 abbrev pub moving_text : List ℕ
 moving_text = codes "SELECT num, posting, source, target FROM move WHERE posting = ?1 ORDER BY num"
 
@@ -312,6 +322,15 @@ pub rows_at_concept : (concept : ℕ) (old new : State) (t : Tables) (out : List
 rows_at_concept concept = postings_shown assigned_text (Int (pos concept) ∷ [])
     (equal_terms (col 1 5) (col 0 0) ∷ equal_terms (col 1 6) (lit (Int (pos 0))) ∷ [])
     (λ x. not x.withdrawn && x.place == concept) (by_place [] concept) standing_is
+
+pub numbers_at_concept : (concept : ℕ) (old new : State) (t : Tables) (out : List Row) → Keeps old.now t
+    → Shown assigned_numbers_text (Int (pos concept) ∷ []) old new out
+    → out ≡ map values (number_cells_at_concept concept t)
+numbers_at_concept concept old new t out kept h = query_rows (λ (row : PostingRow). row.number) stored_posting
+    (λ (row : PostingRow). number_cell row.number ∷ []) 8 (col 1 0 ∷ []) (Int (pos concept) ∷ [])
+    (equal_terms (col 1 5) (col 0 0) ∷ equal_terms (col 1 6) (lit (Int (pos 0))) ∷ [])
+    (λ x. not x.withdrawn && x.place == concept) (by_place [] concept) (λ row. refl) assigned_numbers_text
+    standing_numbers_is old new t.posting out kept.schema kept.hold.posting h
 
 pub rows_of_moves : (n : ℕ) (old new : State) (t : Tables) (out : List Row) → Keeps old.now t
     → Shown moving_text (Int (pos n) ∷ []) old new out → out ≡ map values (cells_of_moves n t)

@@ -18,7 +18,7 @@ use Rattle.thes_tables.specs.declared.rows.PostingRow.{PostingRow}
 use Rattle.thes_tables.specs.declared.rows.MoveRow.{MoveRow}
 use Rattle.thes_tables.specs.Tables.{Tables}
 use Rattle.thes_tables.specs.Cells.{meta_cells, resource_rows, outside_cells, label_cells, link_cells, hier_cells}
-use Rattle.thes_tables.specs.Cells.{posting_cells, move_cells}
+use Rattle.thes_tables.specs.Cells.{posting_cells, move_cells, number_cell}
 use Rattle.thes_sql.specs.Schema.{store_schema}
 use Rattle.thes_sql.specs.StoredRows.{Keeps, values}
 
@@ -80,6 +80,10 @@ abbrev pub assigned_text : List ℕ
 assigned_text =
     codes "SELECT num, pkey, record, first_at, at, withdrawn FROM posting WHERE at = ?1 AND withdrawn = 0 ORDER BY num"
 
+-- The query for the numbers of the postings that are assigned to a concept, in increasing order.
+abbrev pub assigned_numbers_text : List ℕ
+assigned_numbers_text = codes "SELECT num FROM posting WHERE at = ?1 AND withdrawn = 0 ORDER BY num"
+
 -- The rows of table posting that have the key.
 abbrev pub cells_with_key : List ℕ → Tables → List (List Cell)
 cells_with_key key t = map posting_cells (filter (λ (x : PostingRow). eq_by_cmp (slice_cmp nat_cmp) x.key key)
@@ -93,6 +97,11 @@ cells_with_number n t = map posting_cells (filter (λ (x : PostingRow). x.number
 abbrev pub cells_at_concept : ℕ → Tables → List (List Cell)
 cells_at_concept concept t =
     map posting_cells (filter (λ (x : PostingRow). not x.withdrawn && x.place == concept) t.posting)
+
+-- The rows that have the number of a posting alone, for each posting that is assigned to the concept.
+abbrev pub number_cells_at_concept : ℕ → Tables → List (List Cell)
+number_cells_at_concept concept t =
+    map (λ (x : PostingRow). number_cell x.number ∷ []) (filter (λ x. not x.withdrawn && x.place == concept) t.posting)
 
 -- The rows of table move that are moves of the posting.
 abbrev pub cells_of_moves : ℕ → Tables → List (List Cell)

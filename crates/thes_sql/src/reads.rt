@@ -1,6 +1,6 @@
 //! Queries that read rows of the tables.
 ghost use Rattle.std.specs.Prelude.{◌≡◌};
-ghost use Rattle.thes_sql.specs.Reads.{read_text, assigned_text, cells_with_key, cells_with_number, cells_of_moves};
+ghost use Rattle.thes_sql.specs.Reads.{read_text, assigned_text, assigned_numbers_text, cells_with_key, cells_with_number, cells_of_moves};
 ghost use Rattle.thes_sql.specs.Reads.{SelectResult, LeavesAlone};
 
 use sqlite::{Alter, Connection, Error, Row, params};
@@ -32,6 +32,14 @@ pub fn assigned_query() -> &'static str
     ensures { result.now ≡ assigned_text }
 {
     "SELECT num, pkey, record, first_at, at, withdrawn FROM posting WHERE at = ?1 AND withdrawn = 0 ORDER BY num"
+}
+
+/// Returns the query for the numbers of the postings that are assigned to the concept that is its
+/// parameter, in increasing order.
+pub fn assigned_numbers_query() -> &'static str
+    ensures { result.now ≡ assigned_numbers_text }
+{
+    "SELECT num FROM posting WHERE at = ?1 AND withdrawn = 0 ORDER BY num"
 }
 
 /// Reads the rows of table posting that have the key: one row, or none.

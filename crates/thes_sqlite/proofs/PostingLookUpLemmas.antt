@@ -157,20 +157,22 @@ some_head (q ∷ qs) items row x is first told =
 abbrev number_of : ℕ → Tables → List PostingRow
 number_of n t = filter (λ (x : PostingRow). x.number == n) t.posting
 
-pub finds_no_posting : (n : ℕ) (t : Tables) (rows : List Row) → ArePostingsNumbered 1 t.posting
-    → rows ≡ map values (cells_with_number n t) → slice_get rows 0 ≡ None → IsPostingOfNumber n t None
-finds_no_posting n t rows num is none = sym (numbered_first n t.posting num) ∙ none_head (number_of n t) rows is none
+pub finds_no_row : (n : ℕ) (t : Tables) (rows : List Row) → ArePostingsNumbered 1 t.posting
+    → rows ≡ map values (cells_with_number n t) → slice_get rows 0 ≡ None → None ≡ entry_at t.posting n
+finds_no_row n t rows num is none = sym (none_head (number_of n t) rows is none) ∙ numbered_first n t.posting num
 
-pub finds_posting_with_moves : (n : ℕ) (t : Tables) (rows steps : List Row) (row : Row) (x : PostingRow)
-    (moves : List Move)
-    → ArePostingsNumbered 1 t.posting → rows ≡ map values (cells_with_number n t) → slice_get rows 0 ≡ Some row
-    → row ≡ values (posting_cells x) → steps ≡ map values (cells_of_moves n t)
+pub finds_row : (n : ℕ) (t : Tables) (rows : List Row) (row : Row) (x : PostingRow) → ArePostingsNumbered 1 t.posting
+    → rows ≡ map values (cells_with_number n t) → slice_get rows 0 ≡ Some row → row ≡ values (posting_cells x)
+    → Some x ≡ entry_at t.posting n
+finds_row n t rows row x num is first told =
+    sym (some_head (number_of n t) rows row x is first told) ∙ numbered_first n t.posting num
+
+pub finds_posting_with_moves : (n : ℕ) (t : Tables) (steps : List Row) (x : PostingRow) (moves : List Move)
+    → Some x ≡ entry_at t.posting n → steps ≡ map values (cells_of_moves n t)
     → ((ms : List MoveRow) → steps ≡ map values (map move_cells ms) → moves ≡ map recorded_move ms)
     → IsPostingOfNumber n t (Some (record { row = x; moves = moves }))
-finds_posting_with_moves n t rows steps row x moves num is first told shown read = (
-  sym (numbered_first n t.posting num) ∙ some_head (number_of n t) rows row x is first told,
-  read (filter (λ (m : MoveRow). m.posting == n) t.move) shown,
-)
+finds_posting_with_moves n t steps x moves found shown read =
+    (sym found, read (filter (λ (m : MoveRow). m.posting == n) t.move) shown)
 
 -- The values of a move determine it.
 move_of_values : (x y : MoveRow) → values (move_cells x) ≡ values (move_cells y) → x ≡ y

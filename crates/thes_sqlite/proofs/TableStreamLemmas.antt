@@ -1,6 +1,6 @@
 -- Proves which items a sink receives for a table, and for the postings of a concept.
-use Rattle.std.proofs.Common.{◌≡◌, inl, inr, ℕ, pos, List, [], ◌∷◌, ◌++◌, map, Option, Some, None, Result, Ok, true, sym}
-use Rattle.std.proofs.Common.{refl, subst}
+use Rattle.std.proofs.Common.{◌≡◌, inl, inr, ℕ, pos, List, [], ◌∷◌, ◌++◌, map, Option, Some, None, Result, Ok, Err, true}
+use Rattle.std.proofs.Common.{sym, refl, subst, ap, ◌∙◌, append_assoc, append-nil}
 use Rattle.sqlite.specs.declared.types.Value.TheVariants.{Int}
 use Rattle.sqlite.specs.Order.{Row}
 use Rattle.sqlite.specs.Effect.{Database}
@@ -12,17 +12,18 @@ use Rattle.thes_base.specs.declared.fault.Fault.{Fault}
 use Rattle.thes_tables.specs.declared.cells.Cell.{Cell}
 use Rattle.thes_tables.specs.declared.rows.PostingRow.{PostingRow}
 use Rattle.thes_tables.specs.Tables.{Tables}
-use Rattle.thes_tables.specs.Cells.{posting_cells}
-use Rattle.thes_store.specs.Reading.{assigned_posting_rows}
+use Rattle.thes_tables.specs.Cells.{posting_cells, number_cell}
+use Rattle.thes_store.specs.Reading.{assigned_posting_rows, row_number, assigned_row_numbers}
 use Rattle.thes_store.specs.Sinks.{SinkAcceptsAll, sink_rows_of_table}
 use Rattle.thes_sql.specs.StoredRows.{Keeps, values}
 use Rattle.thes_sql.specs.Declarations.{declares}
 use Rattle.thes_sql.specs.Queries.{Finds}
-use Rattle.thes_sql.specs.Reads.{read_text, assigned_text, rows_in_trees, IsReadable}
+use Rattle.thes_sql.specs.Reads.{read_text, assigned_text, assigned_numbers_text, number_cells_at_concept}
+use Rattle.thes_sql.specs.Reads.{rows_in_trees, IsReadable}
 use Rattle.thes_sql.proofs.QueryTextLemmas.{table_is_query}
 use Rattle.thes_sql.proofs.ReadFrameLemmas.{found_result, fails_to_find, is_understood}
-use Rattle.thes_sql.proofs.SelectLemmas.{rows_of_any_table, rows_at_concept, table_query_text}
-use Rattle.thes_sql.proofs.FirstRowLemmas.{rows_begin_table, rows_begin_assigned}
+use Rattle.thes_sql.proofs.SelectLemmas.{rows_of_any_table, rows_at_concept, numbers_at_concept, table_query_text}
+use Rattle.thes_sql.proofs.FirstRowLemmas.{rows_begin_table, rows_begin_assigned, rows_begin_numbers}
 use Rattle.thes_sqlite.specs.KeeperView.{raw_table}
 use Rattle.thes_sqlite.specs.ValueCells.{cell_of}
 use Rattle.thes_sqlite.specs.FoundRows.{PassesTable}
@@ -77,6 +78,41 @@ assigned_wants concept db t keeps = record {
         → AreRowsOf IsPostingRow rows (assigned_posting_rows concept t.posting)
     items rows e = subst (λ l. AreRowsOf IsPostingRow l (assigned_posting_rows concept t.posting)) (sym e)
         (posting_items (assigned_posting_rows concept t.posting))
+
+-- The number that a row of one column encodes.
+abbrev pub IsNumberRow : Row → ℕ → Type 0
+IsNumberRow row n = row ≡ Int (pos n) ∷ []
+
+number_items : (xs : List PostingRow)
+    → AreRowsOf IsNumberRow (map values (map (λ (x : PostingRow). number_cell x.number ∷ []) xs)) (map row_number xs)
+number_items [] = tt
+number_items (x ∷ xs) = (refl, number_items xs)
+
+pub numbers_wanted : (concept : ℕ) (db : State) (t : Tables) → Keeps db.now t
+    → Wants IsNumberRow assigned_numbers_text (Int (pos concept) ∷ []) db (assigned_row_numbers concept t.posting)
+numbers_wanted concept db t keeps = record {
+  whole = λ s new rows same shown. items rows
+      (numbers_at_concept concept s new t rows (subst (λ (d : Database). Keeps d t) (sym same) keeps) shown);
+  part = λ s rows same still begun.
+      let more = rows_begin_numbers concept s t rows (subst (λ (d : Database). Keeps d t) (sym same) keeps) still
+      begun in
+      (more.0, items (rows ++ more.0) more.1);
+}
+  where
+    items : (rows : List Row) → rows ≡ map values (number_cells_at_concept concept t)
+        → AreRowsOf IsNumberRow rows (assigned_row_numbers concept t.posting)
+    items rows e = subst (λ l. AreRowsOf IsNumberRow l (assigned_row_numbers concept t.posting)) (sym e)
+        (number_items (assigned_posting_rows concept t.posting))
+
+-- How a list takes a number: it is appended.
+abbrev pub AppendsNumber : List ℕ → ℕ → Result (Unit {0}) Fault → List ℕ → Type 0
+AppendsNumber old n (Ok done) new = new ≡ old ++ n ∷ []
+AppendsNumber old n (Err fault) new = Unit {0}
+
+pub numbers_appended : (old new xs : List ℕ) → SinkAcceptsAll AppendsNumber old xs new → new ≡ old ++ xs
+numbers_appended old new [] took = took ∙ sym (append-nil old)
+numbers_appended old new (n ∷ xs) (mid, first, rest) =
+    numbers_appended mid new xs rest ∙ ap (λ (l : List ℕ). l ++ xs) first ∙ append_assoc old (n ∷ []) xs
 
 -- A sink that has the items of an answer has the rows that the query of the table finds.
 pub table_passed : {R : Type 0} (gives : R → Table × Option (List Cell) → Result (Unit {0}) Fault → R → Type 0)

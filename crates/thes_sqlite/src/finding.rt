@@ -1,5 +1,6 @@
 //! Look-ups of postings in the database.
 ghost use Rattle.std.specs.Prelude.{◌≡◌, IfOk};
+ghost use Rattle.thes_base.specs.Resources.{entry_at};
 ghost use Rattle.thes_tables.specs.Tables.{Tables};
 ghost use Rattle.thes_sql.specs.StoredRows.{Keeps};
 ghost use Rattle.thes_sql.specs.Reads.{LeavesTables};
@@ -34,6 +35,23 @@ pub(crate) fn find_posting<S: Alter>(
     Ok(Some(read_posting(alloc, row)?))
 }
 
+/// Returns the row of the posting that has the number, if there is one.
+pub(crate) fn find_row<S: Alter>(
+    alloc: Global,
+    conn: &mut Connection<S>,
+    number: PostNo,
+) -> Result<Option<PostingRow>, Error>
+    ensures ok { HasCleanDisk (state S.Store conn.new) → IfOk result (λ row. (t : Tables)
+        → Keeps (state S.Store conn.old).now t → row ≡ entry_at t.posting number) }
+    ensures leaves { LeavesTables S.Store conn.old conn.new }
+{
+    let rows = posting_rows_with_number(conn, number)?;
+    let Some(first) = rows.first() else {
+        return Ok(None);
+    };
+    Ok(Some(read_posting(alloc, first)?))
+}
+
 /// Returns the posting that has the number with its moves, if there is one.
 pub(crate) fn find_with_moves<S: Alter>(
     alloc: Global,
@@ -46,11 +64,9 @@ pub(crate) fn find_with_moves<S: Alter>(
         → IsPostingOfNumber number t told) }
     ensures leaves { LeavesTables S.Store conn.old conn.new }
 {
-    let rows = posting_rows_with_number(conn, number)?;
-    let Some(row) = rows.first() else {
+    let Some(row) = find_row(alloc, conn, number)? else {
         return Ok(None);
     };
-    let row = read_posting(alloc, row)?;
     let steps = move_rows_of_posting(conn, number)?;
     let moves = read_moves(alloc, steps.as_slice())?;
     Ok(Some(Posting { row, moves }))

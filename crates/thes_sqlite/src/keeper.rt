@@ -1,5 +1,6 @@
 //! Storage of the tables in a database.
 ghost use Rattle.std.specs.Prelude.{◌≡◌, ◌⊎◌, false, OnOk, IfOk, IfErr};
+ghost use Rattle.thes_base.specs.Resources.{entry_at};
 ghost use Rattle.thes_tables.specs.Tables.{Tables, empty_tables};
 ghost use Rattle.thes_tables.specs.Cells.{cells_of_tables};
 ghost use Rattle.thes_sql.specs.Schema.{empty_schema};
@@ -7,7 +8,7 @@ ghost use Rattle.thes_sql.specs.TransactionEffects.{IsEmpty};
 ghost use Rattle.thes_base.specs.declared.fault.Table.{Table};
 ghost use Rattle.thes_store.specs.FoundLoads.{PassesFound};
 ghost use Rattle.thes_store.specs.Sinks.{SinkOutcome, sink_rows_of_table, sink_rows};
-ghost use Rattle.thes_store.specs.Reading.{IsPostingOfKey, IsPostingOfNumber, assigned_posting_rows};
+ghost use Rattle.thes_store.specs.Reading.{IsPostingOfKey, IsPostingOfNumber, assigned_posting_rows, assigned_row_numbers};
 ghost use Rattle.thes_store.specs.Loading.{sink_rows_of_tables};
 ghost use Rattle.thes_store.specs.Storage.{CommitFrame, DeltaFitsStorage, KeepsStorage, QueryFrame, RawAfterChanges};
 ghost use Rattle.thes_sqlite.specs.KeeperView.{IsUp, IsStore, IsKeeperUp, LeavesEither, LeavesAfter};
@@ -18,9 +19,9 @@ ghost use Rattle.thes_sql.specs.Reads.{LeavesTables};
 ghost use Rattle.sqlite.specs.Held.{state};
 
 use crate::faults::{count_fault, count_if_store, fault_of};
-use crate::finding::{find_posting, find_with_moves};
+use crate::finding::{find_posting, find_row, find_with_moves};
 use crate::migrating::migrate_database;
-use crate::row_output::{yield_postings, yield_table_rows};
+use crate::row_output::{collect_numbers, yield_postings, yield_table_rows};
 use sqlite::{Alter, Connection};
 use std::alloc::Global;
 use std::marker::Model;
@@ -289,6 +290,19 @@ impl<S: Alter> Keeper for SqlKeeper<S> {
         }
     }
 
+    fn row(&mut self, number: PostNo) -> Result<Option<PostingRow>, Fault>
+        ensures ok { IfOk result (λ row. IsKeeperUp S.Store self.new → (t : Tables)
+            → raw_of_keeper S.Store self.old ≡ cells_of_tables t → row ≡ entry_at t.posting number) }
+        ensures asks { QueryFrame (storage_view S.Store self.old) (storage_view S.Store self.new)
+            result }
+        ensures first { self.new.first ≡ self.old.first }
+    {
+        match find_row(self.alloc, &mut self.conn, number) {
+            Ok(row) => Ok(row),
+            Err(error) => Err(count_fault(&mut self.failures, fault_of(error))),
+        }
+    }
+
     fn standing<P: PostingSink>(&mut self, concept: ResNo, sink: &mut P) -> Result<(), Fault>
         ensures yields { IsKeeperUp S.Store self.new
             → (t : Tables) → raw_of_keeper S.Store self.old ≡ cells_of_tables t
@@ -300,6 +314,20 @@ impl<S: Alter> Keeper for SqlKeeper<S> {
     {
         match yield_postings(self.alloc, &mut self.conn, concept, sink) {
             Ok(_) => Ok(()),
+            Err(fault) => Err(count_fault(&mut self.failures, fault)),
+        }
+    }
+
+    fn standing_numbers(&mut self, concept: ResNo) -> Result<Vec<PostNo>, Fault>
+        ensures ok { IfOk result (λ numbers. IsKeeperUp S.Store self.new → (t : Tables)
+            → raw_of_keeper S.Store self.old ≡ cells_of_tables t
+            → numbers.items ≡ assigned_row_numbers concept t.posting) }
+        ensures asks { QueryFrame (storage_view S.Store self.old) (storage_view S.Store self.new)
+            result }
+        ensures first { self.new.first ≡ self.old.first }
+    {
+        match collect_numbers(self.alloc, &mut self.conn, concept) {
+            Ok(numbers) => Ok(numbers),
             Err(fault) => Err(count_fault(&mut self.failures, fault)),
         }
     }

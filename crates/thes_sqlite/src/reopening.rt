@@ -1,20 +1,21 @@
 //! Storage in a database that is opened again after a failure of its disk has shut it.
 ghost use Rattle.std.specs.Prelude.{◌≡◌, false, None, Some, IfOk, IfErr, IfSome, OnOk, OnErr, IsTrue};
+ghost use Rattle.thes_base.specs.Resources.{entry_at};
 ghost use Rattle.thes_tables.specs.Tables.{Tables};
 ghost use Rattle.thes_tables.specs.Cells.{cells_of_tables};
 ghost use Rattle.thes_store.specs.Causes.{IsCounted};
 ghost use Rattle.thes_store.specs.FoundLoads.{PassesFound};
 ghost use Rattle.thes_store.specs.Sinks.{SinkOutcome, sink_rows};
-ghost use Rattle.thes_store.specs.Reading.{IsPostingOfKey, IsPostingOfNumber, assigned_posting_rows};
+ghost use Rattle.thes_store.specs.Reading.{IsPostingOfKey, IsPostingOfNumber, assigned_posting_rows, assigned_row_numbers};
 ghost use Rattle.thes_sqlite.specs.Faults.{IsKeeperFault};
 ghost use Rattle.thes_store.specs.Storage.{DeltaFitsStorage, KeepsStorage, RawAfterChanges};
 ghost use Rattle.thes_sqlite.specs.Reopening.{IsKeeperStillUp, rows_still, storage_still, keeper_of_connection};
 ghost use Rattle.thes_sqlite.specs.Reopening.{IsStillOpen, FindsStill, LeavesFirst};
 
 use crate::faults::{count_fault, fault_of};
-use crate::finding::{find_posting, find_with_moves};
+use crate::finding::{find_posting, find_row, find_with_moves};
 use crate::keeper::SqlKeeper;
-use crate::row_output::{yield_postings, yield_table_rows};
+use crate::row_output::{collect_numbers, yield_postings, yield_table_rows};
 use sqlite::{Alter, Connection, Error};
 use std::alloc::Global;
 use std::marker::Model;
@@ -135,6 +136,20 @@ fn posting_later<S: Alter>(
 {
     match find_with_moves(alloc, conn, number) {
         Ok(found) => Ok(found),
+        Err(error) => Err(fault_of(error)),
+    }
+}
+
+// Returns the row of the posting of a reopened database that has the number, if there is one.
+fn row_later<S: Alter>(
+    alloc: Global,
+    conn: &mut Connection<S>,
+    number: PostNo,
+) -> Result<Option<PostingRow>, Fault>
+    ensures { IfErr result IsKeeperFault }
+{
+    match find_row(alloc, conn, number) {
+        Ok(row) => Ok(row),
         Err(error) => Err(fault_of(error)),
     }
 }
@@ -352,6 +367,23 @@ impl<S: Alter + Drop, O: Reopen<Connection<S>>> ReopeningKeeper<S, O> {
         }
     }
 
+    // Returns the row of the posting that has the number, if there is one.
+    fn row_now(&mut self, number: PostNo) -> Result<Option<PostingRow>, Fault>
+        ensures ok { IfOk result (λ row. IsKeeperStillUp S.Store self.new → (t : Tables)
+            → rows_still S.Store self.old ≡ cells_of_tables t → row ≡ entry_at t.posting number) }
+        ensures keeps { KeepsStorage (storage_still S.Store self.old)
+            (storage_still S.Store self.new) }
+        ensures kind { IfErr result IsKeeperFault }
+    {
+        if let Some(keeper) = &mut self.first {
+            return keeper.row(number);
+        }
+        match &mut self.later {
+            Some(conn) => row_later(self.alloc, conn, number),
+            None => Err(Fault::Store),
+        }
+    }
+
     // Passes the postings that are assigned to the concept to a sink, sorted by number.
     fn standing_now<P: PostingSink>(&mut self, concept: ResNo, sink: &mut P) -> Result<(), Fault>
         ensures yields { IsKeeperStillUp S.Store self.new → (t : Tables)
@@ -367,6 +399,24 @@ impl<S: Alter + Drop, O: Reopen<Connection<S>>> ReopeningKeeper<S, O> {
         }
         match &mut self.later {
             Some(conn) => yield_postings(self.alloc, conn, concept, sink),
+            None => Err(Fault::Store),
+        }
+    }
+
+    // Returns the numbers of the postings that are assigned to the concept, in increasing order.
+    fn standing_numbers_now(&mut self, concept: ResNo) -> Result<Vec<PostNo>, Fault>
+        ensures ok { IfOk result (λ numbers. IsKeeperStillUp S.Store self.new → (t : Tables)
+            → rows_still S.Store self.old ≡ cells_of_tables t
+            → numbers.items ≡ assigned_row_numbers concept t.posting) }
+        ensures keeps { KeepsStorage (storage_still S.Store self.old)
+            (storage_still S.Store self.new) }
+        ensures kind { IfErr result IsKeeperFault }
+    {
+        if let Some(keeper) = &mut self.first {
+            return keeper.standing_numbers(concept);
+        }
+        match &mut self.later {
+            Some(conn) => collect_numbers(self.alloc, conn, concept),
             None => Err(Fault::Store),
         }
     }
@@ -420,9 +470,23 @@ impl<S: Alter + Drop, O: Reopen<Connection<S>>> Keeper for ReopeningKeeper<S, O>
         }
     }
 
+    fn row(&mut self, number: PostNo) -> Result<Option<PostingRow>, Fault> {
+        match self.row_now(number) {
+            Ok(row) => Ok(row),
+            Err(fault) => Err(self.count(fault)),
+        }
+    }
+
     fn standing<P: PostingSink>(&mut self, concept: ResNo, sink: &mut P) -> Result<(), Fault> {
         match self.standing_now(concept, sink) {
             Ok(()) => Ok(()),
+            Err(fault) => Err(self.count(fault)),
+        }
+    }
+
+    fn standing_numbers(&mut self, concept: ResNo) -> Result<Vec<PostNo>, Fault> {
+        match self.standing_numbers_now(concept) {
+            Ok(numbers) => Ok(numbers),
             Err(fault) => Err(self.count(fault)),
         }
     }

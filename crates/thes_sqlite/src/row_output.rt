@@ -1,10 +1,10 @@
 //! Passes rows of the database to a sink, as cells or as postings. Each is passed as it is read, so
 //! no table is in memory as a whole.
-ghost use Rattle.std.specs.Prelude.{◌≡◌, ◌∷◌, [], None, Some, false, true, map, IfErr, OnOk};
+ghost use Rattle.std.specs.Prelude.{◌≡◌, ◌∷◌, ◌++◌, ℕ, pos, [], None, Some, false, true, map, IfErr, IfOk, OnOk};
 ghost use Rattle.thes_tables.specs.declared.rows.PostingRow.{PostingRow};
 ghost use Rattle.thes_tables.specs.Cells.{posting_cells};
 ghost use Rattle.thes_tables.specs.Tables.{Tables};
-ghost use Rattle.thes_store.specs.Reading.{assigned_posting_rows};
+ghost use Rattle.thes_store.specs.Reading.{assigned_posting_rows, assigned_row_numbers};
 ghost use Rattle.thes_store.specs.Sinks.{SinkOutcome, sink_rows_of_table};
 ghost use Rattle.thes_sql.specs.Declarations.{declares};
 ghost use Rattle.thes_sql.specs.StoredRows.{values, Keeps};
@@ -15,16 +15,18 @@ ghost use Rattle.thes_sqlite.specs.FoundRows.{PassesTable};
 ghost use Rattle.thes_sqlite.specs.ValueCells.{cell_of};
 ghost use Rattle.sqlite.specs.State.{HasCleanDisk};
 ghost use Rattle.sqlite.specs.Held.{state};
+ghost use Rattle.sqlite.specs.Order.{column};
+ghost use Rattle.sqlite.specs.declared.types.Value.TheVariants.{Int};
 
 use crate::faults::fault_of;
 use crate::found::any_cells_of;
-use crate::rows::read_posting;
+use crate::rows::{read_number, read_posting};
 use sqlite::{Alter, Connection, Error, Row, params};
 use std::alloc::Global;
 use thes_base::fault::{Fault, Table};
-use thes_base::number::ResNo;
+use thes_base::number::{PostNo, ResNo};
 use thes_sql::declarations::declares;
-use thes_sql::reads::{assigned_query, table_query};
+use thes_sql::reads::{assigned_numbers_query, assigned_query, table_query};
 use thes_store::sink::{PostingSink, RowSink};
 
 // Passes a row to a sink as a row of this table.
@@ -137,6 +139,53 @@ pub(crate) fn yield_postings<S: Alter, P: PostingSink>(
             return Ok(());
         };
         if let Err(fault) = yield_posting(alloc, row, sink) {
+            return Err(fault);
+        }
+    }
+    Err(Fault::Store)
+}
+
+// Appends the number in the first column of a row.
+fn push_number(row: &Row, numbers: &mut Vec<PostNo>) -> Result<(), Fault>
+    ensures ok { OnOk result ((n : ℕ) → column row.now 0 ≡ Int (pos n)
+        → numbers.new.items ≡ numbers.old.items ++ n ∷ []) }
+    ensures err { IfErr result IsKeeperFault }
+{
+    match read_number(row) {
+        Ok(number) => {
+            numbers.push(number)?;
+            Ok(())
+        }
+        Err(error) => Err(fault_of(error)),
+    }
+}
+
+/// Collects the numbers of the postings that are assigned to the concept, in increasing order, as
+/// they are read.
+pub(crate) fn collect_numbers<S: Alter>(
+    alloc: Global,
+    conn: &mut Connection<S>,
+    concept: ResNo,
+) -> Result<Vec<PostNo>, Fault>
+    ensures ok { HasCleanDisk (state S.Store conn.new) → IfOk result (λ numbers. (t : Tables)
+        → Keeps (state S.Store conn.old).now t
+        → numbers.items ≡ assigned_row_numbers concept t.posting) }
+    ensures err { IfErr result IsKeeperFault }
+    ensures leaves { LeavesTables S.Store conn.old conn.new }
+{
+    let mut numbers = Vec::new(alloc);
+    let mut rows = match conn.query(assigned_numbers_query(), params![concept.get()]) {
+        Ok(rows) => rows,
+        Err(error) => return Err(fault_of(error)),
+    };
+    'numbers: for _ in 0..u64::MAX {
+        if let Err(error) = rows.advance() {
+            return Err(fault_of(error));
+        }
+        let Some(row) = rows.get() else {
+            return Ok(numbers);
+        };
+        if let Err(fault) = push_number(row, &mut numbers) {
             return Err(fault);
         }
     }

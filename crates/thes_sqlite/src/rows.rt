@@ -1,15 +1,18 @@
 //! Parses rows of the database as rows of the tables.
-ghost use Rattle.std.specs.Prelude.{◌≡◌, List, map, IfOk, IfSome};
+ghost use Rattle.std.specs.Prelude.{◌≡◌, List, map, pos, IfOk, IfSome};
 ghost use Rattle.thes_tables.specs.declared.rows.MoveRow.{MoveRow};
 ghost use Rattle.thes_tables.specs.Cells.{posting_cells, move_cells};
 ghost use Rattle.thes_tables.specs.Tables.{recorded_move};
 ghost use Rattle.thes_sql.specs.StoredRows.{value_of, values};
+ghost use Rattle.sqlite.specs.Order.{column};
+ghost use Rattle.sqlite.specs.declared.types.Value.TheVariants.{Int};
 ghost use Rattle.sqlite_value.specs.Value.{owned};
 
 use sqlite::types::ValueRef;
 use sqlite::{Error, ErrorCode, Row};
 use std::alloc::{AllocError, Global};
 use thes_base::data::{Move, Moves};
+use thes_base::number::PostNo;
 use thes_load_rows::rows::{move_in, posting_in};
 use thes_tables::cells::{Cell, CellText};
 use thes_tables::rows::{MoveRow, PostingRow};
@@ -59,6 +62,17 @@ pub(crate) fn read_posting(alloc: Global, row: &Row) -> Result<PostingRow, Error
         }
     }
     Err(Error::SqliteFailure(ErrorCode::DatabaseCorrupt))
+}
+
+/// Reads the number of a posting from the first column of a row. Another value, which another
+/// program may have written, is the error `DatabaseCorrupt`.
+pub(crate) fn read_number(row: &Row) -> Result<PostNo, Error>
+    ensures { IfOk result (λ n. column row.now 0 ≡ Int (pos n)) }
+{
+    match row.get_ref(0) {
+        Ok(ValueRef::Int(n)) if 1 <= n && n <= 4_294_967_295 => Ok(PostNo::new(n as u32)),
+        _ => Err(Error::SqliteFailure(ErrorCode::DatabaseCorrupt)),
+    }
 }
 
 // Parses a row of table move. A row of another form is the error `DatabaseCorrupt`.

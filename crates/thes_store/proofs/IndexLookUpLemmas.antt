@@ -3,8 +3,9 @@ use Rattle.std.proofs.Common.{◌≡◌, inl, inr, ◌∙◌, ℕ, suc, List, []
 use Rattle.std.proofs.lemmas.Bool.{eqb-true, and_parts}
 use Rattle.std.specs.Borrow.{Bor}
 use Rattle.std.specs.Option.{option_copied}
-use Rattle.std.specs.Prelude.{Option, None, Some, IfSome, IfNone, slice_get, filter, not, ◌==◌}
-use Rattle.std.specs.BTreeMap.{get}
+use Rattle.std.specs.Prelude.{Option, None, Some, IfSome, IfNone, slice_get, filter, not, ◌==◌, nat_eq}
+use Rattle.std.specs.BTreeMap as tree
+use Rattle.std.specs.HashMap as hash
 use Rattle.std.specs.Cmp.Lexicographic.{slice_cmp}
 use Rattle.std.specs.Ordering.{nat_cmp}
 use Rattle.thes_tables.specs.declared.rows.PostingRow.{PostingRow}
@@ -27,9 +28,9 @@ in_get (x ∷ xs) row (inr later) = let g = in_get xs row later in (suc g.0, g.1
 -- it.
 none_found : (x : Keys) (rows : List PostingRow) (key : List ℕ) → ((i : ℕ) (row : PostingRow) → slice_get rows i
     ≡ Some row → KeyHasPosition x row.key i)
-    → ((i : ℕ) (row : PostingRow) → get nat_cmp x.numbers (digest_of key) ≡ Some i → slice_get rows i ≡ Some row
+    → ((i : ℕ) (row : PostingRow) → hash.get nat_eq x.numbers (digest_of key) ≡ Some i → slice_get rows i ≡ Some row
     → row.key ≡ key → ⊥)
-    → ((i : ℕ) (row : PostingRow) → get (slice_cmp nat_cmp) x.rest key ≡ Some i → slice_get rows i ≡ Some row
+    → ((i : ℕ) (row : PostingRow) → tree.get (slice_cmp nat_cmp) x.rest key ≡ Some i → slice_get rows i ≡ Some row
     → row.key ≡ key → ⊥)
     → (row : PostingRow) → IsIn row rows → row.key ≡ key → ⊥
 none_found x rows key leads position_by_digest position_by_text row h same =
@@ -40,9 +41,9 @@ none_found x rows key leads position_by_digest position_by_text row h same =
     ]
 
 pub found_by_text : (x : Keys) (rows : List PostingRow) (key : List ℕ) (place : Option ℕ)
-    (found : Option (Bor PostingRow)) → place ≡ get (slice_cmp nat_cmp) x.rest key
+    (found : Option (Bor PostingRow)) → place ≡ tree.get (slice_cmp nat_cmp) x.rest key
     → ((i : ℕ) (row : PostingRow) → slice_get rows i ≡ Some row → KeyHasPosition x row.key i)
-    → ((i : ℕ) (row : PostingRow) → get nat_cmp x.numbers (digest_of key) ≡ Some i → slice_get rows i ≡ Some row
+    → ((i : ℕ) (row : PostingRow) → hash.get nat_eq x.numbers (digest_of key) ≡ Some i → slice_get rows i ≡ Some row
     → row.key ≡ key → ⊥)
     → IfSome found (λ row. IsIn row.now rows × (row.now.key ≡ key))
     → IfNone found ((i : ℕ) (row : PostingRow) → place ≡ Some i → slice_get rows i ≡ Some row → row.key ≡ key → ⊥)

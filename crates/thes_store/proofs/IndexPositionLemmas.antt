@@ -1,7 +1,7 @@
 -- The rows at an index's positions that pass a test are the rows of the list that pass it.
 use Rattle.std.proofs.Common.{◌≡◌, ◌⊎◌, ◌+◌, ◌<◌, ◌≤◌, ◌++◌, ◌∙◌, inl, inr, ℕ, zero, suc, List, [], ◌∷◌, length, Bool}
 use Rattle.std.proofs.Common.{true, false, cond, ◌||◌, Ordering, Less, Equal, Greater, take, get_or, refl, sym, ap}
-use Rattle.std.proofs.Common.{subst, arith, append_assoc, append-nil, length-append}
+use Rattle.std.proofs.Common.{subst, arith, append_assoc, append-nil, length-append, map}
 use Rattle.std.specs.Prelude.{Option, None, Some, slice_get, filter}
 use Rattle.std.specs.Option.{IsSomeAnd}
 use Rattle.std.specs.Ordering.{MatchOrdering, nat_cmp, is_eq}
@@ -14,7 +14,7 @@ use Rattle.std.proofs.lemmas.Cmp.{ranked}
 use Rattle.std.proofs.lemmas.Map.Keys.{sorted_head, sorted_tail}
 use Rattle.std.proofs.lemmas.Option.{slice_get_past}
 use Rattle.thes_tables.specs.Tables.{IsIn}
-use Rattle.std.proofs.lemmas.List.{take_more}
+use Rattle.std.proofs.lemmas.List.{map-append, take_more}
 use Rattle.thes_tables.proofs.MoveRowLemmas.{get_at}
 use Rattle.thes_tables.proofs.RowSetLemmas.{in_append}
 use Rattle.thes_store.specs.declared.index.Index.{Index}
@@ -148,6 +148,18 @@ module _ {A : Type 0} (p : A → Bool) where
           ++ rows_at_positions p rows places
       go None = refl
       go (Some row) = push (p row) row
+
+  -- The image of the row at one more position follows the images of the rows at the positions before it.
+  pub picked_mapped : {B : Type 0} (f : A → B) (rows : List A) (places : List ℕ) (i place : ℕ) → i < length places
+      → place ≡ get_or places i place
+      → map f (rows_at_positions p rows (take i places)) ++ map f (filtered_option p (slice_get rows place))
+      ≡ map f (rows_at_positions p rows (take (i + 1) places))
+  picked_mapped f rows places i place lt is =
+      let before = rows_at_positions p rows (take i places) in
+      let one = picked_cons rows place [] ∙ append-nil (filtered_option p (slice_get rows place)) in
+      let whole = ap (rows_at_positions p rows) (take_one places i place lt is)
+      ∙ picked_append rows (take i places) (place ∷ []) ∙ ap (λ (l : List A). before ++ l) one in
+      sym (ap (map f) whole ∙ map-append f before (filtered_option p (slice_get rows place)))
 
   picked_at : (rows : List A) (i : ℕ) (row : A) (places : List ℕ) → slice_get rows i ≡ Some row
       → rows_at_positions p rows (i ∷ places) ≡ cond (p row) (row ∷ rows_at_positions p rows places)

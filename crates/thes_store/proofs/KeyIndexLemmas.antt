@@ -19,11 +19,9 @@ get_others old new key n updates q apart = updates.2 q (is_eq-slice_cmp key q �
     (λ (miss : bytes_eq key q ≡ false). miss) (cases_Bool (bytes_eq key q)))
 
 -- Inserting a key by its text keeps the positions under all other keys.
-pub kept_by_text : (old : Keys) (numbers : BTreeMap ℕ ℕ) (rest : BTreeMap (List ℕ) ℕ) (key copy : List ℕ) (n : ℕ)
-    → KeepsDigests old.numbers numbers → copy ≡ key → UpdatesBy (slice_cmp nat_cmp) (slice_cmp nat_cmp copy) old.rest
-    rest (Some n)
-    → KeepsOtherKeys key old (record { numbers = numbers; rest = rest })
-kept_by_text old numbers rest key copy n keeps same updates = λ other place apart leads. elim leads [
+pub kept_by_text : (old new : Keys) (key copy : List ℕ) (n : ℕ) → KeepsDigests old.numbers new.numbers → copy ≡ key
+    → UpdatesBy (slice_cmp nat_cmp) (slice_cmp nat_cmp copy) old.rest new.rest (Some n) → KeepsOtherKeys key old new
+kept_by_text old new key copy n keeps same updates = λ other place apart leads. elim leads [
   | inl number ↦ inl (keeps (digest_of other) place number)
-  | inr text ↦ inr (get_others old.rest rest copy n updates other (λ is. apart (sym is ∙ same)) ∙ text)
+  | inr text ↦ inr (get_others old.rest new.rest copy n updates other (λ is. apart (sym is ∙ same)) ∙ text)
 ]

@@ -1,6 +1,7 @@
 -- The positions that an index has under each key.
-use Rattle.std.specs.Prelude.{◌≡◌, ◌≢◌, ◌⊎◌, ℕ, List, Some}
-use Rattle.std.specs.BTreeMap.{BTreeMap, get}
+use Rattle.std.specs.Prelude.{◌≡◌, ◌≢◌, ◌⊎◌, ℕ, List, Some, nat_eq}
+use Rattle.std.specs.BTreeMap as tree
+use Rattle.std.specs.HashMap as hash
 use Rattle.std.specs.Cmp.Lexicographic.{slice_cmp}
 use Rattle.std.specs.Hash.FoldHasher.{initial, write, finish}
 use Rattle.std.specs.Ordering.{nat_cmp}
@@ -12,12 +13,12 @@ digest_of key = finish (write initial key)
 
 -- The index has this position under the key's digest or under its text.
 abbrev pub KeyHasPosition : Keys → List ℕ → ℕ → Type 0
-KeyHasPosition x key place = (get nat_cmp x.numbers (digest_of key) ≡ Some place)
-    ⊎ (get (slice_cmp nat_cmp) x.rest key ≡ Some place)
+KeyHasPosition x key place = (hash.get nat_eq x.numbers (digest_of key) ≡ Some place)
+    ⊎ (tree.get (slice_cmp nat_cmp) x.rest key ≡ Some place)
 
 -- The new map has each position that the old one has, under the same digest.
-abbrev pub KeepsDigests : BTreeMap ℕ ℕ → BTreeMap ℕ ℕ → Type 0
-KeepsDigests old new = (n place : ℕ) → get nat_cmp old n ≡ Some place → get nat_cmp new n ≡ Some place
+abbrev pub KeepsDigests : {S : Type 0} → hash.HashMap ℕ ℕ S → hash.HashMap ℕ ℕ S → Type 0
+KeepsDigests old new = (n place : ℕ) → hash.get nat_eq old n ≡ Some place → hash.get nat_eq new n ≡ Some place
 
 -- Under each key other than this one, the new index has each position that the old one has.
 abbrev pub KeepsOtherKeys : List ℕ → Keys → Keys → Type 0

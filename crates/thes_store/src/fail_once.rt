@@ -26,8 +26,12 @@ pub enum Next {
     Find,
     /// The next `posting` fails.
     Posting,
+    /// The next `row` fails.
+    Row,
     /// The next `standing` fails.
     Standing,
+    /// The next `standing_numbers` fails.
+    StandingNumbers,
 }
 
 /// Storage in memory of which the next call of one kind fails, and no call after it.
@@ -96,10 +100,24 @@ impl Keeper for FailOnce {
         self.keeper.posting(number)
     }
 
+    fn row(&mut self, number: PostNo) -> Result<Option<PostingRow>, Fault> {
+        if self.next == Next::Row {
+            return Err(self.fail());
+        }
+        self.keeper.row(number)
+    }
+
     fn standing<S: PostingSink>(&mut self, concept: ResNo, sink: &mut S) -> Result<(), Fault> {
         if self.next == Next::Standing {
             return Err(self.fail());
         }
         self.keeper.standing(concept, sink)
+    }
+
+    fn standing_numbers(&mut self, concept: ResNo) -> Result<Vec<PostNo>, Fault> {
+        if self.next == Next::StandingNumbers {
+            return Err(self.fail());
+        }
+        self.keeper.standing_numbers(concept)
     }
 }

@@ -1,11 +1,12 @@
 //! The interface of the storage: which calls it has, and what each guarantees.
 ghost use Rattle.std.specs.Prelude.{◌≡◌, IfOk, OnOk};
+ghost use Rattle.thes_base.specs.Resources.{entry_at};
 ghost use Rattle.thes_tables.specs.Tables.{Tables};
 ghost use Rattle.thes_tables.specs.Cells.{Raw, cells_of_tables};
 ghost use Rattle.thes_store.specs.FoundLoads.{PassesFound};
 ghost use Rattle.thes_store.specs.Sinks.{SinkOutcome, sink_rows};
 ghost use Rattle.thes_store.specs.Storage.{StorageView, QueryFrame, CommitFrame, DeltaFitsStorage, RawAfterChanges};
-ghost use Rattle.thes_store.specs.Reading.{IsPostingOfKey, IsPostingOfNumber, assigned_posting_rows};
+ghost use Rattle.thes_store.specs.Reading.{IsPostingOfKey, IsPostingOfNumber, assigned_posting_rows, assigned_row_numbers};
 
 use crate::sink::{PostingSink, RowSink};
 use std::marker::Model;
@@ -74,11 +75,24 @@ pub trait Keeper {
             → (view self.old).rows ≡ cells_of_tables t → IsPostingOfNumber number t told) }
         ensures asks { QueryFrame (view self.old) (view self.new) result };
 
+    /// Returns the row of the posting with the number, without its moves, if there is one.
+    fn row(&mut self, number: PostNo) -> Result<Option<PostingRow>, Fault>
+        ensures ok { IfOk result (λ row. (view self.new).is_up → (t : Tables)
+            → (view self.old).rows ≡ cells_of_tables t → row ≡ entry_at t.posting number) }
+        ensures asks { QueryFrame (view self.old) (view self.new) result };
+
     /// Passes the postings assigned to a concept to a sink, in the order of their numbers.
     fn standing<S: PostingSink>(&mut self, concept: ResNo, sink: &mut S) -> Result<(), Fault>
         ensures yields { (view self.new).is_up → (t : Tables)
             → (view self.old).rows ≡ cells_of_tables t
             → SinkOutcome S.gives sink.old (assigned_posting_rows concept t.posting) result
             sink.new }
+        ensures asks { QueryFrame (view self.old) (view self.new) result };
+
+    /// Returns the numbers of the postings assigned to a concept, in increasing order.
+    fn standing_numbers(&mut self, concept: ResNo) -> Result<Vec<PostNo>, Fault>
+        ensures ok { IfOk result (λ numbers. (view self.new).is_up → (t : Tables)
+            → (view self.old).rows ≡ cells_of_tables t
+            → numbers.items ≡ assigned_row_numbers concept t.posting) }
         ensures asks { QueryFrame (view self.old) (view self.new) result };
 }

@@ -1,13 +1,14 @@
 //! An index from keys to the positions of postings.
-ghost use Rattle.std.specs.Prelude.{◌≡◌, Some, true, IfOk, OnOk};
-ghost use Rattle.std.specs.BTreeMap.{get};
+ghost use Rattle.std.specs.Prelude.{◌≡◌, nat_eq, Some, true, IfOk, OnOk};
+ghost use Rattle.std.specs.BTreeMap as tree;
+ghost use Rattle.std.specs.HashMap as hash;
 ghost use Rattle.std.specs.Cmp.Lexicographic.{slice_cmp};
 ghost use Rattle.std.specs.Ordering.{nat_cmp};
 ghost use Rattle.thes_store.specs.Keys.{digest_of, KeyHasPosition, KeepsDigests, KeepsOtherKeys};
 
 use std::alloc::{AllocError, Global};
-use std::collections::BTreeMap;
-use std::collections::btree_map::Entry;
+use std::collections::hash_map::Entry;
+use std::collections::{BTreeMap, HashMap};
 use std::hash::{FoldHasher, Hasher};
 use thes_base::text::Key;
 
@@ -16,7 +17,7 @@ use thes_base::text::Key;
 /// cache misses, or under its text if another key has that digest.
 #[derive(Drop)]
 pub struct Keys {
-    numbers: BTreeMap<u64, usize>,
+    numbers: HashMap<u64, usize>,
     rest: BTreeMap<Key, usize>,
 }
 
@@ -24,7 +25,7 @@ impl Keys {
     /// Creates an empty index without allocating.
     pub fn new(alloc: Global) -> Keys {
         Keys {
-            numbers: BTreeMap::new(alloc),
+            numbers: HashMap::new(alloc),
             rest: BTreeMap::new(alloc),
         }
     }
@@ -42,14 +43,14 @@ impl Keys {
 
     /// Returns the position under the key's digest, which may be that of another key.
     pub fn position_by_digest(&self, key: &Key) -> Option<usize>
-        ensures { result ≡ get nat_cmp self.now.numbers (digest_of key.now) }
+        ensures { result ≡ hash.get nat_eq self.now.numbers (digest_of key.now) }
     {
         self.numbers.get(&digest(key)).copied()
     }
 
     /// Returns the position under the key's text, if another key has its digest.
     pub fn position_by_text(&self, key: &Key) -> Option<usize>
-        ensures { result ≡ get (slice_cmp nat_cmp) self.now.rest key.now }
+        ensures { result ≡ tree.get (slice_cmp nat_cmp) self.now.rest key.now }
     {
         self.rest.get(key).copied()
     }
@@ -57,12 +58,13 @@ impl Keys {
 
 // Inserts a position under the digest if it has none yet, and returns whether it was inserted.
 fn insert_digest(
-    numbers: &mut BTreeMap<u64, usize>,
+    numbers: &mut HashMap<u64, usize>,
     number: u64,
     place: usize,
 ) -> Result<bool, AllocError>
     ensures keeps { KeepsDigests numbers.old numbers.new }
-    ensures ok { IfOk result (λ leads. leads ≡ true → get nat_cmp numbers.new number ≡ Some place) }
+    ensures ok { IfOk result (λ leads. leads ≡ true
+        → hash.get nat_eq numbers.new number ≡ Some place) }
 {
     match numbers.entry(number)? {
         Entry::Occupied(_) => Ok(false),

@@ -5,7 +5,7 @@ ghost use Rattle.thes_tables.specs.declared.rows.PostingRow.{PostingRow};
 ghost use Rattle.thes_tables.specs.Tables.{IsIn, is_assigned_row, empty_tables, recorded_move};
 ghost use Rattle.thes_store.specs.Keys.{KeyHasPosition};
 ghost use Rattle.thes_store.specs.RowsAtPositions.{is_move_of, filtered_option, rows_at_positions};
-ghost use Rattle.thes_store.specs.Reading.{IsPostingOfKey};
+ghost use Rattle.thes_store.specs.Reading.{IsPostingOfKey, row_number};
 ghost use Rattle.thes_store.specs.Sinks.{SinkOutcome};
 
 use crate::indexes::{Indexes, cover_all};
@@ -143,6 +143,42 @@ fn push_move(moves: &mut Moves, row: Option<&MoveRow>, posting: PostNo) -> Resul
     }
 }
 
+// Appends the number of a posting, if there is one and it is assigned to the concept.
+fn push_number(
+    numbers: &mut Vec<PostNo>,
+    row: Option<&PostingRow>,
+    concept: ResNo,
+) -> Result<(), AllocError>
+    ensures { OnOk result (numbers.new.items ≡ numbers.old.items
+        ++ map row_number (filtered_option (is_assigned_row concept) (option_copied row.entry))) }
+{
+    match row {
+        Some(row) if !row.withdrawn && row.place == concept => {
+            numbers.push(row.number)?;
+            Ok(())
+        }
+        _ => Ok(()),
+    }
+}
+
+// Returns the numbers of the postings at these positions that are assigned to the concept, in the order of the
+// positions.
+fn numbers_at(
+    alloc: Global,
+    rows: &[PostingRow],
+    places: &[usize],
+    concept: ResNo,
+) -> Result<Vec<PostNo>, AllocError>
+    ensures { IfOk result (λ numbers. numbers.items
+        ≡ map row_number (rows_at_positions (is_assigned_row concept) rows.now places.now)) }
+{
+    let mut numbers = Vec::new(alloc);
+    for place in places {
+        push_number(&mut numbers, posting_at(rows, *place), concept)?;
+    }
+    Ok(numbers)
+}
+
 // Passes a posting to a sink, if there is one and it is assigned to the concept.
 fn yield_if_assigned<S: PostingSink>(
     row: Option<&PostingRow>,
@@ -230,6 +266,11 @@ impl Keeper for MemKeeper {
         Ok(Some(Posting { row, moves }))
     }
 
+    fn row(&mut self, number: PostNo) -> Result<Option<PostingRow>, Fault> {
+        let row = posting_at(self.tables.posting.as_slice(), number.get() as usize - 1);
+        Ok(copy_row(self.alloc, row)?)
+    }
+
     fn standing<S: PostingSink>(&mut self, concept: ResNo, sink: &mut S) -> Result<(), Fault> {
         let places = self.indexes.standing.places(concept.get())?;
         yield_postings(
@@ -238,5 +279,11 @@ impl Keeper for MemKeeper {
             concept,
             sink,
         )
+    }
+
+    fn standing_numbers(&mut self, concept: ResNo) -> Result<Vec<PostNo>, Fault> {
+        let positions = self.indexes.standing.places(concept.get())?;
+        let rows = self.tables.posting.as_slice();
+        Ok(numbers_at(self.alloc, rows, positions.as_slice(), concept)?)
     }
 }

@@ -101,7 +101,15 @@ impl<K: Keeper, P: Progress + Copy> Keeper for ReportingKeeper<K, P> {
         self.keeper.posting(number)
     }
 
+    fn row(&mut self, number: PostNo) -> Result<Option<PostingRow>, Fault> {
+        self.keeper.row(number)
+    }
+
     fn standing<S: PostingSink>(&mut self, concept: ResNo, sink: &mut S) -> Result<(), Fault> {
         self.keeper.standing(concept, sink)
+    }
+
+    fn standing_numbers(&mut self, concept: ResNo) -> Result<Vec<PostNo>, Fault> {
+        self.keeper.standing_numbers(concept)
     }
 }

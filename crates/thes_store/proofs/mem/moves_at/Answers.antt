@@ -1,12 +1,11 @@
-use Rattle.std.proofs.Common.{◌≡◌, ◌∙◌, ◌++◌, ◌∷◌, [], List, map, take, get_or, ap, sym, append-nil, rules}
+use Rattle.std.proofs.Common.{◌≡◌, ◌∙◌, ◌++◌, List, map, take, get_or, ap, rules}
 use Rattle.std.specs.Prelude.{Option, slice_get}
 use Rattle.std.specs.Option.{option_copied}
-use Rattle.std.proofs.lemmas.List.{map-append}
 use Rattle.thes_base.specs.declared.data.Move.{Move}
 use Rattle.thes_tables.specs.declared.rows.MoveRow.{MoveRow}
 use Rattle.thes_tables.specs.Tables.{recorded_move}
 use Rattle.thes_store.specs.RowsAtPositions.{is_move_of, filtered_option, rows_at_positions}
-use Rattle.thes_store.proofs.IndexPositionLemmas.{take_one, picked_append, picked_cons}
+use Rattle.thes_store.proofs.IndexPositionLemmas.{picked_mapped}
 use Rattle.thes_store.proofs.mem.moves_at.Goals as goal
 
 pub loop-place-preserved : goal.loop-place-preserved
@@ -17,13 +16,8 @@ loop-place-preserved c =
     let p = is_move_of c.args.posting in
     let rows = c.args.rows.now in
     let at : option_copied c.move_at.result ≡ slice_get rows place = c.move_at.ensures in
-    let whole = ap (rows_at_positions p rows) (take_one places i place c.loop-place-test.true (search rules))
-    ∙ picked_append p rows (take i places) (place ∷ [])
-    ∙ ap (λ (l : List MoveRow). rows_at_positions p rows (take i places) ++ l) (picked_cons p rows place []
-    ∙ append-nil (filtered_option p (slice_get rows place))) in
     c.in_ok-push_move.ensures
     ∙ ap (λ (l : List Move). l ++ map recorded_move (filtered_option p (option_copied c.move_at.result)))
     c.loop-place.invariant ∙ ap (λ (o : Option MoveRow). map recorded_move (rows_at_positions p rows (take i places))
     ++ map recorded_move (filtered_option p o)) at
-    ∙ sym (ap (map recorded_move) whole ∙ map-append recorded_move (rows_at_positions p rows (take i places))
-    (filtered_option p (slice_get rows place)))
+    ∙ picked_mapped p recorded_move rows places i place c.loop-place-test.true (search rules)
