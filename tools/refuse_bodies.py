@@ -671,7 +671,8 @@ def try_crates(edits, given):
 
         with ThreadPoolExecutor(given.lanes) as pool:
             for crate in pool.map(in_a_lane, sorted(edits, key=lambda it: -len(edits[it]))):
-                counts = f"{sum(it.is_refused for it in crate.edits)} of {len(crate.edits)} wrong bodies refused"
+                kind = "neutral edits" if given.control else "wrong bodies"
+                counts = f"{sum(it.is_refused for it in crate.edits)} of {len(crate.edits)} {kind} refused"
                 print(f"{crate.name}: {counts} in {crate.rounds} rounds; CPU {crate.cpu:.0f} s", flush=True)
                 faults += [f"{it.name}: {it.fault}" for it in crate.edits if it.fault]
                 untried += [it.name for it in crate.waiting()]
