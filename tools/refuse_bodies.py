@@ -15,8 +15,8 @@ The check takes over what out/ holds of an earlier check; without that, each cra
 the crates are known to be proved, as `rt ci` leaves them, with their libraries in out/: then none is proved for this but
 the functions that edited ones call.
 With --control a neutral edit takes the place of the wrong bodies of each function: one value becomes two cases with the same
-result. Where that is refused, too, the proof rests on the function's shape, and the refusals of its wrong bodies tell little. Run
-it once in a while: the functions to look into are printed, and the record stays as it is.
+result. Where that is refused, too, the proof rests on the function's shape, and the refusals of wrong bodies that change the shape,
+by a branch or an exit, tell little. Run it once in a while: these are printed, and the record stays as it is.
 If all wrong bodies of a crate are refused, its line in the record tests/refused.txt gets a sum of what that rests on: the
 toolchain, the sources of the crate and of those below it, and the bodies. As long as the sum stays, they aren't tried
 again but with --all. Commit the record with the change.
@@ -68,6 +68,8 @@ SPLIT = (
     (re.compile(r"(\s*)(?!let\b|return\b|break\b|continue\b|prove!|use\b)(\w[^{}]*;)()"), "{0}if 1 < 2 {{ {1} }} else {{ {1} }}{2}"),
     (re.compile(r"(\s*)(?!let\b|return\b|break\b|continue\b|&&)([\w&*!(\[].*[^;{,])()"), "{0}if 1 < 2 {{ {1} }} else {{ {1} }}{2}"),
 )
+# What gives a function its shape: branches, loops and exits.
+SHAPE = re.compile(r"\b(?:if|else|match|for|while|return|continue|break)\b|\?|&&|\|\|")
 # The memory of one check, in KiB.
 CHECK_NEEDS = 3_000_000
 # Crates with the sums over which all their wrong bodies were refused.
@@ -153,11 +155,19 @@ class NeutralEdit(Edit):
         lines = (crate_folder / path).read_text(encoding="utf-8").split("\n")
         body = body_of(lines, at)
         changed = [first for edit in edits for it, first, *_ in edit.hunks if it == path and first in body]
-        self.name, self.functions, self.bodies = f"{crate_folder.name}/{function.name}", [function], [it.name for it in edits]
+        self.name, self.functions = f"{crate_folder.name}/{function.name}", [function]
+        # The wrong bodies that have another shape.
+        self.bodies = [it.name for it in edits if any(changes_shape(crate_folder, *hunk) for hunk in it.hunks)]
         self.hunks = next(([(path, i, i + 1, [new])] for i in [*changed, *body] if (new := split_in_two(lines, i))), [])
         self.fault, self.is_refused, self.goals, self.room = None, False, [], sys.maxsize
         if not self.hunks:
             raise BadEdit("no line of it has a value by itself")
+
+
+def changes_shape(crate_folder, path, first, last, new):
+    """Whether an edit adds or removes a branch, a loop or an exit."""
+    was = (crate_folder / path).read_text(encoding="utf-8").split("\n")[first:last]
+    return sorted(SHAPE.findall("\n".join(was))) != sorted(SHAPE.findall("\n".join(new)))
 
 
 def body_of(lines, at):
@@ -596,7 +606,7 @@ def report_control(edits, without, untried, cpu):
     held = [it for it in tried if (it.fault or "").startswith("NOT REFUSED")]
     for it in (it for it in tried if it.is_refused):
         print(f"refuse-bodies: {it.name}: a neutral edit is refused, too: {'; '.join(goal[:160] for goal in it.goals)}")
-        print(f"    so these refusals tell little: {', '.join(it.bodies)}")
+        print(f"    these refusals tell little: {', '.join(it.bodies) or 'none, since all wrong bodies keep the shape'}")
     for it in (it for it in tried if it.fault and it not in held):
         print(f"refuse-bodies: {it.name}: {it.hunks[0][3][0].strip()}: {it.fault}")
     for it in without:
