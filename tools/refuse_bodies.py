@@ -14,6 +14,9 @@ change a function's body and still compile.
 The check takes over what out/ holds of an earlier check; without that, each crate is proved once first. With --proved
 the crates are known to be proved, as `rt ci` leaves them, with their libraries in out/: then none is proved for this but
 the functions that edited ones call.
+With --control a neutral edit takes the place of the wrong bodies of each function: one value becomes two cases with the same
+result. Where that is refused, too, the proof rests on the function's shape, and the refusals of wrong bodies that change the shape,
+by a branch or an exit, tell little. Run it once in a while: these are printed, and the record stays as it is.
 If all wrong bodies of a crate are refused, its line in the record tests/refused.txt gets a sum of what that rests on: the
 toolchain, the sources of the crate and of those below it, and the bodies. As long as the sum stays, they aren't tried
 again but with --all. Commit the record with the change.
@@ -26,6 +29,7 @@ Examples:
   tools/refuse_bodies.py thes_graph                 the wrong bodies of one crate
   tools/refuse_bodies.py --dry                      only whether each edit can be applied
   tools/refuse_bodies.py --body merge thes_core     those whose names contain `merge`
+  tools/refuse_bodies.py --control thes_core        neutral edits of the functions that have wrong bodies
 """
 import argparse
 import functools
@@ -56,6 +60,16 @@ ERROR = re.compile(r"(?:\./)?(\S+?):(\d+):\d+: error\S*: (.*)")
 # What a run fails by that is lenient: a body that is proved, and one that was not tried.
 PROVED = ("NOT REFUSED", "cannot be applied", "does not check as it is", "cannot be read")
 GONE = re.compile(r"has no field|is not in scope|has no `|was not admitted")
+# What a neutral edit makes of a line: an arm of a match, a value that is named, assigned or returned, or the last value of a block.
+SPLIT = (
+    (re.compile(r"(\s*[^\s].*? => )((?!return\b|break\b|continue\b|\{).+)(,)"), "{0}if 1 < 2 {{ {1} }} else {{ {1} }}{2}"),
+    (re.compile(r"(\s*(?:let [^=]+?|[\w.*\[\]]+(?: [-+*/|&^])?) ?= )(.+)(;)"), "{0}if 1 < 2 {{ {1} }} else {{ {1} }}{2}"),
+    (re.compile(r"(\s*return )(.+)(;)"), "{0}if 1 < 2 {{ {1} }} else {{ {1} }}{2}"),
+    (re.compile(r"(\s*)(?!let\b|return\b|break\b|continue\b|prove!|use\b)(\w[^{}]*;)()"), "{0}if 1 < 2 {{ {1} }} else {{ {1} }}{2}"),
+    (re.compile(r"(\s*)(?!let\b|return\b|break\b|continue\b|&&)([\w&*!(\[].*[^;{,])()"), "{0}if 1 < 2 {{ {1} }} else {{ {1} }}{2}"),
+)
+# What gives a function its shape: branches, loops and exits.
+SHAPE = re.compile(r"\b(?:if|else|match|for|while|return|continue|break)\b|\?|&&|\|\|")
 # The memory of one check, in KiB.
 CHECK_NEEDS = 3_000_000
 # Crates with the sums over which all their wrong bodies were refused.
@@ -112,7 +126,7 @@ class Edit:
     def __init__(self, crate_folder, file):
         self.name = f"{crate_folder.name}/{file.name}"
         self.hunks, self.functions = [], []
-        self.fault, self.is_refused = None, False
+        self.fault, self.is_refused, self.goals = None, False, []
         # How many may be tried in one round with it.
         self.room = sys.maxsize
         for path, text in texts_after(crate_folder, file).items():
@@ -129,6 +143,76 @@ class Edit:
     def own(self, names):
         """Returns those of the names that mean a function which this edit changes."""
         return [it for it in names if any(function.is_named(it) for function in self.functions)]
+
+
+class NeutralEdit(Edit):
+    """An edit that makes two cases of a value in a function, with the same result: in a line that a wrong body changes, or else in the
+    first one in which there is a value."""
+
+    def __init__(self, crate_folder, edits):
+        function = edits[0].functions[0]
+        path, at = function.place
+        lines = (crate_folder / path).read_text(encoding="utf-8").split("\n")
+        body = body_of(lines, at)
+        changed = [first for edit in edits for it, first, *_ in edit.hunks if it == path and first in body]
+        self.name, self.functions = f"{crate_folder.name}/{function.name}", [function]
+        # The wrong bodies that have another shape.
+        self.bodies = [it.name for it in edits if any(changes_shape(crate_folder, *hunk) for hunk in it.hunks)]
+        self.hunks = next(([(path, i, i + 1, [new])] for i in [*changed, *body] if (new := split_in_two(lines, i))), [])
+        self.fault, self.is_refused, self.goals, self.room = None, False, [], sys.maxsize
+        if not self.hunks:
+            raise BadEdit("no line of it has a value by itself")
+
+
+def changes_shape(crate_folder, path, first, last, new):
+    """Whether an edit adds or removes a branch, a loop or an exit."""
+    was = (crate_folder / path).read_text(encoding="utf-8").split("\n")[first:last]
+    return sorted(SHAPE.findall("\n".join(was))) != sorted(SHAPE.findall("\n".join(new)))
+
+
+def body_of(lines, at):
+    """Returns the numbers of the lines of a function's body."""
+    indent = FUNCTION.match(lines[at])[1]
+    is_start = lambda it: it == f"{indent}{{" or re.fullmatch(r"(?! *(?:ensures|requires|decreases)\b).* \{", it)
+    start = next((i for i in range(at, len(lines)) if is_start(lines[i])), at)
+    end = next((i for i in range(start, len(lines)) if lines[i] == f"{indent}}}"), start)
+    return range(start + 1, end)
+
+
+def split_in_two(lines, at):
+    """Returns a line with its value as two cases, or None if it has none by itself."""
+    for place, (pattern, new) in enumerate(SPLIT):
+        match = pattern.fullmatch(lines[at])
+        is_last = lines[at + 1].strip().startswith("}") and re.search(r"[;{}]$", lines[at - 1])
+        if match and is_whole(match[2]) and (is_last or place < len(SPLIT) - 1):
+            return new.format(*match.groups())
+    return None
+
+
+def is_whole(text):
+    """Whether the brackets of a text are closed in it, and none that isn't opened in it."""
+    opened = []
+    for it in re.sub(r'"(?:[^"\\]|\\.)*"|\'(?:[^\'\\]|\\.)\'', "", text):
+        if it in "([{":
+            opened.append(")]}"["([{".index(it)])
+        elif it in ")]}" and (not opened or opened.pop() != it):
+            return False
+    return not opened
+
+
+def neutral_edits(root, edits):
+    """Returns a neutral edit for each function with wrong bodies, by crate, and the functions for which there is none."""
+    found, without = {}, []
+    for name, of_crate in edits.items():
+        by_place = {}
+        for edit in of_crate:
+            by_place.setdefault(edit.functions[0].place, []).append(edit)
+        for same in by_place.values():
+            try:
+                found.setdefault(name, []).append(NeutralEdit(root / "crates" / name, same))
+            except BadEdit as why:
+                without.append(f"{name}/{same[0].functions[0].name}: {why}")
+    return found, without
 
 
 def texts_after(folder, file):
@@ -348,7 +432,7 @@ def judge(batch, said):
             edit.fault = f"it does not compile: {why}"
         elif said.is_verdict and said.open_goals(edit):
             # (a goal of its own is open whatever became of others: its proof rests on their contracts alone)
-            edit.is_refused = True
+            edit.is_refused, edit.goals = True, said.open_goals(edit)
         elif is_sure and said.errors_in_proofs(edit) and not edit.own(said.rests):
             edit.fault = "a proof file names what the edit took away, and nothing else refuses it: change a value"
         elif is_sure and edit.own(said.proved) and not edit.own({**said.rests, **said.others}):
@@ -516,6 +600,24 @@ def report(edits, recorded, faults, untried, cpu, is_lenient):
     return 1 if failing or not count or untried and not is_lenient else 0
 
 
+def report_control(edits, without, untried, cpu):
+    """Reports the outcome of all neutral edits, and returns the exit status."""
+    tried = [it for of_crate in edits.values() for it in of_crate]
+    held = [it for it in tried if (it.fault or "").startswith("NOT REFUSED")]
+    for it in (it for it in tried if it.is_refused):
+        print(f"refuse-bodies: {it.name}: a neutral edit is refused, too: {'; '.join(goal[:160] for goal in it.goals)}")
+        print(f"    these refusals tell little: {', '.join(it.bodies) or 'none, since all wrong bodies keep the shape'}")
+    for it in (it for it in tried if it.fault and it not in held):
+        print(f"refuse-bodies: {it.name}: {it.hunks[0][3][0].strip()}: {it.fault}")
+    for it in without:
+        print(f"refuse-bodies: {it}")
+    refused = sum(it.is_refused for it in tried)
+    others = len(tried) - len(held) - refused - len(untried)
+    counts = f"{len(held)} still proved, {refused} refused, {others} with another outcome, {len(untried)} not tried"
+    print(f"refuse-bodies: {len(tried)} neutral edits, {counts}; {len(without)} functions without one; CPU {cpu:.0f} s")
+    return 0 if tried else 2
+
+
 def words_given():
     about, _, more = __doc__.partition("\n\n")
     raw = argparse.RawDescriptionHelpFormatter
@@ -525,6 +627,7 @@ def words_given():
     parser.add_argument("--lanes", type=int, default=lanes(), help="how many crates are tried at a time")
     parser.add_argument("--all", action="store_true", help="also try what the record says was seen refused")
     parser.add_argument("--body", default="", help="only the wrong bodies whose names have this word; they come into no record")
+    parser.add_argument("--control", action="store_true", help="try neutral edits of the functions that have wrong bodies")
     parser.add_argument("--dry", action="store_true", help="say only which edits cannot be applied")
     parser.add_argument("--lenient", action="store_true", help="fail only for a body that is proved or cannot be applied")
     parser.add_argument("--minutes", type=float, default=math.inf, help="begin no round after these, and name the edits that are left")
@@ -545,6 +648,10 @@ def main():
     edits, faults = read_edits(given.root, names, given.body)
     if given.dry:
         return report(edits, [], faults, [], 0, given.lenient)
+    if given.control:
+        neutral, without = neutral_edits(given.root, edits)
+        _, untried, cpu = try_crates(neutral, given) if neutral else ([], [], 0)
+        return report_control(neutral, without, untried, cpu)
     record = {} if given.all or given.body else read_record(given.root)
     recorded = [it for it in edits if it in record and record[it] == sum_of(given.root, it)]
     for name in recorded:
@@ -574,12 +681,13 @@ def try_crates(edits, given):
 
         with ThreadPoolExecutor(given.lanes) as pool:
             for crate in pool.map(in_a_lane, sorted(edits, key=lambda it: -len(edits[it]))):
-                counts = f"{sum(it.is_refused for it in crate.edits)} of {len(crate.edits)} wrong bodies refused"
+                kind = "neutral edits" if given.control else "wrong bodies"
+                counts = f"{sum(it.is_refused for it in crate.edits)} of {len(crate.edits)} {kind} refused"
                 print(f"{crate.name}: {counts} in {crate.rounds} rounds; CPU {crate.cpu:.0f} s", flush=True)
                 faults += [f"{it.name}: {it.fault}" for it in crate.edits if it.fault]
                 untried += [it.name for it in crate.waiting()]
                 cpu += crate.cpu
-                if not given.body and all(it.is_refused for it in crate.edits):
+                if not given.body and not given.control and all(it.is_refused for it in crate.edits):
                     write_record(given.root, crate.name, sums[crate.name])
     return faults, untried, cpu
 

@@ -5,6 +5,7 @@ import os
 import re
 import shutil
 import subprocess
+import sys
 from pathlib import Path
 from typing import NamedTuple
 
@@ -30,10 +31,11 @@ class Ended(NamedTuple):
 
 @functools.cache
 def built():
-    """The program itself, built by the launcher if need be."""
+    """The program itself, built by the launcher if need be; `tests/run` lets it build nothing."""
     if PROGRAM != LAUNCHER:
         return PROGRAM
-    subprocess.run([LAUNCHER, "--help"], stdout=subprocess.DEVNULL, check=True)
+    if status := subprocess.run([LAUNCHER, "--help"], stdout=subprocess.DEVNULL, check=False).returncode:
+        sys.exit(status)
     return ROOT / "crates" / "thes_cli" / "out" / "thes_cli"
 
 

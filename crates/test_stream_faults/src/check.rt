@@ -1,5 +1,6 @@
 //! Checks of the answers to an example, with or without a failed allocation.
 use crate::example::Example;
+use crate::page::FixedPage;
 use crate::run::{End, ExampleRun};
 use std::alloc::{AllocError, Global};
 use std::io;
@@ -7,6 +8,9 @@ use test_office::{Store, store_after};
 
 // A number of allocations greater than that of any run before the one that fails.
 const MOST: u32 = 10_000;
+
+// The query with which each run ends.
+const TOTALS: &str = "{\"get\":\"totals\"}\n";
 
 /// The outcome of an example with at most one failed allocation.
 #[derive(Drop)]
@@ -16,8 +20,8 @@ pub enum ExampleOutcome {
     /// No allocation failed, and these are the answers.
     Granted(ExampleRun),
     /// One allocation failed, and the answers were right: a step answered with the fault changed
-    /// nothing.
-    Refused,
+    /// nothing. The Boolean says whether the copy of the tables was stale after the last step.
+    Refused(bool),
     /// An answer was wrong, or the state of the store was.
     Wrong,
 }
@@ -42,51 +46,55 @@ pub fn outcome_of(alloc: Global, before: u32, example: &Example) -> ExampleOutco
     }
 }
 
+// Returns whether the copy of the tables in memory may differ from them.
+fn has_stale_copy(store: &mut Store) -> bool {
+    store.office().is_stale()
+}
+
+// Returns the totals, and the views of the store once it is opened again.
+fn totals_and_views(alloc: Global, mut store: Store) -> (FixedPage, io::Result<Vec<u8>>) {
+    let (totals, _) = store.serve(alloc, TOTALS.as_bytes(), FixedPage::new());
+    (totals, store.shown(alloc))
+}
+
 // Runs an example in a store, and checks its answers and the state of the store.
 fn outcome_in(alloc: Global, before: u32, example: &Example, mut store: Store) -> ExampleOutcome {
     let run = example.run(alloc, &mut store, example.steps);
+    let is_stale = has_stale_copy(&mut store);
     // Makes allocations until the one that fails, unless the run has already met that one.
     let is_met = before > 0 && spend(alloc, MOST).is_ok();
-    let shown = store.shown(alloc);
-    if !is_right(alloc, example, &run, shown).unwrap_or(false) {
+    let (totals, shown) = totals_and_views(alloc, store);
+    if !is_right(alloc, example, &run, &totals, shown).unwrap_or(false) {
         return ExampleOutcome::Wrong;
     }
     match (is_met, run.end) {
-        (true, _) => ExampleOutcome::Refused,
+        (true, _) => ExampleOutcome::Refused(is_stale),
         (false, End::Done) => ExampleOutcome::Granted(run),
         (false, _) => ExampleOutcome::Wrong,
     }
 }
 
 // Checks whether a store in which only the performed steps are run gives the same answers and has
-// the same views at its end. Also checks whether every step was performed, unless memory ran out.
+// the same totals and views at its end. Also checks whether every step was performed, unless memory
+// ran out.
 fn is_right(
     alloc: Global,
     example: &Example,
     run: &ExampleRun,
+    totals: &FixedPage,
     shown: io::Result<Vec<u8>>,
 ) -> io::Result<bool> {
     let steps = example.performed(alloc, run)?;
-    let store = store_after(alloc, example.requests)?;
-    let (again, wanted) = run_again(alloc, example, store, steps.as_str());
+    let mut store = store_after(alloc, example.requests)?;
+    let again = example.run(alloc, &mut store, steps.as_str());
+    let (totals_again, wanted) = totals_and_views(alloc, store);
     let is_whole = steps.as_str() == example.steps;
     let is_ended = run.end == End::OutOfMemory || run.end == End::Done && is_whole;
     Ok(
         is_ended
             && again.end == End::Done
             && again.page.as_str() == run.page.as_str()
+            && totals_again.as_str() == totals.as_str()
             && shown? == wanted?,
     )
-}
-
-// Runs some steps of an example in a store, and returns the answers and the views of the store
-// after them.
-fn run_again(
-    alloc: Global,
-    example: &Example,
-    mut store: Store,
-    steps: &str,
-) -> (ExampleRun, io::Result<Vec<u8>>) {
-    let run = example.run(alloc, &mut store, steps);
-    (run, store.shown(alloc))
 }

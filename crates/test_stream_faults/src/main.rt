@@ -30,7 +30,8 @@ fn print_outcome<R: Print>(rt: &R, name: &str, outcome: &ExampleOutcome) -> io::
     match outcome {
         ExampleOutcome::Early => println!(rt; "{name}: early"),
         ExampleOutcome::Granted(run) => println!(rt; "{name}: granted\n{}", run.page.as_str()),
-        ExampleOutcome::Refused => println!(rt; "{name}: refused"),
+        ExampleOutcome::Refused(true) => println!(rt; "{name}: stale"),
+        ExampleOutcome::Refused(false) => println!(rt; "{name}: refused"),
         ExampleOutcome::Wrong => println!(rt; "{name}: wrong"),
     }
 }

@@ -1,0 +1,75 @@
+"""The displays of the plain program: what a scheme's alphabetical and hierarchical display say in words, over plain lists."""
+from plain import BROADER
+
+# The symbols of the four kinds of broader links, upwards and downwards; and the marks of the typed ones in a hierarchy.
+UP, DOWN, MARKS = ("BT", "BTG", "BTP", "BTI"), ("NT", "NTG", "NTP", "NTI"), ("", " (G)", " (P)", " (I)")
+
+
+class PlainDisplay:
+    """The live concepts of a scheme, with their terms in a language."""
+
+    def __init__(self, plain, scheme, tag):
+        self.plain, self.tag = plain, tag
+        self.concepts = [n for n, it in enumerate(plain.resources, 1) if it["kind"] == "concept" and it["scheme"] == scheme and it["live"]]
+
+    def term(self, number):
+        label = self.plain.preferred(number, self.tag)
+        return label[3] if label else f"[{number}]"
+
+    def texts(self, number, kind):
+        """The concept's labels of a kind in the language."""
+        return [(text, number) for owner, of_kind, tag, text in self.plain.labels if (owner, of_kind, tag) == (number, kind, self.tag)]
+
+    def terms(self, kind, number, own, other):
+        """The terms at the other ends of the concept's links of a kind."""
+        return [(self.term(it[other]), it[other]) for it in self.plain.links if it[0] == kind and it[own] == number]
+
+    def parts(self, number):
+        """The symbols below a term, each with its texts."""
+        yield "SN", self.texts(number, "scope")
+        yield "UF", self.texts(number, "alt")
+        for symbols, own, other in ((UP, 1, 2), (DOWN, 2, 1)):
+            yield from ((symbol, self.terms(kind, number, own, other)) for symbol, kind in zip(symbols, BROADER))
+        yield "RT", self.terms("related", number, 1, 2) + self.terms("related", number, 2, 1)
+
+    def alphabetical(self):
+        entries = []
+        for number in self.concepts:
+            term = self.term(number)
+            lines = [f"  {symbol} {text}" for symbol, texts in self.parts(number) for text, _ in sorted(texts, key=place)]
+            entries.append((place((term, number)), False, [term, *lines]))
+            entries += [(place(it), True, [it[0], f"  USE {term}"]) for it in self.texts(number, "alt")]
+        return text_of(line for _, _, lines in sorted(entries) for line in lines)
+
+    def broader(self, number):
+        """The concepts above a concept."""
+        return {b for kind, a, b in self.plain.links if kind in BROADER and a == number}
+
+    def rank(self, number):
+        return place((self.term(number), number))
+
+    def path(self, number):
+        """The way to a concept's line at home: below the first of the concepts above it."""
+        above = sorted(self.broader(number), key=self.rank)
+        return [*(self.path(above[0]) if above else []), number]
+
+    def hierarchical(self):
+        lines = []
+        for number in self.concepts:
+            above = sorted(self.broader(number), key=self.rank)
+            for it in above or [None]:
+                way = [*(self.path(it) if it else []), number]
+                marks = "".join(mark for mark, kind in zip(MARKS, BROADER) if (kind, number, it) in self.plain.links)
+                star = " *" * (it is not None and it != above[0])
+                lines.append(([self.rank(step) for step in way], f"{'  ' * (len(way) - 1)}{self.term(number)}{marks}{star}"))
+        return text_of(line for _, line in sorted(lines))
+
+
+def place(named):
+    """By what a text of a concept is sorted."""
+    text, number = named
+    return text.casefold().encode(), text.encode(), number
+
+
+def text_of(lines):
+    return "".join(f"{line}\n" for line in lines).encode()
