@@ -64,5 +64,5 @@ room_first m c rest room = record {
       (count_first (added_posting c) (rows_added_by added_posting rest)) room.posting;
   steps = fewer_fit (vec_len m.steps) _ _ (vec_capacity m.steps)
       (count_first (added_move c) (rows_added_by added_move rest)) room.steps;
-  packed = begins_first m.packed.items (changed_label c) (rows_added_by changed_label rest) room.packed;
+  label_copies = begins_first m.label_copies.items (changed_label c) (rows_added_by changed_label rest) room.label_copies;
 }

@@ -9,16 +9,16 @@ abbrev pub places_at : Places → ℕ → List ℕ
 places_at index n = unwrap_or (slice_get index.lists.items n) []
 
 -- The test of whether the position is in the list.
-abbrev pub is_listed : ℕ → List ℕ → Bool
-is_listed place places = list_any (λ q. q == place) places
+abbrev pub has_position : ℕ → List ℕ → Bool
+has_position place places = list_any (λ q. q == place) places
 
 -- The index has this position under the number.
 abbrev pub HasPlace : Places → ℕ → ℕ → Type 0
-HasPlace index n place = IsSomeAnd (slice_get index.lists.items n) (λ places. is_listed place places ≡ true)
+HasPlace index n place = IsSomeAnd (slice_get index.lists.items n) (λ places. has_position place places ≡ true)
 
 -- The number has a list of positions, which may be empty.
-abbrev pub HasList : Places → ℕ → Type 0
-HasList index n = IsSome (slice_get index.lists.items n)
+abbrev pub HasPlaceList : Places → ℕ → Type 0
+HasPlaceList index n = IsSome (slice_get index.lists.items n)
 
 -- The new index has each position that the old one has, under the same number.
 abbrev pub KeepsPlaces : Places → Places → Type 0

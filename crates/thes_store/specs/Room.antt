@@ -40,4 +40,4 @@ pub record HasRoomForRows (changes : List Change) (m : MemTables) : Type 0 where
   pub hier : IsReady narrower_end_of m.hier (rows_added_by added_hier changes)
   pub posting : vec_len m.posting + length (rows_added_by added_posting changes) ≤ vec_capacity m.posting
   pub steps : vec_len m.steps + length (rows_added_by added_move changes) ≤ vec_capacity m.steps
-  pub packed : (rest : List Label) × (m.packed.items ≡ rows_added_by changed_label changes ++ rest)
+  pub label_copies : (rest : List Label) × (m.label_copies.items ≡ rows_added_by changed_label changes ++ rest)

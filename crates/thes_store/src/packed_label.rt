@@ -47,7 +47,7 @@ impl PackedLabel {
     {
         let tag = row.label.tag.as_str();
         let text = row.label.text();
-        let bytes = joined(alloc, tag, text)?;
+        let bytes = concatenation(alloc, tag, text)?;
         Ok(PackedLabel {
             owner: row.owner,
             kind: row.label.kind(),
@@ -96,7 +96,7 @@ impl PackedLabel {
 }
 
 // Returns the two texts as one, in a block of exactly their length.
-fn joined(alloc: Global, first: &str, second: &str) -> Result<String, AllocError>
+fn concatenation(alloc: Global, first: &str, second: &str) -> Result<String, AllocError>
     requires { length first.now ≤ 35 }
     ensures { IfOk result (λ bytes. string_bytes bytes ≡ first.now ++ second.now) }
 {

@@ -1,6 +1,6 @@
 //! An index from numbers to the positions of rows, for rows of which few have one number.
 ghost use Rattle.std.specs.Prelude.{◌≡◌, ◌≢◌, ◌++◌, ◌∷◌, [], ℕ, true, false, OnOk, OnErr};
-ghost use Rattle.thes_store.specs.Places.{is_listed, places_at, HasPlace, HasList, KeepsPlaces, KeepsOtherPlaces};
+ghost use Rattle.thes_store.specs.Places.{has_position, places_at, HasPlace, HasPlaceList, KeepsPlaces, KeepsOtherPlaces};
 
 use std::alloc::{AllocError, Global};
 use std::marker::Model;
@@ -14,7 +14,7 @@ pub struct Places {
     lists: Vec<PlaceList>,
 }
 
-// The positions of the rows of one number, in the order in which they were inserted.
+/// The positions of the rows of one number, in the order in which they were inserted.
 #[derive(Drop)]
 pub struct PlaceList {
     places: Vec<usize>,
@@ -31,17 +31,17 @@ impl Model for PlaceList {
 impl PlaceList {
     // Appends a position.
     fn push(&mut self, place: usize) -> Result<(), AllocError>
-        ensures keeps { (q : ℕ) → is_listed q self.old ≡ true → is_listed q self.new ≡ true }
-        ensures ok { OnOk result (is_listed place self.new ≡ true) }
+        ensures keeps { (q : ℕ) → has_position q self.old ≡ true → has_position q self.new ≡ true }
+        ensures ok { OnOk result (has_position place self.new ≡ true) }
     {
         append(&mut self.places, place)
     }
 
     // Removes a position, if it is there.
     fn remove(&mut self, place: usize)
-        ensures keeps { (q : ℕ) → q ≢ place → is_listed q self.old ≡ true
-            → is_listed q self.new ≡ true }
-        ensures gone { is_listed place self.new ≡ false }
+        ensures keeps { (q : ℕ) → q ≢ place → has_position q self.old ≡ true
+            → has_position q self.new ≡ true }
+        ensures gone { has_position place self.new ≡ false }
     {
         self.places.retain(|q| *q != place);
     }
@@ -75,7 +75,7 @@ impl Places {
     // Adds empty lists until the number has one; does nothing if it has one already.
     fn open(&mut self, n: u32) -> Result<(), AllocError>
         ensures keeps { KeepsPlaces self.old self.new }
-        ensures list { OnOk result (HasList self.new n) }
+        ensures list { OnOk result (HasPlaceList self.new n) }
     {
         'opening: while self.lists.len() <= n as usize {
             self.lists.push(PlaceList {
@@ -87,7 +87,7 @@ impl Places {
 
     // Inserts a position into the list of a number that has one.
     fn insert_in(&mut self, n: u32, place: usize) -> Result<(), AllocError>
-        requires { HasList self.old n }
+        requires { HasPlaceList self.old n }
         ensures keeps { KeepsPlaces self.old self.new }
         ensures ok { OnOk result (HasPlace self.new n place) }
     {
@@ -108,7 +108,7 @@ impl Places {
     }
 
     /// Returns the positions under a number.
-    pub fn at(&self, n: u32) -> &[usize]
+    pub fn positions(&self, n: u32) -> &[usize]
         ensures { result.now ≡ places_at self.now n }
     {
         match self.lists.get(n as usize) {

@@ -140,7 +140,7 @@ impl<T: IndexedRow + Drop> Slots<T> {
         ensures none { IfNone result (AreIndexedBy T.number_of self.now → (place : ℕ)
             → is_same_row T.same (slice_get self.now.rows.items place) row.now ≡ false) }
     {
-        for place in self.places.at(row.index_number()) {
+        for place in self.places.positions(row.index_number()) {
             if self.has(*place, row) {
                 return Some(*place);
             }

@@ -37,7 +37,7 @@ pub struct MemTables {
     pub posting: Vec<PostingRow>,
     pub steps: Vec<MoveRow>,
     // Copies of the labels that the changes to come insert or delete.
-    packed: VecDeque<PackedLabel>,
+    label_copies: VecDeque<PackedLabel>,
 }
 
 impl MemTables {
@@ -56,7 +56,7 @@ impl MemTables {
             hier: Slots::new(alloc),
             posting: Vec::new(alloc),
             steps: Vec::new(alloc),
-            packed: VecDeque::new(alloc),
+            label_copies: VecDeque::new(alloc),
         }
     }
 
@@ -66,7 +66,7 @@ impl MemTables {
         ensures found { AllIndexed self.old → AllIndexed self.new }
         ensures room { OnOk result (HasRoomForRows changes.now self.new) }
     {
-        pack_labels(&mut self.packed, self.alloc, changes)?;
+        pack_labels(&mut self.label_copies, self.alloc, changes)?;
         make_room(&mut self.resource, changes)?;
         make_room(&mut self.outside, changes)?;
         self.label.make_room(changes)?;
@@ -94,8 +94,8 @@ impl MemTables {
             Change::AddOutside(number, iri) => {
                 self.outside.push_reserved(OutsideRow { number, iri })
             }
-            Change::AddLabel(row) => push_label(&mut self.label, &mut self.packed, row),
-            Change::DropLabel(row) => remove_label(&mut self.label, &mut self.packed, row),
+            Change::AddLabel(row) => push_label(&mut self.label, &mut self.label_copies, row),
+            Change::DropLabel(row) => remove_label(&mut self.label, &mut self.label_copies, row),
             Change::AddLink(link) => self.link.push(link),
             Change::DropLink(link) => self.link.remove(&link),
             Change::AddHier(row) => self.hier.push(row),
@@ -128,35 +128,35 @@ impl MemTables {
 }
 
 // Appends the row of a label, of which the next copy is taken.
-fn push_label(labels: &mut Slots<PackedLabel>, packed: &mut VecDeque<PackedLabel>, row: LabelRow)
-    requires next { (rest : List Label) × (packed.old.items ≡ row ∷ rest) }
+fn push_label(labels: &mut Slots<PackedLabel>, copies: &mut VecDeque<PackedLabel>, row: LabelRow)
+    requires next { (rest : List Label) × (copies.old.items ≡ row ∷ rest) }
     requires ready { IsReady owner_of labels.old (row ∷ []) }
     ensures rows { rows_in labels.new ≡ rows_in labels.old ++ row ∷ [] }
     ensures found { AreIndexedBy owner_of labels.old → AreIndexedBy owner_of labels.new }
     ensures ready { (rest : List Label) → IsReady owner_of labels.old (row ∷ rest)
         → IsReady owner_of labels.new rest }
-    ensures packed { (rest : List Label) → packed.old.items ≡ row ∷ rest
-        → packed.new.items ≡ rest }
+    ensures copies { (rest : List Label) → copies.old.items ≡ row ∷ rest
+        → copies.new.items ≡ rest }
 {
-    if let Some(copy) = packed.pop_front() {
+    if let Some(copy) = copies.pop_front() {
         labels.push(copy);
     }
     drop(row)
 }
 
 // Removes the rows of a label, of which the next copy is taken.
-fn remove_label(labels: &mut Slots<PackedLabel>, packed: &mut VecDeque<PackedLabel>, row: LabelRow)
-    requires next { (rest : List Label) × (packed.old.items ≡ row ∷ rest) }
+fn remove_label(labels: &mut Slots<PackedLabel>, copies: &mut VecDeque<PackedLabel>, row: LabelRow)
+    requires next { (rest : List Label) × (copies.old.items ≡ row ∷ rest) }
     requires found { AreIndexedBy owner_of labels.old }
     ensures rows { rows_in labels.new
         ≡ filter (λ x. not (is_same_label x row)) (rows_in labels.old) }
     ensures found { AreIndexedBy owner_of labels.new }
     ensures ready { (rest : List Label) → IsReady owner_of labels.old rest
         → IsReady owner_of labels.new rest }
-    ensures packed { (rest : List Label) → packed.old.items ≡ row ∷ rest
-        → packed.new.items ≡ rest }
+    ensures copies { (rest : List Label) → copies.old.items ≡ row ∷ rest
+        → copies.new.items ≡ rest }
 {
-    if let Some(copy) = packed.pop_front() {
+    if let Some(copy) = copies.pop_front() {
         labels.remove(&copy);
     }
     drop(row)

@@ -24,8 +24,8 @@ pub returns-clause-none : goal.returns-clause-none
 returns-clause-none g c = λ found.
     let s = c.args.self.now in
     let places = places_at s.places (g.T.IndexedRow.number_of c.args.row.now) in
-    let same : c.at-place-items.result.now ≡ places =
-    c.at-place-items.ensures ∙ ap (places_at s.places) c.index_number.ensures in
+    let same : c.positions-place-items.result.now ≡ places =
+    c.positions-place-items.ensures ∙ ap (places_at s.places) c.index_number.ensures in
     let all = take_all c.loop-place.place-index places (subst (λ l. length l ≤ c.loop-place.place-index) same
     c.loop-place-test.false) in
     none_there g.T.IndexedRow.same c.args.row.now g.T.IndexedRow.number_of g.met.T.IndexedRow.agree s found
