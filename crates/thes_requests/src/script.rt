@@ -61,17 +61,17 @@ fn write_outcome<W: Write, D: RequestHandler>(
     writer: &mut Pipe<W>,
     budget: &mut Budget,
     handler: &D,
-    outcome: LineOutcome,
+    outcome: &LineOutcome,
     ended: &mut ScriptEnd,
 ) -> Result<(), PipeFault>
     requires { IsFresh writer.old }
     ensures ok { OnOk result (OutcomeWritten W.contents D.is_open handler.now
-        writer.old writer.new outcome ended.old ended.new) }
+        writer.old writer.new outcome.now ended.old ended.new) }
     ensures stopped { IfErr result (StopsWithOutcome W.contents D.is_open handler.now
-        writer.old writer.new outcome) }
+        writer.old writer.new outcome.now) }
     ensures paid { PaysCalls writer.old writer.new budget.old budget.new }
 {
-    ended.note(&outcome);
+    ended.note(outcome);
     if let Err(stop) = outcome.write(writer, budget) {
         return Err(stop.writer_fault());
     }
@@ -109,6 +109,7 @@ pub fn script<R: Read, W: Write, D: RequestHandler>(
     let mut memory = RequestScratch::new(alloc);
     let mut budget = Budget::new();
     let mut ended = ScriptEnd::new();
+    let mut outcome = LineOutcome::Skipped;
     while !reader.ended() {
         let found = match lines.next_line(reader, &mut budget) {
             Ok(found) => found,
@@ -117,8 +118,9 @@ pub fn script<R: Read, W: Write, D: RequestHandler>(
         if found == LineSearch::End {
             return Ok(ended);
         }
-        let outcome = serve_line(&mut memory, handler, &lines.line, found);
-        write_outcome(writer, &mut budget, handler, outcome, &mut ended)?;
+        // The former answer is freed once this one is made: at the end of the heap it would cost more.
+        outcome = serve_line(&mut memory, handler, &lines.line, found);
+        write_outcome(writer, &mut budget, handler, &outcome, &mut ended)?;
     }
     Ok(ended)
 }

@@ -9,7 +9,7 @@ use Rattle.thes_tables.specs.declared.change.Change.{Change}
 use Rattle.thes_store.proofs.IndexPositionLemmas.{take_one}
 use Rattle.thes_store.specs.declared.slots.Slots.{Slots}
 use Rattle.thes_store.specs.AddedRow.{rows_added_by}
-use Rattle.thes_store.specs.Index.{HasPosition, KeepsPositions}
+use Rattle.thes_store.specs.Places.{HasPlace, KeepsPlaces}
 use Rattle.thes_store.specs.Slots.{AreExpected}
 
 module _ {A : Type 0} where
@@ -39,15 +39,15 @@ module _ {A : Type 0} where
 
   -- If the positions of rows to be appended are indexed, and then that of one more row, those of the longer list are.
   pub expected_more : (number : A → ℕ) (old new : Slots A) (coming : List A) (o : Option A) → AreExpected number old
-      coming → KeepsPositions old.places new.places → new.rows ≡ old.rows
-      → ((row : A) → o ≡ Some row → HasPosition new.places (number row) (vec_len old.rows + length coming))
+      coming → KeepsPlaces old.places new.places → new.rows ≡ old.rows
+      → ((row : A) → o ≡ Some row → HasPlace new.places (number row) (vec_len old.rows + length coming))
       → AreExpected number new (coming ++ cons_option o [])
   expected_more number old new coming o expected keeps rows comes k row e =
-      subst (λ n. HasPosition new.places (number row) (n + k)) (sym (ap (λ (v : _). vec_len v) rows)) (go o comes e)
+      subst (λ n. HasPlace new.places (number row) (n + k)) (sym (ap (λ (v : _). vec_len v) rows)) (go o comes e)
     where
       go : (o : Option A)
-          → ((row : A) → o ≡ Some row → HasPosition new.places (number row) (vec_len old.rows + length coming))
-          → slice_get (coming ++ cons_option o []) k ≡ Some row → HasPosition new.places (number row)
+          → ((row : A) → o ≡ Some row → HasPlace new.places (number row) (vec_len old.rows + length coming))
+          → slice_get (coming ++ cons_option o []) k ≡ Some row → HasPlace new.places (number row)
           (vec_len old.rows + k)
       go None comes e = keeps (number row) (vec_len old.rows + k)
           (expected k row (sym (ap (λ l. slice_get l k) (append-nil coming)) ∙ e))
@@ -57,7 +57,7 @@ module _ {A : Type 0} where
           (λ (last : (suc k ≡ length coming + 1) × (row ≡ x)).
           let here = last.0 in
           let at : length coming ≡ k = omega (arith, here) in
-          subst (λ n. HasPosition new.places (number row) (vec_len old.rows + n))
+          subst (λ n. HasPlace new.places (number row) (vec_len old.rows + n))
           at (comes row (ap (λ y. Some y) (sym last.1))))
           (push_cases coming x row (suc k) e)
 

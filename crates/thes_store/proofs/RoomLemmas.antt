@@ -1,5 +1,5 @@
 -- Tables that have room for the rows of a list of changes have room for those of its first change.
-use Rattle.std.proofs.Common.{◌≡◌, ◌+◌, ◌<◌, ◌≤◌, ◌∙◌, ℕ, zero, suc, List, [], ◌∷◌, length, drop, get_or, refl, sym}
+use Rattle.std.proofs.Common.{◌≡◌, ◌+◌, ◌<◌, ◌≤◌, ◌∙◌, ℕ, zero, suc, List, [], ◌∷◌, ◌++◌, length, drop, get_or, refl, sym}
 use Rattle.std.proofs.Common.{ap, arith}
 use Rattle.std.specs.Prelude.{Option, None, Some, slice_get, vec_len}
 use Rattle.std.specs.List.{cons_option}
@@ -9,9 +9,9 @@ use Rattle.thes_tables.specs.declared.change.Change.{Change}
 use Rattle.thes_store.specs.declared.slots.Slots.{Slots}
 use Rattle.thes_store.specs.declared.tables.MemTables.{MemTables}
 use Rattle.thes_store.specs.AddedRow.{rows_added_by, added_resource, added_outside, added_label, inserted_link}
-use Rattle.thes_store.specs.AddedRow.{added_hier, added_posting, added_move}
+use Rattle.thes_store.specs.AddedRow.{added_hier, added_posting, added_move, changed_label}
 use Rattle.thes_store.specs.Numbers.{owner_of, indexed_end_of, narrower_end_of}
-use Rattle.thes_store.specs.Index.{HasPosition}
+use Rattle.thes_store.specs.Places.{HasPlace}
 use Rattle.thes_store.specs.Room.{HasRoomForRows}
 use Rattle.thes_store.specs.Slots.{IsReady}
 
@@ -29,10 +29,16 @@ module _ {A : Type 0} where
   }
   ready_first number s (Some x) rest ready = record { room = let r = ready.room in omega (arith, r); expected = first }
     where
-      first : (k : ℕ) (row : A) → slice_get (x ∷ []) k ≡ Some row → HasPosition s.places (number row)
+      first : (k : ℕ) (row : A) → slice_get (x ∷ []) k ≡ Some row → HasPlace s.places (number row)
           (vec_len s.rows + k)
       first zero row e = ready.expected zero row e
       first (suc k) row e = absurd (cc)
+
+  -- A list that begins with a value, if there is one, and others begins with that value.
+  begins_first : (items : List A) (o : Option A) (more : List A) → (rest : List A) × (items ≡ cons_option o more ++ rest)
+      → (rest : List A) × (items ≡ cons_option o [] ++ rest)
+  begins_first items None more begins = (items, refl)
+  begins_first items (Some x) more begins = (more ++ begins.0, begins.1)
 
   pub drop_none : (xs : List A) → drop 0 xs ≡ xs
   drop_none [] = refl
@@ -58,4 +64,5 @@ room_first m c rest room = record {
       (count_first (added_posting c) (rows_added_by added_posting rest)) room.posting;
   steps = fewer_fit (vec_len m.steps) _ _ (vec_capacity m.steps)
       (count_first (added_move c) (rows_added_by added_move rest)) room.steps;
+  label_copies = begins_first m.label_copies.items (changed_label c) (rows_added_by changed_label rest) room.label_copies;
 }

@@ -7,14 +7,11 @@ use Rattle.std.specs.Vec.{vec_capacity}
 use Rattle.std.proofs.lemmas.Bool.{cases_Bool}
 use Rattle.std.proofs.lemmas.List.Elements.{filter_map-append}
 use Rattle.std.proofs.lemmas.Option.{same_Some, slice_get_within}
-use Rattle.std.specs.Option.{IsSomeAnd}
-use Rattle.std.specs.Ordering.{nat_cmp}
-use Rattle.std.specs.BTreeSet.{BTreeSet, contains}
 use Rattle.thes_base.proofs.NumberedLemmas.{push_cases, slice_set_cases}
 use Rattle.thes_tables.specs.Tables.{IsIn}
-use Rattle.thes_store.proofs.IndexPositionLemmas.{in_keys}
+use Rattle.thes_store.proofs.PlaceLemmas.{in_places}
 use Rattle.thes_store.specs.declared.slots.Slots.{Slots}
-use Rattle.thes_store.specs.Index.{HasPosition, KeepsOthers}
+use Rattle.thes_store.specs.Places.{places_at, HasPlace, KeepsOtherPlaces}
 use Rattle.thes_store.specs.RowsAtPositions.{rows_after_change_at}
 use Rattle.thes_store.specs.Slots.{rows_in, AreIndexedBy, IsReady, is_same_row}
 
@@ -29,17 +26,17 @@ module _ {A : Type 0} where
   module _ (number : A → ℕ) (old new : Slots A) where
     -- An appended row is indexed if its position was inserted before.
     pub found_pushed : (x : A) → new.rows.items ≡ old.rows.items ++ Some x ∷ [] → new.places ≡ old.places
-        → HasPosition old.places (number x) (vec_len old.rows) → AreIndexedBy number old → AreIndexedBy number new
+        → HasPlace old.places (number x) (vec_len old.rows) → AreIndexedBy number old → AreIndexedBy number new
     found_pushed x items places at found i row e =
-        subst (λ p. HasPosition p (number row) i) (sym places)
+        subst (λ p. HasPlace p (number row) i) (sym places)
         (⊎_elim
         (λ (before : slice_get old.rows.items i ≡ Some (Some row)). found i row before)
         (λ (last : (suc i ≡ length old.rows.items + 1) × (Some row ≡ Some x)).
         let here = last.0 in
         let len = old.rows.ok.0 in
         let same : vec_len old.rows ≡ i = omega (arith, here, len) in
-        subst (λ n. HasPosition old.places n i) (ap number (sym (same_Some _ _ last.1)))
-        (subst (HasPosition old.places (number x)) same at))
+        subst (λ n. HasPlace old.places n i) (ap number (sym (same_Some _ _ last.1)))
+        (subst (HasPlace old.places (number x)) same at))
         (push_cases old.rows.items (Some x) (Some row) (suc i) (sym (ap (λ l. slice_get l i) items) ∙ e)))
 
     pub ready_pushed : (x : A) (rest : List A) → new.places ≡ old.places → vec_len new.rows ≡ vec_len old.rows + 1
@@ -48,22 +45,22 @@ module _ {A : Type 0} where
       room = let r = ready.room in omega (arith, r, len, capacity);
       expected = λ k row e.
           let at : vec_len old.rows + suc k ≡ vec_len new.rows + k = omega (arith, len) in
-          subst (λ p. HasPosition p (number row) (vec_len new.rows + k)) (sym places)
-          (subst (HasPosition old.places (number row)) at (ready.expected (suc k) row e));
+          subst (λ p. HasPlace p (number row) (vec_len new.rows + k)) (sym places)
+          (subst (HasPlace old.places (number row)) at (ready.expected (suc k) row e));
     }
 
     -- The other rows stay indexed after one is removed.
     pub found_emptied : (i : ℕ) → new.rows.items ≡ rows_after_change_at (λ slot. None) i old.rows.items
-        → KeepsOthers i old.places new.places → AreIndexedBy number old → AreIndexedBy number new
+        → KeepsOtherPlaces i old.places new.places → AreIndexedBy number old → AreIndexedBy number new
     found_emptied i items keeps found j row e = go (slice_get old.rows.items i) refl
         (sym (ap (λ l. slice_get l j) items) ∙ e)
       where
-        other : j ≢ i → slice_get old.rows.items j ≡ Some (Some row) → HasPosition new.places (number row) j
+        other : j ≢ i → slice_get old.rows.items j ≡ Some (Some row) → HasPlace new.places (number row) j
         other apart at = keeps (number row) j apart (found j row at)
 
         go : (o : Option (Option A)) → slice_get old.rows.items i ≡ o
             → slice_get (elim o [ None ↦ old.rows.items | Some slot ↦ slice_set old.rows.items i None ]) j
-            ≡ Some (Some row) → HasPosition new.places (number row) j
+            ≡ Some (Some row) → HasPlace new.places (number row) j
         go None none at = other (λ same. let no = sym none ∙ ap (slice_get old.rows.items) (sym same) ∙ at in
             absurd (cc)) at
         go (Some slot) row_there at = elim (slice_set_cases old.rows.items None (Some row) i j at) [
@@ -72,12 +69,12 @@ module _ {A : Type 0} where
         ]
 
     pub ready_emptied : (i : ℕ) (rest : List A) → i < vec_len old.rows → vec_len new.rows ≡ vec_len old.rows
-        → vec_capacity new.rows ≡ vec_capacity old.rows → KeepsOthers i old.places new.places
+        → vec_capacity new.rows ≡ vec_capacity old.rows → KeepsOtherPlaces i old.places new.places
         → IsReady number old rest → IsReady number new rest
     ready_emptied i rest place_in_bounds len capacity keeps ready = record {
       room = let r = ready.room in omega (arith, r, len, capacity);
       expected = λ k row e.
-          subst (λ n. HasPosition new.places (number row) (n + k)) (sym len)
+          subst (λ n. HasPlace new.places (number row) (n + k)) (sym len)
           (keeps (number row) (vec_len old.rows + k) (λ same. absurd (omega (arith, place_in_bounds, same)))
           (ready.expected k row e));
     }
@@ -126,28 +123,16 @@ module _ {A : Type 0} where
     module _ (number : A → ℕ) (agree : (x y : A) → same x y ≡ true → number x ≡ number y) (s : Slots A)
         (found : AreIndexedBy number s) where
       found_same : (place : ℕ) → is_same_row same (slice_get s.rows.items place) row ≡ true
-          → HasPosition s.places (number row) place
+          → HasPlace s.places (number row) place
       found_same place e = let h = row_there (slice_get s.rows.items place) e in
-          subst (λ n. HasPosition s.places n place) (agree h.0 row h.2) (found place h.0 h.1)
+          subst (λ n. HasPlace s.places n place) (agree h.0 row h.2) (found place h.0 h.1)
 
-      pub none_same : slice_get s.places.sets.items (number row) ≡ None → (place : ℕ)
-          → is_same_row same (slice_get s.rows.items place) row ≡ false
-      none_same none place = ⊎_elim
-          (λ (hit : is_same_row same (slice_get s.rows.items place) row ≡ true).
-          absurd (subst (λ (o : Option (BTreeSet ℕ)). IsSomeAnd o (λ set. contains nat_cmp set place ≡ true)) none
-          (found_same place hit)))
-          (λ (miss : is_same_row same (slice_get s.rows.items place) row ≡ false). miss)
-          (cases_Bool (is_same_row same (slice_get s.rows.items place) row))
-
-      pub none_there : (set : BTreeSet ℕ) → slice_get s.places.sets.items (number row) ≡ Some set
-          → ((place : ℕ) → IsIn place set.keys → is_same_row same (slice_get s.rows.items place) row ≡ false)
+      pub none_there : ((place : ℕ) → IsIn place (places_at s.places (number row))
+          → is_same_row same (slice_get s.rows.items place) row ≡ false)
           → (place : ℕ) → is_same_row same (slice_get s.rows.items place) row ≡ false
-      none_there set some apart place = ⊎_elim
+      none_there apart place = ⊎_elim
           (λ (hit : is_same_row same (slice_get s.rows.items place) row ≡ true).
-          apart place
-          (in_keys set.keys place
-          (subst (λ (o : Option (BTreeSet ℕ)). IsSomeAnd o (λ s'. contains nat_cmp s' place ≡ true)) some
-          (found_same place hit))))
+          apart place (in_places s.places (number row) place (found_same place hit)))
           (λ (miss : is_same_row same (slice_get s.rows.items place) row ≡ false). miss)
           (cases_Bool (is_same_row same (slice_get s.rows.items place) row))
 

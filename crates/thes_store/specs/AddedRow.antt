@@ -25,6 +25,12 @@ abbrev pub added_label : Change → Option Label
 added_label (change.AddLabel row) = Some row
 added_label _ = None
 
+-- The label that a change inserts or deletes; None for other changes.
+abbrev pub changed_label : Change → Option Label
+changed_label (change.AddLabel row) = Some row
+changed_label (change.DropLabel row) = Some row
+changed_label _ = None
+
 -- The link that a change inserts into table link; None for other changes.
 abbrev pub inserted_link : Change → Option Link
 inserted_link (change.AddLink row) = Some row

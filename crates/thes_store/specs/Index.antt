@@ -1,5 +1,5 @@
 -- The positions that an index has under each number.
-use Rattle.std.specs.Prelude.{◌≡◌, ◌≢◌, ℕ, List, true, IsSome, slice_get}
+use Rattle.std.specs.Prelude.{◌≡◌, ℕ, List, true, IsSome, slice_get}
 use Rattle.std.specs.Option.{IsSomeAnd}
 use Rattle.std.specs.Ordering.{nat_cmp}
 use Rattle.std.specs.List.Sorted.{IsStrictlySortedBy}
@@ -18,10 +18,6 @@ HasSet index n = IsSome (slice_get index.sets.items n)
 -- The new index has each position that the old one has, under the same number.
 abbrev pub KeepsPositions : Index → Index → Type 0
 KeepsPositions old new = (n place : ℕ) → HasPosition old n place → HasPosition new n place
-
--- The new index has each position other than `gone` that the old one has, under the same number.
-abbrev pub KeepsOthers : ℕ → Index → Index → Type 0
-KeepsOthers gone old new = (n place : ℕ) → place ≢ gone → HasPosition old n place → HasPosition new n place
 
 -- The list has all positions under the number, in ascending order.
 pub record ArePositions (index : Index) (n : ℕ) (places : List ℕ) : Type 0 where

@@ -5,6 +5,7 @@ pub mod FoundLoads
 pub mod Sinks
 pub mod Index
 pub mod Keys
+pub mod Places
 pub mod Loading
 pub mod Numbers
 pub mod RowsAtPositions

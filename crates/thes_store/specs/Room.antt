@@ -1,11 +1,12 @@
 -- The tables in memory, and their room for further rows.
-use Rattle.std.specs.Prelude.{◌≤◌, ◌+◌, List, length, vec_len}
+use Rattle.std.specs.Prelude.{◌≡◌, ◌≤◌, ◌+◌, ◌++◌, List, length, vec_len}
 use Rattle.std.specs.Vec.{vec_capacity}
+use Rattle.thes_base.specs.Labels.{Label}
 use Rattle.thes_tables.specs.declared.change.Change.{Change}
 use Rattle.thes_tables.specs.Tables.{Tables}
 use Rattle.thes_store.specs.declared.tables.MemTables.{MemTables}
 use Rattle.thes_store.specs.AddedRow.{rows_added_by, added_resource, added_outside, added_label, inserted_link}
-use Rattle.thes_store.specs.AddedRow.{added_hier, added_posting, added_move}
+use Rattle.thes_store.specs.AddedRow.{added_hier, added_posting, added_move, changed_label}
 use Rattle.thes_store.specs.Numbers.{owner_of, indexed_end_of, narrower_end_of}
 use Rattle.thes_store.specs.Slots.{rows_in, AreIndexedBy, IsReady}
 
@@ -29,8 +30,8 @@ pub record AllIndexed (m : MemTables) : Type 0 where
   pub link : AreIndexedBy indexed_end_of m.link
   pub hier : AreIndexedBy narrower_end_of m.hier
 
--- Each table has reserved memory for the rows that the changes insert into it, and the indexes of labels and links have
--- the positions of these rows.
+-- Each table has reserved memory for the rows that the changes insert into it, the indexes of labels and links have the
+-- positions of these rows, and the next copies of labels are those of the labels that the changes insert or delete.
 pub record HasRoomForRows (changes : List Change) (m : MemTables) : Type 0 where
   pub resource : vec_len m.resource + length (rows_added_by added_resource changes) ≤ vec_capacity m.resource
   pub outside : vec_len m.outside + length (rows_added_by added_outside changes) ≤ vec_capacity m.outside
@@ -39,3 +40,4 @@ pub record HasRoomForRows (changes : List Change) (m : MemTables) : Type 0 where
   pub hier : IsReady narrower_end_of m.hier (rows_added_by added_hier changes)
   pub posting : vec_len m.posting + length (rows_added_by added_posting changes) ≤ vec_capacity m.posting
   pub steps : vec_len m.steps + length (rows_added_by added_move changes) ≤ vec_capacity m.steps
+  pub label_copies : (rest : List Label) × (m.label_copies.items ≡ rows_added_by changed_label changes ++ rest)

@@ -3,7 +3,7 @@ use Rattle.std.specs.Prelude.{◌≡◌, ◌≤◌, ◌+◌, ℕ, List, Bool, fa
 use Rattle.std.specs.List.{filter_map}
 use Rattle.std.specs.Vec.{vec_capacity}
 use Rattle.thes_store.specs.declared.slots.Slots.{Slots}
-use Rattle.thes_store.specs.Index.{HasPosition}
+use Rattle.thes_store.specs.Places.{HasPlace}
 
 module _ {A : Type 0} where
   -- The rows in their order, without the gaps.
@@ -13,11 +13,11 @@ module _ {A : Type 0} where
   -- The index has each row's position under its number.
   abbrev pub AreIndexedBy : (A → ℕ) → Slots A → Type 0
   AreIndexedBy number s = (i : ℕ) (row : A) → slice_get s.rows.items i ≡ Some (Some row)
-      → HasPosition s.places (number row) i
+      → HasPlace s.places (number row) i
 
   -- The index has the positions that rows to be appended will get, under the numbers of these rows.
   abbrev pub AreExpected : (A → ℕ) → Slots A → List A → Type 0
-  AreExpected number s coming = (k : ℕ) (row : A) → slice_get coming k ≡ Some row → HasPosition s.places (number row)
+  AreExpected number s coming = (k : ℕ) (row : A) → slice_get coming k ≡ Some row → HasPlace s.places (number row)
       (vec_len s.rows + k)
 
   -- These rows can be appended without failing: memory is reserved, and the index has their positions.

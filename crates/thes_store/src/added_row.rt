@@ -4,10 +4,11 @@ ghost use Rattle.std.specs.Vec.{vec_capacity};
 ghost use Rattle.thes_tables.specs.declared.change.Change.{Change};
 ghost use Rattle.thes_store.specs.AddedRow.{rows_added_by};
 
+use crate::packed_label::PackedLabel;
 use std::alloc::AllocError;
 use thes_base::data::{Link, Resource};
 use thes_tables::change::Change;
-use thes_tables::rows::{HierRow, LabelRow, MoveRow, OutsideRow, PostingRow};
+use thes_tables::rows::{HierRow, MoveRow, OutsideRow, PostingRow};
 
 /// A row of one table, which some kind of change inserts.
 pub trait AddedRow {
@@ -39,7 +40,7 @@ impl AddedRow for OutsideRow {
     }
 }
 
-impl AddedRow for LabelRow {
+impl AddedRow for PackedLabel {
     ghost use Rattle.thes_store.specs.AddedRow.{added_label};
 
     ghost added_row = { added_label };

@@ -4,7 +4,7 @@ ghost use Rattle.std.specs.List.Sorted.{IsStrictlySortedBy};
 ghost use Rattle.std.specs.Option.{option_copied};
 ghost use Rattle.std.specs.Ordering.{nat_cmp};
 ghost use Rattle.thes_tables.specs.Tables.{IsIn};
-ghost use Rattle.thes_store.specs.Index.{HasPosition, HasSet, KeepsPositions, KeepsOthers, ArePositions};
+ghost use Rattle.thes_store.specs.Index.{HasPosition, HasSet, KeepsPositions, ArePositions};
 
 use std::alloc::{AllocError, Global};
 use std::collections::BTreeSet;
@@ -69,16 +69,6 @@ impl Index {
             self.insert(n, *place)?;
         }
         Ok(())
-    }
-
-    /// Removes a position from the set of a number, if it is there.
-    pub fn remove(&mut self, n: u32, place: usize)
-        ensures keeps { KeepsOthers place self.old self.new }
-        ensures gone { ¬ HasPosition self.new n place }
-    {
-        if let Some(set) = self.sets.get_mut(n as usize) {
-            set.remove(&place);
-        }
     }
 
     /// Returns the positions under a number, or None if it has no set.

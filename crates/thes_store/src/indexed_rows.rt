@@ -5,10 +5,11 @@ ghost use Rattle.thes_base.specs.Labels.{label_cmp};
 ghost use Rattle.thes_base.specs.Links.{link_cmp};
 ghost use Rattle.thes_store.specs.Numbers.{indexed_end_of};
 
+use crate::packed_label::PackedLabel;
 use crate::slots::IndexedRow;
 use thes_base::data::{Link, LinkKind};
 use thes_tables::change::Change;
-use thes_tables::rows::{HierRow, LabelRow};
+use thes_tables::rows::HierRow;
 
 // Returns the end under which a link is indexed: the member of a membership, or else the first end.
 fn indexed_end_of(link: &Link) -> u32
@@ -20,7 +21,7 @@ fn indexed_end_of(link: &Link) -> u32
     }
 }
 
-impl IndexedRow for LabelRow {
+impl IndexedRow for PackedLabel {
     ghost use Rattle.thes_store.specs.Numbers.{owner_of, is_same_label};
     ghost use Rattle.thes_store.specs.SameRows.{owners_agree};
 
@@ -31,7 +32,7 @@ impl IndexedRow for LabelRow {
     ghost agree = { owners_agree };
 
     fn index_number(&self) -> u32 {
-        self.owner.get()
+        self.owner().get()
     }
 
     fn number_of_added_row(change: &Change) -> Option<u32> {
@@ -41,8 +42,8 @@ impl IndexedRow for LabelRow {
         }
     }
 
-    fn is_same(&self, other: &LabelRow) -> bool {
-        LabelRow::is_same(self, other)
+    fn is_same(&self, other: &PackedLabel) -> bool {
+        PackedLabel::is_same(self, other)
     }
 }
 

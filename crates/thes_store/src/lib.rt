@@ -9,6 +9,8 @@ mod indexes;
 pub mod keeper;
 mod keys;
 pub mod mem;
+mod packed_label;
+mod places;
 pub mod row_output;
 pub mod sink;
 mod slots;

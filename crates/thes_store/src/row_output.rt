@@ -11,6 +11,7 @@ ghost use Rattle.thes_store.specs.Loading.{raw_rows_of, sink_rows_of_tables, tab
 ghost use Rattle.thes_store.specs.Room.{tables_in_memory};
 ghost use Rattle.thes_store.specs.Slots.{rows_in};
 
+use crate::packed_label::PackedLabel;
 use crate::sink::RowSink;
 use crate::slots::{IndexedRow, Slots};
 use crate::tables::MemTables;
@@ -21,7 +22,7 @@ use thes_base::number::ResNo;
 use thes_base::text::Base;
 use thes_tables::cells::{Cell, CellText};
 use thes_tables::numbers::{flag_number, resource_number, type_number};
-use thes_tables::rows::{HierRow, LabelRow, MoveRow, OutsideRow, PostingRow};
+use thes_tables::rows::{HierRow, MoveRow, OutsideRow, PostingRow};
 
 /// A row that can be encoded as cells.
 pub trait AsCells {
@@ -78,16 +79,20 @@ impl AsCells for OutsideRow {
     }
 }
 
-impl AsCells for LabelRow {
+impl AsCells for PackedLabel {
     ghost use Rattle.thes_tables.specs.Cells.{label_cells};
 
     ghost cells_of = { label_cells };
 
     fn yield_to<S: RowSink>(&self, alloc: Global, name: Table, sink: &mut S) -> Result<(), Fault> {
-        let kind = self.label.kind().number();
-        let tag = text(alloc, self.label.tag.as_str())?;
-        let label = text(alloc, self.label.text())?;
-        yield_row(name, &[int(self.owner.get()), int(kind), tag, label], sink)
+        let kind = self.kind().number();
+        let tag = text(alloc, self.tag())?;
+        let label = text(alloc, self.text())?;
+        yield_row(
+            name,
+            &[int(self.owner().get()), int(kind), tag, label],
+            sink,
+        )
     }
 }
 

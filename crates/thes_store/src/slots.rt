@@ -2,12 +2,12 @@
 ghost use Rattle.std.specs.Prelude.{◌≡◌, ◌≤◌, ◌<◌, ◌+◌, ◌^◌, ◌++◌, ◌∷◌, [], ℕ, List, Option, Bool, None, true, false, not, length, filter, slice_get, vec_len, option_map, Some, IfSome, IfNone, IfOk, OnOk};
 ghost use Rattle.std.specs.Vec.{vec_capacity};
 ghost use Rattle.thes_store.specs.AddedRow.{rows_added_by};
-ghost use Rattle.thes_store.specs.Index.{HasPosition, KeepsPositions, KeepsOthers};
+ghost use Rattle.thes_store.specs.Places.{HasPlace, KeepsPlaces, KeepsOtherPlaces};
 ghost use Rattle.thes_store.specs.RowsAtPositions.{rows_after_change_at};
 ghost use Rattle.thes_store.specs.Slots.{rows_in, AreIndexedBy, AreExpected, IsReady, is_same_row};
 
 use crate::added_row::{AddedRow, count_added};
-use crate::index::Index;
+use crate::places::Places;
 use std::alloc::{AllocError, Global};
 use thes_tables::change::Change;
 
@@ -41,7 +41,7 @@ pub trait IndexedRow: AddedRow {
 #[derive(Drop)]
 pub struct Slots<T> {
     rows: Vec<Option<T>>,
-    places: Index,
+    places: Places,
 }
 
 impl<T: IndexedRow + Drop> Slots<T> {
@@ -52,7 +52,7 @@ impl<T: IndexedRow + Drop> Slots<T> {
     {
         Slots {
             rows: Vec::new(alloc),
-            places: Index::new(alloc),
+            places: Places::new(alloc),
         }
     }
 
@@ -80,7 +80,7 @@ impl<T: IndexedRow + Drop> Slots<T> {
     fn expect(&mut self, changes: &[Change]) -> Result<(), AllocError>
         requires { vec_len self.old.rows + length changes.now < 2 ^ 64 }
         ensures rows { self.new.rows ≡ self.old.rows }
-        ensures keeps { KeepsPositions self.old.places self.new.places }
+        ensures keeps { KeepsPlaces self.old.places self.new.places }
         ensures ok { OnOk result
             (AreExpected T.number_of self.new (rows_added_by T.added_row changes.now)) }
     {
@@ -96,9 +96,9 @@ impl<T: IndexedRow + Drop> Slots<T> {
     fn expect_one(&mut self, change: &Change, place: usize) -> Result<usize, AllocError>
         requires { place + 1 < 2 ^ 64 }
         ensures rows { self.new.rows ≡ self.old.rows }
-        ensures keeps { KeepsPositions self.old.places self.new.places }
+        ensures keeps { KeepsPlaces self.old.places self.new.places }
         ensures ok { OnOk result ((row : T) → T.added_row change.now ≡ Some row
-            → HasPosition self.new.places (T.number_of row) place) }
+            → HasPlace self.new.places (T.number_of row) place) }
         ensures next { IfOk result (λ next. next
             ≡ place + length (rows_added_by T.added_row (change.now ∷ []))) }
     {
@@ -140,10 +140,7 @@ impl<T: IndexedRow + Drop> Slots<T> {
         ensures none { IfNone result (AreIndexedBy T.number_of self.now → (place : ℕ)
             → is_same_row T.same (slice_get self.now.rows.items place) row.now ≡ false) }
     {
-        let Some(places) = self.places.set(row.index_number()) else {
-            return None;
-        };
-        for place in places.iter() {
+        for place in self.places.positions(row.index_number()) {
             if self.has(*place, row) {
                 return Some(*place);
             }
@@ -167,7 +164,7 @@ impl<T: IndexedRow + Drop> Slots<T> {
             ≡ rows_after_change_at (λ slot. None) place self.old.rows.items }
         ensures len { vec_len self.new.rows ≡ vec_len self.old.rows }
         ensures capacity { vec_capacity self.new.rows ≡ vec_capacity self.old.rows }
-        ensures places { KeepsOthers place self.old.places self.new.places }
+        ensures places { KeepsOtherPlaces place self.old.places self.new.places }
     {
         if let Some(slot) = self.rows.get_mut(place) {
             *slot = None;

@@ -1,19 +1,23 @@
 //! The tables in memory, and how changes are applied to them.
-ghost use Rattle.std.specs.Prelude.{◌≡◌, ◌∷◌, [], List, map, vec_len, OnOk};
+ghost use Rattle.std.specs.Prelude.{◌≡◌, ◌∷◌, ◌++◌, [], List, map, filter, not, vec_len, OnOk};
 ghost use Rattle.std.specs.Vec.{vec_capacity};
 ghost use Rattle.thes_base.specs.Changes.{resources_after_death};
 ghost use Rattle.thes_tables.specs.declared.change.Change.{Change};
 ghost use Rattle.thes_tables.specs.Tables.{empty_tables};
 ghost use Rattle.thes_tables.specs.Rows.{tables_after_change, tables_after_delta, with_posting, row_after_withdrawal, row_at_place, row_after_move_all};
+ghost use Rattle.thes_base.specs.Labels.{Label};
 ghost use Rattle.thes_store.specs.Covers.{IndexesByPlace, IndexesByPlaceThroughout};
+ghost use Rattle.thes_store.specs.Numbers.{owner_of, is_same_label};
 ghost use Rattle.thes_store.specs.RowsAtPositions.{rows_after_change_at, rows_after_changes_at};
 ghost use Rattle.thes_store.specs.Room.{tables_in_memory, AllIndexed, HasRoomForRows};
+ghost use Rattle.thes_store.specs.Slots.{rows_in, AreIndexedBy, IsReady};
 
 use crate::added_row::make_room;
 use crate::index::Index;
+use crate::packed_label::{PackedLabel, pack_labels};
 use crate::slots::Slots;
 use std::alloc::{AllocError, Global};
-use std::collections::BTreeSet;
+use std::collections::{BTreeSet, VecDeque};
 use thes_base::data::{Link, Resource};
 use thes_base::number::{PostNo, ResNo};
 use thes_base::text::Base;
@@ -23,14 +27,17 @@ use thes_tables::rows::{HierRow, LabelRow, MoveRow, OutsideRow, PostingRow};
 /// The rows of all tables in memory. Deleted rows of the tables label, link and hier leave gaps.
 #[derive(Drop)]
 pub struct MemTables {
+    alloc: Global,
     pub base: Base,
     pub resource: Vec<Resource>,
     pub outside: Vec<OutsideRow>,
-    pub label: Slots<LabelRow>,
+    pub label: Slots<PackedLabel>,
     pub link: Slots<Link>,
     pub hier: Slots<HierRow>,
     pub posting: Vec<PostingRow>,
     pub steps: Vec<MoveRow>,
+    // Copies of the labels that the changes to come insert or delete.
+    label_copies: VecDeque<PackedLabel>,
 }
 
 impl MemTables {
@@ -40,6 +47,7 @@ impl MemTables {
         ensures found { AllIndexed result }
     {
         MemTables {
+            alloc,
             base,
             resource: Vec::new(alloc),
             outside: Vec::new(alloc),
@@ -48,6 +56,7 @@ impl MemTables {
             hier: Slots::new(alloc),
             posting: Vec::new(alloc),
             steps: Vec::new(alloc),
+            label_copies: VecDeque::new(alloc),
         }
     }
 
@@ -57,6 +66,7 @@ impl MemTables {
         ensures found { AllIndexed self.old → AllIndexed self.new }
         ensures room { OnOk result (HasRoomForRows changes.now self.new) }
     {
+        pack_labels(&mut self.label_copies, self.alloc, changes)?;
         make_room(&mut self.resource, changes)?;
         make_room(&mut self.outside, changes)?;
         self.label.make_room(changes)?;
@@ -84,8 +94,8 @@ impl MemTables {
             Change::AddOutside(number, iri) => {
                 self.outside.push_reserved(OutsideRow { number, iri })
             }
-            Change::AddLabel(row) => self.label.push(row),
-            Change::DropLabel(row) => self.label.remove(&row),
+            Change::AddLabel(row) => push_label(&mut self.label, &mut self.label_copies, row),
+            Change::DropLabel(row) => remove_label(&mut self.label, &mut self.label_copies, row),
             Change::AddLink(link) => self.link.push(link),
             Change::DropLink(link) => self.link.remove(&link),
             Change::AddHier(row) => self.hier.push(row),
@@ -115,6 +125,41 @@ impl MemTables {
             self.apply_change(change, standing);
         }
     }
+}
+
+// Appends the row of a label, of which the next copy is taken.
+fn push_label(labels: &mut Slots<PackedLabel>, copies: &mut VecDeque<PackedLabel>, row: LabelRow)
+    requires next { (rest : List Label) × (copies.old.items ≡ row ∷ rest) }
+    requires ready { IsReady owner_of labels.old (row ∷ []) }
+    ensures rows { rows_in labels.new ≡ rows_in labels.old ++ row ∷ [] }
+    ensures found { AreIndexedBy owner_of labels.old → AreIndexedBy owner_of labels.new }
+    ensures ready { (rest : List Label) → IsReady owner_of labels.old (row ∷ rest)
+        → IsReady owner_of labels.new rest }
+    ensures copies { (rest : List Label) → copies.old.items ≡ row ∷ rest
+        → copies.new.items ≡ rest }
+{
+    if let Some(copy) = copies.pop_front() {
+        labels.push(copy);
+    }
+    drop(row)
+}
+
+// Removes the rows of a label, of which the next copy is taken.
+fn remove_label(labels: &mut Slots<PackedLabel>, copies: &mut VecDeque<PackedLabel>, row: LabelRow)
+    requires next { (rest : List Label) × (copies.old.items ≡ row ∷ rest) }
+    requires found { AreIndexedBy owner_of labels.old }
+    ensures rows { rows_in labels.new
+        ≡ filter (λ x. not (is_same_label x row)) (rows_in labels.old) }
+    ensures found { AreIndexedBy owner_of labels.new }
+    ensures ready { (rest : List Label) → IsReady owner_of labels.old rest
+        → IsReady owner_of labels.new rest }
+    ensures copies { (rest : List Label) → copies.old.items ≡ row ∷ rest
+        → copies.new.items ≡ rest }
+{
+    if let Some(copy) = copies.pop_front() {
+        labels.remove(&copy);
+    }
+    drop(row)
 }
 
 // Marks a resource as dead, with its replacement if it was merged.

@@ -1,7 +1,7 @@
 use Rattle.std.proofs.Common.{◌≡◌, ◌≤◌, ◌∙◌, ◌+◌, ◌∷◌, [], length, subst, sym, take, arith}
 use Rattle.std.specs.Prelude.{vec_len}
 use Rattle.thes_store.specs.AddedRow.{rows_added_by}
-use Rattle.thes_store.specs.Index.{HasPosition}
+use Rattle.thes_store.specs.Places.{HasPlace}
 use Rattle.thes_store.specs.Slots.{AreExpected}
 use Rattle.thes_store.proofs.AddedRowLemmas.{more_added, count_more, at_most_one, expected_more, same_len}
 use Rattle.thes_store.proofs.slots.Slots.expect.Goals as goal
@@ -31,6 +31,6 @@ loop-change-preserved g c =
           (expected_more g.T.IndexedRow.number_of c.loop-change.self c.expect_one.new.self
           (rows_added_by added_row (take i c.args.changes.now)) (added_row change) so_far.expected
           c.expect_one.ensures.keeps c.expect_one.ensures.rows
-          (λ row e. subst (HasPosition c.expect_one.new.self.places (g.T.IndexedRow.number_of row))
+          (λ row e. subst (HasPlace c.expect_one.new.self.places (g.T.IndexedRow.number_of row))
           at (c.in_ok-place.ensures.ok row e)));
     }

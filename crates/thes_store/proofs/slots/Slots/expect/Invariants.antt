@@ -1,7 +1,7 @@
 use Rattle.std.proofs.Common.{◌≡◌, ◌≤◌, ◌+◌, length, take}
 use Rattle.std.specs.Prelude.{vec_len}
 use Rattle.thes_store.specs.AddedRow.{rows_added_by}
-use Rattle.thes_store.specs.Index.{KeepsPositions}
+use Rattle.thes_store.specs.Places.{KeepsPlaces}
 use Rattle.thes_store.specs.Slots.{AreExpected}
 use Rattle.thes_store.proofs.slots.Slots.expect.Given as goal
 
@@ -11,7 +11,7 @@ invariant-loop-change g l = record {
   place : l.place ≡ vec_len l.fn.self.rows
       + length (rows_added_by g.T.AddedRow.added_row (take l.change-index l.changes));
   least : l.place ≤ vec_len l.fn.self.rows + l.change-index;
-  keeps : KeepsPositions l.fn.self.places l.self.places;
+  keeps : KeepsPlaces l.fn.self.places l.self.places;
   expected : AreExpected g.T.IndexedRow.number_of l.self
       (rows_added_by g.T.AddedRow.added_row (take l.change-index l.changes));
 }

@@ -1,7 +1,7 @@
 use Rattle.std.proofs.Common.{◌≡◌, ◌∙◌, ◌+◌, ap, refl, subst, arith}
 use Rattle.std.specs.Prelude.{vec_len}
 use Rattle.std.specs.List.{filter_map}
-use Rattle.thes_store.specs.Index.{HasPosition}
+use Rattle.thes_store.specs.Places.{HasPlace}
 use Rattle.thes_store.proofs.SlotLemmas.{rows_pushed, found_pushed, ready_pushed}
 use Rattle.thes_store.proofs.slots.Slots.push.Goals as goal
 
@@ -12,7 +12,7 @@ returns-clause-rows g c = ap (filter_map (λ slot. slot)) c.push_reserved.ensure
 pub returns-clause-found : goal.returns-clause-found
 returns-clause-found g c =
     let s = c.args.self.now in
-    let at = subst (HasPosition s.places (g.T.IndexedRow.number_of c.args.row)) (let e : vec_len s.rows + 0
+    let at = subst (HasPlace s.places (g.T.IndexedRow.number_of c.args.row)) (let e : vec_len s.rows + 0
     ≡ vec_len s.rows = omega arith in e) (c.requires.expected 0 c.args.row refl) in
     found_pushed g.T.IndexedRow.number_of s (record { rows = c.push_reserved.new.self; places = s.places }) c.args.row
     c.push_reserved.ensures.items refl at

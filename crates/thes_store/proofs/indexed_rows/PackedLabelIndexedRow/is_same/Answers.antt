@@ -4,7 +4,7 @@ use Rattle.std.specs.Cmp.{both_ways, tied_itself, Equal-is}
 use Rattle.thes_base.specs.Labels.{label_cmp}
 use Rattle.thes_base.proofs.LabelSetLemmas.{labels_total, labels_exact}
 use Rattle.thes_store.proofs.RowEqualityLemmas.{true_of, is_true_of}
-use Rattle.thes_store.proofs.indexed_rows.LabelRowIndexedRow.is_same.Goals as goal
+use Rattle.thes_store.proofs.indexed_rows.PackedLabelIndexedRow.is_same.Goals as goal
 
 pub returns : goal.returns
 returns c = both_ways _ _
