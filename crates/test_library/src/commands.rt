@@ -1,4 +1,5 @@
 //! Ten commands, and the facts on postings that decide them.
+use crate::failure::both;
 use std::alloc::{AllocError, Global};
 use thesaurus::{
     Base, Command, Facts, Key, Label, LabelValue, LinkKind, PostNo, PostingRow, ReadStop,
@@ -19,24 +20,24 @@ pub fn english(alloc: Global) -> Result<Tag, ReadStop> {
 }
 
 fn scheme(alloc: Global, text: &str) -> Result<Command, ReadStop> {
-    Ok(Command::Scheme(english(alloc)?, Text::read(alloc, text)?))
+    let (tag, text) = both(english(alloc), Text::read(alloc, text))?;
+    Ok(Command::Scheme(tag, text))
 }
 
 fn concept(alloc: Global, text: &str) -> Result<Command, ReadStop> {
-    Ok(Command::Concept(ResNo::new(1), english(alloc)?, Text::read(alloc, text)?))
+    let (tag, text) = both(english(alloc), Text::read(alloc, text))?;
+    Ok(Command::Concept(ResNo::new(1), tag, text))
 }
 
 fn alternative(alloc: Global, owner: ResNo, text: &str) -> Result<Command, ReadStop> {
-    let label = Label {
-        tag: english(alloc)?,
-        value: LabelValue::Alt(Text::read(alloc, text)?),
-    };
-    Ok(Command::AddLabel(owner, label))
+    let (tag, text) = both(english(alloc), Text::read(alloc, text))?;
+    let value = LabelValue::Alt(text);
+    Ok(Command::AddLabel(owner, Label { tag, value }))
 }
 
 fn post(alloc: Global, key: &str, name: &str, concept: ResNo) -> Result<Command, ReadStop> {
-    let key = Key::read(alloc, key)?;
-    Ok(Command::Post(key, RecordName::read(alloc, name)?, concept))
+    let (key, name) = both(Key::read(alloc, key), RecordName::read(alloc, name))?;
+    Ok(Command::Post(key, name, concept))
 }
 
 /// Returns the command at a place from 0 to 9. Those at 6 and 9 are refused: a cycle, and a posting
@@ -58,11 +59,11 @@ pub fn command_at(alloc: Global, place: usize) -> Result<Command, ReadStop> {
 
 // Returns the row of the only posting, after its move.
 fn posting_row(alloc: Global, withdrawn: bool) -> Result<PostingRow, ReadStop> {
-    let key = Key::read(alloc, "k1")?;
+    let (key, rec) = both(Key::read(alloc, "k1"), RecordName::read(alloc, "r1"))?;
     Ok(PostingRow {
         number: PostNo::new(1),
         key,
-        rec: RecordName::read(alloc, "r1")?,
+        rec,
         first: ResNo::new(2),
         place: ResNo::new(3),
         withdrawn,

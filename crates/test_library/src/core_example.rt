@@ -2,7 +2,7 @@
 ghost use Rattle.std.specs.Prelude.{◌≡◌, false};
 
 use crate::commands::{COUNT, base, command_at, english, facts_at};
-use crate::failure::Failure;
+use crate::failure::{Failure, both};
 use crate::report::{push, push_answer, push_concept, push_totals};
 use std::alloc::Global;
 use std::fmt::Write;
@@ -18,9 +18,11 @@ fn step(core: &mut Core, command: &Command, facts: &Facts) -> Result<Answer, Fau
 
 // Performs the command at a place.
 fn perform(alloc: Global, core: &mut Core, place: usize) -> Result<Answer, Failure> {
-    let command = command_at(alloc, place)?;
-    let facts = facts_at(alloc, place)?;
-    Ok(step(core, &command, &facts)?)
+    let (command, facts) = both(command_at(alloc, place), facts_at(alloc, place))?;
+    let answer = step(core, &command, &facts);
+    drop(facts);
+    drop(command);
+    Ok(answer?)
 }
 
 // Appends the sort key of the preferred label of a concept.
@@ -79,5 +81,7 @@ fn run_in(alloc: Global, core: &mut Core, report: &mut String) -> Result<(), Fai
 /// Performs the ten commands in a new core, and appends their answers and what the core then has.
 pub fn run(alloc: Global, report: &mut String) -> Result<(), Failure> {
     let mut core = Core::new(alloc, base(alloc)?, Limits::default());
-    run_in(alloc, &mut core, report)
+    let outcome = run_in(alloc, &mut core, report);
+    drop(core);
+    outcome
 }

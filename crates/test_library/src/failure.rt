@@ -44,3 +44,10 @@ pub fn on_success<T: Drop, U: Copy, E>(value: T, outcome: Result<U, E>) -> Resul
         Err(fault) => Err(fault),
     }
 }
+
+/// Returns both values, or the first fault.
+pub fn both<A: Drop, B: Drop, E: Copy>(a: Result<A, E>, b: Result<B, E>) -> Result<(A, B), E> {
+    let a = a?;
+    let b = b?;
+    Ok((a, b))
+}

@@ -67,7 +67,11 @@ fn rows_of<K: Keeper>(alloc: Global, keeper: &mut K) -> Result<Rows, Fault> {
 // Loads rows into a core, and appends what it has, or the fault.
 fn write_loaded(alloc: Global, rows: Rows, report: &mut String) -> Result<(), Failure> {
     match from_rows(alloc, rows, Limits::default()) {
-        Ok(core) => write_core(alloc, &core, report),
+        Ok(core) => {
+            let outcome = write_core(alloc, &core, report);
+            drop(core);
+            outcome
+        }
         Err(fault) => Ok(writeln!(report, "{fault:?}")?),
     }
 }

@@ -38,7 +38,9 @@ fn concept_line(alloc: Global, core: &Core, concept: ResNo) -> Result<Vec<u8>, P
     requires { core.now.spent ≡ false }
 {
     let view = concept_view(core, alloc, concept)?;
-    view_line(alloc, &view)
+    let line = view_line(alloc, &view);
+    drop(view);
+    line
 }
 
 /// Appends the line of a concept in a core.

@@ -59,6 +59,16 @@ fn write_answers<K: Keeper>(
     }
 }
 
+// Runs the lines in an office over a storage, and appends the answers and the view of the totals.
+fn run_over<K: Keeper + Drop>(
+    alloc: Global,
+    keeper: K,
+    report: &mut String,
+) -> Result<(), Failure> {
+    let mut handler = OfficeHandler::new(open(alloc, keeper)?);
+    write_answers(alloc, &mut handler, report)
+}
+
 /// Runs a script over storage whose next commit fails once, and appends the answers.
 pub fn run(alloc: Global, report: &mut String) -> Result<(), Failure> {
     let keeper = FailOnce {
@@ -66,6 +76,5 @@ pub fn run(alloc: Global, report: &mut String) -> Result<(), Failure> {
         next: Next::Commit,
         failures: 0,
     };
-    let mut handler = OfficeHandler::new(open(alloc, keeper)?);
-    write_answers(alloc, &mut handler, report)
+    run_over(alloc, keeper, report)
 }

@@ -3,7 +3,7 @@ use crate::commands::command_at;
 use crate::failure::Failure;
 use crate::office_example::{keeper_after, open};
 use std::alloc::{AllocError, Global};
-use thesaurus::{Answer, Command, Fault, Keeper, MemKeeper, Office, Totals};
+use thesaurus::{Answer, Command, Fault, Keeper, Office, Totals};
 
 // A number of allocations greater than that of any run before the one that fails.
 const MOST: u32 = 10_000;
@@ -25,20 +25,25 @@ fn allocate(alloc: Global, count: u32) -> Result<(), AllocError> {
     Ok(())
 }
 
-fn post<K: Keeper>(office: &mut Office<K>, command: &Command) -> Posted {
+// Sends a posting to an office, and drops the office.
+fn post<K: Keeper + Drop>(mut office: Office<K>, command: &Command) -> Posted {
+    let answer = office.perform(command);
+    let was_stale = office.is_stale();
+    let totals = office.totals();
+    drop(office);
     Posted {
-        answer: office.perform(command),
-        was_stale: office.is_stale(),
-        totals: office.totals(),
+        answer,
+        was_stale,
+        totals,
     }
 }
 
-// Returns an office over storage in memory in which the commands before the posting were performed.
-fn office_before(alloc: Global) -> Result<Office<MemKeeper>, Failure> {
+// Sends a posting to an office over storage in memory, after the commands before it.
+fn post_in_new_store(alloc: Global, command: &Command) -> Result<Posted, Failure> {
     let mut report = String::new(alloc);
     let keeper = keeper_after(alloc, 5, &mut report);
     drop(report);
-    Ok(open(alloc, keeper?)?)
+    Ok(post(open(alloc, keeper?)?, command))
 }
 
 /// Makes `before` allocations, fills a store, and sends a posting to it. Then makes allocations
@@ -46,8 +51,8 @@ fn office_before(alloc: Global) -> Result<Office<MemKeeper>, Failure> {
 pub fn run(alloc: Global, before: u32) -> Result<Posted, Failure> {
     allocate(alloc, before)?;
     let command = command_at(alloc, 5)?;
-    let mut office = office_before(alloc)?;
-    let posted = post(&mut office, &command);
+    let posted = post_in_new_store(alloc, &command);
+    drop(command);
     let _ = allocate(alloc, MOST);
-    Ok(posted)
+    posted
 }
