@@ -1,5 +1,5 @@
-//! Tests of connections, in memory and over devices that fail, with a service that only counts the
-//! operations performed.
+//! Tests of connections. They run in memory and over devices that fail, with a service that only
+//! counts the operations performed.
 #![tactic(auto)]
 
 #[cfg(test)]

@@ -1,7 +1,11 @@
--- The answers to queries, as lines of JSON.
-use Rattle.std.specs.Prelude.{◌≡◌, ℕ, List, Result, Ok, Err}
+-- The answers to queries, as lines of JSON; and views that were written in part.
+use Rattle.std.specs.Prelude.{◌≡◌, ℕ, List, Option, Result, Ok, Err}
 use Rattle.thes_base.specs.declared.fault.Fault.{Fault}
 use Rattle.thes_base.specs.declared.fault.Fault.TheVariants.{OutOfMemory}
+use Rattle.thes_base.specs.declared.fault.PipeFault.{PipeFault}
+use Rattle.thes_base.specs.declared.fault.PipeFault.TheVariants as pipe
+use Rattle.thes_base.specs.declared.pipe.Pipe.{Pipe}
+use Rattle.thes_base.specs.Pipe.{IsPartialWrite}
 use Rattle.thes_base.specs.State.{State}
 use Rattle.thes_requests.specs.declared.handler.QueryAnswer.{QueryAnswer}
 use Rattle.thes_requests.specs.declared.handler.QueryAnswer.TheVariants as viewed
@@ -22,3 +26,9 @@ IsQueryAnswer s query (Ok (viewed.Line text)) =
     (view : View) × IsView s query view × IsViewLine view text
 IsQueryAnswer s query (Ok (viewed.No r)) = IsView s query (views.No r)
 IsQueryAnswer s query (Err fault) = fault ≡ OutOfMemory
+
+-- Only a prefix of the view's line was written, or nothing if memory ran out.
+abbrev pub IsViewStopped : {W : Type 0} → (W → Option (List ℕ)) → List ℕ → Pipe W → Pipe W → PipeFault → Type 0
+IsViewStopped contents text old new (pipe.Fault OutOfMemory) = new ≡ old
+IsViewStopped contents text old new (pipe.Fault _) = ⊥
+IsViewStopped contents text old new fault = IsPartialWrite contents text old new fault

@@ -1,10 +1,14 @@
 //! Replies to requests as lines of JSON, built without allocation.
-ghost use Rattle.std.specs.Prelude.{◌≡◌, ◌+◌, ◌≤◌, ◌++◌, length, codes, decimal};
+ghost use Rattle.std.specs.Prelude.{◌≡◌, ◌+◌, ◌≤◌, ◌++◌, length, codes, decimal, IfErr, OnOk};
+ghost use Rattle.std.specs.Io.KnownBytes.{Appends};
 ghost use Rattle.thes_base.specs.FaultNames.{form_code, refusal_code, fault_code, table_name};
+ghost use Rattle.thes_base.specs.Pipe.{written_bytes, IsFresh, IsPartialWrite, KeepsCallLimit};
 ghost use Rattle.thes_requests.specs.AnswerTexts.{answer_text, fault_reply_text, form_fault_text, refusal_text, reply_text};
 
 use crate::line::ShortLine;
-use thes_base::fault::{Fault, FormFault, Refusal};
+use std::io::Write;
+use thes_base::fault::{Fault, FormFault, PipeFault, Refusal};
+use thes_base::pipe::Pipe;
 use thes_base::request::Answer;
 
 /// The reply to a request: an answer, a form fault or a fault.
@@ -24,6 +28,19 @@ pub fn reply_line(reply: Reply) -> ShortLine
         Reply::Bad(fault) => form_fault_line(fault),
         Reply::Fault(fault) => fault_line(fault),
     }
+}
+
+/// Writes the line of JSON for a reply to a pipe, and allocates nothing. After a fault, a prefix of
+/// the line may have been written.
+pub fn write_answer<W: Write>(reply: Reply, writer: &mut Pipe<W>) -> Result<(), PipeFault>
+    requires { IsFresh writer.old }
+    ensures ok { OnOk result (Appends (written_bytes W.contents writer.old)
+        (written_bytes W.contents writer.new) (reply_text reply)) }
+    ensures stopped { IfErr result
+        (IsPartialWrite W.contents (reply_text reply) writer.old writer.new) }
+    ensures calls { KeepsCallLimit writer.old writer.new }
+{
+    writer.write_text(reply_line(reply).as_bytes())
 }
 
 // Returns the line of JSON for an answer, such as `{"ok":7}` for a new number.

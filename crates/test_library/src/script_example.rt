@@ -1,0 +1,80 @@
+//! A script over storage of which one commit fails.
+ghost use Rattle.std.specs.Prelude.{◌≡◌};
+ghost use Rattle.thesaurus.specs.Pipe.{IsFresh};
+
+use crate::failure::{Failure, on_success};
+use crate::office_example::{keeper_after, open};
+use crate::report::push;
+use std::alloc::Global;
+use std::io::{Read, Write};
+use thesaurus::{
+    Ended, FailOnce, Fault, Keeper, Next, OfficeHandler, Pipe, PipeFault, Query, QueryAnswer,
+    RequestHandler, script,
+};
+
+// A posting, sent twice.
+const LINES: &str = r#"{"do":"post","key":"k1","record":"r1","concept":2}
+{"do":"post","key":"k1","record":"r1","concept":2}
+"#;
+
+fn serve<K: Keeper, R: Read, W: Write>(
+    alloc: Global,
+    reader: &mut Pipe<R>,
+    writer: &mut Pipe<W>,
+    handler: &mut OfficeHandler<K>,
+) -> Result<Ended, PipeFault>
+    requires reader { IsFresh reader.old }
+    requires writer { IsFresh writer.old }
+{
+    script(alloc, reader, writer, handler)
+}
+
+// Runs the lines, and returns the answers.
+fn answers<K: Keeper>(alloc: Global, handler: &mut OfficeHandler<K>) -> Result<Vec<u8>, PipeFault> {
+    let mut reader = Pipe::new(LINES.as_bytes());
+    let mut writer = Pipe::new(Vec::new(alloc));
+    let ended = serve(alloc, &mut reader, &mut writer, handler);
+    on_success(writer.into_device(), ended)
+}
+
+// Answers a query with the line of its view, or with a refusal.
+fn view<K: Keeper>(
+    alloc: Global,
+    handler: &mut OfficeHandler<K>,
+    query: &Query,
+) -> Result<QueryAnswer, Fault> {
+    handler.show(alloc, query)
+}
+
+// Appends the answers to the lines, and the view of the totals.
+fn write_answers<K: Keeper>(
+    alloc: Global,
+    handler: &mut OfficeHandler<K>,
+    report: &mut String,
+) -> Result<(), Failure> {
+    push(report, &answers(alloc, handler)?)?;
+    match view(alloc, handler, &Query::Totals)? {
+        QueryAnswer::Line(line) => Ok(push(report, line.as_bytes())?),
+        QueryAnswer::No(_) => Ok(push(report, b"refused\n")?),
+    }
+}
+
+// Runs the lines in an office over a storage, and appends the answers and the view of the totals.
+fn run_over<K: Keeper + Drop>(
+    alloc: Global,
+    keeper: K,
+    report: &mut String,
+) -> Result<(), Failure> {
+    let mut handler = OfficeHandler::new(open(alloc, keeper)?);
+    write_answers(alloc, &mut handler, report)
+}
+
+/// Runs a script over storage whose next commit fails once, and appends the answers.
+pub fn run(alloc: Global, report: &mut String) -> Result<(), Failure> {
+    let keeper = FailOnce {
+        keeper: keeper_after(alloc, 3, report)?,
+        next: Next::Commit,
+        failures: 0,
+    };
+    run_over(alloc, keeper, report)
+}
