@@ -34,17 +34,16 @@ pub use Rattle.thes_exchange.specs.ViewOf
 pub use Rattle.thes_exchange.specs.ViewTexts
 pub use Rattle.thes_exchange.specs.Viewing
 pub use Rattle.thes_export.specs.ExportWrites
-pub use Rattle.thes_graph.specs.EditChecks
-pub use Rattle.thes_graph.specs.GraphView
-pub use Rattle.thes_graph.specs.Local
-pub use Rattle.thes_graph.specs.Reading as GraphReading
-pub use Rattle.thes_graph.specs.Side
 pub use Rattle.thes_http.specs.Connection
 pub use Rattle.thes_http.specs.Responses
+pub use Rattle.thes_http.specs.ServiceBehaviour
 pub use Rattle.thes_http.specs.Serving as HttpServing
 pub use Rattle.thes_http_request.specs.Inbox
 pub use Rattle.thes_import.specs.ImportEngine
-pub use Rattle.thes_import.specs.Outcomes
+pub use Rattle.thes_links.specs.GraphView
+pub use Rattle.thes_links.specs.Local
+pub use Rattle.thes_links.specs.Reading as LinksReading
+pub use Rattle.thes_links.specs.Side
 pub use Rattle.thes_load_rules.specs.Verdicts
 pub use Rattle.thes_office.specs.AssignedPostings
 pub use Rattle.thes_office.specs.FoundStates
@@ -53,15 +52,17 @@ pub use Rattle.thes_office.specs.LoaderFeed
 pub use Rattle.thes_office.specs.LoaderView
 pub use Rattle.thes_office.specs.Office
 pub use Rattle.thes_office.specs.QueryFrames
-pub use Rattle.thes_office.specs.RowOrder
-pub use Rattle.thes_office.specs.SortedRows
 pub use Rattle.thes_office.specs.TablesOfState
 pub use Rattle.thes_post.specs.PostingCounts
+pub use Rattle.thes_posting_files.specs.Outcomes
 pub use Rattle.thes_requests.specs.AnswerTexts
 pub use Rattle.thes_requests.specs.Readings
+pub use Rattle.thes_requests.specs.RequestBehaviour
 pub use Rattle.thes_requests.specs.Requests
 pub use Rattle.thes_requests.specs.Script
 pub use Rattle.thes_requests.specs.Serving as RequestsServing
+pub use Rattle.thes_row_lists.specs.RowOrder
+pub use Rattle.thes_row_lists.specs.SortedRows
 pub use Rattle.thes_service.specs.OfficeRequests
 pub use Rattle.thes_service.specs.Service
 pub use Rattle.thes_sql.specs.Schema
@@ -82,3 +83,4 @@ pub use Rattle.thes_vocab.specs.CopiedLabels
 pub use Rattle.thes_vocab.specs.NewResources
 pub use Rattle.thes_vocab.specs.OwnLabels
 pub use Rattle.thes_vocab.specs.Vocabulary
+pub use Rattle.thes_walks.specs.EditChecks

@@ -16,15 +16,16 @@ pub use thes_display::sort_key;
 
 // The parts of the machine: resources and labels, links, and counts of postings.
 pub use thes_graph::graph::{Graph, Walk};
-pub use thes_graph::judge::{check_at, judge_add, judge_contract};
-pub use thes_graph::links::Links;
+pub use thes_links::links::Links;
 pub use thes_post::book::Book;
 pub use thes_vocab::{Forwarding, Vocab};
+pub use thes_walks::judge::{check_at, judge_add, judge_contract};
 
 // The machine, and the rows that keep its state.
 pub use thes_core::reading::Sizes;
 pub use thes_core::{Core, Facts, Verdict};
-pub use thes_office::{CellRow, CellRows as Rows, Loader, from_rows};
+pub use thes_office::Loader;
+pub use thes_row_lists::{CellRow, CellRows as Rows, from_rows};
 pub use thes_tables::cells::{Cell, CellBytes, CellText};
 pub use thes_tables::change::Change;
 pub use thes_tables::delta::Delta;
@@ -44,7 +45,7 @@ pub use thes_exchange::view::{ConceptView, PostingRows, View};
 pub use thes_exchange::viewing::write_view;
 pub use thes_export::writing::export;
 pub use thes_import::import::{ImportEnd as Imported, ImportStop, import};
-pub use thes_import::report::Counts;
+pub use thes_posting_files::report::Counts;
 pub use thes_requests::answer::{Reply, write_answer};
 pub use thes_requests::handler::{QueryAnswer, RequestHandler, ViewLine};
 pub use thes_requests::request::{Query, Request, RequestScratch, read_request};
