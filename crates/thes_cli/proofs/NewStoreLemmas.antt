@@ -5,7 +5,6 @@ use Rattle.std.specs.FinSet as set
 use Rattle.thes_base.specs.Forms.{IsBase}
 use Rattle.thes_base.specs.Labels.{label_cmp}
 use Rattle.thes_base.specs.Links.{Holds, link_cmp}
-use Rattle.thes_base.specs.declared.data.Limits.{Limits}
 use Rattle.thes_base.specs.declared.data.Link.{Link}
 use Rattle.thes_base.specs.State.{empty_state}
 use Rattle.thes_base.proofs.MachineLemmas.{legal_empty}
@@ -13,7 +12,7 @@ use Rattle.thes_base.specs.declared.fault.Fault.{Fault}
 use Rattle.thes_base.specs.declared.fault.Fault.TheVariants as faults
 use Rattle.thes_base.specs.declared.fault.PipeFault.TheVariants as pipe
 use Rattle.thes_base.proofs.NumberedLemmas.{none_at}
-use Rattle.thes_tables.specs.Cells.{cells_of_tables}
+use Rattle.thes_tables.specs.Cells.{Raw, cells_of_tables}
 use Rattle.thes_tables.specs.Tables.{Tables, hier_link, empty_tables}
 use Rattle.thes_store.specs.Causes.{max_failures}
 use Rattle.thes_office.proofs.StateTableLemmas.{faulty_has_no_state}
@@ -22,8 +21,9 @@ use Rattle.thes_cli.specs.Checking.{no_sizes, sizes_of}
 use Rattle.thes_command_line.specs.Printing.{Prints, fault_line}
 use Rattle.thes_cli.specs.Opening.{IsUnopened}
 use Rattle.thes_cli.specs.declared.streams.Streams.{Streams}
-use Rattle.thes_cli.specs.Work.{WorksOverKeeper, WorksInMemory, storage_in_memory}
-use Rattle.thes_jobs.specs.declared.work.Work.{Work}
+use Rattle.thes_cli.specs.Stores.{WorksInMemory, storage_in_memory}
+use Rattle.thes_cli.specs.Work.{WorksOverKeeper}
+use Rattle.thes_jobs.specs.declared.work.MemoryWork.{MemoryWork}
 
 no_link : (l : Link) → Holds set.empty l → ⊥
 no_link l h = let e = set.contains-empty link_cmp l in cc
@@ -83,28 +83,28 @@ only_memory base fault tables_after shows un = elim (un.verdict tt) [
 module _ {F R W E : Type 0} (given : F → Option (List ℕ)) (remaining : R → Option (List ℕ))
     (out : W → Option (List ℕ)) (err : E → Option (List ℕ)) where
   -- Work over a new storage in memory is work over the empty state, or memory ran out.
-  pub works_in_memory : {L : Type 0} (task : Work F L) (base : List ℕ) (limits : Limits) (old : Streams R W E)
-      (status : ℕ) (tables_after : Tables) (new : Streams R W E) → IsBase base
-      → WorksOverKeeper storage_in_memory given remaining out err task None limits
-      (empty_tables base) old status tables_after new
-      → WorksInMemory given remaining out err task base limits old status new
-  works_in_memory task base limits old status tables_after new form (inl opens) =
+  pub works_in_memory : {P L : Type 0} (is_open : Tables → Type 0) (finds : Tables → Raw → Type 0)
+      (job : MemoryWork P F L) (old : Streams R W E) (status : ℕ) (tables_after : Tables) (new : Streams R W E)
+      → IsBase job.base
+      → WorksOverKeeper storage_in_memory is_open finds given remaining out err job.work None job.limits
+      (empty_tables job.base) old status tables_after new
+      → WorksInMemory given remaining out err job old status new
+  works_in_memory is_open finds job old status tables_after new form (inl opens, found) =
       record {
-        shows = new_store_shows base form;
+        shows = new_store_shows job.base form;
         nothing = empty_sizes;
         tables_after = tables_after;
-        works =
-            inl opens;
+        works = inl opens;
       }
-  works_in_memory task base limits old status tables_after new form (inr un) = record {
-    shows = new_store_shows base form;
+  works_in_memory is_open finds job old status tables_after new form (inr un, found) = record {
+    shows = new_store_shows job.base form;
     nothing = empty_sizes;
     tables_after = tables_after;
     works = inr record {
       input = un.input;
       output = un.output;
       prints_it = subst (λ (f : Fault). Prints err old.errors new.errors (fault_line (pipe.Fault f)))
-          (only_memory base un.fault tables_after (new_store_shows base form) un.fails_to_open) un.prints_it;
+          (only_memory job.base un.fault tables_after (new_store_shows job.base form) un.fails_to_open) un.prints_it;
       status_is = un.status_is;
     };
   }

@@ -2,8 +2,8 @@
 //! performs their task, and exits with its status.
 #![tactic(auto)]
 
+ghost use Rattle.std.specs.Prelude.{◌≡◌, false};
 ghost use Rattle.thes_cli.specs.Streams.{AreFresh};
-ghost use Rattle.thes_jobs.specs.Starting.{OpensIdle};
 
 mod checking;
 mod displaying;
@@ -15,9 +15,9 @@ mod stores;
 mod streams;
 mod work;
 
-use sqlite::{Alter, Connection, FileStore};
+use sqlite::{Alter, Connection, File, FileStore};
 use std::alloc::Global;
-use std::io::{IsTerminal, Read, Write};
+use std::io::{IsTerminal, Write};
 use std::process::ExitCode;
 use std::rt::Env;
 use stores::{work_in_database, work_in_memory};
@@ -31,7 +31,7 @@ use thes_jobs::databases::{Databases, FileDatabases};
 use thes_jobs::migrating::{migrate_in_database, print_version};
 use thes_jobs::starting::{OpenJob, open_job};
 use thes_jobs::store_files::StoreFiles;
-use thes_sqlite::reopening::{Leaving, Reopen};
+use thes_sqlite::reopening::Leaving;
 
 // Parses the arguments of the process.
 fn plan_command_line<R: Env + Alloc<A = Global>>(rt: &R) -> Result<Job, EarlyExit> {
@@ -65,55 +65,21 @@ fn close<S: Alter, O, D: Databases<Connection<S>, O>>(
     }
 }
 
-// Opens the job that the arguments name, performs its task, and closes its store. Returns the exit
-// status.
-fn perform<
-    S: Alter + Drop,
-    O: Reopen<Connection<S>> + Drop,
-    D: Databases<Connection<S>, O>,
-    R: Read,
-    W: Write,
-    E: Write,
->(
+// Migrates the store in a database, closes it, and returns the exit status.
+fn migrate<S: Alter, O, D: Databases<Connection<S>, O>, R, W: Write, E: Write>(
     rt: &HostRuntime,
     databases: &D,
-    planned: Result<Job, EarlyExit>,
+    file: String,
+    conn: Connection<S>,
     streams: &mut Streams<R, W, E>,
 ) -> u8
-    requires idle { OpensIdle D.opens }
+    requires idle { conn.in_transaction ≡ false }
     requires streams { AreFresh streams.old }
 {
-    match open_job(rt, databases, planned) {
-        Ok(OpenJob::InFile(work)) => {
-            let (status, leaving) = work_in_database::<HostRuntime, S, O, _, _, R, W, E>(
-                rt.alloc(),
-                rt,
-                work,
-                streams,
-            );
-            close(rt, databases, leaving);
-            status
-        }
-        Ok(OpenJob::InMemory(work)) => work_in_memory::<HostRuntime, _, _, R, W, E>(
-            rt.alloc(),
-            rt,
-            work,
-            streams,
-        ),
-        Ok(OpenJob::Migration(file, conn)) => {
-            let (status, conn) = migrate_in_database(
-                rt.alloc(),
-                file.as_str(),
-                conn,
-                &mut streams.output,
-                &mut streams.errors,
-            );
-            close(rt, databases, Leaving::with_connection(conn));
-            status
-        }
-        Ok(OpenJob::Version) => print_version(&mut streams.output, &mut streams.errors),
-        Err(failure) => report_start_failure(&mut streams.output, &mut streams.errors, &failure),
-    }
+    let (output, errors) = (&mut streams.output, &mut streams.errors);
+    let (status, conn) = migrate_in_database(rt.alloc(), file.as_str(), conn, output, errors);
+    close(rt, databases, Leaving::with_connection(conn));
+    status
 }
 
 fn main(rt: HostRuntime) -> ExitCode {
@@ -125,11 +91,18 @@ fn main(rt: HostRuntime) -> ExitCode {
         errors: Pipe::new(rt.stderr()),
     };
     let databases = FileDatabases { rt: &rt };
-    let status = perform::<FileStore<sqlite::File>, StoreFiles<'_>, _, _, _, _>(
-        &rt,
-        &databases,
-        planned,
-        &mut streams,
-    );
+    let status = match open_job::<FileStore<File>, StoreFiles<'_>, _>(&rt, &databases, planned) {
+        Ok(OpenJob::InFile(job)) => {
+            let (status, leaving) = work_in_database(rt.alloc(), &rt, job, &mut streams);
+            close(&rt, &databases, leaving);
+            status
+        }
+        Ok(OpenJob::InMemory(job)) => work_in_memory(rt.alloc(), &rt, job, &mut streams),
+        Ok(OpenJob::Migration(file, conn)) => migrate(&rt, &databases, file, conn, &mut streams),
+        Ok(OpenJob::Version) => print_version(&mut streams.output, &mut streams.errors),
+        Err(failure) => {
+            report_start_failure(&mut streams.output, &mut streams.errors, &failure)
+        }
+    };
     ExitCode::from(status)
 }

@@ -13,7 +13,6 @@ use thes_base::fault::PipeFault;
 use thes_base::pipe::Pipe;
 use thes_command_line::printing::{print, report_fault, report_net_fault};
 use thes_jobs::work::Listening;
-use thes_office::Office;
 use thes_requests::line::ShortLine;
 use thes_service::{OfficeHandler, office_serve};
 use thes_store::keeper::Keeper;
@@ -41,38 +40,37 @@ fn report_served<E: Write>(errors: &mut Pipe<E>, ended: &io::Result<()>) -> u8
     }
 }
 
-// Serves `count` connections, one after another, and returns the exit status with the office.
+// Serves `count` connections, one after another, and returns the exit status.
 fn serve_all<N: Net + Clock, K: Keeper, E: Write>(
     alloc: Global,
     clock: &N,
     listener: &N::Listener,
     count: u32,
-    office: Office<K>,
+    handler: &mut OfficeHandler<K>,
     errors: &mut Pipe<E>,
-) -> (u8, Office<K>)
+) -> u8
     requires { IsFresh errors.old }
-    ensures { ServesAll K.view E.contents count office errors.old errors.new
-        result.0 result.1 }
+    ensures { ServesAll K.view E.contents count handler.old errors.old errors.new result
+        handler.new }
 {
-    let mut handler = OfficeHandler::new(office);
-    let ended = office_serve::<N, K>(alloc, clock, listener, count, &mut handler);
-    (report_served(errors, &ended), handler.into_office())
+    let ended = office_serve::<N, K>(alloc, clock, listener, count, handler);
+    report_served(errors, &ended)
 }
 
-/// Prints the address, serves the connections, and returns the exit status with the office. If the
-/// address can't be printed, it serves none.
+/// Prints the address, serves the connections, and returns the exit status. If the address can't be
+/// printed, it serves none.
 pub fn serve_store<N: Net + Clock, K: Keeper, W: Write, E: Write>(
     alloc: Global,
     clock: &N,
     listening: &Listening<N::Listener>,
-    office: Office<K>,
+    handler: &mut OfficeHandler<K>,
     output: &mut Pipe<W>,
     errors: &mut Pipe<E>,
-) -> (u8, Office<K>)
+) -> u8
     requires output { IsFresh output.old }
     requires errors { IsFresh errors.old }
-    ensures { ServesStore K.view E.contents W.contents listening.now.port
-        listening.now.count office output.old output.new errors.old errors.new result.0 result.1 }
+    ensures { ServesStore K.view E.contents W.contents listening.now.port listening.now.count
+        handler.old output.old output.new errors.old errors.new result handler.new }
 {
     if print(output, listening_line(listening.port).as_bytes()) {
         serve_all::<N, K, E>(
@@ -80,10 +78,10 @@ pub fn serve_store<N: Net + Clock, K: Keeper, W: Write, E: Write>(
             clock,
             &listening.listener,
             listening.count,
-            office,
+            handler,
             errors,
         )
     } else {
-        (report_fault(errors, PipeFault::Write), office)
+        report_fault(errors, PipeFault::Write)
     }
 }

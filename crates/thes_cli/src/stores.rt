@@ -1,23 +1,18 @@
 //! Work over the stores of the program: in a database, and in memory.
-ghost use Rattle.std.specs.Prelude.{◌≡◌, false, string_bytes};
-ghost use Rattle.thes_cli.specs.Stores.{WorksInDatabase};
+ghost use Rattle.std.specs.Prelude.{◌≡◌, false};
+ghost use Rattle.thes_cli.specs.Stores.{WorksInDatabase, WorksInMemory};
 ghost use Rattle.thes_cli.specs.Streams.{AreFresh};
-ghost use Rattle.thes_cli.specs.Work.{WorksInMemory};
 
 use crate::streams::Streams;
-use crate::work::work_over;
+use crate::work::work_over_keeper;
 use sqlite::{Alter, Connection};
 use std::alloc::Global;
 use std::io::{Read, Write};
 use std::net::Net;
 use std::rt::Clock;
-use thes_base::fault::PipeFault;
-use thes_command_line::printing::{report_fault, report_in_file};
-use thes_command_line::trouble::StoreTrouble;
 use thes_jobs::progress::Progress;
 use thes_jobs::progress::reporting_keeper::ReportingKeeper;
 use thes_jobs::work::{DatabaseWork, MemoryWork};
-use thes_office::Office;
 use thes_sqlite::reopening::{Leaving, Reopen, ReopeningKeeper};
 use thes_store::mem::MemKeeper;
 
@@ -41,8 +36,7 @@ pub fn work_in_database<
 ) -> (u8, Leaving<S>)
     requires idle { job.conn.in_transaction ≡ false }
     requires streams { AreFresh streams.old }
-    ensures { WorksInDatabase S.Store F.remaining R.remaining W.contents E.contents job.work
-        job.limits (string_bytes job.file) job.conn streams.old
+    ensures { WorksInDatabase F.remaining R.remaining W.contents E.contents S.Store job streams.old
         result.0 result.1.conn streams.new }
 {
     let DatabaseWork {
@@ -54,28 +48,23 @@ pub fn work_in_database<
         progress,
     } = job;
     let keeper = ReportingKeeper::new(ReopeningKeeper::new(alloc, conn, opener), progress);
-    match Office::start(alloc, keeper, limits) {
-        Ok(office) => {
-            let (status, office) = work_over::<
-                N,
-                ReportingKeeper<ReopeningKeeper<S, O>, P>,
-                F,
-                R,
-                W,
-                E,
-            >(alloc, clock, work, office, streams);
-            (status, office.into_keeper().into_keeper().leave())
-        }
-        Err((fault, keeper)) => (
-            report_in_file(
-                &mut streams.errors,
-                file.as_str(),
-                StoreTrouble::Unreadable,
-                fault,
-            ),
-            keeper.into_keeper().leave(),
-        ),
-    }
+    let (status, keeper) = work_over_keeper::<
+        N,
+        ReportingKeeper<ReopeningKeeper<S, O>, P>,
+        F,
+        R,
+        W,
+        E,
+    >(
+        alloc,
+        clock,
+        work,
+        keeper,
+        limits,
+        Some(file),
+        streams,
+    );
+    (status, keeper.into_keeper().leave())
 }
 
 /// Works over a new store in memory with this base and these limits, and returns the exit status.
@@ -93,8 +82,8 @@ pub fn work_in_memory<
     streams: &mut Streams<R, W, E>,
 ) -> u8
     requires { AreFresh streams.old }
-    ensures { WorksInMemory F.remaining R.remaining W.contents E.contents job.work job.base
-        job.limits streams.old result streams.new }
+    ensures { WorksInMemory F.remaining R.remaining W.contents E.contents job streams.old result
+        streams.new }
 {
     let MemoryWork {
         work,
@@ -105,17 +94,9 @@ pub fn work_in_memory<
     // No effect; states for the proof that the base has its form.
     let _ = base.as_str();
     let keeper = ReportingKeeper::new(MemKeeper::new(alloc, base), progress);
-    match Office::start(alloc, keeper, limits) {
-        Ok(office) => {
-            let (status, office) = work_over::<N, ReportingKeeper<MemKeeper, P>, F, R, W, E>(
-                alloc, clock, work, office, streams,
-            );
-            drop(office);
-            status
-        }
-        Err((fault, keeper)) => {
-            drop(keeper);
-            report_fault(&mut streams.errors, PipeFault::Fault(fault))
-        }
-    }
+    let (status, keeper) = work_over_keeper::<N, ReportingKeeper<MemKeeper, P>, F, R, W, E>(
+        alloc, clock, work, keeper, limits, None, streams,
+    );
+    drop(keeper);
+    status
 }

@@ -1,6 +1,8 @@
-//! The tasks of the program, performed over a store.
+//! The tasks of the program, performed over the store of a job.
+ghost use Rattle.std.specs.Prelude.{option_map, string_bytes};
+ghost use Rattle.thes_base.specs.Pipe.{IsFresh};
 ghost use Rattle.thes_cli.specs.Streams.{AreFresh};
-ghost use Rattle.thes_cli.specs.Work.{DoesWork};
+ghost use Rattle.thes_cli.specs.Work.{DoesOutputWork, WorksOverKeeper};
 
 use crate::checking::check_store;
 use crate::displaying::display_store;
@@ -13,60 +15,85 @@ use std::alloc::Global;
 use std::io::{Read, Write};
 use std::net::Net;
 use std::rt::Clock;
+use thes_base::data::Limits;
+use thes_base::pipe::Pipe;
 use thes_command_line::arguments::DisplayOptions;
-use thes_jobs::work::Work;
+use thes_jobs::trouble::report_unopened_store;
+use thes_jobs::work::{OutputWork, Work};
 use thes_office::Office;
 use thes_service::{OfficeHandler, office_script};
 use thes_store::keeper::Keeper;
 
-/// Works over an office, and returns the exit status with the office.
-pub fn work_over<N: Net + Clock, K: Keeper, F: Read + Drop, R: Read, W: Write, E: Write>(
+// Does work that reads no standard input over an office, and returns the exit status.
+fn do_output_work<N: Net + Clock, K: Keeper, F: Read + Drop, W: Write, E: Write>(
+    alloc: Global,
+    clock: &N,
+    work: OutputWork<F, N::Listener>,
+    handler: &mut OfficeHandler<K>,
+    output: &mut Pipe<W>,
+    errors: &mut Pipe<E>,
+) -> u8
+    requires output { IsFresh output.old }
+    requires errors { IsFresh errors.old }
+    ensures { DoesOutputWork K.view F.remaining W.contents E.contents work handler.old output.old
+        output.new errors.old errors.new result handler.new }
+{
+    match work {
+        OutputWork::Serve(listening) => {
+            serve_store::<N, K, W, E>(alloc, clock, &listening, handler, output, errors)
+        }
+        OutputWork::Check => check_store(alloc, &mut handler.office, output, errors),
+        OutputWork::Export => export_store(alloc, &mut handler.office, output, errors),
+        OutputWork::Display(display, DisplayOptions { scheme, lang }) => {
+            let office = &mut handler.office;
+            display_store(alloc, office, display, scheme, &lang, output, errors)
+        }
+        OutputWork::Import(file, prints_it) => {
+            import_file(alloc, file, prints_it, &mut handler.office, output, errors)
+        }
+    }
+}
+
+/// Opens an office over a storage, works over it, and returns the exit status with the storage. The
+/// fault of a store that can't be opened is printed, after the name of its file if it has one.
+pub fn work_over_keeper<N: Net + Clock, K: Keeper, F: Read + Drop, R: Read, W: Write, E: Write>(
     alloc: Global,
     clock: &N,
     work: Work<F, N::Listener>,
-    mut office: Office<K>,
+    keeper: K,
+    limits: Limits,
+    file: Option<String>,
     streams: &mut Streams<R, W, E>,
-) -> (u8, Office<K>)
+) -> (u8, K)
     requires { AreFresh streams.old }
-    ensures { DoesWork K.view F.remaining R.remaining W.contents E.contents work
-        office streams.old result.0 result.1 streams.new }
+    ensures { WorksOverKeeper K.view K.is_open K.finds F.remaining R.remaining W.contents E.contents
+        work (option_map string_bytes file) limits keeper streams.old result.0 result.1
+        streams.new }
 {
-    let status = match work {
-        Work::Script => {
-            let mut handler = OfficeHandler::new(office);
-            let ended = office_script(alloc, &mut streams.input, &mut streams.output, &mut handler);
-            let status = report_script_end(&mut streams.errors, &ended);
-            return (status, handler.into_office());
-        }
-        Work::Serve(listening) => {
-            return serve_store::<N, K, W, E>(
-                alloc,
-                clock,
-                &listening,
-                office,
-                &mut streams.output,
-                &mut streams.errors,
+    let office = match Office::start(alloc, keeper, limits) {
+        Ok(office) => office,
+        Err((fault, keeper)) => {
+            drop(work);
+            return (
+                report_unopened_store(&mut streams.errors, &file, fault),
+                keeper,
             );
         }
-        Work::Check => check_store(alloc, &mut office, &mut streams.output, &mut streams.errors),
-        Work::Export => export_store(alloc, &mut office, &mut streams.output, &mut streams.errors),
-        Work::Display(display, DisplayOptions { scheme, lang }) => display_store(
+    };
+    let mut handler = OfficeHandler::new(office);
+    let status = match work {
+        Work::Script => {
+            let ended = office_script(alloc, &mut streams.input, &mut streams.output, &mut handler);
+            report_script_end(&mut streams.errors, &ended)
+        }
+        Work::Output(work) => do_output_work::<N, K, F, W, E>(
             alloc,
-            &mut office,
-            display,
-            scheme,
-            &lang,
-            &mut streams.output,
-            &mut streams.errors,
-        ),
-        Work::Import(file, prints_it) => import_file(
-            alloc,
-            file,
-            prints_it,
-            &mut office,
+            clock,
+            work,
+            &mut handler,
             &mut streams.output,
             &mut streams.errors,
         ),
     };
-    (status, office)
+    (status, handler.into_office().into_keeper())
 }

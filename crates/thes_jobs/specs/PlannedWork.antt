@@ -1,24 +1,31 @@
 -- The work of each task, and the report of a file or socket that can't be opened.
 use Rattle.std.specs.Prelude.{Bool, Result, Ok, Err}
 use Rattle.std.specs.declared.io.Error.{Error}
+use Rattle.thes_command_line.specs.declared.arguments.DisplayOptions.{DisplayOptions}
 use Rattle.thes_command_line.specs.declared.arguments.ServeOptions.{ServeOptions}
 use Rattle.thes_command_line.specs.declared.arguments.Task.{Task}
 use Rattle.thes_command_line.specs.declared.arguments.Task.TheVariants as tasks
 use Rattle.thes_command_line.specs.declared.printing.OpenFailure.{OpenFailure}
 use Rattle.thes_command_line.specs.declared.printing.OpenFailure.TheVariants.{File}
+use Rattle.thes_http.specs.declared.service.Display.{Display}
 use Rattle.thes_http.specs.declared.service.Display.TheVariants as displays
 use Rattle.thes_jobs.specs.declared.work.PlannedWork.{PlannedWork}
 use Rattle.thes_jobs.specs.declared.work.PlannedWork.TheVariants as planned
 use Rattle.thes_jobs.specs.declared.work.Work.{Work}
-use Rattle.thes_jobs.specs.declared.work.Work.TheVariants.{Script, Check, Export, Display, Import, Serve}
+use Rattle.thes_jobs.specs.declared.work.Work.TheVariants.{Script, Output}
+use Rattle.thes_jobs.specs.declared.work.OutputWork.TheVariants as output
+
+-- The work of writing a display.
+abbrev pub display_work : {F L : Type 0} → Display → DisplayOptions → Work F L
+display_work display options = Output (output.Display display options)
 
 -- The work of each task, before any file or socket is opened.
 abbrev pub planned_work : {F L : Type 0} → Task → PlannedWork F L
 planned_work tasks.Script = planned.Ready Script
-planned_work tasks.Check = planned.Ready Check
-planned_work tasks.Export = planned.Ready Export
-planned_work (tasks.Alphabetical options) = planned.Ready (Display displays.Alphabetical options)
-planned_work (tasks.Hierarchical options) = planned.Ready (Display displays.Hierarchical options)
+planned_work tasks.Check = planned.Ready (Output output.Check)
+planned_work tasks.Export = planned.Ready (Output output.Export)
+planned_work (tasks.Alphabetical options) = planned.Ready (display_work displays.Alphabetical options)
+planned_work (tasks.Hierarchical options) = planned.Ready (display_work displays.Hierarchical options)
 planned_work (tasks.Import file) = planned.Import file
 planned_work (tasks.Serve options) = planned.Serve options
 planned_work tasks.Migrate = planned.Migrate
@@ -26,11 +33,11 @@ planned_work tasks.Migrate = planned.Migrate
 -- The work of importing a posting file, or that the file couldn't be opened; the Boolean says whether to print the counts
 -- of its rows.
 abbrev pub import_work : {F L : Type 0} → Result F Error → Bool → Result (Work F L) OpenFailure
-import_work (Ok file) prints_it = Ok (Import file prints_it)
+import_work (Ok file) prints_it = Ok (Output (output.Import file prints_it))
 import_work (Err error) prints_it = Err File
 
 -- The work of serving a socket with these options, or that it couldn't be opened.
 abbrev pub serve_work : {F L : Type 0} → Result L OpenFailure → ServeOptions → Result (Work F L) OpenFailure
 serve_work (Ok listener) options =
-    Ok (Serve (record { listener = listener; port = options.port; count = options.count }))
+    Ok (Output (output.Serve (record { listener = listener; port = options.port; count = options.count })))
 serve_work (Err unopened) options = Err unopened

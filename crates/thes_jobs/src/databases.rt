@@ -1,7 +1,7 @@
 //! How the databases of stores are opened and closed.
 ghost use Rattle.std.specs.Prelude.{IfOk};
 
-use crate::store_files::StoreFiles;
+use crate::store_files::{StoreFiles, close_database_files, open_database_files};
 use sqlite::{Connection, Error, FileStore};
 use thes_base::fault::Fault;
 
@@ -37,7 +37,7 @@ impl<'r> Databases<Connection<FileStore<sqlite::File>>, StoreFiles<'r>> for File
     ghost opens = { λ conn. conn.in_transaction ≡ false };
 
     fn open(&self, file: &str) -> Result<Connection<FileStore<sqlite::File>>, Error> {
-        Connection::open(self.rt, file)
+        open_database_files(self.rt, file)
     }
 
     fn reopener(&self, file: &str) -> Result<StoreFiles<'r>, Fault> {
@@ -45,8 +45,6 @@ impl<'r> Databases<Connection<FileStore<sqlite::File>>, StoreFiles<'r>> for File
     }
 
     fn close(&self, conn: Connection<FileStore<sqlite::File>>) {
-        // The log holds every change that was answered; if it can't be copied into the file now,
-        // the next run copies it.
-        let _ = conn.close();
+        close_database_files(conn);
     }
 }

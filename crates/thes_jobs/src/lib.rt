@@ -9,5 +9,5 @@ pub mod progress;
 pub mod screen;
 pub mod starting;
 pub mod store_files;
-mod trouble;
+pub mod trouble;
 pub mod work;

@@ -1,10 +1,57 @@
-//! The files of a store, which can be opened again by their names.
-use sqlite::{Connection, Error, ErrorCode, FileStore};
+//! The files of a store, which are opened and closed, and can be opened again by their names.
+ghost use Rattle.std.specs.Prelude.{◌≡◌, false, Ok, IfOk};
+
+use sqlite::{Connection, Error, ErrorCode, FileFrom, FileStore, Start, Unknown};
+use sqlite_disk::Disk;
 use std::fs;
 use std::io::ErrorKind;
 use std::os::unix::fs::MetadataExt;
 use thes_base::fault::Fault;
+use thes_sqlite::files::{close_files, open_files};
 use thes_sqlite::reopening::Reopen;
+
+// Returns what was opened, or the error without what came with it.
+fn without_rest<T, L: Drop>(opened: Result<T, (Error, L)>) -> Result<T, Error>
+    ensures { IfOk result (λ conn. opened ≡ Ok conn) }
+{
+    match opened {
+        Ok(conn) => Ok(conn),
+        Err((error, _)) => Err(error),
+    }
+}
+
+// Opens the database in the files at a path. An error leaves the files closed.
+fn open_from<S: Start>(
+    rt: &HostRuntime,
+    file: &str,
+    start: S,
+) -> Result<Connection<FileStore<FileFrom<S>>>, Error>
+    ensures { IfOk result (λ conn. conn.in_transaction ≡ false) }
+{
+    without_rest(open_files(rt, file, start))
+}
+
+// Closes a database and its files. An error is ignored.
+fn close_any<D: Disk + Drop>(conn: Connection<FileStore<D>>) {
+    drop(close_files(conn));
+}
+
+/// Opens the database in the files at a path, which may hold anything; if there are none, makes
+/// them.
+pub fn open_database_files(
+    rt: &HostRuntime,
+    file: &str,
+) -> Result<Connection<FileStore<sqlite::File>>, Error>
+    ensures { IfOk result (λ conn. conn.in_transaction ≡ false) }
+{
+    open_from(rt, file, Unknown)
+}
+
+/// Closes a database and its files. The log holds every change that was answered; if it can't be
+/// copied into the file now, the next run copies it.
+pub fn close_database_files(conn: Connection<FileStore<sqlite::File>>) {
+    close_any(conn);
+}
 
 // Returns the numbers of a file's device and inode, which identify the file whatever its name; None
 // if they can't be read.
@@ -81,11 +128,11 @@ impl Reopen<Connection<FileStore<sqlite::File>>> for StoreFiles<'_> {
         lost: Option<Connection<FileStore<sqlite::File>>>,
     ) -> Result<Connection<FileStore<sqlite::File>>, Error> {
         if let Some(conn) = lost {
-            let _ = conn.close();
+            close_database_files(conn);
         }
         if !self.is_in_place() {
             return Err(Error::SqliteFailure(ErrorCode::CannotOpen));
         }
-        Connection::open(self.rt, self.file.as_str())
+        open_database_files(self.rt, self.file.as_str())
     }
 }

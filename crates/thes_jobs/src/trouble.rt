@@ -1,8 +1,14 @@
-//! The reasons for faults of a store in a database.
-ghost use Rattle.std.specs.Prelude.{◌≡◌};
+//! The reasons for faults of a store in a database, and the report of a store that can't be opened.
+ghost use Rattle.std.specs.Prelude.{◌≡◌, option_map, string_bytes};
+ghost use Rattle.thes_base.specs.Pipe.{IsFresh};
+ghost use Rattle.thes_command_line.specs.Printing.{Prints, fault_lines};
 ghost use Rattle.thes_jobs.specs.Trouble as trouble;
 
 use sqlite::{Error, ErrorCode};
+use std::io::Write;
+use thes_base::fault::{Fault, PipeFault};
+use thes_base::pipe::Pipe;
+use thes_command_line::printing::{report_fault, report_in_file};
 use thes_command_line::trouble::StoreTrouble;
 
 /// Returns the reason that an error of the database names, or `other` if it names none.
@@ -15,5 +21,23 @@ pub fn trouble_of(error: &Error, other: StoreTrouble) -> StoreTrouble
         Error::SqliteFailure(ErrorCode::DatabaseCorrupt) => StoreTrouble::Damaged,
         Error::SqliteFailure(ErrorCode::DiskFull) => StoreTrouble::NoRoom,
         _ => other,
+    }
+}
+
+/// Prints the fault of a store that can't be opened, after the name of its file if it has one, and
+/// returns the exit status 3.
+pub fn report_unopened_store<E: Write>(
+    errors: &mut Pipe<E>,
+    file: &Option<String>,
+    fault: Fault,
+) -> u8
+    requires { IsFresh errors.old }
+    ensures line { Prints E.contents errors.old errors.new
+        (fault_lines (option_map string_bytes file.now) StoreTrouble.Unreadable fault) }
+    ensures status { result ≡ 3 }
+{
+    match file {
+        Some(file) => report_in_file(errors, file.as_str(), StoreTrouble::Unreadable, fault),
+        None => report_fault(errors, PipeFault::Fault(fault)),
     }
 }

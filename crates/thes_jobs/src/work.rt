@@ -23,6 +23,13 @@ pub struct Listening<L> {
 pub enum Work<F, L> {
     /// Answers the script on standard input.
     Script,
+    /// Work that reads no standard input.
+    Output(OutputWork<F, L>),
+}
+
+/// The work of a task that reads no standard input.
+#[derive(Drop)]
+pub enum OutputWork<F, L> {
     /// Checks the store, and prints its sizes.
     Check,
     /// Writes the triples of the store as N-Triples.
@@ -48,19 +55,26 @@ pub enum PlannedWork<F, L> {
     Migrate,
 }
 
+// Returns the work of writing a display.
+fn display_work<F, L>(display: Display, options: DisplayOptions) -> Work<F, L>
+    ensures { result ≡ work.display_work display options }
+{
+    Work::Output(OutputWork::Display(display, options))
+}
+
 /// Returns the work of a task, before any file or socket is opened.
 pub fn planned_work<F, L>(task: Task) -> PlannedWork<F, L>
     ensures { result ≡ work.planned_work task }
 {
     match task {
         Task::Script => PlannedWork::Ready(Work::Script),
-        Task::Check => PlannedWork::Ready(Work::Check),
-        Task::Export => PlannedWork::Ready(Work::Export),
+        Task::Check => PlannedWork::Ready(Work::Output(OutputWork::Check)),
+        Task::Export => PlannedWork::Ready(Work::Output(OutputWork::Export)),
         Task::Alphabetical(options) => {
-            PlannedWork::Ready(Work::Display(Display::Alphabetical, options))
+            PlannedWork::Ready(display_work(Display::Alphabetical, options))
         }
         Task::Hierarchical(options) => {
-            PlannedWork::Ready(Work::Display(Display::Hierarchical, options))
+            PlannedWork::Ready(display_work(Display::Hierarchical, options))
         }
         Task::Import(file) => PlannedWork::Import(file),
         Task::Serve(options) => PlannedWork::Serve(options),
@@ -77,7 +91,7 @@ pub fn import_work<F, L, P>(
     ensures { result ≡ work.import_work opened (is_some progress.now) }
 {
     match opened {
-        Ok(file) => Ok(Work::Import(file, progress.is_some())),
+        Ok(file) => Ok(Work::Output(OutputWork::Import(file, progress.is_some()))),
         Err(_) => Err(OpenFailure::File),
     }
 }
@@ -90,11 +104,11 @@ pub fn serve_work<F, L>(
     ensures { result ≡ work.serve_work opened options }
 {
     match opened {
-        Ok(listener) => Ok(Work::Serve(Listening {
+        Ok(listener) => Ok(Work::Output(OutputWork::Serve(Listening {
             listener,
             port: options.port,
             count: options.count,
-        })),
+        }))),
         Err(unopened) => Err(unopened),
     }
 }
