@@ -100,9 +100,7 @@ fn main(rt: HostRuntime) -> ExitCode {
         Ok(OpenJob::InMemory(job)) => work_in_memory(rt.alloc(), &rt, job, &mut streams),
         Ok(OpenJob::Migration(file, conn)) => migrate(&rt, &databases, file, conn, &mut streams),
         Ok(OpenJob::Version) => print_version(&mut streams.output, &mut streams.errors),
-        Err(failure) => {
-            report_start_failure(&mut streams.output, &mut streams.errors, &failure)
-        }
+        Err(failure) => { report_start_failure(&mut streams.output, &mut streams.errors, &failure) }
     };
     ExitCode::from(status)
 }

@@ -55,15 +55,7 @@ pub fn work_in_database<
         R,
         W,
         E,
-    >(
-        alloc,
-        clock,
-        work,
-        keeper,
-        limits,
-        Some(file),
-        streams,
-    );
+    >(alloc, clock, work, keeper, limits, Some(file), streams);
     (status, keeper.into_keeper().leave())
 }
 

@@ -30,12 +30,12 @@ returns g c =
           w.office_script-ended.ensures.reached w.office_script-ended.ensures.calls
           (w.report_script_end-status.ensures.fault, w.report_script_end-status.ensures.status)))
       | in-Output w ↦ rw (w.in-Output.is, w.status-is, w.handler-is, w.streams-is) (
-          refl,
-          subst (λ (k : OfficeView _). DoesOutputWork g.K.Keeper.view g.F.Read.remaining g.W.Write.contents
-              g.E.Write.contents w.in-Output.work k old.output w.do_output_work-status.new.output old.errors
-              w.do_output_work-status.new.errors w.do_output_work-status.result w.do_output_work-status.new.handler) one
-              w.do_output_work-status.ensures,
-        )
+        refl,
+        subst (λ (k : OfficeView _). DoesOutputWork g.K.Keeper.view g.F.Read.remaining g.W.Write.contents
+            g.E.Write.contents w.in-Output.work k old.output w.do_output_work-status.new.output old.errors
+            w.do_output_work-status.new.errors w.do_output_work-status.result w.do_output_work-status.new.handler) one
+            w.do_output_work-status.ensures,
+      )
     ] in (
       inl record {
         old_office = c.in-Ok.office;
