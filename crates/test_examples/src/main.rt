@@ -9,6 +9,7 @@ mod halting;
 mod list;
 mod lookups;
 mod modes;
+mod numbers;
 mod tables;
 mod texts;
 
