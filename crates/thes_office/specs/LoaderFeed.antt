@@ -9,7 +9,8 @@ use Rattle.thes_tables.specs.declared.cells.Cell.{Cell}
 use Rattle.thes_tables.specs.Cells.{Raw}
 use Rattle.thes_load_rows.specs.declared.stage.Stage.{Stage}
 use Rattle.thes_load_rows.specs.declared.stage.Stage.TheVariants as stage
-use Rattle.thes_load_rows.specs.Progress.{HasRead, stage_table, table_no, empty_raw, raw_with_row, raw_without_table}
+use Rattle.thes_tables.specs.TableOrder.{table_no}
+use Rattle.thes_load_rows.specs.Progress.{HasRead, stage_table, empty_raw, raw_with_row, raw_without_table}
 use Rattle.thes_office.specs.declared.loader.Loader.{Loader}
 
 -- The loader has received these rows.

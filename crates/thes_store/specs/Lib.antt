@@ -5,7 +5,6 @@ pub mod FoundLoads
 pub mod Sinks
 pub mod Index
 pub mod Keys
-pub mod Loading
 pub mod Numbers
 pub mod RowsAtPositions
 pub mod Reading
