@@ -30,7 +30,8 @@ use Rattle.thes_load_rows.specs.NamesSoFar.{HasOutside, vocabulary_of_rows}
 use Rattle.thes_load_rows.specs.LinksSoFar.{HasLinks}
 use Rattle.thes_load_rows.specs.RowsSoFar.{HasPostings, HasMoves}
 use Rattle.thes_load_rows.specs.PostingPlaces.{ArePlaced}
-use Rattle.thes_load_rows.specs.Progress.{Grows, ExtendsTable, Closes, next_table}
+use Rattle.thes_tables.specs.TableOrder.{next_table}
+use Rattle.thes_load_rows.specs.Progress.{Grows, ExtendsTable, Closes}
 use Rattle.thes_load_rows.proofs.ProgressLemmas.{meta_stays, resource_stays, outside_stays, link_stays}
 use Rattle.thes_load_rows.proofs.StageRowLemmas.{tables_with_base}
 

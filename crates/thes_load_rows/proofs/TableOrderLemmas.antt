@@ -3,7 +3,8 @@ use Rattle.std.proofs.Common.{◌≡◌, ◌<◌, ◌≤◌, ◌+◌, ℕ, zero,
 use Rattle.thes_base.specs.declared.fault.Table.{Table}
 use Rattle.thes_base.specs.declared.fault.Table.TheVariants as table
 use Rattle.thes_tables.specs.Cells.{Raw}
-use Rattle.thes_load_rows.specs.Progress.{table_no, next_table, ExtendsTable}
+use Rattle.thes_tables.specs.TableOrder.{next_table, table_no}
+use Rattle.thes_load_rows.specs.Progress.{ExtendsTable}
 use Rattle.thes_load_rows.proofs.StageCloseLemmas.{same_grows}
 
 abbrev table_at : ℕ → Table

@@ -8,7 +8,8 @@ use Rattle.thes_tables.specs.declared.cells.Cell.{Cell}
 use Rattle.thes_tables.specs.Cells.{Raw}
 use Rattle.thes_load_rows.specs.declared.stage.Stage.{Stage}
 use Rattle.thes_load_rows.specs.declared.stage.Stage.TheVariants as stage
-use Rattle.thes_load_rows.specs.Progress.{is_stopped, table_no, next_table, HasRead}
+use Rattle.thes_tables.specs.TableOrder.{next_table, table_no}
+use Rattle.thes_load_rows.specs.Progress.{is_stopped, HasRead}
 use Rattle.thes_load_rows.specs.Turns.{IsOfRows, NextStage, with_news}
 use Rattle.thes_load_rows.proofs.StageCloseLemmas.{stopped_on}
 use Rattle.thes_load_rows.proofs.StageRowLemmas.{stopped_row}

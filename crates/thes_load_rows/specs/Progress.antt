@@ -8,6 +8,7 @@ use Rattle.thes_tables.specs.declared.cells.Cell.{Cell}
 use Rattle.thes_tables.specs.Tables.{Tables}
 use Rattle.thes_tables.specs.Cells.{Raw, RawTable, resource_rows, outside_cells, label_cells, link_cells, hier_cells}
 use Rattle.thes_tables.specs.Cells.{posting_cells, move_cells}
+use Rattle.thes_tables.specs.TableOrder.{next_table, raw_by_table, raw_rows_of, with_rows}
 use Rattle.thes_vocab.specs.Vocabulary.{Vocabulary}
 use Rattle.thes_load_rules.specs.Verdicts.{HasVerdict}
 use Rattle.thes_load_rules.specs.Laws.{MetaPasses, ResourcePasses, OutsidePasses, LabelPasses, LinkPasses, HierPasses}
@@ -21,31 +22,13 @@ use Rattle.thes_load_rows.specs.LinksSoFar.{HasLinks}
 use Rattle.thes_load_rows.specs.PostingPlaces.{ArePlaced}
 use Rattle.thes_load_rows.specs.RowsSoFar.{HasPostings, HasMoves}
 
--- The index of a table in the order of a load.
-abbrev pub table_no : Table → ℕ
-table_no table.Meta = 0
-table_no table.Resource = 1
-table_no table.Outside = 2
-table_no table.Label = 3
-table_no table.Link = 4
-table_no table.Hier = 5
-table_no table.Posting = 6
-table_no table.Move = 7
-
 -- The table after one more row; None stays None.
 abbrev pub with_row : List Cell → RawTable → RawTable
 with_row cells raw = option_map (λ rows. rows ++ cells ∷ []) raw
 
 -- The rows after one more row in a table.
 abbrev pub raw_with_row : Table → List Cell → Raw → Raw
-raw_with_row table.Meta cells raw = record raw { meta = with_row cells raw.meta }
-raw_with_row table.Resource cells raw = record raw { resource = with_row cells raw.resource }
-raw_with_row table.Outside cells raw = record raw { outside = with_row cells raw.outside }
-raw_with_row table.Label cells raw = record raw { label = with_row cells raw.label }
-raw_with_row table.Link cells raw = record raw { link = with_row cells raw.link }
-raw_with_row table.Hier cells raw = record raw { hier = with_row cells raw.hier }
-raw_with_row table.Posting cells raw = record raw { posting = with_row cells raw.posting }
-raw_with_row table.Move cells raw = record raw { move = with_row cells raw.move }
+raw_with_row name cells raw = with_rows name (with_row cells (raw_rows_of name raw)) raw
 
 -- The second table begins with the rows of the first, or can't be queried. If the first can't be queried, neither can
 -- the second.
@@ -178,17 +161,6 @@ ReadsRow old new cells false =
     (raw : Raw) → HasRead old raw
     → HasRead (stage.Stopped (BadStore (stage_table old)) (stage_table old)) (raw_with_row (stage_table old) cells raw)
 
--- The table after this one; the last is its own successor.
-abbrev pub next_table : Table → Table
-next_table table.Meta = table.Resource
-next_table table.Resource = table.Outside
-next_table table.Outside = table.Label
-next_table table.Label = table.Link
-next_table table.Link = table.Hier
-next_table table.Hier = table.Posting
-next_table table.Posting = table.Move
-next_table table.Move = table.Move
-
 -- The new stage is right after the end of the old stage's table, and its table is the next one.
 abbrev pub Closes : Stage → Stage → Type 0
 Closes old new = (stage_table new ≡ next_table (stage_table old)) × ((raw : Raw) → HasRead old raw → HasRead new raw)
@@ -199,28 +171,11 @@ ReachesTable old new table = (stage_table new ≡ table) × ((raw : Raw) → Has
 
 -- The tables without rows, all of which can be queried.
 abbrev pub empty_raw : Raw
-empty_raw =
-    record {
-      meta = Some [];
-      resource = Some [];
-      outside = Some [];
-      label = Some [];
-      link = Some [];
-      hier = Some [];
-      posting = Some [];
-      move = Some [];
-    }
+empty_raw = raw_by_table (λ name. Some [])
 
 -- The rows, but with this table as one that can't be queried.
 abbrev pub raw_without_table : Table → Raw → Raw
-raw_without_table table.Meta raw = record raw { meta = None }
-raw_without_table table.Resource raw = record raw { resource = None }
-raw_without_table table.Outside raw = record raw { outside = None }
-raw_without_table table.Label raw = record raw { label = None }
-raw_without_table table.Link raw = record raw { link = None }
-raw_without_table table.Hier raw = record raw { hier = None }
-raw_without_table table.Posting raw = record raw { posting = None }
-raw_without_table table.Move raw = record raw { move = None }
+raw_without_table name raw = with_rows name None raw
 
 -- The new stage is right for the rows in which this table can't be queried, and this is its table.
 abbrev pub HasUnqueried : Stage → Stage → Table → Type 0

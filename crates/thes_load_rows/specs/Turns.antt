@@ -6,7 +6,8 @@ use Rattle.thes_tables.specs.declared.cells.Cell.{Cell}
 use Rattle.thes_tables.specs.Cells.{Raw}
 use Rattle.thes_load_rows.specs.declared.stage.Stage.{Stage}
 use Rattle.thes_load_rows.specs.declared.stage.Stage.TheVariants as stage
-use Rattle.thes_load_rows.specs.Progress.{HasRead, is_stopped, stage_table, table_no, raw_with_row, raw_without_table}
+use Rattle.thes_tables.specs.TableOrder.{table_no}
+use Rattle.thes_load_rows.specs.Progress.{HasRead, is_stopped, stage_table, raw_with_row, raw_without_table}
 
 -- Unless the stage has stopped with a fault, it has read some rows, perhaps none.
 abbrev pub IsOfRows : Stage → Type 0

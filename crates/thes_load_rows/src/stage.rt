@@ -1,7 +1,8 @@
 //! The stages of a load: one for each table whose rows are read, and one for a load that has
 //! stopped with a fault.
 ghost use Rattle.std.specs.Prelude.{◌≡◌, ◌↔◌, ◌<◌, ◌≤◌, IsTrue, IfOk};
-ghost use Rattle.thes_load_rows.specs.Progress.{stage_table, is_stopped, next_table, table_no, ReadsRow, Closes, ReachesTable};
+ghost use Rattle.thes_tables.specs.TableOrder.{next_table, table_no};
+ghost use Rattle.thes_load_rows.specs.Progress.{stage_table, is_stopped, ReadsRow, Closes, ReachesTable};
 
 use crate::closing::{
     close_hier, close_label, close_meta, close_outside, close_posting, close_resource,
@@ -16,6 +17,7 @@ use std::alloc::{AllocError, Global};
 use thes_base::fault::{Fault, Table};
 use thes_base::text::Base;
 use thes_tables::cells::Cell;
+use thes_tables::order::{next_table, table_number};
 use thes_vocab::VocabLoad;
 
 /// A stage of a load: the table whose rows are read, with what the rows read so far encode, or the
@@ -66,7 +68,7 @@ impl Stage {
     pub fn is_past(&self, table: Table) -> bool
         ensures { IsTrue result ↔ (table_no table < table_no (stage_table self.now)) }
     {
-        number(table) < number(self.current_table())
+        table_number(table) < table_number(self.current_table())
     }
 
     /// Checks whether the load has stopped with a fault.
@@ -128,7 +130,10 @@ impl Stage {
             Stage::Hier(linked_vocab) => close_hier(alloc, linked_vocab),
             Stage::Posting(linked_vocab, load) => Ok(close_posting(linked_vocab, load)),
             Stage::Move(linked_vocab, placed, load) => Ok(Stage::Move(linked_vocab, placed, load)),
-            Stage::Stopped(fault, current_table) => Ok(Stage::Stopped(fault, next(current_table))),
+            Stage::Stopped(fault, current_table) => Ok(Stage::Stopped(
+                fault,
+                next_table(current_table),
+            )),
         }
     }
 
@@ -138,40 +143,9 @@ impl Stage {
         ensures { IfOk result (λ new. ReachesTable self new table) }
     {
         let mut stage = self;
-        for i in number(stage.current_table())..number(table) {
+        for i in table_number(stage.current_table())..table_number(table) {
             stage = stage.close(alloc)?;
         }
         Ok(stage)
-    }
-}
-
-// Returns the table after this one. The last table is its own successor.
-fn next(current_table: Table) -> Table
-    ensures { result ≡ next_table current_table }
-{
-    match current_table {
-        Table::Meta => Table::Resource,
-        Table::Resource => Table::Outside,
-        Table::Outside => Table::Label,
-        Table::Label => Table::Link,
-        Table::Link => Table::Hier,
-        Table::Hier => Table::Posting,
-        Table::Posting | Table::Move => Table::Move,
-    }
-}
-
-// Returns the index of a table in the order of a load, from 0.
-fn number(table: Table) -> u32
-    ensures { result ≡ table_no table }
-{
-    match table {
-        Table::Meta => 0,
-        Table::Resource => 1,
-        Table::Outside => 2,
-        Table::Label => 3,
-        Table::Link => 4,
-        Table::Hier => 5,
-        Table::Posting => 6,
-        Table::Move => 7,
     }
 }

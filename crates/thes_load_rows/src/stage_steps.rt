@@ -4,7 +4,8 @@ ghost use Rattle.std.specs.Prelude.{◌≡◌, ◌≤◌, IfOk, OnOk};
 ghost use Rattle.thes_base.specs.declared.fault.Fault.TheVariants.{BadStore};
 ghost use Rattle.thes_tables.specs.Cells.{Raw};
 ghost use Rattle.thes_load_rows.specs.declared.stage.Stage.TheVariants as stage;
-ghost use Rattle.thes_load_rows.specs.Progress.{stage_table, table_no, HasRead, HasRow, HasUnqueried, ReachesTable};
+ghost use Rattle.thes_tables.specs.TableOrder.{table_no};
+ghost use Rattle.thes_load_rows.specs.Progress.{stage_table, HasRead, HasRow, HasUnqueried, ReachesTable};
 ghost use Rattle.thes_load_rows.specs.LoadResults.{LoadResult};
 
 use crate::linked_vocab::LinkedVocab;

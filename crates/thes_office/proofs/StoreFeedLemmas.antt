@@ -1,21 +1,18 @@
 -- Proves that a loader that has accepted all rows of a store, table by table, has received exactly
 -- these.
-use Rattle.std.proofs.Common.{◌≡◌, ◌≤◌, List, [], ◌∷◌, ◌++◌, refl, sym, ◌∙◌, subst, arith}
-use Rattle.std.specs.Prelude.{Result}
-use Rattle.thes_base.specs.declared.data.Limits.{Limits}
+use Rattle.std.proofs.Common.{◌≡◌, ◌≤◌, ◌∙◌, ℕ, List, [], ◌∷◌, ◌++◌, refl, sym, ap, subst, arith}
+use Rattle.std.specs.Prelude.{Result, Some}
 use Rattle.thes_base.specs.declared.fault.Fault.{Fault}
 use Rattle.thes_base.specs.declared.fault.Table.{Table}
-use Rattle.thes_base.specs.declared.fault.Table.TheVariants as table
 use Rattle.thes_tables.specs.Cells.{Raw}
-use Rattle.thes_store.specs.Sinks.{sink_rows_of_table}
+use Rattle.thes_tables.specs.TableOrder.{raw_rows_of, table_no, table_order, with_rows}
+use Rattle.thes_store.specs.Sinks.{sink_rows_of_table, sink_rows_of_tables}
 use Rattle.thes_store.specs.Sinks as yields
-use Rattle.thes_store.proofs.SinkLemmas.{accepts_then}
-use Rattle.thes_load_rows.specs.Progress.{table_no, empty_raw}
+use Rattle.thes_load_rows.specs.Progress.{empty_raw, stage_table}
 use Rattle.thes_office.specs.declared.loader.Loader.{Loader}
-use Rattle.thes_load_rows.specs.Turns.{IsInTurn}
-use Rattle.thes_office.specs.LoaderFeed.{IsBegun, KnowsRows, FeedResult}
+use Rattle.thes_office.specs.LoaderFeed.{KnowsRows, FeedResult}
 use Rattle.thes_office.specs.LoaderLaw.{LoaderReadsStore}
-use Rattle.thes_office.proofs.TableFeedLemmas.{with_rows, table_taken}
+use Rattle.thes_office.proofs.TableFeedLemmas.{table_taken}
 
 -- A sink that receives two lists receives the first, and then the second.
 split_takes : {S A : Type 0} (gives : S → A → Result (Unit {0}) Fault → S → Type 0) (xs ys : List A) (old new : S)
@@ -25,92 +22,54 @@ split_takes gives [] ys old new takes = (old, refl, takes)
 split_takes gives (x ∷ xs) ys old new (next, given, rest) = let r = split_takes gives xs ys next new rest in
     (r.0, (next, given, r.1), r.2)
 
--- If a table is in turn, so is every later one.
-later_in_turn : (name next : Table) (l : Loader) → table_no name ≤ table_no next → IsInTurn name l.stage
-    → IsInTurn next l.stage
-later_in_turn name next l order turn = omega (arith, order, turn)
+-- The rows `rest`, with those of these tables as they are in `raw`.
+abbrev with_tables : List Table → Raw → Raw → Raw
+with_tables [] raw rest = rest
+with_tables (name ∷ names) raw rest = with_tables names raw (with_rows name (raw_rows_of name raw) rest)
+
+-- The tables are in their order, from this index on, and each is empty when its turn comes.
+abbrev ComeInOrder : ℕ → List Table → Raw → Raw → Type 0
+ComeInOrder n [] raw rest = Unit {0}
+ComeInOrder n (name ∷ names) raw rest =
+    (n ≤ table_no name) × (with_rows name (Some []) rest ≡ rest)
+    × ComeInOrder (table_no name) names raw (with_rows name (raw_rows_of name raw) rest)
+
+-- A loader that has accepted the rows of these tables has received them.
+tables_taken : (names : List Table) (raw rest : Raw) (n : ℕ) (old new : Loader) → ComeInOrder n names raw rest
+    → table_no (stage_table old.stage) ≤ n → KnowsRows old rest
+    → yields.SinkAcceptsAll FeedResult old (sink_rows_of_tables raw names) new
+    → KnowsRows new (with_tables names raw rest) × (new.limits ≡ old.limits)
+tables_taken [] raw rest n old new come turn knows same =
+    (subst (λ (l : Loader). KnowsRows l rest) (sym same) knows, ap (λ (l : Loader). l.limits) same)
+tables_taken (name ∷ names) raw rest n old new (follows, none, come) turn knows takes =
+    let rows = raw_rows_of name raw in
+    let (mid, first, later) = split_takes FeedResult (sink_rows_of_table name rows) (sink_rows_of_tables raw names)
+    old new takes in
+    let one = table_taken name rest rows old mid (omega (arith, turn, follows)) (subst (KnowsRows old) (sym none) knows)
+    first in
+    let more = tables_taken names raw (with_rows name rows rest) (table_no name) mid new come one.turn one.knows later in
+    (more.0, more.1 ∙ one.same)
 
 -- A loader that has accepted all rows of a store has received exactly these.
 pub loader_reads_all : LoaderReadsStore
 loader_reads_all limits raw old new begun takes =
-    let a = split_takes FeedResult (sink_rows_of_table table.Meta raw.meta ++ sink_rows_of_table table.Resource
-    raw.resource ++ sink_rows_of_table table.Outside raw.outside ++ sink_rows_of_table table.Label raw.label
-    ++ sink_rows_of_table table.Link raw.link ++ sink_rows_of_table table.Hier raw.hier
-    ++ sink_rows_of_table table.Posting raw.posting) (sink_rows_of_table table.Move raw.move) old new takes in
-    let b = split_takes FeedResult (sink_rows_of_table table.Meta raw.meta ++ sink_rows_of_table table.Resource
-    raw.resource ++ sink_rows_of_table table.Outside raw.outside ++ sink_rows_of_table table.Label raw.label
-    ++ sink_rows_of_table table.Link raw.link ++ sink_rows_of_table table.Hier raw.hier)
-    (sink_rows_of_table table.Posting raw.posting) old a.0 a.1 in
-    let c = split_takes FeedResult (sink_rows_of_table table.Meta raw.meta ++ sink_rows_of_table table.Resource
-    raw.resource ++ sink_rows_of_table table.Outside raw.outside ++ sink_rows_of_table table.Label raw.label
-    ++ sink_rows_of_table table.Link raw.link) (sink_rows_of_table table.Hier raw.hier) old b.0 b.1 in
-    let d = split_takes FeedResult (sink_rows_of_table table.Meta raw.meta ++ sink_rows_of_table table.Resource
-    raw.resource ++ sink_rows_of_table table.Outside raw.outside ++ sink_rows_of_table table.Label raw.label)
-    (sink_rows_of_table table.Link raw.link) old c.0 c.1 in
-    let e = split_takes FeedResult (sink_rows_of_table table.Meta raw.meta ++ sink_rows_of_table table.Resource
-    raw.resource ++ sink_rows_of_table table.Outside raw.outside) (sink_rows_of_table table.Label raw.label) old
-    d.0 d.1 in
-    let f = split_takes FeedResult (sink_rows_of_table table.Meta raw.meta ++ sink_rows_of_table table.Resource
-    raw.resource) (sink_rows_of_table table.Outside raw.outside) old e.0 e.1 in
-    let g = split_takes FeedResult (sink_rows_of_table table.Meta raw.meta)
-    (sink_rows_of_table table.Resource raw.resource) old f.0 f.1 in
-    let r0 : Raw = empty_raw in
-    let r1 : Raw = with_rows table.Meta raw.meta r0 in
-    let r2 : Raw = with_rows table.Resource raw.resource r1 in
-    let r3 : Raw = with_rows table.Outside raw.outside r2 in
-    let r4 : Raw = with_rows table.Label raw.label r3 in
-    let r5 : Raw = with_rows table.Link raw.link r4 in
-    let r6 : Raw = with_rows table.Hier raw.hier r5 in
-    let r7 : Raw = with_rows table.Posting raw.posting r6 in
-    let h1 = table_taken table.Meta r0 raw.meta old g.0 (subst (λ (t : Table). table_no t ≤ 0) (sym begun.table_is)
-    (omega arith)) begun.none g.1 in
-    let h2 = table_taken table.Resource r1 raw.resource g.0 f.0
-    (later_in_turn table.Meta table.Resource g.0 (omega arith) h1.turn) h1.knows g.2 in
-    let h3 = table_taken table.Outside r2 raw.outside f.0 e.0
-    (later_in_turn table.Resource table.Outside f.0 (omega arith) h2.turn) h2.knows f.2 in
-    let h4 = table_taken table.Label r3 raw.label e.0 d.0 (later_in_turn table.Outside table.Label e.0 (omega arith)
-    h3.turn) h3.knows e.2 in
-    let h5 = table_taken table.Link r4 raw.link d.0 c.0 (later_in_turn table.Label table.Link d.0 (omega arith)
-    h4.turn) h4.knows d.2 in
-    let h6 = table_taken table.Hier r5 raw.hier c.0 b.0 (later_in_turn table.Link table.Hier c.0 (omega arith)
-    h5.turn) h5.knows c.2 in
-    let h7 = table_taken table.Posting r6 raw.posting b.0 a.0
-    (later_in_turn table.Hier table.Posting b.0 (omega arith) h6.turn) h6.knows b.2 in
-    let h8 = table_taken table.Move r7 raw.move a.0 new (later_in_turn table.Posting table.Move a.0 (omega arith)
-    h7.turn) h7.knows a.2 in
-    (h8.knows, h8.same ∙ h7.same ∙ h6.same ∙ h5.same ∙ h4.same ∙ h3.same ∙ h2.same ∙ h1.same ∙ begun.limits_are)
-
--- A loader that has accepted the rows of each table in turn has received the rows of all tables.
-pub reads_each_table : (limits : Limits) (raw : Raw) (l0 l1 l2 l3 l4 l5 l6 l7 l8 : Loader) → IsBegun limits l0
-    → yields.SinkAcceptsAll FeedResult l0 (sink_rows_of_table table.Meta raw.meta) l1
-    → yields.SinkAcceptsAll FeedResult l1 (sink_rows_of_table table.Resource raw.resource) l2
-    → yields.SinkAcceptsAll FeedResult l2 (sink_rows_of_table table.Outside raw.outside) l3
-    → yields.SinkAcceptsAll FeedResult l3 (sink_rows_of_table table.Label raw.label) l4
-    → yields.SinkAcceptsAll FeedResult l4 (sink_rows_of_table table.Link raw.link) l5
-    → yields.SinkAcceptsAll FeedResult l5 (sink_rows_of_table table.Hier raw.hier) l6
-    → yields.SinkAcceptsAll FeedResult l6 (sink_rows_of_table table.Posting raw.posting) l7
-    → yields.SinkAcceptsAll FeedResult l7 (sink_rows_of_table table.Move raw.move) l8
-    → KnowsRows l8 raw × (l8.limits ≡ limits)
-reads_each_table limits raw l0 l1 l2 l3 l4 l5 l6 l7 l8 begun t1 t2 t3 t4 t5 t6 t7 t8 =
-    let a2 = accepts_then FeedResult (sink_rows_of_table table.Meta raw.meta)
-    (sink_rows_of_table table.Resource raw.resource) l0 l1 l2 t1 t2 in
-    let a3 = accepts_then FeedResult (sink_rows_of_table table.Meta raw.meta ++ sink_rows_of_table table.Resource
-    raw.resource) (sink_rows_of_table table.Outside raw.outside) l0 l2 l3 a2 t3 in
-    let a4 = accepts_then FeedResult (sink_rows_of_table table.Meta raw.meta ++ sink_rows_of_table table.Resource
-    raw.resource ++ sink_rows_of_table table.Outside raw.outside) (sink_rows_of_table table.Label raw.label) l0 l3
-    l4 a3 t4 in
-    let a5 = accepts_then FeedResult (sink_rows_of_table table.Meta raw.meta ++ sink_rows_of_table table.Resource
-    raw.resource ++ sink_rows_of_table table.Outside raw.outside ++ sink_rows_of_table table.Label raw.label)
-    (sink_rows_of_table table.Link raw.link) l0 l4 l5 a4 t5 in
-    let a6 = accepts_then FeedResult (sink_rows_of_table table.Meta raw.meta ++ sink_rows_of_table table.Resource
-    raw.resource ++ sink_rows_of_table table.Outside raw.outside ++ sink_rows_of_table table.Label raw.label
-    ++ sink_rows_of_table table.Link raw.link) (sink_rows_of_table table.Hier raw.hier) l0 l5 l6 a5 t6 in
-    let a7 = accepts_then FeedResult (sink_rows_of_table table.Meta raw.meta ++ sink_rows_of_table table.Resource
-    raw.resource ++ sink_rows_of_table table.Outside raw.outside ++ sink_rows_of_table table.Label raw.label
-    ++ sink_rows_of_table table.Link raw.link ++ sink_rows_of_table table.Hier raw.hier)
-    (sink_rows_of_table table.Posting raw.posting) l0 l6 l7 a6 t7 in
-    let a8 = accepts_then FeedResult (sink_rows_of_table table.Meta raw.meta ++ sink_rows_of_table table.Resource
-    raw.resource ++ sink_rows_of_table table.Outside raw.outside ++ sink_rows_of_table table.Label raw.label
-    ++ sink_rows_of_table table.Link raw.link ++ sink_rows_of_table table.Hier raw.hier
-    ++ sink_rows_of_table table.Posting raw.posting) (sink_rows_of_table table.Move raw.move) l0 l7 l8 a7 t8 in
-    loader_reads_all limits raw l0 l8 begun a8
+    let come : ComeInOrder 0 table_order raw empty_raw = (
+      omega arith,
+      refl,
+      (
+        omega arith,
+        refl,
+        (
+          omega arith,
+          refl,
+          (
+            omega arith,
+            refl,
+            (omega arith, refl, (omega arith, refl, (omega arith, refl, (omega arith, refl, tt)))),
+          ),
+        ),
+      ),
+    ) in
+    let all = tables_taken table_order raw empty_raw 0 old new come
+    (subst (λ (t : Table). table_no t ≤ 0) (sym begun.table_is) (omega arith)) begun.none takes in
+    (all.0, all.1 ∙ begun.limits_are)

@@ -8,21 +8,11 @@ use Rattle.thes_tables.specs.declared.cells.Cell.{Cell}
 use Rattle.thes_tables.specs.Cells.{Raw, RawTable}
 use Rattle.thes_store.specs.Sinks.{sink_rows_of_table}
 use Rattle.thes_store.specs.Sinks as yields
-use Rattle.thes_load_rows.specs.Progress.{table_no, raw_with_row, raw_without_table}
+use Rattle.thes_tables.specs.TableOrder.{table_no, with_rows}
+use Rattle.thes_load_rows.specs.Progress.{raw_with_row, raw_without_table}
 use Rattle.thes_office.specs.declared.loader.Loader.{Loader}
 use Rattle.thes_load_rows.specs.Turns.{IsInTurn}
 use Rattle.thes_office.specs.LoaderFeed.{KnowsRows, FeedResult}
-
--- The rows of a store, with those of one table replaced.
-abbrev pub with_rows : Table → RawTable → Raw → Raw
-with_rows table.Meta rows raw = record raw { meta = rows }
-with_rows table.Resource rows raw = record raw { resource = rows }
-with_rows table.Outside rows raw = record raw { outside = rows }
-with_rows table.Label rows raw = record raw { label = rows }
-with_rows table.Link rows raw = record raw { link = rows }
-with_rows table.Hier rows raw = record raw { hier = rows }
-with_rows table.Posting rows raw = record raw { posting = rows }
-with_rows table.Move rows raw = record raw { move = rows }
 
 pushed_rows : (name : Table) (raw : Raw) (rows : List (List Cell)) (cells : List Cell) → raw_with_row name cells
     (with_rows name (Some rows) raw) ≡ with_rows name (Some (rows ++ cells ∷ [])) raw

@@ -3,7 +3,8 @@ ghost use Rattle.std.specs.Prelude.{◌≡◌, ◌⊎◌, false, IfOk, IfErr, On
 ghost use Rattle.thes_base.specs.declared.fault.Fault.TheVariants as faults;
 ghost use Rattle.thes_tables.specs.Cells.{Raw};
 ghost use Rattle.thes_load_rules.specs.Verdicts.{HasVerdict};
-ghost use Rattle.thes_store.specs.Sinks.{SinkAcceptsAll, sink_rows_of_table};
+ghost use Rattle.thes_tables.specs.TableOrder.{raw_rows_of};
+ghost use Rattle.thes_store.specs.Sinks.{SinkAcceptsAll, sink_rows_of_table, sink_rows_of_tables};
 ghost use Rattle.thes_office.specs.LoaderFeed.{KnowsRows, FeedResult};
 ghost use Rattle.thes_office.specs.LoadedCore.{IsLoaded};
 ghost use Rattle.thes_row_lists.specs.RowOrder.{HoldsRows, AreRefused};
@@ -18,6 +19,7 @@ use thes_office::Loader;
 use thes_store::row_output::{AsCells, yield_rows};
 use thes_store::sink::RowSink;
 use thes_tables::cells::Cell;
+use thes_tables::order::tables_in_order;
 
 /// A row of a table, as a list of untyped cells.
 #[derive(Debug, Drop)]
@@ -123,6 +125,39 @@ impl CellRows {
         sort_table(&mut self.posting)?;
         sort_table(&mut self.steps)
     }
+
+    // Returns the rows of the table with this name.
+    fn rows_of(&self, name: Table) -> &Option<Vec<CellRow>>
+        ensures { table_of result.now ≡ raw_rows_of name (raw_of self.now) }
+    {
+        match name {
+            Table::Meta => &self.meta,
+            Table::Resource => &self.resource,
+            Table::Outside => &self.outside,
+            Table::Label => &self.label,
+            Table::Link => &self.link,
+            Table::Hier => &self.hier,
+            Table::Posting => &self.posting,
+            Table::Move => &self.steps,
+        }
+    }
+}
+
+// Passes the rows of these tables to a loader, table after table.
+fn feed_tables(
+    alloc: Global,
+    rows: &CellRows,
+    names: &[Table],
+    loader: &mut Loader,
+) -> Result<(), Fault>
+    ensures takes { OnOk result (SinkAcceptsAll FeedResult loader.old
+        (sink_rows_of_tables (raw_of rows.now) names.now) loader.new) }
+    ensures err { IfErr result (λ fault. fault ≡ faults.OutOfMemory) }
+{
+    for name in names {
+        feed_table(alloc, *name, rows.rows_of(*name), loader)?;
+    }
+    Ok(())
 }
 
 // Passes all rows to a loader, table by table, in the order in which a store yields them.
@@ -132,14 +167,7 @@ fn read_rows(alloc: Global, rows: &CellRows, limits: Limits) -> Result<Loader, F
     ensures err { IfErr result (λ fault. fault ≡ faults.OutOfMemory) }
 {
     let mut loader = Loader::new(alloc, limits);
-    feed_table(alloc, Table::Meta, &rows.meta, &mut loader)?;
-    feed_table(alloc, Table::Resource, &rows.resource, &mut loader)?;
-    feed_table(alloc, Table::Outside, &rows.outside, &mut loader)?;
-    feed_table(alloc, Table::Label, &rows.label, &mut loader)?;
-    feed_table(alloc, Table::Link, &rows.link, &mut loader)?;
-    feed_table(alloc, Table::Hier, &rows.hier, &mut loader)?;
-    feed_table(alloc, Table::Posting, &rows.posting, &mut loader)?;
-    feed_table(alloc, Table::Move, &rows.steps, &mut loader)?;
+    feed_tables(alloc, rows, &tables_in_order(), &mut loader)?;
     Ok(loader)
 }
 

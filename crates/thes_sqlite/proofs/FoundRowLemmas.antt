@@ -11,10 +11,10 @@ use Rattle.thes_tables.specs.declared.cells.Cell.{Cell}
 use Rattle.thes_tables.specs.Cells.{Raw, RawTable}
 use Rattle.thes_sql.specs.Reads.{LeavesTables}
 use Rattle.thes_store.specs.FoundLoads.{PassesFound}
-use Rattle.thes_store.specs.Sinks.{SinkAcceptsAll, sink_rows_of_table}
-use Rattle.thes_store.specs.Loading.{raw_rows_of, sink_rows_of_tables, table_order}
+use Rattle.thes_store.specs.Sinks.{SinkAcceptsAll, sink_rows_of_table, sink_rows_of_tables}
+use Rattle.thes_tables.specs.TableOrder.{raw_rows_of, table_order}
 use Rattle.thes_store.proofs.IndexPositionLemmas.{take_one}
-use Rattle.thes_store.proofs.SinkLemmas.{accepts_then, all_tables}
+use Rattle.thes_store.proofs.SinkLemmas.{accepts_then}
 use Rattle.thes_sqlite.specs.KeeperView.{KeeperView, IsUp}
 use Rattle.thes_sqlite.specs.FoundRows.{FindsTable, FindsTables, AreFoundRows, PassesTable, PassesNamed, PassesTables}
 use Rattle.thes_sqlite.specs.FoundRows.{FindsInKeeper, IsKeeperOpen}
@@ -77,8 +77,7 @@ module _ {R : Type 0} (gives : R → Table × Option (List Cell) → Result (Uni
         posting = posting.0;
         move = move.0;
       } in
-      let items = found_rows db raw table_order h.0 h.1 (refl, (refl, (refl, (refl, (refl, (refl, (refl, (refl, tt))))))))
-      ∙ all_tables raw table_order refl in (
+      let items = found_rows db raw table_order h.0 h.1 (refl, (refl, (refl, (refl, (refl, (refl, (refl, (refl, tt)))))))) in (
         raw,
         found raw (meta.1, (resource.1, (outside.1, (label.1, (link.1, (hier.1, (posting.1, move.1))))))),
         subst (λ l. SinkAcceptsAll gives old l new) items h.2,

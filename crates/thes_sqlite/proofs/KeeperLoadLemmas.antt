@@ -10,9 +10,9 @@ use Rattle.thes_base.specs.declared.fault.Table.{Table}
 use Rattle.thes_base.specs.declared.fault.Table.TheVariants as table
 use Rattle.thes_tables.specs.declared.cells.Cell.{Cell}
 use Rattle.thes_sql.specs.Reads.{IsReadable, LeavesTables}
-use Rattle.thes_store.specs.Sinks.{SinkAcceptsAll, SinkAcceptsPrefix, SinkOutcome, sink_rows_of_table}
+use Rattle.thes_store.specs.Sinks.{SinkAcceptsAll, SinkAcceptsPrefix, SinkOutcome, sink_rows_of_table, sink_rows_of_tables}
 use Rattle.thes_store.specs.Storage.{KeepsStorage, QueryFrame}
-use Rattle.thes_store.specs.Loading.{raw_rows_of, sink_rows_of_tables}
+use Rattle.thes_tables.specs.TableOrder.{raw_rows_of}
 use Rattle.thes_store.proofs.SinkLemmas.{tables_append, part_accepted, part_refused}
 use Rattle.thes_store.proofs.StorageLemmas.{kept_after, query_after}
 use Rattle.thes_sqlite.specs.KeeperView.{KeeperView, raw_in, raw_table, raw_of_keeper, IsUp, IsKeeperUp, IsStore}

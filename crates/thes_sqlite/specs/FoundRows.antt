@@ -8,7 +8,7 @@ use Rattle.thes_base.specs.declared.fault.Fault.{Fault}
 use Rattle.thes_base.specs.declared.fault.Table.{Table}
 use Rattle.thes_tables.specs.declared.cells.Cell.{Cell}
 use Rattle.thes_tables.specs.Cells.{Raw, RawTable}
-use Rattle.thes_store.specs.Loading.{raw_rows_of}
+use Rattle.thes_tables.specs.TableOrder.{raw_rows_of}
 use Rattle.thes_store.specs.Sinks.{SinkAcceptsAll, sink_rows, sink_rows_of_table}
 use Rattle.thes_sql.specs.Declarations.{declares}
 use Rattle.thes_sql.specs.Queries.{Finds}

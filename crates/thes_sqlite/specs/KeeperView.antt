@@ -4,13 +4,13 @@ use Rattle.std.specs.Coded.{Coded, code_by, coded×, coded_ℕ}
 use Rattle.sqlite.specs.Held.{Held, held_code, state}
 use Rattle.sqlite_trees.specs.declared.store.Store.{Ghosts}
 use Rattle.thes_base.specs.declared.fault.Table.{Table}
-use Rattle.thes_base.specs.declared.fault.Table.TheVariants as table
 use Rattle.sqlite.specs.Tree.{Trees}
 use Rattle.sqlite.specs.State.{State, HasCleanDisk}
 use Rattle.thes_tables.specs.declared.change.Change.{Change}
 use Rattle.thes_tables.specs.Tables.{Tables}
 use Rattle.thes_tables.specs.Rows.{tables_after_delta}
 use Rattle.thes_tables.specs.Cells.{Raw, RawTable, cells_of_tables}
+use Rattle.thes_tables.specs.TableOrder.{raw_by_table}
 use Rattle.thes_store.specs.Storage.{StorageView}
 use Rattle.thes_sql.specs.StoredRows.{Keeps, Hold}
 use Rattle.thes_sql.specs.Reads.{rows_in_trees}
@@ -22,16 +22,7 @@ raw_table p db = Some (map (map cell_of) (rows_in_trees p db))
 
 -- The rows of all tables in a database's trees, as cells.
 abbrev pub raw_in : Trees → Raw
-raw_in db = record {
-  meta = raw_table table.Meta db;
-  resource = raw_table table.Resource db;
-  outside = raw_table table.Outside db;
-  label = raw_table table.Label db;
-  link = raw_table table.Link db;
-  hier = raw_table table.Hier db;
-  posting = raw_table table.Posting db;
-  move = raw_table table.Move db;
-}
+raw_in db = raw_by_table (λ p. raw_table p db)
 
 -- The disk hasn't failed silently, and the database is open.
 abbrev pub IsUp : State → Type 0

@@ -7,9 +7,8 @@ ghost use Rattle.thes_sql.specs.Schema.{empty_schema};
 ghost use Rattle.thes_sql.specs.TransactionEffects.{IsEmpty};
 ghost use Rattle.thes_base.specs.declared.fault.Table.{Table};
 ghost use Rattle.thes_store.specs.FoundLoads.{PassesFound};
-ghost use Rattle.thes_store.specs.Sinks.{SinkOutcome, sink_rows_of_table, sink_rows};
+ghost use Rattle.thes_store.specs.Sinks.{SinkOutcome, sink_rows_of_table, sink_rows, sink_rows_of_tables};
 ghost use Rattle.thes_store.specs.Reading.{IsPostingOfKey, IsPostingOfNumber, assigned_posting_rows, assigned_row_numbers};
-ghost use Rattle.thes_store.specs.Loading.{sink_rows_of_tables};
 ghost use Rattle.thes_store.specs.Storage.{CommitFrame, DeltaFitsStorage, KeepsStorage, QueryFrame, RawAfterChanges};
 ghost use Rattle.thes_sqlite.specs.KeeperView.{IsUp, IsStore, IsKeeperUp, LeavesEither, LeavesAfter};
 ghost use Rattle.thes_sqlite.specs.KeeperView.{raw_table, raw_of_keeper, storage_view};
@@ -33,10 +32,10 @@ use thes_sql::commit::commit_all;
 use thes_sql::create::create_tables;
 use thes_sql::outcome::is_shut;
 use thes_store::keeper::{Keeper, Posting};
-use thes_store::row_output::tables_in_order;
 use thes_store::sink::{PostingSink, RowSink};
 use thes_tables::change::Change;
 use thes_tables::delta::Delta;
+use thes_tables::order::tables_in_order;
 use thes_tables::rows::PostingRow;
 
 /// Storage that keeps its tables in a database, over one connection.

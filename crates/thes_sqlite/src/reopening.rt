@@ -25,10 +25,10 @@ use thes_base::text::Key;
 use thes_sql::commit::commit_all;
 use thes_sql::outcome::{has_change, is_shut};
 use thes_store::keeper::{Keeper, Posting};
-use thes_store::row_output::tables_in_order;
 use thes_store::sink::{PostingSink, RowSink};
 use thes_tables::change::Change;
 use thes_tables::delta::Delta;
+use thes_tables::order::tables_in_order;
 use thes_tables::rows::PostingRow;
 
 /// A way to open a database again, with a connection of the type `C`.

@@ -12,8 +12,9 @@ use Rattle.thes_base.specs.declared.fault.Table.TheVariants as table
 use Rattle.thes_base.specs.declared.data.Resource.{Resource}
 use Rattle.thes_tables.specs.declared.cells.Cell.{Cell}
 use Rattle.thes_tables.specs.Cells.{Raw, resource_cells, resource_rows}
-use Rattle.thes_store.specs.Sinks.{SinkAcceptsAll, SinkAcceptsPrefix, SinkOutcome, sink_rows_of_table, sink_rows}
-use Rattle.thes_store.specs.Loading.{raw_rows_of, sink_rows_of_tables, table_order}
+use Rattle.thes_tables.specs.TableOrder.{raw_rows_of}
+use Rattle.thes_store.specs.Sinks.{SinkAcceptsAll, SinkAcceptsPrefix, SinkOutcome, sink_rows_of_table}
+use Rattle.thes_store.specs.Sinks.{sink_rows_of_tables}
 use Rattle.thes_store.proofs.IndexPositionLemmas.{take_one, split_at}
 
 module _ {S A : Type 0} (gives : S → A → Result (Unit {0}) Fault → S → Type 0) where
@@ -143,22 +144,6 @@ tables_append raw (name ∷ names) more = ap (λ l. sink_rows_of_table name (raw
     (tables_append raw names more)
     ∙ sym (append_assoc (sink_rows_of_table name (raw_rows_of name raw)) (sink_rows_of_tables raw names)
     (sink_rows_of_tables raw more))
-
-abbrev sink_rows_after : List (Table × Option (List Cell)) → Raw → List Table → List (Table × Option (List Cell))
-sink_rows_after before raw [] = before
-sink_rows_after before raw (name ∷ names) = sink_rows_after (before ++ sink_rows_of_table name (raw_rows_of name raw))
-    raw names
-
-after_tables : (before : List (Table × Option (List Cell))) (raw : Raw) (names : List Table) → before
-    ++ sink_rows_of_tables raw names ≡ sink_rows_after before raw names
-after_tables before raw [] = append-nil before
-after_tables before raw (name ∷ names) =
-    sym (append_assoc before (sink_rows_of_table name (raw_rows_of name raw)) (sink_rows_of_tables raw names))
-    ∙ after_tables (before ++ sink_rows_of_table name (raw_rows_of name raw)) raw names
-
--- The rows of all tables in their order are the rows of the store.
-pub all_tables : (raw : Raw) (names : List Table) → names ≡ table_order → sink_rows_of_tables raw names ≡ sink_rows raw
-all_tables raw names is = ap (sink_rows_of_tables raw) is ∙ after_tables [] raw table_order
 
 module _ {S A X : Type 0} (gives : S → A → Result (Unit {0}) Fault → S → Type 0) (parts : List X → List A)
     (splits : (xs ys : List X) → parts (xs ++ ys) ≡ parts xs ++ parts ys) where

@@ -6,7 +6,6 @@ pub mod Sinks
 pub mod Index
 pub mod Keys
 pub mod Places
-pub mod Loading
 pub mod Numbers
 pub mod RowsAtPositions
 pub mod Reading

@@ -2,9 +2,9 @@
 use Rattle.std.specs.Prelude.{◌≡◌, ◌⊎◌, List, [], ◌∷◌, ◌++◌, map, Option, None, Some, Result, Ok, Err}
 use Rattle.thes_base.specs.declared.fault.Fault.{Fault}
 use Rattle.thes_base.specs.declared.fault.Table.{Table}
-use Rattle.thes_base.specs.declared.fault.Table.TheVariants as table
 use Rattle.thes_tables.specs.declared.cells.Cell.{Cell}
 use Rattle.thes_tables.specs.Cells.{Raw, RawTable}
+use Rattle.thes_tables.specs.TableOrder.{raw_rows_of, table_order}
 
 module _ {S A : Type 0} (gives : S → A → Result (Unit {0}) Fault → S → Type 0) where
   -- The sink accepts all items of the list, in order.
@@ -31,10 +31,11 @@ abbrev pub sink_rows_of_table : Table → RawTable → List (Table × Option (Li
 sink_rows_of_table name None = (name, None) ∷ []
 sink_rows_of_table name (Some rows) = map (λ row. (name, Some row)) rows
 
--- The rows that a sink gets for all tables, in the order in which a load yields them.
+-- The rows of the tables with these names, table after table.
+abbrev pub sink_rows_of_tables : Raw → List Table → List (Table × Option (List Cell))
+sink_rows_of_tables raw [] = []
+sink_rows_of_tables raw (name ∷ names) = sink_rows_of_table name (raw_rows_of name raw) ++ sink_rows_of_tables raw names
+
+-- The rows that a sink gets for all tables, in their order.
 abbrev pub sink_rows : Raw → List (Table × Option (List Cell))
-sink_rows raw =
-    sink_rows_of_table table.Meta raw.meta ++ sink_rows_of_table table.Resource raw.resource
-    ++ sink_rows_of_table table.Outside raw.outside ++ sink_rows_of_table table.Label raw.label
-    ++ sink_rows_of_table table.Link raw.link ++ sink_rows_of_table table.Hier raw.hier
-    ++ sink_rows_of_table table.Posting raw.posting ++ sink_rows_of_table table.Move raw.move
+sink_rows raw = sink_rows_of_tables raw table_order

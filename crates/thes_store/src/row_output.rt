@@ -6,8 +6,8 @@ ghost use Rattle.thes_tables.specs.declared.cells.Cell.{Cell};
 ghost use Rattle.thes_tables.specs.declared.cells.Cell.TheVariants.{Text};
 ghost use Rattle.thes_tables.specs.Cells.{number_cell, optional_cell, meta_cells, resource_cells, resource_rows, cells_of_tables};
 ghost use Rattle.thes_base.specs.declared.fault.Table.TheVariants as table;
-ghost use Rattle.thes_store.specs.Sinks.{SinkOutcome, sink_rows_of_table, sink_rows};
-ghost use Rattle.thes_store.specs.Loading.{raw_rows_of, sink_rows_of_tables, table_order};
+ghost use Rattle.thes_store.specs.Sinks.{SinkOutcome, sink_rows_of_table, sink_rows, sink_rows_of_tables};
+ghost use Rattle.thes_tables.specs.TableOrder.{raw_rows_of};
 ghost use Rattle.thes_store.specs.Room.{tables_in_memory};
 ghost use Rattle.thes_store.specs.Slots.{rows_in};
 
@@ -22,6 +22,7 @@ use thes_base::number::ResNo;
 use thes_base::text::Base;
 use thes_tables::cells::{Cell, CellText};
 use thes_tables::numbers::{flag_number, resource_number, type_number};
+use thes_tables::order::tables_in_order;
 use thes_tables::rows::{HierRow, MoveRow, OutsideRow, PostingRow};
 
 /// A row that can be encoded as cells.
@@ -290,22 +291,6 @@ fn yield_table<S: RowSink>(
         Table::Posting => yield_rows(alloc, Table::Posting, tables.posting.as_slice(), sink),
         Table::Move => yield_rows(alloc, Table::Move, tables.steps.as_slice(), sink),
     }
-}
-
-/// Returns the eight tables, in the order in which a load yields them.
-pub fn tables_in_order() -> [Table; 8]
-    ensures { result ≡ table_order }
-{
-    [
-        Table::Meta,
-        Table::Resource,
-        Table::Outside,
-        Table::Label,
-        Table::Link,
-        Table::Hier,
-        Table::Posting,
-        Table::Move,
-    ]
 }
 
 // Passes the rows of these tables to a sink, table after table.

@@ -6,4 +6,5 @@ pub mod change;
 pub mod delta;
 pub mod laws;
 pub mod numbers;
+pub mod order;
 pub mod rows;

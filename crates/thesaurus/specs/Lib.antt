@@ -72,11 +72,11 @@ pub use Rattle.thes_sqlite.specs.KeeperView
 pub use Rattle.thes_sqlite.specs.MigrationEffects
 pub use Rattle.thes_store.specs.Causes
 pub use Rattle.thes_store.specs.FoundLoads
-pub use Rattle.thes_store.specs.Loading
 pub use Rattle.thes_store.specs.Reading as StoreReading
 pub use Rattle.thes_store.specs.Sinks
 pub use Rattle.thes_store.specs.Storage
 pub use Rattle.thes_tables.specs.Cells
+pub use Rattle.thes_tables.specs.TableOrder
 pub use Rattle.thes_tables.specs.Tables
 pub use Rattle.thes_vocab.specs.Consistency
 pub use Rattle.thes_vocab.specs.CopiedLabels

@@ -1,7 +1,8 @@
 use Rattle.std.proofs.Common.{◌≤◌, sym, subst}
 use Rattle.thes_load_rows.specs.declared.stage.Stage.{Stage}
 use Rattle.thes_load_rows.specs.declared.stage.Stage.TheVariants as stage
-use Rattle.thes_load_rows.specs.Progress.{table_no, stage_table}
+use Rattle.thes_tables.specs.TableOrder.{table_no}
+use Rattle.thes_load_rows.specs.Progress.{stage_table}
 use Rattle.thes_load_rows.specs.Turns.{NextStage}
 use Rattle.thes_load_rows.proofs.TurnLemmas.{in_turn, stopped_follows, stopped_of_rows}
 use Rattle.thes_load_rows.proofs.turns.stage_after_stop.Goals as goal

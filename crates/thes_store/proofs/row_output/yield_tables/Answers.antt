@@ -5,8 +5,7 @@ use Rattle.thes_base.specs.declared.fault.Table.{Table}
 use Rattle.thes_base.specs.declared.fault.Table.TheVariants as table
 use Rattle.thes_tables.specs.declared.cells.Cell.{Cell}
 use Rattle.thes_tables.specs.Cells.{cells_of_tables}
-use Rattle.thes_store.specs.Sinks.{SinkAcceptsAll, SinkOutcome}
-use Rattle.thes_store.specs.Loading.{sink_rows_of_tables}
+use Rattle.thes_store.specs.Sinks.{SinkAcceptsAll, SinkOutcome, sink_rows_of_tables}
 use Rattle.thes_store.specs.Room.{tables_in_memory}
 use Rattle.thes_store.proofs.SinkLemmas.{tables_append, part_accepted, part_refused}
 use Rattle.thes_store.proofs.row_output.yield_tables.Goals as goal

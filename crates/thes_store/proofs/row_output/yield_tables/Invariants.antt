@@ -1,7 +1,6 @@
 use Rattle.std.proofs.Common.{take}
 use Rattle.thes_tables.specs.Cells.{cells_of_tables}
-use Rattle.thes_store.specs.Sinks.{SinkAcceptsAll}
-use Rattle.thes_store.specs.Loading.{sink_rows_of_tables}
+use Rattle.thes_store.specs.Sinks.{SinkAcceptsAll, sink_rows_of_tables}
 use Rattle.thes_store.specs.Room.{tables_in_memory}
 use Rattle.thes_store.proofs.row_output.yield_tables.Given as goal
 

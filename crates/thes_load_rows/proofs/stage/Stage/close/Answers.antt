@@ -12,7 +12,7 @@ returns-in-Link c = subst (λ (old : Stage). Closes old (stage.Hier c.in-Link.li
 
 pub returns-in-Stopped : goal.returns-in-Stopped
 returns-in-Stopped c =
-    subst (λ (old : Stage). Closes old (stage.Stopped c.in-Stopped.fault c.next.result)) (sym c.in-Stopped.is)
+    subst (λ (old : Stage). Closes old (stage.Stopped c.in-Stopped.fault c.next_table.result)) (sym c.in-Stopped.is)
     (subst (λ (current_table : Table). Closes (stage.Stopped c.in-Stopped.fault c.in-Stopped.current_table)
-    (stage.Stopped c.in-Stopped.fault current_table)) (sym c.next.ensures)
+    (stage.Stopped c.in-Stopped.fault current_table)) (sym c.next_table.ensures)
     (stopped_on c.in-Stopped.fault c.in-Stopped.current_table))

@@ -2,8 +2,7 @@ use Rattle.std.proofs.Common.{◌∙◌, List, get_or, subst, refl, rules}
 use Rattle.std.proofs.lemmas.List.{take_all}
 use Rattle.thes_base.specs.declared.fault.Table.{Table}
 use Rattle.thes_base.specs.declared.fault.Table.TheVariants as table
-use Rattle.thes_store.specs.Sinks.{SinkAcceptsAll}
-use Rattle.thes_store.specs.Loading.{sink_rows_of_tables}
+use Rattle.thes_store.specs.Sinks.{SinkAcceptsAll, sink_rows_of_tables}
 use Rattle.sqlite.specs.Held.{state}
 use Rattle.thes_sqlite.specs.KeeperView.{raw_of_keeper}
 use Rattle.thes_sqlite.specs.FoundRows.{PassesNamed}

@@ -1,10 +1,7 @@
 use Rattle.std.proofs.Common.{◌≡◌, ◌∙◌, List, ap, not, subst, IsTrue}
 use Rattle.std.proofs.lemmas.Result.{on_ok_weaker}
-use Rattle.std.specs.Prelude.{Option}
 use Rattle.thes_base.specs.declared.fault.Table.{Table}
-use Rattle.thes_tables.specs.declared.cells.Cell.{Cell}
-use Rattle.thes_store.specs.Sinks.{SinkOutcome}
-use Rattle.thes_store.proofs.SinkLemmas.{all_tables}
+use Rattle.thes_store.specs.Sinks.{SinkOutcome, sink_rows_of_tables}
 use Rattle.sqlite.specs.Held.{state}
 use Rattle.thes_sqlite.specs.KeeperView.{KeeperView, raw_of_keeper}
 use Rattle.thes_sqlite.proofs.FoundRowLemmas.{database_passed, tables_passed, unwritten}
@@ -12,10 +9,10 @@ use Rattle.thes_sqlite.proofs.keeper.SqlKeeperKeeper.load.Goals as goal
 
 pub returns-clause-yields : goal.returns-clause-yields
 returns-clause-yields g c = λ up.
-    subst (λ (l : List (Table × Option (List Cell))). SinkOutcome g.R.RowSink.gives c.args.sink.now l
+    subst (λ (names : List Table). SinkOutcome g.R.RowSink.gives c.args.sink.now
+    (sink_rows_of_tables (raw_of_keeper g.S.Store c.args.self.now) names)
     c.yield_tables.result c.yield_tables.new.sink)
-    (all_tables (raw_of_keeper g.S.Store c.args.self.now) _ c.tables_in_order.ensures)
-    (c.yield_tables.ensures.yields up)
+    c.tables_in_order.ensures (c.yield_tables.ensures.yields up)
 
 pub returns-clause-found : goal.returns-clause-found
 returns-clause-found g c =
