@@ -24,12 +24,12 @@ impl Model for LabelRow {
 }
 
 /// A row of table posting: the posting as it was accepted, its place after its moves, and whether
-/// it was withdrawn.
+/// it was withdrawn. (The texts come first, so that a row takes no bytes for alignment.)
 #[derive(Debug, Drop)]
 pub struct PostingRow {
-    pub number: PostNo,
     pub key: Key,
     pub rec: RecordName,
+    pub number: PostNo,
     pub first: ResNo,
     pub place: ResNo,
     pub withdrawn: bool,
