@@ -19,6 +19,8 @@ from program import built  # noqa: E402
 
 RESULTS = HOME / "bench" / "RESULTS.md"
 RUNS = 5
+# Runs a program, and has valgrind count its instructions.
+COUNTER = ["valgrind", "--tool=cachegrind", "--cache-sim=no", "--cachegrind-out-file=/dev/null"]
 # The decimals of a value by its unit.
 DECIMALS = {"s": 3, "times": 2, "microseconds": 1, "MB": 1, "bytes": 0, "instructions": 0}
 
@@ -88,6 +90,15 @@ def run(script):
         refused = next((it for it in ran.stdout.splitlines() if it[2:4] in (b"no", b"ba", b"fa")), b"")
         sys.exit(f"{built()} script ended with {ran.returncode}: {refused.decode()}")
     return seconds, ran.stdout
+
+
+def counted(program, given, script=b""):
+    """The instructions of a run of a program, and the lines that it wrote. It may refuse a request, but meets no fault."""
+    ran = subprocess.run([*COUNTER, program, *map(str, given)], input=script, capture_output=True, check=False)
+    found = re.search(rb"I\s+refs:\s+([\d,]+)", ran.stderr)
+    if ran.returncode > 1 or not found:
+        sys.exit(f"valgrind {program} {' '.join(map(str, given))} ended with {ran.returncode}: {ran.stderr.decode()[-300:]}")
+    return int(found[1].replace(b",", b"")), ran.stdout.splitlines()
 
 
 def seconds_of(requests):
