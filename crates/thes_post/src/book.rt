@@ -89,8 +89,9 @@ impl Book {
     /// Counts a posting assigned to the concept as withdrawn; changes nothing if no posting is
     /// assigned to it.
     pub fn withdraw(&mut self, concept: ResNo)
-        ensures { HasPostingToWithdraw concept self.old
+        ensures counted { HasPostingToWithdraw concept self.old
             → CountsAfterWithdrawal concept self.old self.new }
+        ensures none { (HasPostingToWithdraw concept self.old → ⊥) → self.new ≡ self.old }
     {
         let count = count_at(self.counts.as_slice(), concept.get() as usize);
         if count > 0 && self.withdrawn < self.accepted {

@@ -1,7 +1,7 @@
 -- Proves that each call of the storage keeps its invariant, and that a commit applies its changes
 -- to the rows.
 use Rattle.std.proofs.Common.{arith, inl, inr, ◌≡◌, ℕ, ◌+◌, List, [], ◌∷◌, map, Bool, Option, None, Some, Result}
-use Rattle.std.proofs.Common.{refl, sym, ap, subst, ◌∙◌, IsTrue}
+use Rattle.std.proofs.Common.{false, Ok, Err, OnErr, refl, sym, ap, subst, ◌∙◌, IsTrue}
 use Rattle.std.specs.Prelude.{IsUtf8}
 use Rattle.std.specs.List.{AllByRecursion}
 use Rattle.sqlite.specs.Order.{Row, column}
@@ -37,6 +37,8 @@ use Rattle.thes_sqlite.specs.KeeperView.{raw_in, raw_of_keeper, KeeperView, IsKe
 use Rattle.thes_sqlite.specs.KeeperView.{IsStore}
 use Rattle.thes_store.specs.Storage.{RawAfterChanges}
 use Rattle.thes_sqlite.specs.KeeperView.{IsKeeperState, LeavesEither, LeavesAfter}
+use Rattle.thes_sqlite.specs.Commits.{DatabaseFrame}
+use Rattle.thes_sqlite.specs.MigrationEffects.{IsUnwritten}
 use Rattle.thes_sqlite.specs.ValueCells.{cell_of}
 use Rattle.thes_sqlite.proofs.ValueLemmas.{text_cell}
 
@@ -298,3 +300,29 @@ module _ {S : Type 0} (g : Ghosts S) (view old : KeeperView S) (same : view ≡ 
       (state g new)) same
       (leaves_either (state g view.first) (state g view.conn) (state g new) changes kept (law view.conn) fits_keeper
       crash)
+
+-- A transaction of its own over a database that may hold anything, with the caller's result.
+module _ {S : Type 0} (g : Ghosts S) (start old new : Held S) (same : start ≡ old) (idle : start.in_transaction ≡ false)
+    {C : Trees → Type 0} (survives : Survives (state g start) (state g new) C) {r : Result Bool Error}
+    (own : IsOwnTransaction g start new r) where
+  before_commit : IsUp (state g new) → IsUp (state g start)
+  before_commit = up_before (state g start) (state g new) survives own.was
+
+  pub frame_of_success : {T E : Type 0} (value : T) → DatabaseFrame {E = E} g old new (Ok value)
+  frame_of_success {T} {E} value = subst (λ h. DatabaseFrame {E = E} g h new (Ok value)) same (record {
+    was = before_commit;
+    settled = λ up. own.settled up.0 up.1 idle;
+    none = tt;
+  })
+
+  pub frame_of_fault : {T E : Type 0} (error : Error) (fault : E) → r ≡ Err error
+      → DatabaseFrame {T = T} g old new (Err fault)
+  frame_of_fault {T} {E} error fault is = subst (λ h. DatabaseFrame {T = T} g h new (Err fault)) same (record {
+    was = before_commit;
+    settled = λ up. own.settled up.0 up.1 idle;
+    none = λ up. (
+      before_commit up,
+      subst (λ (end : Result Bool Error). OnErr end (IsUnwritten (state g start) (state g new))) is
+          (own.none up.0 up.1),
+    );
+  })

@@ -13,6 +13,7 @@ ghost use Rattle.thes_store.specs.Storage.{CommitFrame, DeltaFitsStorage, KeepsS
 ghost use Rattle.thes_sqlite.specs.KeeperView.{IsUp, IsStore, IsKeeperUp, LeavesEither, LeavesAfter};
 ghost use Rattle.thes_sqlite.specs.KeeperView.{raw_table, raw_of_keeper, storage_view};
 ghost use Rattle.thes_sqlite.specs.MigrationEffects.{Migrates, HasCountedCause, ServesMigrated, LeavesUnwritten};
+ghost use Rattle.thes_sqlite.specs.Commits.{DatabaseFrame};
 ghost use Rattle.thes_sqlite.specs.FoundRows.{IsKeeperOpen, FindsInKeeper, PassesTable, PassesNamed};
 ghost use Rattle.thes_sql.specs.Reads.{LeavesTables};
 ghost use Rattle.sqlite.specs.Held.{state};
@@ -157,6 +158,9 @@ impl<S: Alter> SqlKeeper<S> {
             result }
         ensures first { self.new.first ≡ self.old.first }
 
+        // Whatever the database holds: nothing is left uncommitted, and a fault leaves it unwritten.
+        ensures frame { DatabaseFrame S.Store self.old.conn self.new.conn result }
+
         // Whatever the result, a crash leaves the tables without the changes or with all of them;
         // after success, with all of them.
         ensures crash { IsStore (state S.Store self.old.first)
@@ -251,6 +255,9 @@ impl<S: Alter> Keeper for SqlKeeper<S> {
         ensures keeps { CommitFrame (storage_view S.Store self.old) (storage_view S.Store self.new)
             result }
         ensures first { self.new.first ≡ self.old.first }
+
+        // Whatever the database holds: nothing is left uncommitted, and a fault leaves it unwritten.
+        ensures frame { DatabaseFrame S.Store self.old.conn self.new.conn result }
 
         // Whatever the result, a crash leaves the tables without the changes or with all of them;
         // after success, with all of them.

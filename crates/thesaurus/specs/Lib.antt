@@ -67,6 +67,7 @@ pub use Rattle.thes_service.specs.OfficeRequests
 pub use Rattle.thes_service.specs.Service
 pub use Rattle.thes_sql.specs.Schema
 pub use Rattle.thes_sql.specs.TransactionEffects
+pub use Rattle.thes_sqlite.specs.Commits
 pub use Rattle.thes_sqlite.specs.FoundRows
 pub use Rattle.thes_sqlite.specs.KeeperView
 pub use Rattle.thes_sqlite.specs.MigrationEffects

@@ -17,6 +17,7 @@ pub use thes_display::sort_key;
 // The parts of the machine: resources and labels, links, and counts of postings.
 pub use thes_graph::graph::{Graph, Walk};
 pub use thes_links::links::Links;
+pub use thes_links::side::{Part, Side};
 pub use thes_post::book::Book;
 pub use thes_vocab::{Forwarding, Vocab};
 pub use thes_walks::judge::{check_at, judge_add, judge_contract};

@@ -33,4 +33,4 @@ returns-clause-counts c = λ hs meant.
     let gives : HasPostingToWithdraw c.in-Some.row.now.place t.book =
     record { here = omega (arith, one, counted, here); accepted = omega (arith, less, withdrawn, accepted) } in
     sums_withdrawn hs c.args.posting are_facts.0 are_facts.1 stays t.book c.withdraw.new.self are
-    (subst (λ (n : ℕ). CountsAfterWithdrawal n t.book c.withdraw.new.self) at (c.withdraw.ensures gives))
+    (subst (λ (n : ℕ). CountsAfterWithdrawal n t.book c.withdraw.new.self) at (c.withdraw.ensures.counted gives))

@@ -1,4 +1,6 @@
-use Rattle.thes_sqlite.proofs.KeeperLemmas.{is_done, is_either}
+use Rattle.std.proofs.Common.{ap}
+use Rattle.thes_sqlite.specs.KeeperView.{KeeperView}
+use Rattle.thes_sqlite.proofs.KeeperLemmas.{is_done, is_either, frame_of_success, frame_of_fault}
 use Rattle.thes_sqlite.proofs.keeper.SqlKeeper.commit_changes.Goals as goal
 
 pub invariant_of-self : goal.invariant_of-self
@@ -36,3 +38,13 @@ returns-in-Err-clause-crash g c = λ known.
     is_either g.S.Store _ c.args.self.now c.self.view_is c.commit_all.new.conn c.args.changes.now
     c.self.invariant c.requires c.commit_all.ensures.crash (λ h db opened may. g.met.S.Store.settled h.store db opened
     may) known
+
+pub returns-in-Ok-clause-frame : goal.returns-in-Ok-clause-frame
+returns-in-Ok-clause-frame g c = frame_of_success g.S.Store c.self.inside.conn c.args.self.now.conn
+    c.commit_all.new.conn (ap (λ (k : KeeperView _). k.conn) c.self.view_is) c.self.invariant.autocommit
+    c.commit_all.ensures.crash c.commit_all.ensures.own _
+
+pub returns-in-Err-clause-frame : goal.returns-in-Err-clause-frame
+returns-in-Err-clause-frame g c = frame_of_fault g.S.Store c.self.inside.conn c.args.self.now.conn
+    c.commit_all.new.conn (ap (λ (k : KeeperView _). k.conn) c.self.view_is) c.self.invariant.autocommit
+    c.commit_all.ensures.crash c.commit_all.ensures.own c.in-Err.error _ c.in-Err.is
