@@ -1,13 +1,13 @@
 //! Tests with a reader and a writer that fail after each number of calls: the output is a prefix of
 //! the response, and the service has performed the request, or nothing if the request is
 //! incomplete.
-use crate::counter::{CountingService, PAGE};
+use crate::counter::{CountingService, PAGE, serve_counting};
 use std::alloc::{AllocError, Global};
 use std::process::Abort;
 use test_devices::{Filling, Halting};
 use thes_base::pipe::Pipe;
 use thes_http::Status;
-use thes_http::serve::{ConnectionEnd, serve_one};
+use thes_http::serve::ConnectionEnd;
 
 // A row of a table: a request, the status of its response, the number of operations performed, and
 // the response.
@@ -34,7 +34,7 @@ fn serve_with_faults(
         is_full,
     });
     let mut counter = CountingService { performed: 0 };
-    let served = serve_one(alloc, &mut reader, &mut writer, &mut counter);
+    let served = serve_counting(alloc, &mut reader, &mut writer, &mut counter);
     (served, counter.performed, writer.into_device().bytes)
 }
 

@@ -1,12 +1,17 @@
 //! A service whose only state is a count.
 ghost use Rattle.std.specs.Prelude.{true};
+ghost use Rattle.thes_base.specs.Pipe.{IsFresh};
 
 use std::alloc::Global;
+use std::io::{Read, Write};
 use thes_base::fault::{Fault, Refusal};
 use thes_base::number::ResNo;
+use thes_base::pipe::Pipe;
 use thes_base::request::{Answer, Command};
 use thes_base::text::Tag;
+use thes_http::serve::{ConnectionEnd, serve_one};
 use thes_http::service::{Display, DisplayAnswer, ImportAnswer, Page, Service};
+use thes_http_request::endpoint::Routes;
 use thes_requests::handler::{QueryAnswer, RequestHandler, ViewLine};
 use thes_requests::request::Query;
 
@@ -90,4 +95,18 @@ impl Service for CountingService {
         };
         Ok(DisplayAnswer::Lines(Page::new(Vec::from_slice(alloc, text)?)))
     }
+}
+
+/// Serves one connection by routes of its own, and returns the outcome of the connection.
+pub fn serve_counting<R: Read, W: Write>(
+    alloc: Global,
+    reader: &mut Pipe<R>,
+    writer: &mut Pipe<W>,
+    counter: &mut CountingService,
+) -> ConnectionEnd
+    requires reader { IsFresh reader.old }
+    requires writer { IsFresh writer.old }
+{
+    let routes = Routes::new(alloc).ok();
+    serve_one(alloc, routes.as_ref(), reader, writer, counter)
 }

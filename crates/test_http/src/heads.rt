@@ -1,17 +1,17 @@
 //! Tests of heads at the limits on bytes and lines.
-use crate::counter::CountingService;
+use crate::counter::{CountingService, serve_counting};
 use std::alloc::{AllocError, Global};
 use std::process::Abort;
 use thes_base::pipe::Pipe;
 use thes_http::Status;
-use thes_http::serve::{ConnectionEnd, serve_one};
+use thes_http::serve::ConnectionEnd;
 
 // Serves a request that is only a head, and returns the outcome of the connection.
 fn serve_head(alloc: Global, request: &[u8]) -> ConnectionEnd {
     let mut reader = Pipe::new(request);
     let mut writer = Pipe::new(Vec::new(alloc));
     let mut counter = CountingService { performed: 0 };
-    serve_one(alloc, &mut reader, &mut writer, &mut counter)
+    serve_counting(alloc, &mut reader, &mut writer, &mut counter)
 }
 
 // Returns a head of `count + 32` bytes, of which `count` are the value of a field.

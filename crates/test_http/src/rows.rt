@@ -1,10 +1,10 @@
 //! Tests of requests and their responses, byte for byte.
-use crate::counter::CountingService;
+use crate::counter::{CountingService, serve_counting};
 use std::alloc::Global;
 use std::process::Abort;
 use thes_base::pipe::Pipe;
 use thes_http::Status;
-use thes_http::serve::{ConnectionEnd, serve_one};
+use thes_http::serve::ConnectionEnd;
 
 // A row of a table: a request, the outcome of its connection, the number of operations performed,
 // and the bytes written.
@@ -16,7 +16,7 @@ fn serve_request(alloc: Global, request: &[u8]) -> (ConnectionEnd, u32, Vec<u8>)
     let mut reader = Pipe::new(request);
     let mut writer = Pipe::new(Vec::new(alloc));
     let mut counter = CountingService { performed: 0 };
-    let served = serve_one(alloc, &mut reader, &mut writer, &mut counter);
+    let served = serve_counting(alloc, &mut reader, &mut writer, &mut counter);
     (served, counter.performed, writer.into_device())
 }
 

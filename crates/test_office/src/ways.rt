@@ -13,6 +13,7 @@ use thes_display::writing::{DisplayOutcome, alphabetical, hierarchical};
 use thes_export::writing::export;
 use thes_http::serve::{ConnectionEnd, serve_one};
 use thes_http::service::Display;
+use thes_http_request::endpoint::Routes;
 use thes_import::import;
 use thes_import::import::ImportStop;
 use thes_requests::script::ScriptEnd;
@@ -145,7 +146,8 @@ fn connect_pipes<K: Keeper, R: Read, W: Write>(
     requires reader { IsFresh reader.old }
     requires writer { IsFresh writer.old }
 {
-    serve_one(alloc, reader, writer, handler)
+    let routes = Routes::new(alloc).ok();
+    serve_one(alloc, routes.as_ref(), reader, writer, handler)
 }
 
 /// Serves a connection, and returns the writer and the outcome of the connection.

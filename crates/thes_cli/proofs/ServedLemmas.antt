@@ -1,7 +1,8 @@
--- Proves that serving either succeeds or ends with the fault of a connection.
-use Rattle.std.proofs.Common.{◌⊎◌, inl, inr, Result, Ok, Err}
-use Rattle.std.specs.Prelude.{OnOk, OnErr}
+-- Proves that serving either succeeds, with as many connections as were asked for, or ends with a fault.
+use Rattle.std.proofs.Common.{◌≡◌, ◌⊎◌, inl, inr, ℕ, Result, Ok, Err, subst}
+use Rattle.std.specs.Prelude.{IfOk, OnErr}
 
-pub done_or_not : {T X : Type 0} (result : Result T X) (A B : Type 0) → OnOk result A → OnErr result B → A ⊎ B
-done_or_not (Ok x) A B h k = inl h
-done_or_not (Err e) A B h k = inr k
+pub done_or_not : {X : Type 0} (result : Result ℕ X) (count : ℕ) (A : ℕ → Type 0) (B : Type 0)
+    → IfOk result (λ n. n ≡ count) → IfOk result A → OnErr result B → A count ⊎ B
+done_or_not (Ok n) count A B all h k = inl (subst A all h)
+done_or_not (Err e) count A B all h k = inr k

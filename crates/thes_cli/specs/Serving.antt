@@ -15,28 +15,29 @@ use Rattle.thes_command_line.specs.Printing.{Prints, PrintsPrefix, fault_line, n
 abbrev pub listening_line : ℕ → List ℕ
 listening_line port = codes "listening on 127.0.0.1:" ++ decimal port ++ codes "\n"
 
--- All connections were served: the status is 0, and nothing is printed.
-abbrev pub EndsWell : {E : Type 0} → Pipe E → Pipe E → ℕ → Type 0
-EndsWell old new status = (new ≡ old) × (status ≡ 0)
+-- As many connections were served as were asked for: the status is 0, and nothing is printed.
+abbrev pub EndsWell : {E : Type 0} → ℕ → Pipe E → Pipe E → ℕ → ℕ → Type 0
+EndsWell count old new connections status = (new ≡ old) × (connections ≡ count) × (status ≡ 0)
 
 -- A connection couldn't be accepted, or memory for the routes ran out: the fault is printed, and the status is 3.
 abbrev pub EndsUnserved : {E : Type 0} → (E → Option (List ℕ)) → Pipe E → Pipe E → ℕ → Type 0
 EndsUnserved err old new status = Prints err old new net_line × (status ≡ 3)
 
 module _ {K E : Type 0} (view : K → StorageView) (err : E → Option (List ℕ)) where
-  -- At most `count` connections were served, one after another; the requests of their clients are a run of the machine.
-  pub record ServesAll (count : ℕ) (old_office : OfficeView K) (errors errors' : Pipe E) (status : ℕ)
+  -- Connections were served, one after another; the requests of their clients are a run of the machine. They are
+  -- exactly `count`, unless one couldn't be accepted or memory for the routes ran out.
+  pub record ServesAll (count : ℕ) (old_office : OfficeView K) (errors errors' : Pipe E) (connections status : ℕ)
       (new_office : OfficeView K) : Type 0 where
     pub served : LeadsBy (office_behaviour view) count old_office new_office
     pub reached : IsReachedByRun view old_office new_office
-    pub ends : EndsWell errors errors' status ⊎ EndsUnserved err errors errors' status
+    pub ends : EndsWell count errors errors' connections status ⊎ EndsUnserved err errors errors' status
 
   -- The command `serve`: the address is printed, and connections are served; or printing the address failed, and none
   -- are.
   abbrev pub ServesStore : {W : Type 0} → (W → Option (List ℕ)) → ℕ → ℕ → OfficeView K → Pipe W → Pipe W → Pipe E
-      → Pipe E → ℕ → OfficeView K → Type 0
-  ServesStore out port count old_office output output' errors errors' status new_office =
+      → Pipe E → ℕ → ℕ → OfficeView K → Type 0
+  ServesStore out port count old_office output output' errors errors' connections status new_office =
       (Appends (written_bytes out output) (written_bytes out output') (listening_line port)
-      × ServesAll count old_office errors errors' status new_office)
+      × ServesAll count old_office errors errors' connections status new_office)
       ⊎ (PrintsPrefix out output output' (listening_line port)
       × Prints err errors errors' (fault_line Write) × (new_office ≡ old_office) × (status ≡ 3))

@@ -24,8 +24,9 @@ use Rattle.thes_jobs.specs.declared.work.Work.{Work}
 use Rattle.thes_jobs.specs.declared.work.Work.TheVariants.{Script, Output}
 
 module _ {K F W E : Type 0} (view : K → StorageView)
-    (given : F → Option (List ℕ)) (out : W → Option (List ℕ)) (err : E → Option (List ℕ)) where
-  -- The effect of work that reads no standard input over an open store, by its command.
+    (given : F → Option (List ℕ)) (out : W → Option (List ℕ)) (err : E → Option (List ℕ)) (connections : ℕ) where
+  -- The effect of work that reads no standard input over an open store, by its command, with the number of connections
+  -- that it served.
   abbrev pub DoesOutputWork : {L : Type 0} → OutputWork F L → OfficeView K → Pipe W → Pipe W → Pipe E → Pipe E → ℕ
       → OfficeView K → Type 0
   DoesOutputWork Check old_office output output' errors errors' status new_office =
@@ -38,7 +39,8 @@ module _ {K F W E : Type 0} (view : K → StorageView)
   DoesOutputWork (Import file prints_it) old_office output output' errors errors' status new_office =
       ImportsStore view given out err prints_it file old_office output output' errors errors' status new_office
   DoesOutputWork (Serve listening) old_office output output' errors errors' status new_office =
-      ServesStore view err out listening.port listening.count old_office output output' errors errors' status new_office
+      ServesStore view err out listening.port listening.count old_office output output' errors errors' connections
+      status new_office
 
 module _ {K F R W E : Type 0} (view : K → StorageView)
     (given : F → Option (List ℕ)) (remaining : R → Option (List ℕ)) (out : W → Option (List ℕ))
@@ -50,7 +52,8 @@ module _ {K F R W E : Type 0} (view : K → StorageView)
       AnswersScript view remaining out err old_office old status new_office new
   DoesWork (Output work) old_office old status new_office new =
       (new.input ≡ old.input)
-      × DoesOutputWork view given out err work old_office old.output new.output old.errors new.errors status new_office
+      × DoesOutputWork view given out err new.connections work old_office old.output new.output old.errors new.errors
+      status new_office
 
   -- The store was opened, the work was done, and the storage is returned.
   pub record WorksOpened {L : Type 0} (work : Work F L) (limits : Limits) (keeper : K) (old : Streams R W E)

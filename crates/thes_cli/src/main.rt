@@ -27,6 +27,7 @@ use thes_command_line::arguments::{EarlyExit, Job, is_display, plan_args};
 use thes_command_line::printing::print_error;
 use thes_command_line::start_failure::report_start_failure;
 use thes_command_line::terminal_output::TerminalOutput;
+use thes_http::connection_count::ConnectionCount;
 use thes_jobs::databases::{Databases, FileDatabases};
 use thes_jobs::migrating::{migrate_in_database, print_version};
 use thes_jobs::starting::{OpenJob, open_job};
@@ -89,6 +90,7 @@ fn main(rt: HostRuntime) -> ExitCode {
         input: Pipe::new(rt.stdin()),
         output: Pipe::new(TerminalOutput::new(rt.stdout(), escapes)),
         errors: Pipe::new(rt.stderr()),
+        connections: ConnectionCount::new(),
     };
     let databases = FileDatabases { rt: &rt };
     let status = match open_job::<FileStore<File>, StoreFiles<'_>, _>(&rt, &databases, planned) {

@@ -1,5 +1,5 @@
 //! The command `serve`: serves HTTP connections over a store.
-ghost use Rattle.std.specs.Prelude.{◌≡◌, OnOk, OnErr};
+ghost use Rattle.std.specs.Prelude.{◌≡◌, IfOk, OnErr};
 ghost use Rattle.thes_base.specs.Pipe.{IsFresh};
 ghost use Rattle.thes_cli.specs.Serving as serving;
 ghost use Rattle.thes_cli.specs.Serving.{EndsUnserved, EndsWell, ServesAll, ServesStore};
@@ -12,6 +12,7 @@ use std::rt::Clock;
 use thes_base::fault::PipeFault;
 use thes_base::pipe::Pipe;
 use thes_command_line::printing::{print, report_fault, report_net_fault};
+use thes_http::connection_count::ConnectionCount;
 use thes_jobs::work::Listening;
 use thes_requests::line::ShortLine;
 use thes_service::{OfficeHandler, office_serve};
@@ -27,15 +28,22 @@ fn listening_line(port: u16) -> ShortLine
     line
 }
 
-// Returns the exit status 0, or, if a connection couldn't be accepted or memory for the routes ran
-// out, prints the fault and returns 3.
-fn report_served<E: Write>(errors: &mut Pipe<E>, ended: &io::Result<()>) -> u8
+// Returns the exit status 0 with the number of connections, or, if a connection couldn't be accepted or memory for the
+// routes ran out, prints the fault and returns 3.
+fn report_served<E: Write>(
+    errors: &mut Pipe<E>,
+    connections: &mut ConnectionCount,
+    ended: io::Result<ConnectionCount>,
+) -> u8
     requires { IsFresh errors.old }
-    ensures ok { OnOk ended.now (EndsWell errors.old errors.new result) }
-    ensures err { OnErr ended.now (EndsUnserved E.contents errors.old errors.new result) }
+    ensures ok { IfOk ended (λ served. EndsWell served errors.old errors.new connections.new result) }
+    ensures err { OnErr ended (EndsUnserved E.contents errors.old errors.new result) }
 {
     match ended {
-        Ok(()) => 0,
+        Ok(served) => {
+            *connections = served;
+            0
+        }
         Err(_) => report_net_fault(errors),
     }
 }
@@ -48,13 +56,14 @@ fn serve_all<N: Net + Clock, K: Keeper, E: Write>(
     count: u32,
     handler: &mut OfficeHandler<K>,
     errors: &mut Pipe<E>,
+    connections: &mut ConnectionCount,
 ) -> u8
     requires { IsFresh errors.old }
-    ensures { ServesAll K.view E.contents count handler.old errors.old errors.new result
-        handler.new }
+    ensures { ServesAll K.view E.contents count handler.old errors.old errors.new connections.new
+        result handler.new }
 {
     let ended = office_serve::<N, K>(alloc, clock, listener, count, handler);
-    report_served(errors, &ended)
+    report_served(errors, connections, ended)
 }
 
 /// Prints the address, serves the connections, and returns the exit status. If the address can't be
@@ -66,11 +75,12 @@ pub fn serve_store<N: Net + Clock, K: Keeper, W: Write, E: Write>(
     handler: &mut OfficeHandler<K>,
     output: &mut Pipe<W>,
     errors: &mut Pipe<E>,
+    connections: &mut ConnectionCount,
 ) -> u8
     requires output { IsFresh output.old }
     requires errors { IsFresh errors.old }
     ensures { ServesStore K.view E.contents W.contents listening.now.port listening.now.count
-        handler.old output.old output.new errors.old errors.new result handler.new }
+        handler.old output.old output.new errors.old errors.new connections.new result handler.new }
 {
     if print(output, listening_line(listening.port).as_bytes()) {
         serve_all::<N, K, E>(
@@ -80,6 +90,7 @@ pub fn serve_store<N: Net + Clock, K: Keeper, W: Write, E: Write>(
             listening.count,
             handler,
             errors,
+            connections,
         )
     } else {
         report_fault(errors, PipeFault::Write)

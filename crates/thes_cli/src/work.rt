@@ -18,6 +18,7 @@ use std::rt::Clock;
 use thes_base::data::Limits;
 use thes_base::pipe::Pipe;
 use thes_command_line::arguments::DisplayOptions;
+use thes_http::connection_count::ConnectionCount;
 use thes_jobs::trouble::report_unopened_store;
 use thes_jobs::work::{OutputWork, Work};
 use thes_office::Office;
@@ -32,15 +33,24 @@ fn do_output_work<N: Net + Clock, K: Keeper, F: Read + Drop, W: Write, E: Write>
     handler: &mut OfficeHandler<K>,
     output: &mut Pipe<W>,
     errors: &mut Pipe<E>,
+    connections: &mut ConnectionCount,
 ) -> u8
     requires output { IsFresh output.old }
     requires errors { IsFresh errors.old }
-    ensures { DoesOutputWork K.view F.remaining W.contents E.contents work handler.old output.old
-        output.new errors.old errors.new result handler.new }
+    ensures { DoesOutputWork K.view F.remaining W.contents E.contents connections.new work
+        handler.old output.old output.new errors.old errors.new result handler.new }
 {
     match work {
         OutputWork::Serve(listening) => {
-            serve_store::<N, K, W, E>(alloc, clock, &listening, handler, output, errors)
+            serve_store::<N, K, W, E>(
+                alloc,
+                clock,
+                &listening,
+                handler,
+                output,
+                errors,
+                connections,
+            )
         }
         OutputWork::Check => check_store(alloc, &mut handler.office, output, errors),
         OutputWork::Export => export_store(alloc, &mut handler.office, output, errors),
@@ -93,6 +103,7 @@ pub fn work_over_keeper<N: Net + Clock, K: Keeper, F: Read + Drop, R: Read, W: W
             &mut handler,
             &mut streams.output,
             &mut streams.errors,
+            &mut streams.connections,
         ),
     };
     (status, handler.into_office().into_keeper())

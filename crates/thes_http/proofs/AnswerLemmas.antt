@@ -1,10 +1,9 @@
 -- Proves that the same bytes make the same call of a service.
-use Rattle.std.proofs.Common.{◌≡◌, ◌∙◌, sym, ap, subst, refl, ◌⊎◌, inl, inr, ℕ, ◌≤◌, ◌<◌, List, [], ◌++◌, length, take}
+use Rattle.std.proofs.Common.{◌≡◌, ◌∙◌, sym, ap, subst, refl, ◌⊎◌, inl, inr, ℕ, ◌<◌, List, [], ◌++◌, length, take}
 use Rattle.std.proofs.Common.{arith}
 use Rattle.std.proofs.Common.{append-nil}
 use Rattle.std.proofs.lemmas.List.{take-append-le}
 use Rattle.std.proofs.Common.{Option, Some, None, Result, Ok, Err}
-use Rattle.thes_base.specs.Forms.{IsNumber, IsNumeral}
 use Rattle.thes_base.specs.declared.fault.Fault.{Fault}
 use Rattle.thes_base.specs.declared.fault.Fault.TheVariants.{OutOfMemory}
 use Rattle.thes_base.specs.declared.fault.FormFault.TheVariants.{BadShape, BadNumber, BadTag}
@@ -34,7 +33,6 @@ use Rattle.thes_http.specs.Responses.{query_response, import_response, export_re
 use Rattle.thes_http.specs.ServiceBehaviour.{ServiceBehaviour}
 use Rattle.thes_http.specs.Serving.{RespondsUnchanged, CommandEffect, QueryEffect, WithNumber}
 use Rattle.thes_http.specs.Serving.{DisplayEffect, DisplayQueryEffect, EndpointEffect, AnswersHead, Answers}
-use Rattle.thes_http.specs.Serving.{IsCutRequest}
 use Rattle.thes_http.specs.Laws.{AnswerOneCall, command_answers, query_answers, import_answers, export_answers}
 use Rattle.thes_http.specs.Laws.{display_answers, no_call, RunsOut, HasOneAnswerToACall, IsFaultResponse, HasOneCall}
 use Rattle.thes_http.specs.Laws.{HasOneAnswer, CutHasNoAnswer}

@@ -1,16 +1,11 @@
 -- Proves that consecutive connections lead from the first state to the last.
-use Rattle.std.proofs.Common.{◌≡◌, Option, ap, subst, refl, sym, ℕ, ◌+◌, ◌≤◌, List, [], ◌∷◌, ◌++◌, length-append, arith}
+use Rattle.std.proofs.Common.{◌≡◌, Option, subst, refl, sym, ℕ, ◌+◌, ◌≤◌, List, [], ◌∷◌, ◌++◌, length-append, arith}
+use Rattle.thes_requests.specs.Script.{Session}
+use Rattle.thes_http.specs.Connection.{EndsAs}
 use Rattle.thes_http.specs.declared.response.Response.{Response}
-use Rattle.std.specs.Io.KnownBytes.{Appends}
-use Rattle.thes_base.specs.Pipe.{AppendsPrefix}
-use Rattle.thes_base.specs.declared.pipe.Pipe.{Pipe}
-use Rattle.thes_requests.specs.Script.{Session, session}
-use Rattle.thes_http.specs.Connection.{IsConnectionAnswer, IsCutOff, IsUntouched, EndsAs}
 use Rattle.thes_http.specs.declared.serve.ConnectionEnd.{ConnectionEnd}
 use Rattle.thes_http.specs.declared.serve.ConnectionEnd.TheVariants.{Answered, Cut, ReadFault, WriteFault}
-use Rattle.thes_http.specs.declared.server.ServedStream.{ServedStream}
-use Rattle.thes_http.specs.Server.{Exchange, AreAnswered, HasOutcome, LeadsBy, LeavesOutput}
-use Rattle.thes_http.specs.Responses.{response_text}
+use Rattle.thes_http.specs.Server.{Exchange, AreAnswered, LeadsBy}
 use Rattle.thes_http.specs.ServiceBehaviour.{ServiceBehaviour}
 use Rattle.thes_http.specs.Serving.{Answers}
 
@@ -51,53 +46,14 @@ module _ {S : Type 0} (d : ServiceBehaviour S) where
   }
 
   -- Whatever its outcome, a connection leads on by one exchange at most.
-  module _ {T : Type 0} (remaining contents : T → Option (List ℕ)) (input output : T) (served : ServedStream T)
-      (old new : S) where
-    pub leads_by_end : (end : ConnectionEnd) → HasOutcome remaining contents d input output old served new end
-        → LeadsBy d 1 old new
-    leads_by_end (Answered status) is = leads_once old new is.1.bytes is.0 is.1.answers
-    leads_by_end WriteFault is = leads_once old new is.1.bytes is.0 is.1.answers
-    leads_by_end Cut is = leads_nowhere 1 old new is.1.0
-    leads_by_end ReadFault is = leads_nowhere 1 old new is.0
-
-    -- The outcome over pipes is that over the streams that these wrap.
-    module _ {D : Type 0} (stream : D → T) (reader reader' writer writer' : Pipe D) (from : stream reader.device ≡ input)
-        (to : stream writer.device ≡ output) (from' : served.input ≡ stream reader'.device)
-        (to' : served.output ≡ stream writer'.device) where
-      abbrev taken : D → Option (List ℕ)
-      taken device = remaining (stream device)
-
-      abbrev given : D → Option (List ℕ)
-      given device = contents (stream device)
-
-      ends_read : (Is : T → T → Type 0) → Is (stream reader.device) (stream reader'.device) → Is input served.input
-      ends_read Is is = subst (λ (ends : T × T). Is ends.0 ends.1) (λ i. (from i, sym from' i)) is
-
-      ends_written : (Is : T → T → Type 0) → Is (stream writer.device) (stream writer'.device)
-          → Is output served.output
-      ends_written Is is = subst (λ (ends : T × T). Is ends.0 ends.1) (λ i. (to i, sym to' i)) is
-
-      abbrev before : Session D D S
-      before = session reader writer old
-
-      abbrev after : Session D D S
-      after = session reader' writer' new
-
-      untouched : IsUntouched before after → LeavesOutput remaining contents d input output old served new
-      untouched same = (same.0, ends_written (λ x y. contents y ≡ contents x) (ap (λ (p : Pipe D). given p.device) same.1))
-
-      pub outcome_of : (end : ConnectionEnd) → EndsAs taken given d before after end
-          → HasOutcome remaining contents d input output old served new end
-      outcome_of (Answered status) a = (
-        a.response,
-        ends_read (λ x y. IsConnectionAnswer d (remaining x) (remaining y) old a.response new) a.answer,
-        a.is_status,
-        ends_written (λ x y. Appends (contents x) (contents y) (response_text a.response)) a.text,
-      )
-      outcome_of WriteFault (_, a) = (
-        a.response,
-        ends_read (λ x y. IsConnectionAnswer d (remaining x) (remaining y) old a.response new) a.answer,
-        ends_written (λ x y. AppendsPrefix (contents x) (contents y) (response_text a.response)) a.text,
-      )
-      outcome_of Cut (cut, _, same) = (ends_read (λ x y. IsCutOff (remaining x) (remaining y)) cut, untouched same)
-      outcome_of ReadFault (_, same) = untouched same
+  pub leads_by_end : {R W : Type 0} (remaining : R → Option (List ℕ)) (contents : W → Option (List ℕ))
+      (before after : Session R W S) (end : ConnectionEnd) → EndsAs remaining contents d before after end
+      → LeadsBy d 1 before.handler after.handler
+  leads_by_end remaining contents before after (Answered status) is =
+      leads_once before.handler after.handler is.answer.bytes is.response is.answer.answers
+  leads_by_end remaining contents before after WriteFault (_, is) =
+      leads_once before.handler after.handler is.answer.bytes is.response is.answer.answers
+  leads_by_end remaining contents before after Cut (_, _, same) =
+      leads_nowhere 1 before.handler after.handler same.0
+  leads_by_end remaining contents before after ReadFault (_, same) =
+      leads_nowhere 1 before.handler after.handler same.0

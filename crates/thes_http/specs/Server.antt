@@ -1,17 +1,17 @@
 -- The connections of a server, one after another.
 use Rattle.std.specs.Prelude.{ℕ, ◌≡◌, ◌≤◌, List, [], ◌∷◌, length, Bool, true, false, Option, None, Some, Result, Ok, Err}
-use Rattle.std.specs.Io.KnownBytes.{Appends}
 use Rattle.std.specs.IoError.{error_kind}
 use Rattle.std.specs.declared.io.Error.{Error}
 use Rattle.std.specs.declared.io.ErrorKind.{ErrorKind}
 use Rattle.std.specs.declared.io.ErrorKind.TheVariants.{ConnectionAborted, Interrupted, TimedOut, WouldBlock}
-use Rattle.thes_base.specs.Pipe.{AppendsPrefix}
-use Rattle.thes_http.specs.Connection.{IsConnectionAnswer, IsCutOff}
+use Rattle.thes_base.specs.Pipe.{IsFresh, device_of}
+use Rattle.thes_base.specs.declared.pipe.Pipe.{Pipe}
+use Rattle.thes_requests.specs.Script.{session}
+use Rattle.thes_http.specs.Connection.{EndsAs}
+use Rattle.thes_http.specs.declared.deadline.TimedStream.{TimedStream}
 use Rattle.thes_http.specs.declared.response.Response.{Response}
-use Rattle.thes_http.specs.declared.serve.ConnectionEnd.{ConnectionEnd}
-use Rattle.thes_http.specs.declared.serve.ConnectionEnd.TheVariants.{Answered, Cut, ReadFault, WriteFault}
-use Rattle.thes_http.specs.declared.server.ServedStream.{ServedStream}
-use Rattle.thes_http.specs.Responses.{response_text}
+use Rattle.thes_http.specs.declared.stream.Ends.{Ends}
+use Rattle.thes_http.specs.declared.stream.ServedStream.{ServedStream}
 use Rattle.thes_http.specs.ServiceBehaviour.{ServiceBehaviour}
 use Rattle.thes_http.specs.Serving.{Answers}
 
@@ -29,29 +29,22 @@ IsAcceptOutcome (Err e) result =
     (error_kind e ≡ ConnectionAborted → result ≡ Ok None)
     × (¬ (error_kind e ≡ ConnectionAborted) → result ≡ Err e)
 
-module _ {T S : Type 0} (remaining contents : T → Option (List ℕ)) (d : ServiceBehaviour S) (input output : T) (old : S)
-    (served : ServedStream T) (new : S) where
-  -- The service answers the bytes read from the one end with this response.
-  abbrev pub AnswersInput : Response → Type 0
-  AnswersInput response = IsConnectionAnswer d (remaining input) (remaining served.input) old response new
+-- The two ends of a connection, given its stream and the clone of it; None if it can't be cloned.
+abbrev pub cloned_ends : {T : Type 0} → T → Result T Error → Option (Ends T)
+cloned_ends stream (Ok input) = Some (record { input = input; output = stream })
+cloned_ends stream (Err e) = None
 
-  -- Nothing was performed, and nothing was written to the other end.
-  abbrev pub LeavesOutput : Type 0
-  LeavesOutput = (new ≡ old) × (contents served.output ≡ contents output)
-
-  -- The outcome of a connection: the request was read from the one end, and the response written to the other.
-  abbrev pub HasOutcome : ConnectionEnd → Type 0
-  HasOutcome (Answered status) =
-      (response : Response) × AnswersInput response × (status ≡ response.status)
-      × Appends (contents output) (contents served.output) (response_text response)
-  HasOutcome WriteFault =
-      (response : Response) × AnswersInput response
-      × AppendsPrefix (contents output) (contents served.output) (response_text response)
-  HasOutcome Cut = IsCutOff (remaining input) (remaining served.input) × LeavesOutput
-  HasOutcome ReadFault = LeavesOutput
-
-  abbrev pub IsServedBy : Type 0
-  IsServedBy = HasOutcome served.end
+-- The request was read from the one end of a connection, and the response written to the other, through a reader and
+-- a writer that had not failed before; their failures are the reasons for the outcome.
+pub record IsServedBy {C T S : Type 0} (remaining contents : T → Option (List ℕ)) (d : ServiceBehaviour S)
+    (ends : Ends T) (old : S) (served : ServedStream C T) (new : S) : Type 0 where
+  pub reader : Pipe (TimedStream C T)
+  pub writer : Pipe (TimedStream C T)
+  pub fresh : IsFresh reader × IsFresh writer
+  pub input : (device_of reader).stream ≡ ends.input
+  pub output : (device_of writer).stream ≡ ends.output
+  pub ends_as : EndsAs (λ (s : TimedStream C T). remaining s.stream) (λ (s : TimedStream C T). contents s.stream) d
+      (session reader writer old) (session served.reader served.writer new) served.end
 
 -- An exchange of one connection: the bytes consumed, and the response to them.
 pub record Exchange : Type 0 where

@@ -2,8 +2,8 @@
 //! writes the response.
 #![tactic(auto)]
 
-pub mod accepting;
 mod act;
+pub mod connection_count;
 mod deadline;
 mod head_text;
 pub mod laws;
@@ -11,5 +11,6 @@ mod response;
 pub mod serve;
 pub mod server;
 pub mod service;
+mod stream;
 
 pub use response::Status;

@@ -76,9 +76,12 @@ fn answer<R: Read, S: Service>(
     }
 }
 
-// Reads one request by these routes, performs it, and writes the response. `None` in place of the
-// routes means that memory for them ran out.
-pub(crate) fn serve_routed<R: Read, W: Write, S: Service>(
+/// Reads one request, performs it, and writes the response. The routes are made once, for all
+/// connections; `None` in their place means that memory for them ran out, which is the response.
+///
+/// `ReadFault` and `WriteFault` are returned only if the device failed, or was denied a read or a
+/// write.
+pub fn serve_one<R: Read, W: Write, S: Service>(
     alloc: Global,
     routes: Option<&Routes>,
     reader: &mut Pipe<R>,
@@ -103,26 +106,4 @@ pub(crate) fn serve_routed<R: Read, W: Write, S: Service>(
         Ok(()) => ConnectionEnd::Answered(response.status),
         Err(_) => ConnectionEnd::WriteFault,
     }
-}
-
-/// Reads one request, performs it, and writes the response.
-///
-/// `ReadFault` and `WriteFault` are returned only if the device failed, or was denied a read or a
-/// write.
-pub fn serve_one<R: Read, W: Write, S: Service>(
-    alloc: Global,
-    reader: &mut Pipe<R>,
-    writer: &mut Pipe<W>,
-    service: &mut S,
-) -> ConnectionEnd
-    requires reader { IsFresh reader.old }
-    requires writer { IsFresh writer.old }
-    requires open { S.is_open service.old ≡ true }
-    ensures outcome { EndsAs R.remaining W.contents S.behaviour
-        (session reader.old writer.old service.old) (session reader.new writer.new service.new)
-        result }
-    ensures calls { KeepsSharedCallLimit reader.old reader.new writer.old writer.new }
-{
-    let routes = Routes::new(alloc).ok();
-    serve_routed(alloc, routes.as_ref(), reader, writer, service)
 }

@@ -21,7 +21,7 @@ use thes_base::pipe::Pipe;
 use thes_base::request::{Answer, Command};
 use thes_base::text::Tag;
 use thes_export::gather::export_text;
-use thes_http::accepting::Accepting;
+use thes_http::connection_count::ConnectionCount;
 use thes_http::server::serve;
 use thes_http::service::{Display, DisplayAnswer, ImportAnswer, Page, Service};
 use thes_import::postings;
@@ -174,7 +174,7 @@ pub fn office_script<K: Keeper, R: Read, W: Write>(
     script(alloc, reader, writer, handler)
 }
 
-/// Serves `count` connections of a listener, one after another.
+/// Serves `count` connections of a listener, one after another, and returns their number.
 ///
 /// If the storage is up at the end of the call, a run of the machine leads from the state that the
 /// tables encoded to their new one, whatever the clients send. The new state is consistent: each
@@ -187,12 +187,12 @@ pub fn office_serve<N: Net + Clock, K: Keeper>(
     listener: &N::Listener,
     count: u32,
     handler: &mut OfficeHandler<K>,
-) -> io::Result<()>
+) -> io::Result<ConnectionCount>
+    ensures all { IfOk result (λ connections. connections ≡ count) }
     ensures served { LeadsBy (office_behaviour K.view) count handler.old handler.new }
     ensures reached { IsReachedByRun K.view handler.old handler.new }
 {
     // No effect; states for the proof that the tables encode a state.
     let _ = handler.office.is_stale();
-    let mut connections = Accepting::new(listener);
-    serve::<N, OfficeHandler<K>>(alloc, clock, &mut connections, count, handler)
+    serve::<N, OfficeHandler<K>>(alloc, clock, listener, count, handler)
 }

@@ -57,3 +57,4 @@ pub use thes_service::{OfficeHandler, office_script as script};
 pub use thes_display::writing::{DisplayOutcome as Shown, alphabetical, hierarchical};
 pub use thes_http::Status;
 pub use thes_http::serve::{ConnectionEnd as Served, serve_one};
+pub use thes_http_request::endpoint::Routes;

@@ -6,5 +6,6 @@ pub returns : goal.returns
 returns g c = record {
   served = c.office_serve-ended.ensures.served;
   reached = c.office_serve-ended.ensures.reached;
-  ends = done_or_not c.office_serve-ended.result _ _ c.report_served.ensures.ok c.report_served.ensures.err;
+  ends = done_or_not c.office_serve-ended.result c.args.count _ _ c.office_serve-ended.ensures.all
+      c.report_served.ensures.ok c.report_served.ensures.err;
 }

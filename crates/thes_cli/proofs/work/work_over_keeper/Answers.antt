@@ -32,7 +32,7 @@ returns g c =
       | in-Output w ↦ rw (w.in-Output.is, w.status-is, w.handler-is, w.streams-is) (
         refl,
         subst (λ (k : OfficeView _). DoesOutputWork g.K.Keeper.view g.F.Read.remaining g.W.Write.contents
-            g.E.Write.contents w.in-Output.work k old.output w.do_output_work-status.new.output old.errors
+            g.E.Write.contents w.do_output_work-status.new.connections w.in-Output.work k old.output w.do_output_work-status.new.output old.errors
             w.do_output_work-status.new.errors w.do_output_work-status.result w.do_output_work-status.new.handler) one
             w.do_output_work-status.ensures,
       )
