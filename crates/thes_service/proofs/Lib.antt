@@ -1,3 +1,6 @@
 pub mod StateViewLemmas
 pub mod ScriptRunLemmas
 pub mod ConnectionRunLemmas
+pub mod MachineServiceLemmas
+pub mod SimulationLemmas
+pub mod OfficeAnswerLemmas
