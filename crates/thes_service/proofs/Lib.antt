@@ -4,3 +4,5 @@ pub mod ConnectionRunLemmas
 pub mod MachineServiceLemmas
 pub mod SimulationLemmas
 pub mod OfficeAnswerLemmas
+pub mod ExchangeLemmas
+pub mod ScriptAnswerLemmas

@@ -107,7 +107,7 @@ same_import_answer ends.Malformed (ends.Rows other) same = absurd same
 same_import_answer ends.Malformed ends.Malformed same = refl
 
 module _ (setting : Setting) (fit : IsSetting setting) (s : State) (legal : IsLegalState setting.base s) where
-  one_step : (command : Command) (a b : Answer) (t u : State) → Step setting s command a t → Step setting s command b u
+  pub one_step : (command : Command) (a b : Answer) (t u : State) → Step setting s command a t → Step setting s command b u
       → (a ≡ b) × (t ≡ u)
   one_step command a b t u x y =
       let one = one_outcome setting fit s legal (command ∷ []) (a ∷ []) (b ∷ []) t u (t, x, refl) (u, y, refl) in

@@ -97,7 +97,7 @@ module _ {K : Type 0} (view : K → StorageView) where
     displays display scheme tag (Err fault) does = let behaviour = does.fault_behaviour in behaviour.fault up
 
     -- An office does what the machine does between the states that its tables encode.
-    does_as_machine : DoesAsMuch (office_behaviour view) Machine old new s t
+    pub does_as_machine : DoesAsMuch (office_behaviour view) Machine old new s t
     does_as_machine = record {
       performs = performs;
       shows = shows;
