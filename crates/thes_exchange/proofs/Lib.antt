@@ -1,3 +1,4 @@
 pub mod ViewLemmas
 pub mod PostingListLemmas
 pub mod ConceptLemmas
+pub mod OneViewLemmas

@@ -4,3 +4,4 @@ pub mod ConceptMembers
 pub mod PostingMembers
 pub mod ViewOf
 pub mod Viewing
+pub mod Laws

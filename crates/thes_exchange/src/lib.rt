@@ -2,6 +2,7 @@
 #![tactic(auto)]
 
 pub mod concept;
+pub mod laws;
 pub mod posting_list;
 pub mod view;
 pub mod viewing;

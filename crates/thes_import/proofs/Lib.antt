@@ -2,3 +2,4 @@ mod BlockLemmas
 mod ImportLemmas
 mod RepeatedImportLemmas
 mod WritingLemmas
+pub mod OneImportLemmas

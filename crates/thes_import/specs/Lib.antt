@@ -1,3 +1,4 @@
 pub mod Imports
 pub mod RepeatedImport
 pub mod ImportEngine
+pub mod OneImport

@@ -1,7 +1,15 @@
 //! Laws of an import, whatever code performs it.
+ghost use Rattle.thes_import.specs.OneImport.{HasOneImport};
 ghost use Rattle.thes_import.specs.RepeatedImport.{ImportsAgain};
 
 pub use thes_posting_files::laws::answers_again;
+use thes_store::keeper::Keeper;
+
+/// No effect; states for the proof that a file and the state before determine the report of an
+/// import, and the state after it, over any two storages and unless a fault halts it.
+pub fn one_import<K: Keeper, L: Keeper>()
+    ensures { HasOneImport K.view L.view }
+{}
 
 /// No effect; states for the proof that importing a file again, with no other request between,
 /// changes no table: accepted rows are answered with the same postings' numbers, refused rows

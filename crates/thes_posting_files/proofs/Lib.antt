@@ -6,3 +6,4 @@ mod WholeInputLemmas
 mod LaterPostingLemmas
 pub mod RepeatedPostLemmas
 pub mod AnsweredRowLemmas
+pub mod OneFileLemmas

@@ -4,3 +4,4 @@ pub mod RowReading
 pub mod Outcomes
 pub mod WholeInput
 pub mod RepeatedPost
+pub mod OneFile

@@ -88,20 +88,22 @@ module _ {K : Type 0} (view : K → StorageView) where
       led_same old mid new _ reached p.2.fault_behaviour p.2.same
   line_reached line (View text) old mid new p reached = led_same old mid new _ reached p.2.fault_behaviour p.2.same
 
-  step_reached : (line : List ℕ) (f : LineOutcome) (old mid new : OfficeView K)
+  -- A line extends the run, or leaves it unchanged.
+  pub step_reached : (line : List ℕ) (f : LineOutcome) (old mid new : OfficeView K)
       → StepLine (OfficeServes view) mid line f new → IsReachedByRun view old mid
       → IsReachedByRun view old new
   step_reached line Skipped old mid new p reached = led_kept old mid new reached p.1
   step_reached line Unheld old mid new p reached = led_kept old mid new reached p
   step_reached line (Answered o) old mid new p reached = line_reached line o old mid new p.1 reached
 
-  reached : (lines : List (List ℕ)) (line_outcomes : List LineOutcome) (old mid new : OfficeView K)
+  -- Lines extend the run.
+  pub lines_reached : (lines : List (List ℕ)) (line_outcomes : List LineOutcome) (old mid new : OfficeView K)
       → RunLines (OfficeServes view) mid lines line_outcomes new → IsReachedByRun view old
       mid → IsReachedByRun view old new
-  reached [] [] old mid new r so_far = led_kept old mid new so_far r
-  reached [] (f ∷ line_outcomes) old mid new r so_far = absurd r
-  reached (line ∷ more) [] old mid new r so_far = absurd r
-  reached (line ∷ more) (f ∷ line_outcomes) old mid new r so_far = reached more line_outcomes old r.0 new r.2
+  lines_reached [] [] old mid new r so_far = led_kept old mid new so_far r
+  lines_reached [] (f ∷ line_outcomes) old mid new r so_far = absurd r
+  lines_reached (line ∷ more) [] old mid new r so_far = absurd r
+  lines_reached (line ∷ more) (f ∷ line_outcomes) old mid new r so_far = lines_reached more line_outcomes old r.0 new r.2
       (step_reached line f old mid r.0 r.1 so_far)
 
   -- A script is a run of the machine, whether or not a fault stopped it.
@@ -114,6 +116,6 @@ module _ {K : Type 0} (view : K → StorageView) where
       → IfErr result (Stops remaining contents (OfficeServes view) is_always_open old new)
       → IsReachedByRun view old.handler new.handler
   script_leads remaining contents (Ok ended) old new shows f g = let l = f.lines in
-      reached _ f.line_outcomes old.handler old.handler new.handler l.run (led_start old.handler shows)
+      lines_reached _ f.line_outcomes old.handler old.handler new.handler l.run (led_start old.handler shows)
   script_leads remaining contents (Err fault) old new shows f g = let l = g.lines in
-      reached _ g.line_outcomes old.handler old.handler new.handler l.run (led_start old.handler shows)
+      lines_reached _ g.line_outcomes old.handler old.handler new.handler l.run (led_start old.handler shows)

@@ -1,3 +1,4 @@
 pub mod OfficeRequests
 pub mod PostingLists
 pub mod Service
+pub mod Laws

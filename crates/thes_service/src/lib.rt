@@ -3,6 +3,7 @@
 
 mod displaying;
 mod engine;
+pub mod laws;
 mod posting_lister;
 mod viewing;
 

@@ -1,0 +1,8 @@
+//! The law of views, whatever code makes them.
+ghost use Rattle.thes_exchange.specs.Laws.{HasOneView};
+
+/// No effect; states for the proof that a state has at most one answer to a query: one line, byte
+/// for byte, or one refusal.
+pub fn one_view()
+    ensures { HasOneView }
+{}

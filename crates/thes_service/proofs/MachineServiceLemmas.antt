@@ -1,0 +1,185 @@
+-- The machine as a service: each call has one answer and one state after it, unless memory or the storage fails.
+use Rattle.std.proofs.Common.{◌≡◌, ◌∙◌, ◌⊎◌, ◌++◌, ◌∷◌, [], ℕ, List, Result, Ok, Err, inl, inr, refl, sym, ap}
+use Rattle.thes_base.specs.declared.data.Resource.{Resource}
+use Rattle.thes_base.specs.declared.fault.Fault.{Fault}
+use Rattle.thes_base.specs.declared.fault.Fault.TheVariants.{OutOfMemory, Store}
+use Rattle.thes_base.specs.declared.fault.Refusal.{Refusal}
+use Rattle.thes_base.specs.declared.fault.Refusal.TheVariants as no
+use Rattle.thes_base.specs.declared.request.Answer.{Answer}
+use Rattle.thes_base.specs.declared.request.Command.{Command}
+use Rattle.thes_base.specs.Legal.{IsLegalState}
+use Rattle.thes_base.specs.Machine.{Step}
+use Rattle.thes_base.specs.Refusals.{Setting, IsSetting}
+use Rattle.thes_base.specs.Resources.{IsScheme}
+use Rattle.thes_base.specs.State.{State}
+use Rattle.thes_base.proofs.OutcomeLemmas.{one_outcome}
+use Rattle.thes_exchange.specs.Viewing.{IsQueryAnswer}
+use Rattle.thes_exchange.proofs.OneViewLemmas.{one_view}
+use Rattle.thes_display.specs.DisplayWrites.{IsSchemeRefusal}
+use Rattle.thes_display.proofs.OneTextLemmas.{one_alphabetical, one_hierarchical}
+use Rattle.thes_export.specs.Export.{IsExport}
+use Rattle.thes_export.proofs.ExportLemmas.{one_text}
+use Rattle.thes_import.specs.OneImport.{ReportSame}
+use Rattle.thes_import.specs.declared.postings.FileImport as performed
+use Rattle.thes_import.specs.declared.postings.FileImport.TheVariants as ends
+use Rattle.thes_import.proofs.OneImportLemmas.{IsImportOf, one_import_of}
+use Rattle.thes_http.specs.declared.response.Response.{Response}
+use Rattle.thes_http.specs.declared.service.Display.{Display}
+use Rattle.thes_http.specs.declared.service.Display.TheVariants as which
+use Rattle.thes_http.specs.declared.service.DisplayAnswer.{DisplayAnswer}
+use Rattle.thes_http.specs.declared.service.DisplayAnswer.TheVariants as displayed
+use Rattle.thes_http.specs.declared.service.ImportAnswer.{ImportAnswer}
+use Rattle.thes_http.specs.declared.service.ImportAnswer.TheVariants as imported
+use Rattle.thes_http.specs.Laws.{AnswerOneCall, command_answers, query_answers, import_answers, export_answers}
+use Rattle.thes_http.specs.Laws.{display_answers, no_call, HasOneAnswerToACall}
+use Rattle.thes_http.specs.Responses.{fault_response, command_response, query_response, import_response}
+use Rattle.thes_http.specs.Responses.{export_response, display_response}
+use Rattle.thes_http.specs.ServiceBehaviour.{ServiceBehaviour}
+use Rattle.thes_http.specs.Serving.{Answers}
+use Rattle.thes_http.proofs.AnswerLemmas.{one_call}
+use Rattle.thes_service.specs.Laws.{ReportsFailure}
+use Rattle.thes_service.specs.Service.{IsDisplay, IsDisplayed, import_answer}
+
+-- Memory ran out, or the storage failed.
+abbrev pub IsFailure : Fault → Type 0
+IsFailure fault = (fault ≡ OutOfMemory) ⊎ (fault ≡ Store)
+
+-- The value has the property, or the fault is a failure.
+abbrev pub HoldsUnlessFailure : {A : Type 0} → (A → Type 0) → Result A Fault → Type 0
+HoldsUnlessFailure P (Ok x) = P x
+HoldsUnlessFailure P (Err fault) = IsFailure fault
+
+module _ (setting : Setting) where
+  -- The answer reports an import of the file from the one state to the other.
+  abbrev pub ImportAnswers : State → List ℕ → ImportAnswer → State → Type 0
+  ImportAnswers s file answer t =
+      (done : performed.FileImport) × IsImportOf setting s file done t × (Ok answer ≡ import_answer (Ok done))
+
+  -- The machine as a service; where it fails, nothing is said of the state after.
+  abbrev pub machine_service : ServiceBehaviour State
+  machine_service = record {
+    requests = record {
+      performs = λ s command result t. HoldsUnlessFailure (λ answer. Step setting s command answer t) result;
+      shows = λ s query result t. HoldsUnlessFailure (λ answer. IsQueryAnswer s query (Ok answer) × (t ≡ s)) result;
+    };
+    imports = λ s file result t. HoldsUnlessFailure (λ answer. ImportAnswers s file answer t) result;
+    exports = λ s result t. HoldsUnlessFailure (λ text. IsExport setting.base s text × (t ≡ s)) result;
+    displays = λ s display scheme tag result t.
+        HoldsUnlessFailure (λ answer. IsDisplayed display scheme tag s answer × (t ≡ s)) result;
+  }
+
+one_display : (display : Display) (scheme : ℕ) (tag : List ℕ) (s : State) (x y : List ℕ)
+    → IsDisplay display scheme tag s x → IsDisplay display scheme tag s y → x ≡ y
+one_display which.Alphabetical scheme tag s x y a b = one_alphabetical s scheme tag x y a b
+one_display which.Hierarchical scheme tag s x y a b = one_hierarchical s scheme tag x y a b
+
+scheme_is_not_refused : (resources : List Resource) (n : ℕ) (r : Refusal) → IsScheme resources n
+    → IsSchemeRefusal resources n r → ⊥
+scheme_is_not_refused resources n no.UnknownResource scheme refused = refused (scheme.0, scheme.1)
+scheme_is_not_refused resources n no.WrongKind scheme refused = refused.1 scheme
+scheme_is_not_refused resources n _ scheme refused = refused
+
+one_scheme_refusal : (resources : List Resource) (n : ℕ) (r q : Refusal) → IsSchemeRefusal resources n r
+    → IsSchemeRefusal resources n q → r ≡ q
+one_scheme_refusal resources n no.UnknownResource no.UnknownResource a b = refl
+one_scheme_refusal resources n no.UnknownResource no.WrongKind a b = absurd (a b.0)
+one_scheme_refusal resources n no.UnknownResource _ a b = absurd b
+one_scheme_refusal resources n no.WrongKind no.UnknownResource a b = absurd (b a.0)
+one_scheme_refusal resources n no.WrongKind no.WrongKind a b = refl
+one_scheme_refusal resources n no.WrongKind _ a b = absurd b
+one_scheme_refusal resources n _ q a b = absurd a
+
+one_display_answer : (display : Display) (scheme : ℕ) (tag : List ℕ) (s : State) (a b : DisplayAnswer)
+    → IsDisplayed display scheme tag s a → IsDisplayed display scheme tag s b → a ≡ b
+one_display_answer display scheme tag s (displayed.Lines x) (displayed.Lines y) a b =
+    ap displayed.Lines (one_display display scheme tag s x y a.1 b.1)
+one_display_answer display scheme tag s (displayed.Lines x) (displayed.No r) a b =
+    absurd (scheme_is_not_refused s.resources scheme r a.0 b)
+one_display_answer display scheme tag s (displayed.No r) (displayed.Lines y) a b =
+    absurd (scheme_is_not_refused s.resources scheme r b.0 a)
+one_display_answer display scheme tag s (displayed.No r) (displayed.No q) a b =
+    ap displayed.No (one_scheme_refusal s.resources scheme r q a b)
+
+same_import_answer : (a b : performed.FileImport) → ReportSame a b → import_answer (Ok a) ≡ import_answer (Ok b)
+same_import_answer (ends.Rows report) (ends.Rows other) same = ap (λ text. Ok (imported.Outcomes text)) same.0
+same_import_answer (ends.Rows report) ends.Malformed same = absurd same
+same_import_answer ends.Malformed (ends.Rows other) same = absurd same
+same_import_answer ends.Malformed ends.Malformed same = refl
+
+module _ (setting : Setting) (fit : IsSetting setting) (s : State) (legal : IsLegalState setting.base s) where
+  pub one_step : (command : Command) (a b : Answer) (t u : State) → Step setting s command a t → Step setting s command b u
+      → (a ≡ b) × (t ≡ u)
+  one_step command a b t u x y =
+      let one = one_outcome setting fit s legal (command ∷ []) (a ∷ []) (b ∷ []) t u (t, x, refl) (u, y, refl) in
+      let both : a ∷ [] ≡ b ∷ [] = one.0 in
+      let same : a ≡ b = cc in
+      (same, one.1)
+
+  one_import : (file : List ℕ) (a b : ImportAnswer) (t u : State) → ImportAnswers setting s file a t
+      → ImportAnswers setting s file b u → (a ≡ b) × (t ≡ u)
+  one_import file a b t u x y =
+      let one = one_import_of setting fit s t u legal file x.0 y.0 x.1 y.1 in
+      let both = x.2 ∙ same_import_answer x.0 y.0 one.0 ∙ sym y.2 in
+      let same : a ≡ b = cc in
+      (same, one.1)
+
+  -- Each call of the machine as a service has one answer and one state after it.
+  pub machine_has_one_answer : HasOneAnswerToACall (machine_service setting) s
+  machine_has_one_answer = record {
+    performs = one_step;
+    shows = λ query a b t u x y. (one_view s query a b x.0 y.0, x.1 ∙ sym y.1);
+    imports = one_import;
+    exports = λ a b t u x y. (one_text setting.base s a b x.0 y.0, x.1 ∙ sym y.1);
+    displays = λ display scheme tag a b t u x y.
+        (one_display_answer display scheme tag s a b x.0 y.0, x.1 ∙ sym y.1);
+  }
+
+  abbrev pub IsOneAnswer : State → Response → State → Response → Type 0
+  IsOneAnswer t r u q = ((r ≡ q) × (t ≡ u)) ⊎ (ReportsFailure r ⊎ ReportsFailure q)
+
+  reports : (r : Response) (fault : Fault) → IsFailure fault → r ≡ fault_response fault → ReportsFailure r
+  reports r fault (inl is) e = inl (e ∙ ap fault_response is)
+  reports r fault (inr is) e = inr (e ∙ ap fault_response is)
+
+  -- Two results of one call are the same, unless one of them is a failure.
+  same_results : {A : Type 0} (response : Result A Fault → Response) (P : Result A Fault → State → Type 0)
+      (t u : State) (r q : Response) → ((f : Fault) → response (Err f) ≡ fault_response f)
+      → ((f : Fault) (v : State) → P (Err f) v → IsFailure f)
+      → ((a b : A) → P (Ok a) t → P (Ok b) u → (a ≡ b) × (t ≡ u)) → (a b : Result A Fault) → P a t → P b u
+      → r ≡ response a → q ≡ response b → IsOneAnswer t r u q
+  same_results response P t u r q fault fails one (Ok a) (Ok b) x y e f =
+      let same = one a b x y in inl (e ∙ ap (λ c. response (Ok c)) same.0 ∙ sym f, same.1)
+  same_results response P t u r q fault fails one (Err g) b x y e f =
+      inr (inl (reports r g (fails g t x) (e ∙ fault g)))
+  same_results response P t u r q fault fails one (Ok a) (Err g) x y e f =
+      inr (inr (reports q g (fails g u y) (f ∙ fault g)))
+
+  abbrev Machine : ServiceBehaviour State
+  Machine = machine_service setting
+
+  same_call : (t u : State) (r q : Response) → AnswerOneCall Machine s r t q u → IsOneAnswer t r u q
+  same_call t u r q (command_answers command a b x y e f) = same_results command_response
+      (λ c v. Machine.requests.performs s command c v) t u r q (λ g. refl) (λ g v z. z)
+      (λ c d. machine_has_one_answer.performs command c d t u) a b x y e f
+  same_call t u r q (query_answers query a b x y e f) = same_results query_response
+      (λ c v. Machine.requests.shows s query c v) t u r q (λ g. refl) (λ g v z. z)
+      (λ c d. machine_has_one_answer.shows query c d t u) a b x y e f
+  same_call t u r q (import_answers file a b x y e f) = same_results import_response
+      (λ c v. Machine.imports s file c v) t u r q (λ g. refl) (λ g v z. z)
+      (λ c d. machine_has_one_answer.imports file c d t u) a b x y e f
+  same_call t u r q (export_answers a b x y e f) = same_results export_response
+      (λ c v. Machine.exports s c v) t u r q (λ g. refl) (λ g v z. z)
+      (λ c d. machine_has_one_answer.exports c d t u) a b x y e f
+  same_call t u r q (display_answers display scheme tag a b x y e f) = same_results display_response
+      (λ c v. Machine.displays s display scheme tag c v) t u r q (λ g. refl) (λ g v z. z)
+      (λ c d. machine_has_one_answer.displays display scheme tag c d t u) a b x y e f
+  same_call t u r q (no_call e x y) = inl (e, x ∙ sym y)
+
+  -- The bytes and the state before determine the response of the machine as a service, and the state after it.
+  pub one_machine_answer : (t u : State) (r q : Response) (bytes more : List ℕ) → Answers Machine s r t bytes
+      → Answers Machine s q u (bytes ++ more) → IsOneAnswer t r u q
+  one_machine_answer t u r q bytes more a b = elim (one_call Machine s t u r q bytes more a b) [
+    | inl call ↦ same_call t u r q call
+    | inr (inl out) ↦ inr (inl (inl out.0))
+    | inr (inr out) ↦ inr (inr (inl out.0))
+  ]

@@ -1,0 +1,93 @@
+-- Proves that a service which does between two states all that another does answers as the other does.
+use Rattle.std.proofs.Common.{◌≡◌, ℕ, List, inl, inr, take, Option, Some, None, Result, Ok, Err}
+use Rattle.thes_base.specs.declared.fault.Fault.{Fault}
+use Rattle.thes_base.specs.declared.request.Answer.{Answer}
+use Rattle.thes_base.specs.declared.request.Command.{Command}
+use Rattle.thes_requests.specs.declared.handler.QueryAnswer.{QueryAnswer}
+use Rattle.thes_requests.specs.declared.request.Query.{Query}
+use Rattle.thes_requests.specs.declared.request.Query.TheVariants as asks
+use Rattle.thes_http_request.specs.declared.endpoint.Endpoint.{Endpoint}
+use Rattle.thes_http_request.specs.declared.endpoint.Endpoint.TheVariants as endpoint
+use Rattle.thes_http_request.specs.declared.problem.Problem.{Problem}
+use Rattle.thes_http_request.specs.Heads.{parts_of}
+use Rattle.thes_http_request.specs.HeadRequests.{HeadRequest, head_request_of}
+use Rattle.thes_http_request.specs.Queries.{DisplayQuery, display_query_of}
+use Rattle.thes_http.specs.declared.response.Response.{Response}
+use Rattle.thes_http.specs.declared.service.Display.{Display}
+use Rattle.thes_http.specs.declared.service.Display.TheVariants as display
+use Rattle.thes_http.specs.declared.service.DisplayAnswer.{DisplayAnswer}
+use Rattle.thes_http.specs.declared.service.ImportAnswer.{ImportAnswer}
+use Rattle.thes_http.specs.ServiceBehaviour.{ServiceBehaviour}
+use Rattle.thes_http.specs.Serving.{Answers, AnswersHead, CommandEffect, DisplayEffect, DisplayQueryEffect, EndpointEffect}
+use Rattle.thes_http.specs.Serving.{NumberQueryEffect, QueryEffect, RespondsUnchanged, WithNumber}
+
+-- What the service `d` does from `old` to `new`, the service `e` does from `s` to `t`.
+pub record DoesAsMuch {S T : Type 0} (d : ServiceBehaviour S) (e : ServiceBehaviour T) (old new : S) (s t : T) :
+    Type 0 where
+  pub performs : (command : Command) (result : Result Answer Fault) → d.requests.performs old command result new
+      → e.requests.performs s command result t
+  pub shows : (query : Query) (result : Result QueryAnswer Fault) → d.requests.shows old query result new
+      → e.requests.shows s query result t
+  pub imports : (file : List ℕ) (result : Result ImportAnswer Fault) → d.imports old file result new
+      → e.imports s file result t
+  pub exports : (result : Result (List ℕ) Fault) → d.exports old result new → e.exports s result t
+  pub displays : (which : Display) (scheme : ℕ) (tag : List ℕ) (result : Result DisplayAnswer Fault)
+      → d.displays old which scheme tag result new → e.displays s which scheme tag result t
+  pub keeps : new ≡ old → t ≡ s
+
+module _ {S T : Type 0} (d : ServiceBehaviour S) (e : ServiceBehaviour T) (old new : S) (s t : T)
+    (does : DoesAsMuch d e old new s t) (r : Response) where
+  responds : (p : Response) → RespondsUnchanged d old r new p → RespondsUnchanged e s r t p
+  responds p a = (a.0, does.keeps a.1)
+
+  performs : (body : List ℕ) → CommandEffect d old r new body → CommandEffect e s r t body
+  performs body (inl a) = inl (a.0, a.1, a.2, does.performs a.0 a.1 a.3, a.4)
+  performs body (inr (inl a)) = inr (inl (a.0, a.1, responds _ a.2))
+  performs body (inr (inr a)) = inr (inr (a.0, a.1, responds _ a.2))
+
+  shows : (query : Query) → QueryEffect d old r new query → QueryEffect e s r t query
+  shows query a = (a.0, does.shows query a.0 a.1, a.2)
+
+  with_number : (text : List ℕ) (A B : ℕ → Type 0) → ((n : ℕ) → A n → B n) → WithNumber d old r new text A
+      → WithNumber e s r t text B
+  with_number text A B next (inl a) = inl (a.0, responds _ a.1)
+  with_number text A B next (inr a) = inr (a.0, a.1, a.2, next a.0 a.3)
+
+  shows_number : (query : ℕ → Query) (text : List ℕ) → NumberQueryEffect d old r new query text
+      → NumberQueryEffect e s r t query text
+  shows_number query text a = with_number text (λ n. QueryEffect d old r new (query n))
+      (λ n. QueryEffect e s r t (query n)) (λ n. shows (query n)) a
+
+  displays : (which : Display) (scheme : ℕ) (lang : List ℕ) → DisplayEffect d old r new which scheme lang
+      → DisplayEffect e s r t which scheme lang
+  displays which scheme lang (inl a) = inl (a.0, responds _ a.1)
+  displays which scheme lang (inr a) = inr (a.0, a.1, does.displays which scheme _ a.1 a.2, a.3)
+
+  displays_asked : (which : Display) (asked : Option DisplayQuery) → DisplayQueryEffect d old r new which asked
+      → DisplayQueryEffect e s r t which asked
+  displays_asked which None a = responds _ a
+  displays_asked which (Some asked) a = with_number asked.scheme (λ n. DisplayEffect d old r new which n asked.lang)
+      (λ n. DisplayEffect e s r t which n asked.lang) (λ n. displays which n asked.lang) a
+
+  acts : (p : Endpoint) (number query body : List ℕ) → EndpointEffect d old r new p number query body
+      → EndpointEffect e s r t p number query body
+  acts endpoint.Requests number query body a = performs body a
+  acts endpoint.Import number query body a = (a.0, does.imports body a.0 a.1, a.2)
+  acts endpoint.Totals number query body a = shows asks.Totals a
+  acts endpoint.Concept number query body a = shows_number asks.Concept number a
+  acts endpoint.Postings number query body a = shows_number asks.Postings number a
+  acts endpoint.Posting number query body a = shows_number asks.Posting number a
+  acts endpoint.Export number query body a = (a.0, does.exports a.0 a.1, a.2)
+  acts endpoint.Alphabetical number query body a = displays_asked display.Alphabetical (display_query_of query) a
+  acts endpoint.Hierarchical number query body a = displays_asked display.Hierarchical (display_query_of query) a
+
+  answers_head : (asked : Result HeadRequest Problem) (rest : List ℕ) → AnswersHead d old r new asked rest
+      → AnswersHead e s r t asked rest
+  answers_head (Err problem) rest a = responds _ a
+  answers_head (Ok w) rest a = (a.0, acts w.endpoint w.number w.query (take w.body rest) a.1)
+
+  pub answers_as_much : (bytes : List ℕ) → Answers d old r new bytes → Answers e s r t bytes
+  answers_as_much bytes (inl a) = inl (a.0, responds _ a.1)
+  answers_as_much bytes (inr (inl a)) =
+      inr (inl (a.0, a.1, a.2, answers_head (head_request_of (parts_of a.0)) a.1 a.3))
+  answers_as_much bytes (inr (inr a)) = inr (inr (responds _ a))
