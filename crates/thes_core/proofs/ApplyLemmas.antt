@@ -1,12 +1,13 @@
 -- Applying an accepted request to the parts of a thesaurus gives the machine's next state, its answer, and the counts
 -- of its postings.
-use Rattle.std.proofs.Common.{◌≡◌, ◌≢◌, ◌<◌, ◌^◌, ◌+◌, ℕ, length, List, [], ◌∷◌, ◌++◌, refl, sym, ap, ◌∙◌, subst}
+use Rattle.std.proofs.lemmas.Grind.{common_steps}
+use Rattle.std.proofs.Common.{◌≡◌, ◌≢◌, ◌<◌, ◌^◌, ◌+◌, ℕ, length, List, [], refl, sym, ap, ◌∙◌, subst}
 use Rattle.std.proofs.Common.{arith, rules, zero, suc, ◌≤◌, Bool, true, false, length-append}
 use Rattle.std.specs.Prelude.{None, Some, Result, Ok, Err, OnOk, count_by}
 use Rattle.std.specs.Ordering.{nat_cmp}
 use Rattle.std.specs.FinSet as set
 use Rattle.thes_base.specs.declared.data.NewResource.{NewResource}
-use Rattle.thes_base.specs.declared.data.NewResource.TheVariants.{Scheme, Concept, Collection, Outside}
+use Rattle.thes_base.specs.declared.data.NewResource.TheVariants.{Concept, Outside}
 use Rattle.thes_base.specs.declared.data.History.{History}
 use Rattle.thes_base.specs.declared.request.Command.{Command}
 use Rattle.thes_base.specs.declared.request.Command.TheVariants as request
@@ -14,8 +15,7 @@ use Rattle.thes_base.specs.RefusalRules.{accepted}
 use Rattle.thes_base.specs.Resources.{IsConcept, scheme_of, replacements, is_outside}
 use Rattle.thes_base.specs.Postings.{is_assigned_to, assigned_count, move_count}
 use Rattle.thes_base.specs.State.{State, empty_state}
-use Rattle.thes_base.specs.Changes.{histories_after_split, new_history, scheme_resource}
-use Rattle.thes_base.specs.Changes.{collection_resource, concept_resource, state_after_split, is_listed, next_number}
+use Rattle.thes_base.specs.Changes.{histories_after_split, state_after_split, is_listed}
 use Rattle.thes_base.specs.Headline.{IsConsistentState}
 use Rattle.thes_base.specs.Legal.{IsLegalState}
 use Rattle.thes_base.specs.Texts.{CommandHasForms}
@@ -55,20 +55,7 @@ pub parts_become_state : {old new : Thesaurus} {s : State} {v : Vocabulary} {g :
     → record { resources = v.resources; iris = v.iris; labels = v.labels; links = g.links; histories = s.histories }
     ≡ s → v.base ≡ old.vocab.base → ((n : ℕ) → set.contains g.outside n ≡ is_outside v.resources n)
     → PartsOfState old s new
-parts_become_state {old} {new} {s} {v} {g} is_v is_g is_l is_s base knows = record {
-  state = (λ i. record {
-    resources = (is_v i).resources;
-    iris = (is_v i).iris;
-    labels = (is_v i).labels;
-    links =
-        (is_g i).links;
-    histories = s.histories;
-  }) ∙ is_s;
-  setting = (λ i. record { base = (is_v i).base; limits = is_l i })
-      ∙ (λ i. record { base = base i; limits = old.limits });
-  outside = λ n. ap (λ (x : GraphView). set.contains x.outside n) is_g ∙ knows n
-      ∙ ap (λ (x : Vocabulary). is_outside x.resources n) (sym is_v);
-}
+parts_become_state {old} {new} {s} {v} {g} is_v is_g is_l is_s base knows = grind (arith, common_steps)
 
 -- The next state of an accepted request is sound.
 sound_after : (t : Thesaurus) (hs : List History) (command : Command) → PartsAccept t hs command
@@ -78,12 +65,7 @@ sound_after t hs command ok = next_sound (setting_of t) ok.kept.fit (parts_state
 -- Parts of a legal state satisfy their invariant.
 pub kept_after : (old new : Thesaurus) (s : State) → IsSetting (setting_of old) → IsLegalState old.vocab.base s
     → PartsOfState old s new → AreLegal new s.histories
-kept_after old new s fit legal made = record {
-  fit = subst IsSetting (sym made.setting) fit;
-  legal = subst (λ (x : List ℕ). IsLegalState x (parts_state new s.histories))
-      (sym (ap (λ (x : Setting). x.base) made.setting)) (subst (IsLegalState old.vocab.base) (sym made.state) legal);
-  outside = made.outside;
-}
+kept_after old new s fit legal made = grind (arith, common_steps)
 
 -- The next state of a request that may be applied is legal without its postings.
 bare_legal : (t : Thesaurus) (command : Command) → CommandHasForms command → MayChange t command
@@ -98,8 +80,7 @@ bare_legal t command forms (kept, ok) =
 -- The next state, except for its postings, doesn't depend on the postings of the state.
 next_parts : (t : Thesaurus) (hs : List History) (command : Command)
     → record (without_postings (next_state command (parts_state t []))) {
-      histories =
-          (next_state command (parts_state t hs)).histories;
+      histories = (next_state command (parts_state t hs)).histories;
     } ≡ next_state command (parts_state t hs)
 next_parts t hs (request.Withdraw posting) = refl
 next_parts t hs _ = refl
@@ -107,20 +88,12 @@ next_parts t hs _ = refl
 -- If the new parts are those of the next state without postings, they are those of the next state for any histories.
 pub remade_for : (old new : Thesaurus) (hs : List History) (command : Command) → PartsAfter command old new
     → PartsOfState old (next_state command (parts_state old hs)) new
-remade_for old new hs command made = record {
-  state = ap (λ (x : State). record x { histories = (next_state command (parts_state old hs)).histories }) made.state
-      ∙ next_parts old hs command;
-  setting = made.setting;
-  outside = made.outside;
-}
+remade_for old new hs command made = grind (arith, common_steps, next_parts)
 
 -- The moves of a merge can be numbered within 32 bits.
 pub merge_fits : (t : Thesaurus) (hs : List History) (source target : ℕ)
     → PartsAccept t hs (request.Merge source target) → move_count hs + assigned_count source hs < 2 ^ 32
-merge_fits t hs source target ok =
-    let few = (sound_after t hs (request.Merge source target) ok).postings.few_moves in
-    let count = count_moved (is_assigned_to source) target (move_count hs + 1) hs in
-    omega (arith, few, count)
+merge_fits t hs source target ok = grind (arith, common_steps, count_moved, sound_after)
 
 pub merge_apart : (t : Thesaurus) (hs : List History) (source target : ℕ)
     → PartsAccept t hs (request.Merge source target) → source ≢ target
@@ -140,18 +113,12 @@ merge_there t hs source target ok =
 pub post_fits : (t : Thesaurus) (hs : List History) (key rec : List ℕ) (concept : ℕ)
     → PartsAccept t hs (request.Post key rec concept) → move_count hs
     + length (replacements t.vocab.resources concept) < 2 ^ 32
-post_fits t hs key rec concept ok =
-    let few = (sound_after t hs (request.Post key rec concept) ok).postings.few_moves in
-    let count = count_posted key rec concept (replacements t.vocab.resources concept) hs in
-    omega (arith, few, count)
+post_fits t hs key rec concept ok = grind (arith, common_steps, count_posted, sound_after)
 
 -- A new posting can be numbered within 32 bits.
 pub post_more : (t : Thesaurus) (hs : List History) (key rec : List ℕ) (concept : ℕ)
     → PartsAccept t hs (request.Post key rec concept) → length hs + 1 < 2 ^ 32
-post_more t hs key rec concept ok =
-    let few = (sound_after t hs (request.Post key rec concept) ok).postings.few in
-    let count = length-append hs (new_history key rec concept (replacements t.vocab.resources concept) hs ∷ []) in
-    omega (arith, few, count)
+post_more t hs key rec concept ok = grind (arith, common_steps, length-append, sound_after)
 
 -- What holds after a posting with any key and record holds after this one.
 pub remade_post : {A E : Type 0} (r : Result A E) (P : Command → Type 0) (command : Command) (key rec : List ℕ)
@@ -164,22 +131,13 @@ remade_post (Err fault) P command key rec concept is made = tt
 module _ (t : Thesaurus) (kept : AreLegal t []) where
   pub made_other : (new : NewResource) (v : Vocabulary) → is_foreign new ≡ false → v ≡ vocabulary_after_add new
       t.vocab → PartsAfter (creation_request new) t (record t { vocab = v })
-  made_other (Scheme tag text) v e is = parts_become_state is refl refl refl refl
-      (knows_pushed t kept.outside scheme_resource refl)
-  made_other (Concept scheme tag text) v e is = parts_become_state is refl refl refl refl
-      (knows_pushed t kept.outside (concept_resource (Some scheme)) refl)
-  made_other (Collection scheme tag text) v e is = parts_become_state is refl refl refl refl
-      (knows_pushed t kept.outside (collection_resource scheme) refl)
-  made_other (Outside iri) v e is = absurd (cc)
+  made_other new v e is = grind (arith, common_steps, knows_pushed, parts_become_state)
 
   pub made_outside : (new : NewResource) (v : Vocabulary) (g : GraphView) (n : ℕ) → is_foreign new ≡ true → v
       ≡ vocabulary_after_add new t.vocab → n ≡ length t.vocab.resources + 1 → g
       ≡ record t.graph { outside = set.insert t.graph.outside n } → PartsAfter (creation_request new) t
       (record t { vocab = v; graph = g })
-  made_outside (Outside iri) v g n e is number marked =
-      parts_become_state is (marked ∙ ap (λ (k : ℕ). record t.graph { outside = set.insert t.graph.outside k })
-      number) refl refl refl (knows_marked t kept.outside)
-  made_outside _ v g n e is number marked = absurd (cc)
+  made_outside new v g n e is number marked = grind (arith, common_steps, knows_marked, parts_become_state)
 
 -- A new resource leaves the histories unchanged.
 pub made_counts : (t : Thesaurus) (hs : List History) (new : NewResource) → {book : PostingCounts}
@@ -204,11 +162,7 @@ module _ (t : Thesaurus) (hs : List History) (source : ℕ) (tag text : List ℕ
   split_count = listed_count t.vocab.base (parts_state t hs) source postings ok.kept.legal listed_row
 
   pub split_fits : move_count hs + length postings < 2 ^ 32
-  split_fits =
-      let few = (sound_after t hs (request.Split source tag text postings) ok).postings.few_moves in
-      let count = count_moved (is_listed postings) (next_number (parts_state t hs)) (move_count hs + 1) hs in
-      let listed = split_count in
-      omega (arith, few, count, listed)
+  split_fits = grind (arith, common_steps, count_moved, sound_after, split_count)
 
   pub split_apart : (n : ℕ) → n ≡ length t.vocab.resources + 1 → source ≢ n
   split_apart n e same = let b = numbered_bound t.vocab.resources source split_source.0 split_source.1 in
@@ -248,12 +202,7 @@ module _ (t : Thesaurus) (hs : List History) (source : ℕ) (tag text : List ℕ
 
     pub split_adds_concept : (v : Vocabulary) (b : PostingCounts) → v ≡ vocabulary_after_add (Concept scheme tag text)
         t.vocab → PartsOfState t (without_postings split_state) (record t { vocab = v; book = b })
-    split_adds_concept v b is_v = parts_become_state is_v refl refl
-        (λ i. record (without_postings split_state) {
-          resources = t.vocab.resources ++ concept_resource (sym is i)
-              ∷ [];
-        })
-        refl (knows_pushed t ok.kept.outside (concept_resource (Some scheme)) refl)
+    split_adds_concept v b is_v = grind (arith, common_steps, knows_pushed, parts_become_state)
 
 -- A state of which a core is a view is consistent.
 pub held_in_order : (k : CoreView) (s : State) → IsViewOf k s → IsConsistentState k.setting.base s
@@ -292,36 +241,20 @@ module _ (t : Thesaurus) (spent : Bool) (k : CoreView) (is : parts_view t spent 
       (λ i. (sym held_setting i, sym (held_state holds) i)) p
 
   pub held_kept : AreLegal t [] → IsViewOf k s → AreLegal t s.histories
-  held_kept fit holds = record {
-    fit = fit.fit;
-    legal = from_view holds (λ q x. IsLegalState q.base x) holds.legal;
-    outside = fit.outside;
-  }
+  held_kept fit holds = grind (arith, common_steps, from_view)
 
 pub held_of : (t : Thesaurus) (spent : Bool) (s : State) → parts_state t s.histories ≡ s → AreLegal t s.histories
     → ArePostingCounts s.histories t.book → IsViewOf (parts_view t spent) s
-held_of t spent s is kept posting_counts = record {
-  state = is;
-  posting_counts = posting_counts;
-  legal = subst (IsLegalState t.vocab.base) is
-      kept.legal;
-}
+held_of t spent s is kept posting_counts = grind (arith, common_steps)
 
 -- After an accepted request the core is a view of the machine's next state.
 module _ (t : Thesaurus) (spent : Bool) (k : CoreView) (is : parts_view t spent ≡ k) (s : State) (fit : AreLegal t [])
     (holds : IsViewOf k s) (command : Command) (accepts : IsAccepted k.setting s command) where
   pub held_allows : PartsAccept t s.histories command
-  held_allows = record {
-    kept = held_kept t spent k is s fit holds;
-    accepts = from_view t spent k is s holds (λ q x. IsAccepted q x command) accepts;
-  }
+  held_allows = grind (arith, common_steps, from_view, held_kept)
 
   pub held_meant : (facts : Facts) → AreFacts command s.histories facts → AreMatching t command facts s.histories
-  held_meant facts are = record {
-    allows = held_allows;
-    posting_counts = held_sums t spent k is s holds;
-    are_facts = are;
-  }
+  held_meant facts are = grind (arith, common_steps, held_allows, held_sums)
 
   module _ (new : Thesaurus) (forms : CommandHasForms command) (made : PartsAfter command t new)
       (counts : CountsAfter command s.histories t new) where
@@ -365,8 +298,7 @@ module _ (t : Thesaurus) (base : List ℕ) (fit : IsSetting (record { base = bas
           iris = x.0.iris;
           labels = x.0.labels;
           links = x.1.links;
-          histories =
-              [];
+          histories = [];
         })) (λ i. (sym vocab i, sym graph i)) (legal_empty base fit.base_form);
   }
 
@@ -376,8 +308,7 @@ module _ (t : Thesaurus) (base : List ℕ) (fit : IsSetting (record { base = bas
       resources = (vocab i).resources;
       iris = (vocab i).iris;
       labels = (vocab i).labels;
-      links =
-          (graph i).links;
+      links = (graph i).links;
       histories = [];
     };
     posting_counts = subst (ArePostingCounts []) (sym book) sums_none;

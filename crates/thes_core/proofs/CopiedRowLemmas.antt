@@ -1,17 +1,16 @@
 -- The rows of labels that a merge adds are exactly those of the labels that it copies, each once.
-use Rattle.std.proofs.Common.{◌≡◌, inl, inr, ℕ, List, [], ◌∷◌, refl, sym, ap, ◌∙◌, subst, true, false, not}
+use Rattle.std.proofs.lemmas.Grind.{common_steps}
+use Rattle.std.proofs.Common.{◌≡◌, inl, inr, ℕ, List, [], ◌∷◌, sym, ◌∙◌, subst, true, false, not, arith}
 use Rattle.std.specs.Prelude.{filter}
-use Rattle.std.specs.declared.cmp.Ordering.TheVariants.{Less, Equal}
+use Rattle.std.specs.declared.cmp.Ordering.TheVariants.{Less}
 use Rattle.std.specs.FinSet as set
-use Rattle.std.specs.Cmp.{tied_itself}
 use Rattle.std.specs.List.{AllByRecursion}
 use Rattle.std.specs.List.Sorted.{IsStrictlySortedBy}
 use Rattle.std.proofs.lemmas.Bool.{cases_Bool, or_cases, and_parts, and_from, not-true, not_from_false}
 use Rattle.std.proofs.lemmas.List.Kept.{IsStrictlySortedBy-filter}
-use Rattle.thes_base.specs.declared.data.LabelKind.TheVariants.{Pref, Alt, Hidden}
 use Rattle.thes_base.specs.Data.{LabelData}
 use Rattle.thes_base.specs.Labels.{Label, Labels, HasLabel, S13, is_lexical_kind}
-use Rattle.thes_base.specs.Changes.{HasLexicalLabel, IsCopiedLabel, has_lexical_label, copied_label_kind, copied_labels}
+use Rattle.thes_base.specs.Changes.{HasLexicalLabel, IsCopiedLabel, has_lexical_label, copied_labels}
 use Rattle.thes_base.specs.Machine.{owned_label}
 use Rattle.thes_base.proofs.LabelSetLemmas.{labels_total, labels_exact}
 use Rattle.thes_base.proofs.CopiedLabelLemmas.{name_of, merge_copies_labels, name_taken}
@@ -25,8 +24,7 @@ use Rattle.thes_core.specs.Deltas.{copied_label_rows}
 
 not_later : (l : LabelData) (ls : List LabelData) → AllByRecursion (λ y. data_cmp l y ≡ Less) ls → IsIn l ls → ⊥
 not_later l [] below h = h
-not_later l (x ∷ ls) below (inl e) = let tie : data_cmp l x ≡ Equal = ap (data_cmp l) (sym e) ∙ tied_itself data_total
-    l in let clash : Less ≡ Equal = sym below.0 ∙ tie in cc
+not_later l (x ∷ ls) below (inl e) = grind (arith, common_steps, clash, data_total)
 not_later l (x ∷ ls) below (inr h) = not_later l ls below.1 h
 
 once_ordered : (ls : List LabelData) → IsStrictlySortedBy data_cmp ls → AreDistinct ls
@@ -55,39 +53,15 @@ module _ (labels : Labels) (source target : ℕ) (disjoint : S13 labels) (own : 
   -- A label in the filtered list is a lexical label of the source that the target lacks.
   missing_name_parts : (l : LabelData) → IsIn l missing_names → IsIn l own × (is_lexical_kind l.kind ≡ true)
       × (has_lexical_label labels target l.tag l.text ≡ false)
-  missing_name_parts l h =
-      let kept = in_filter (lacks_name labels target) l own h in
-      let parts = and_parts (is_lexical_kind l.kind) (not (has_lexical_label labels target l.tag l.text)) kept.1 in
-      (kept.0, parts.0, not-true (has_lexical_label labels target l.tag l.text) parts.1)
+  missing_name_parts l h = grind (arith, common_steps, and_parts, in_filter, not-true)
 
   given_new : (q : Label) → IsIn q (copied_label_rows labels target own) → IsCopiedLabel source target labels q
       × (set.contains labels q ≡ true → ⊥)
-  given_new q h =
-      let m = in_map copied_names q missing_names h in
-      let l = m.0 in
-      let p = missing_name_parts l m.1 in
-      let is = m.2 in (
-        subst (IsCopiedLabel source target labels) (sym is) (
-          l.kind,
-          p.1,
-          held_own l p.0,
-          λ has. clash (has_lexical_label labels target l.tag l.text)
-              (name_of labels target has.0 l.tag l.text has.1 has.2) p.2,
-          refl,
-        ),
-        λ old. clash (has_lexical_label labels target l.tag l.text) (name_of labels target (copied_label_kind l.kind)
-            l.tag l.text (name_taken l.kind p.1) (ap (set.contains labels) (sym is) ∙ old)) p.2,
-      )
+  given_new q h = grind (arith, common_steps, clash, held_own, in_map, missing_name_parts, name_of, name_taken)
 
   no_name : (tag text : List ℕ) → (¬ HasLexicalLabel labels target tag text) → has_lexical_label labels target tag
       text ≡ false
-  no_name tag text free = elim (cases_Bool (has_lexical_label labels target tag text)) [
-    | inl has ↦ absurd (elim (or_cases _ _ has) [
-      | inl names ↦ elim (or_cases _ _ names) [ inl pref ↦ free (Pref, refl, pref) | inr alt ↦ free (Alt, refl, alt) ]
-      | inr hidden ↦ free (Hidden, refl, hidden)
-    ])
-    | inr none ↦ none
-  ]
+  no_name tag text free = grind (arith, common_steps, cases_Bool, or_cases)
 
   given_listed : (q : Label) → IsCopiedLabel source target labels q → IsIn q (copied_label_rows labels target own)
   given_listed q (kind, name, held, free, is) =
@@ -99,15 +73,7 @@ module _ (labels : Labels) (source target : ℕ) (disjoint : S13 labels) (own : 
       (map_in copied_names l missing_names (filter_in (lacks_name labels target) l own (own_held l held) hit))
 
   one_given : (x y : LabelData) → IsIn x missing_names → IsIn y missing_names → copied_names x ≡ copied_names y → x ≡ y
-  one_given x y hx hy e =
-      let px = missing_name_parts x hx in
-      let py = missing_name_parts y hy in
-      let tags : x.tag ≡ y.tag = ap (λ (l : Label). l.tag) e in
-      let texts : x.text ≡ y.text = ap (λ (l : Label). l.text) e in
-      let held = subst (λ (p : List ℕ × List ℕ). HasLabel labels source y.kind p.0 p.1)
-      (λ i. (sym tags i, sym texts i)) (held_own y py.0) in
-      let kinds = disjoint source x.kind y.kind x.tag x.text px.1 py.1 (held_own x px.0) held in
-      λ i. record { kind = kinds i; tag = tags i; text = texts i }
+  one_given x y hx hy e = grind (arith, common_steps, held_own, missing_name_parts)
 
   copied_is_added : IsUnsortedListing (λ q. (set.contains labels_after_copy q ≡ true)
       × (set.contains labels q ≡ true → ⊥)) (copied_label_rows labels target own)
@@ -123,13 +89,7 @@ module _ (labels : Labels) (source target : ℕ) (disjoint : S13 labels) (own : 
 
   none_is_removed : IsUnsortedListing (λ q. (set.contains labels q ≡ true) × (set.contains labels_after_copy q ≡ true
       → ⊥)) []
-  none_is_removed =
-      record {
-        sound = λ q h. absurd h;
-        complete =
-            λ q h. absurd (h.1 ((merge_copies_labels source target labels q).1 (inl h.0)));
-        once = tt;
-      }
+  none_is_removed = grind (arith, common_steps, merge_copies_labels)
 
   pub taken_absent : Absent labels_total labels_exact (copied_label_rows labels target own) labels
   taken_absent = absent_by labels_total labels_exact labels labels_after_copy [] (copied_label_rows labels target own)

@@ -66,8 +66,7 @@ pub posted_changes : (t : Thesaurus) (hs : List History) (key rec : List ℕ) (c
       key = key;
       rec = rec;
       first = concept;
-      place =
-          place_is;
+      place = place_is;
       withdrawn = false;
     }) ∷ map change.AddMove (map (move_row number) (moves_along first concept way))
     ≡ changes_of (request.Post key rec concept) (parts_state t hs)
@@ -77,8 +76,7 @@ posted_changes t hs key rec concept number place_is first way is_way is_number i
       key = key;
       rec = rec;
       first = concept;
-      place =
-          (is_place ∙ sym (along_led (move_count hs + 1) concept (replacements t.vocab.resources concept))) i;
+      place = (is_place ∙ sym (along_led (move_count hs + 1) concept (replacements t.vocab.resources concept))) i;
       withdrawn = false;
     })
     ∷ map change.AddMove (map (move_row (is_number i)) (moves_along (is_first i) concept (is_way i))))
@@ -166,8 +164,7 @@ module _ (t : Thesaurus) (hs : List History) (concept : ℕ) (ok : PartsAccept t
   links_inserted =
       record {
         sound = λ q h. absurd h;
-        complete =
-            λ q h. absurd (h.1 (without_node_from concept t.graph.links q h.0).0);
+        complete = λ q h. absurd (h.1 (without_node_from concept t.graph.links q h.0).0);
         once = tt;
       }
 

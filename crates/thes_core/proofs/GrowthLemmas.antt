@@ -8,7 +8,7 @@ use Rattle.thes_base.specs.declared.data.LabelKind.TheVariants.{Pref, Alt}
 use Rattle.thes_base.specs.declared.data.Link.{Link}
 use Rattle.thes_base.specs.declared.data.History.{History}
 use Rattle.thes_base.specs.declared.data.Limits.{Limits}
-use Rattle.thes_base.specs.Resources.{CanOwn, entry_at, is_outside, set_entry_at, replacements}
+use Rattle.thes_base.specs.Resources.{entry_at, is_outside, set_entry_at, replacements}
 use Rattle.thes_base.specs.Links.{Holds, normal_form, links_after_merge}
 use Rattle.thes_base.proofs.LinkSetLemmas.{links_total, links_exact}
 use Rattle.thes_base.proofs.SetMemberLemmas as sets
@@ -22,7 +22,7 @@ use Rattle.thes_base.specs.Changes.{resources_after_death, resource_after_death}
 use Rattle.thes_base.specs.Legal.{IsLegalState, AreLegalLabels}
 use Rattle.thes_base.proofs.LabelSetLemmas.{len_inserted, labels_total, inserted_cases, removed_cases}
 use Rattle.thes_base.proofs.PreferredLemmas.{preferred_found, preferred_of_label}
-use Rattle.thes_base.proofs.ResourceLemmas.{marked_dead_at}
+use Rattle.thes_base.proofs.ResourceLemmas.{marked_dead_at, owner_exists}
 use Rattle.std.proofs.lemmas.Bool.{false_from_ne_true}
 use Rattle.std.proofs.lemmas.List.{length-set}
 use Rattle.thes_base.proofs.ForwardingLemmas.{count_posted}
@@ -75,32 +75,24 @@ module _ (limits : Limits) (s t : State) (growth : Growth) (grows : Grows s t gr
 no_rise : (n : ℕ) → Rises n n 0
 no_rise n = inl (omega arith)
 
+same_rise : (before after : ℕ) → after ≡ before → Rises before after 0
+same_rise before after e = inl (omega (arith, e))
+
 one_more : (A : Type 0) (xs : List A) (x : A) → Rises (length xs) (length (xs ++ x ∷ [])) 1
 one_more A xs x = inl (let e = length-append xs (x ∷ []) in omega (arith, e))
-
--- The owner of a label is the number of a resource.
-owner_bound : (s : State) → AreLegalLabels s.resources s.labels → (l : Label) → set.contains s.labels l ≡ true → l.owner
-    ≤ length s.resources
-owner_bound s legal l held = go (legal.owners l held)
-  where
-    go : CanOwn s.resources l.owner → l.owner ≤ length s.resources
-    go (inl (r, at, _)) = (numbered_bound s.resources l.owner r at).1
-    go (inr (inl (r, at, _))) = (numbered_bound s.resources l.owner r at).1
-    go (inr (inr (r, at, _))) = (numbered_bound s.resources l.owner r at).1
 
 -- A new resource has no label yet.
 new_label : (s : State) → AreLegalLabels s.resources s.labels → (tag text : List ℕ)
     → set.contains s.labels (label (next_number s) Pref tag text) ≡ false
 new_label s legal tag text =
-    false_from_ne_true _ (λ held. let b = owner_bound s legal (label (next_number s) Pref tag text) held in
-    omega (arith, b))
+    false_from_ne_true _ (λ held. let at = owner_exists s.resources _ (legal.owners _ held) in
+    let b = numbered_bound s.resources _ at.0 at.1 in omega (arith, b))
 
 abbrev pub growth_of : ℕ → ℕ → ℕ → ℕ → ℕ → Growth
 growth_of resources labels links postings moves = record {
   resources = resources;
   labels = labels;
-  links =
-      links;
+  links = links;
   postings = postings;
   moves = moves;
 }
@@ -122,8 +114,7 @@ module _ (s : State) (base : List ℕ) (legal : IsLegalState base s) where
       record {
         resources = no_rise _;
         labels = inl (len_inserted s.labels l (false_from_ne_true _ new));
-        links =
-            no_rise _;
+        links = no_rise _;
         postings = no_rise _;
         moves = no_rise _;
       }
@@ -200,8 +191,7 @@ module _ (s : State) (legal : AreLegalLabels s.resources s.labels) where
             inl (ap set.len state_after_creation ∙ len_renamed s.labels owner tag text found.0 legal.disjoint
             legal.one_preferred is keep ∙ ap (λ n. set.len s.labels + n) (sym is_more));
         links = no_rise _;
-        postings =
-            no_rise _;
+        postings = no_rise _;
         moves = no_rise _;
       }
 
@@ -230,13 +220,10 @@ pub merged_grows : (s : State) (source target taken : ℕ)
     → set.len (links_after_merge (is_outside s.resources) source target s.links) ≤ set.len s.links
     → Grows s (state_after_merge source target s) (growth_of 0 taken 0 0 (assigned_count source s.histories))
 merged_grows s source target taken labels links = record {
-  resources =
-      inl (length_marked_dead s.resources source (Some target) ∙ (let z : length s.resources ≡ length s.resources
-      + 0 = omega arith in z));
+  resources = same_rise _ _ (length_marked_dead s.resources source (Some target));
   labels = inl labels;
   links = inr (refl, links);
-  postings = inl (length_moved (is_assigned_to source) target (move_count s.histories + 1) s.histories
-      ∙ (let z : length s.histories ≡ length s.histories + 0 = omega arith in z));
+  postings = same_rise _ _ (length_moved (is_assigned_to source) target (move_count s.histories + 1) s.histories);
   moves = inl (count_moved (is_assigned_to source) target (move_count s.histories + 1) s.histories);
 }
 
@@ -247,8 +234,8 @@ split_grows s source tag text postings legal listed = record {
   resources = one_more Resource s.resources _;
   labels = inl (len_inserted s.labels (label (next_number s) Pref tag text) (new_label s legal tag text));
   links = no_rise _;
-  postings = inl (length_moved (is_listed postings) (next_number s) (move_count s.histories + 1) s.histories
-      ∙ (let z : length s.histories ≡ length s.histories + 0 = omega arith in z));
+  postings = same_rise _ _
+      (length_moved (is_listed postings) (next_number s) (move_count s.histories + 1) s.histories);
   moves = inl (count_moved (is_listed postings) (next_number s) (move_count s.histories + 1) s.histories
       ∙ ap (λ n. move_count s.histories + n) listed);
 }

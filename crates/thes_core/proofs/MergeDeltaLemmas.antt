@@ -1,6 +1,7 @@
 -- The changes of rows that a merge makes lead to the machine's next state.
-use Rattle.std.proofs.Common.{◌≡◌, ◌≢◌, ℕ, ◌+◌, List, [], ◌∷◌, ◌++◌, sym, ap, ◌∙◌, subst, Bool, map, append_assoc}
-use Rattle.std.proofs.Common.{length}
+use Rattle.std.proofs.lemmas.Grind.{common_steps}
+use Rattle.std.proofs.Common.{◌≡◌, ◌≢◌, ℕ, ◌+◌, List, [], ◌∷◌, ◌++◌, sym, ◌∙◌, subst, Bool, map, append_assoc}
+use Rattle.std.proofs.Common.{length, arith}
 use Rattle.std.specs.Prelude.{filter}
 use Rattle.std.specs.List.{filter_map}
 use Rattle.std.proofs.lemmas.List.{length-map}
@@ -41,9 +42,7 @@ use Rattle.thes_core.proofs.CopiedRowLemmas.{taken_absent, taken_same}
 -- A list of changes is the same however its parts are grouped.
 regroup : {A : Type 0} (x y : A) (a b c d : List A) → ((((x ∷ a) ++ b) ++ c) ++ y ∷ []) ++ d ≡ x ∷ a ++ (b ++ c) ++ y
     ∷ d
-regroup {A} x y a b c d =
-    append_assoc (((x ∷ a) ++ b) ++ c) (y ∷ []) d
-    ∙ ap (λ (l : List A). l ++ y ∷ d) (append_assoc (x ∷ a) b c)
+regroup {A} x y a b c d = grind (arith, common_steps, append_assoc)
 
 module _ (t : Thesaurus) (hs : List History) (source target : ℕ) (ok : PartsAccept t hs (request.Merge source target))
     (gone : List Link) (row : IsRow t.graph.links source gone)
@@ -59,10 +58,7 @@ module _ (t : Thesaurus) (hs : List History) (source target : ℕ) (ok : PartsAc
       (ok.kept.legal.links.each l held).ordered
 
   inside : set.contains t.graph.outside source ≡ set.contains t.graph.outside target
-  inside =
-      let kinds = (passed_unless (passed_unless ok.accepts.row).1).0 in
-      ok.kept.outside source ∙ concept_inside t.vocab.resources source kinds.0
-      ∙ sym (ok.kept.outside target ∙ concept_inside t.vocab.resources target kinds.1)
+  inside = grind (arith, common_steps, concept_inside, passed_unless)
 
   abbrev come : List Link
   come = filter_map (link_added_by_merge t.graph source target) gone

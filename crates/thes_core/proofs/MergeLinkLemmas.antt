@@ -14,24 +14,12 @@ use Rattle.thes_base.proofs.LinkSetLemmas.{links_total, links_exact, contracted_
 use Rattle.thes_base.proofs.LinkLemmas.{sent_never, sent_other, sent_stays}
 use Rattle.thes_links.specs.GraphView.{GraphView, is_marked}
 use Rattle.thes_links.specs.Reading.{IsRow}
+use Rattle.thes_links.proofs.EditLemmas.{filter_map-from, filter_map-to}
 use Rattle.thes_links.proofs.NormLemmas.{norm_ends, ends_or_not}
 use Rattle.thes_tables.specs.Tables.{IsIn, AreDistinct, IsUnsortedListing}
 use Rattle.thes_tables.proofs.RowSetLemmas.{clash, absent_of_never}
 use Rattle.thes_core.specs.Deltas.{link_added_by_merge}
 use Rattle.thes_core.proofs.DeltaLemmas.{contains_in, in_contains, once_apart}
-
-in_cons_option : {B : Type 0} (o : Option B) (y : B) (ys : List B) → IsIn y (cons_option o ys) → (o ≡ Some y)
-    ⊎ IsIn y ys
-in_cons_option None y ys h = inr h
-in_cons_option (Some z) y ys (inl e) = inl (ap (λ w. Some w) (sym e))
-in_cons_option (Some z) y ys (inr h) = inr h
-
-cons_option_in : {B : Type 0} (o : Option B) (y : B) (ys : List B) → (o ≡ Some y) ⊎ IsIn y ys → IsIn y
-    (cons_option o ys)
-cons_option_in None y ys (inl e) = absurd (cc)
-cons_option_in None y ys (inr h) = h
-cons_option_in (Some z) y ys (inl e) = inl (same_Some y z (sym e))
-cons_option_in (Some z) y ys (inr h) = inr h
 
 once_cons_option : {B : Type 0} (o : Option B) (ys : List B) → ((z : B) → o ≡ Some z → IsIn z ys → ⊥) → AreDistinct ys
     → AreDistinct (cons_option o ys)
@@ -41,16 +29,11 @@ once_cons_option (Some z) ys new once = (new z refl, once)
 -- The results of a partial function on a list, each once if no two elements have the same result.
 module _ {A B : Type 0} (f : A → Option B) where
   in_results : (y : B) (xs : List A) → IsIn y (filter_map f xs) → (x : A) × IsIn x xs × (f x ≡ Some y)
-  in_results y [] h = absurd h
-  in_results y (x ∷ xs) h = elim (in_cons_option (f x) y (filter_map f xs) h) [
-    | inl e ↦ (x, inl refl, e)
-    | inr later ↦ (let r = in_results y xs later in (r.0, inr r.1, r.2))
-  ]
+  in_results y xs h = let r = filter_map-from f xs y (in_contains (filter_map f xs) y h) in
+      (r.0, contains_in xs r.0 r.1, r.2)
 
   results_in : (x : A) (y : B) (xs : List A) → IsIn x xs → f x ≡ Some y → IsIn y (filter_map f xs)
-  results_in x y [] h e = absurd h
-  results_in x y (w ∷ xs) (inl same) e = cons_option_in (f w) y (filter_map f xs) (inl (ap f (sym same) ∙ e))
-  results_in x y (w ∷ xs) (inr h) e = cons_option_in (f w) y (filter_map f xs) (inr (results_in x y xs h e))
+  results_in x y xs h e = contains_in (filter_map f xs) y (filter_map-to f xs x y (in_contains xs x h) e)
 
   once_results : (xs : List A) → ((x y : A) (z : B) → IsIn x xs → IsIn y xs → f x ≡ Some z → f y ≡ Some z → x ≡ y)
       → AreDistinct xs → AreDistinct (filter_map f xs)
@@ -152,8 +135,7 @@ module _ (net : GraphView) (source target : ℕ) (different : source ≢ target)
       go false false x y e = let same = same_Some (redirected_link l) q e in (
         eqb-false _ _ x,
         sym same,
-        λ held. clash (contains net.links (redirected_link l))
-            (ap (contains net.links) same ∙ held) y,
+        λ held. clash (contains net.links (redirected_link l)) (ap (contains net.links) same ∙ held) y,
       )
 
   joined_to : (l q : Link) → redirect source target l.a ≢ redirect source target l.b → q ≡ redirected_link l

@@ -1,17 +1,15 @@
 -- The graph still marks exactly the outside concepts after a resource is added or marked as dead.
+use Rattle.std.proofs.lemmas.Grind.{common_steps}
 use Rattle.std.proofs.Common.{◌≡◌, ◌⊎◌, ◌+◌, ℕ, length, List, [], ◌∷◌, ◌++◌, refl, sym, ap, ◌∙◌, inl, inr, Bool, true}
-use Rattle.std.proofs.Common.{false}
+use Rattle.std.proofs.Common.{false, arith}
 use Rattle.std.specs.Prelude.{Option, None, Some}
 use Rattle.std.specs.Option.{option_map_or}
 use Rattle.std.specs.Cmp.{both_ways, nat_cmp_total}
 use Rattle.std.specs.FinSet as set
 use Rattle.std.proofs.lemmas.Map.Lookups.{exact_unsigned}
 use Rattle.thes_base.specs.declared.data.Resource.{Resource}
-use Rattle.thes_base.specs.Resources.{entry_at, set_entry_at, IsOutside, is_outside, is_outside_kind}
-use Rattle.thes_base.specs.Resources.{IsConcept, is_concept_kind}
-use Rattle.thes_base.specs.declared.data.ResourceKind.{ResourceKind}
-use Rattle.thes_base.specs.declared.data.ResourceKind.TheVariants.{Outside}
-use Rattle.thes_base.specs.Changes.{resources_after_death, resource_after_death, outside_resource}
+use Rattle.thes_base.specs.Resources.{entry_at, IsOutside, is_outside, is_outside_kind, IsConcept}
+use Rattle.thes_base.specs.Changes.{resources_after_death, outside_resource}
 use Rattle.thes_base.proofs.NumberedLemmas.{push_new}
 use Rattle.thes_base.proofs.ResourceLemmas.{marked_dead_at, passes_push, passes_pop, passes_dead, passes_before}
 use Rattle.thes_base.proofs.SetMemberLemmas.{inserted_cases, inserted_kept, inserted_new}
@@ -26,19 +24,11 @@ abbrev test_of : Option Resource → Bool
 test_of o = option_map_or is_out o false
 
 test_passed : (rs : List Resource) (n : ℕ) → is_outside rs n ≡ true → IsOutside rs n
-test_passed rs n e = go (entry_at rs n) refl
-  where
-    go : (o : Option Resource) → entry_at rs n ≡ o → IsOutside rs n
-    go None none = absurd (let bad = sym (ap test_of none) ∙ e in cc)
-    go (Some r) at = (r, at, sym (ap test_of at) ∙ e)
+test_passed rs n e = grind (arith, common_steps)
 
 -- A concept isn't an outside concept.
 pub concept_inside : (rs : List Resource) (n : ℕ) → IsConcept rs n → is_outside rs n ≡ false
-concept_inside rs n (r, at, concept) = ap test_of at ∙ go r.kind concept
-  where
-    go : (kind : ResourceKind) → is_concept_kind kind ≡ true → is_outside_kind kind ≡ false
-    go Outside e = absurd (cc)
-    go _ e = refl
+concept_inside rs n (r, at, concept) = grind (arith, common_steps)
 
 same_outside : (rs ss : List Resource) (n : ℕ) → (IsOutside rs n → IsOutside ss n) → (IsOutside ss n → IsOutside rs n)
     → is_outside rs n ≡ is_outside ss n
@@ -51,10 +41,7 @@ pub outside_marked_dead : (rs : List Resource) (n : ℕ) (rep : Option ℕ) (m :
 outside_marked_dead rs n rep m = go (entry_at rs n) refl
   where
     go : (o : Option Resource) → entry_at rs n ≡ o → is_outside (resources_after_death n rep rs) m ≡ is_outside rs m
-    go None none =
-        ap (λ (o : Option Resource). is_outside (elim o
-        [ None ↦ rs | Some r ↦ set_entry_at rs n (resource_after_death rep r) ]) m)
-        none
+    go None none = grind (arith, common_steps)
     go (Some r) at = ap (λ (xs : List Resource). is_outside xs m) (marked_dead_at rs n rep r at)
         ∙ same_outside _ rs m (passes_before rs n rep r at is_out (λ q. refl) m)
         (passes_dead rs n rep r at is_out (λ q. refl) m)
@@ -87,7 +74,5 @@ module _ (t : Thesaurus) (knows : MarksOutside t.vocab.resources t.graph) where
 
       back : IsOutside rs n ⊎ ((n ≡ length rs + 1) × (true ≡ true))
           → set.contains (set.insert t.graph.outside (length rs + 1)) n ≡ true
-      back (inl old) = inserted_kept nat_cmp_total exact_unsigned t.graph.outside (length rs + 1) n
-          (knows n ∙ outside_test rs n old)
-      back (inr (new, _)) = ap (set.contains (set.insert t.graph.outside (length rs + 1))) new
-          ∙ inserted_new nat_cmp_total exact_unsigned t.graph.outside (length rs + 1)
+      back (inl old) = grind (arith, common_steps, exact_unsigned, inserted_kept, outside_test)
+      back (inr (new, _)) = grind (arith, common_steps, exact_unsigned, inserted_new)

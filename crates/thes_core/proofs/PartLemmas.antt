@@ -34,6 +34,5 @@ legal_without base s legal =
       base_form = forms.base_form;
       iris = forms.iris;
       labels = forms.labels;
-      postings =
-          λ n h at. absurd (none_numbered n h at);
+      postings = λ n h at. absurd (none_numbered n h at);
     })

@@ -1,4 +1,5 @@
 -- The checks on the parts of a thesaurus give the refusals of the machine.
+use Rattle.std.proofs.lemmas.Grind.{common_steps}
 use Rattle.std.proofs.Common.{◌≡◌, ◌+◌, ◌↔◌, ℕ, List, [], refl, sym, ◌∙◌, subst, inl, inr, Bool, arith, false}
 use Rattle.std.specs.Prelude.{Option, None, Some, IfNone}
 use Rattle.std.specs.FinSet as set
@@ -12,10 +13,9 @@ use Rattle.thes_base.specs.declared.fault.Refusal.TheVariants as no
 use Rattle.thes_base.specs.RefusalRules.{RefusalRule, refused_unless, accepted}
 use Rattle.thes_base.specs.Resources.{IsConcept, IsScheme, scheme_of, is_outside}
 use Rattle.thes_base.specs.Links.{Holds, links_after_merge, normal_form, IsFirstBroken}
-use Rattle.thes_base.specs.RuleParts.{unless_links_consistent}
+use Rattle.thes_base.specs.RuleParts.{unless_links_consistent, unless_within_limits, unless_unique}
 use Rattle.thes_base.specs.State.{State, IsWithinLimit}
 use Rattle.thes_base.specs.Changes.{state_after_creation, concept_resource}
-use Rattle.thes_base.specs.RuleParts.{unless_within_limits, unless_unique}
 use Rattle.thes_base.proofs.LinkLemmas.{row_of_first}
 use Rattle.thes_base.proofs.UniquePreferredLemmas.{scheme_at}
 use Rattle.thes_walks.specs.EditChecks.{checks_of_add}
@@ -29,7 +29,7 @@ use Rattle.thes_core.specs.CoreDecisions.{IsAccepted, MayApply}
 use Rattle.thes_core.specs.Facts.{AreFacts}
 use Rattle.thes_core.specs.Requests.{RefusalByParts, unless_linkable}
 use Rattle.thes_core.specs.PartsView.{parts_state, setting_of, parts_view, AreLegal}
-use Rattle.thes_core.specs.Room.{HasRoomForGrowth, Amounts, amounts_of_state, amounts_of_parts}
+use Rattle.thes_core.specs.Room.{HasRoomForGrowth, amounts_of_state, amounts_of_parts}
 use Rattle.thes_core.proofs.GrowthLemmas.{Grows, growth_of, within_of_room, room_of_within}
 
 -- A count that doesn't grow is within any limit.
@@ -40,31 +40,11 @@ fits_without_rise limit n more none = omega (arith, none)
 module _ (t : Thesaurus) (hs : List History) {growth : Growth} where
   pub room_summed : ArePostingCounts hs t.book → HasRoomForGrowth t.limits (amounts_of_parts t) growth
       ↔ HasRoomForGrowth t.limits (amounts_of_state (parts_state t hs)) growth
-  room_summed are =
-      let same : amounts_of_parts t ≡ amounts_of_state (parts_state t hs) =
-      λ i. record (amounts_of_parts t) { postings = are.accepted i; moves = are.moves i } in (
-        subst (λ (held : Amounts). HasRoomForGrowth t.limits held growth) same,
-        subst (λ (held : Amounts). HasRoomForGrowth t.limits held growth) (sym same),
-      )
+  room_summed are = grind (arith, common_steps)
 
   pub room_unposted : growth.postings ≡ 0 → growth.moves ≡ 0 → HasRoomForGrowth t.limits (amounts_of_parts t) growth
       ↔ HasRoomForGrowth t.limits (amounts_of_state (parts_state t hs)) growth
-  room_unposted postings moves = (
-    λ room. record {
-      for_resources = room.for_resources;
-      for_labels = room.for_labels;
-      for_links = room.for_links;
-      for_postings = fits_without_rise _ _ _ postings;
-      for_moves = fits_without_rise _ _ _ moves;
-    },
-    λ room. record {
-      for_resources = room.for_resources;
-      for_labels = room.for_labels;
-      for_links = room.for_links;
-      for_postings = fits_without_rise _ _ _ postings;
-      for_moves = fits_without_rise _ _ _ moves;
-    },
-  )
+  room_unposted postings moves = grind (arith, common_steps, fits_without_rise)
 
 -- If there is room for a request with its postings and moves, there is room for it in the state without postings.
 module _ (t : Thesaurus) {after : State} {resources labels links postings moves : ℕ} where
@@ -74,19 +54,7 @@ module _ (t : Thesaurus) {after : State} {resources labels links postings moves 
       accepted answer
       → Grows (parts_state t []) after (growth_of resources labels links 0 0) → answer ≡ None
       → unless_within_limits (setting_of t) (parts_state t []) after None
-  room_without answer (inl (full, is)) grows none = absurd (let bad = sym none ∙ is in cc)
-  room_without answer (inr (room, is)) grows none =
-      inr (
-        within_of_room t.limits (parts_state t []) after (growth_of resources labels links 0 0) grows
-            (record {
-              for_resources = room.for_resources;
-              for_labels = room.for_labels;
-              for_links = room.for_links;
-              for_postings = fits_without_rise _ _ 0 refl;
-              for_moves = fits_without_rise _ _ 0 refl;
-            }),
-        refl,
-      )
+  room_without answer h grows none = grind (arith, common_steps, fits_without_rise, within_of_room)
 
 -- The limits refuse a request exactly when they leave no room for its growth.
 module _ (t : Thesaurus) (hs : List History) {after : State} {growth : Growth} {answer : Option Refusal} where
@@ -96,8 +64,7 @@ module _ (t : Thesaurus) (hs : List History) {after : State} {growth : Growth} {
       → unless_within_limits (setting_of t) (parts_state t hs) after answer
   row_of_room same grows (inl (full, is)) =
       inl (λ within. full (same.1 (room_of_within t.limits (parts_state t hs) after growth grows within)), is)
-  row_of_room same grows (inr (room, is)) =
-      inr (within_of_room t.limits (parts_state t hs) after growth grows (same.0 room), is)
+  row_of_room same grows (inr (room, is)) = grind (arith, common_steps, within_of_room)
 
   pub room_row : ArePostingCounts hs t.book → Grows (parts_state t hs) after growth
       → refused_unless (HasRoomForGrowth t.limits (amounts_of_parts t) growth) no.TooMany accepted answer

@@ -1,4 +1,5 @@
 -- The rows of table move that a request inserts are the moves of the machine's step.
+use Rattle.std.proofs.lemmas.Grind.{common_steps}
 use Rattle.std.proofs.Common.{◌≡◌, ◌≢◌, ◌<◌, ◌≤◌, inl, inr, ℕ, zero, suc, ◌+◌, List, [], ◌∷◌, refl, sym, ap, ◌∙◌}
 use Rattle.std.proofs.Common.{subst, arith, Bool, true, false, cond, ◌||◌, eqb, eqb-true, ne_eqb, map}
 use borrow.Author.Tests.{eq-eqb}
@@ -8,11 +9,9 @@ use Rattle.std.specs.Cmp.{both_ways}
 use Rattle.std.proofs.lemmas.Bool.{cases_Bool, or_cases}
 use Rattle.std.proofs.lemmas.List.Sorted.{list_any-IsPermutation}
 use Rattle.thes_base.specs.declared.data.History.{History}
-use Rattle.thes_base.specs.Resources.{entry_at}
 use Rattle.thes_base.specs.RefusalRules.{accepted}
 use Rattle.thes_base.specs.Refusals.{EachOnce, IsKnownPosting, EachListed}
 use Rattle.thes_base.specs.RuleParts.{unless_split_postings}
-use Rattle.thes_base.specs.Postings.{place}
 use Rattle.thes_base.specs.Changes.{is_listed}
 use Rattle.thes_base.proofs.RefusalRuleLemmas.{passed_unless}
 use Rattle.thes_post.specs.Rising.{RisesFrom}
@@ -53,14 +52,7 @@ same_rising low high (x ∷ xs) (y ∷ ys) up vp same = λ i. at i ∷ same_risi
         omega (arith, a, b)
 
     rest : (n : ℕ) → has_number xs n ≡ has_number ys n
-    rest n = elim (cases_Bool (eqb x n)) [
-      | inl here ↦
-          let is : x ≡ n = eqb-true x n here in
-          has_below (x + 1) n xs (omega (arith, is)) up.1
-          ∙ sym (has_below (y + 1) n ys (let q = at in omega (arith, is, q)) vp.1)
-      | inr other ↦ sym (ap (λ b. b || has_number xs n) other) ∙ same n ∙ ap (λ b. b || has_number ys n)
-          (ap (λ k. eqb k n) (sym at) ∙ other)
-    ]
+    rest n = grind (arith, common_steps, at, cases_Bool, eqb-true, has_below)
 
 -- The numbers of the histories that pass a test, in their order.
 module _ (passes : History → Bool) where
@@ -94,55 +86,20 @@ module _ (passes : History → Bool) where
   passing_has : (hs : List History) (i : ℕ) (h : History) → slice_get hs i ≡ Some h → passes h ≡ true
       → has_number (passing_numbers hs) h.number ≡ true
   passing_has [] i h e hit = absurd (cc)
-  passing_has (x ∷ hs) zero h e hit =
-      let same : x ≡ h = cc in
-      ap (λ ns. has_number ns h.number) (passing_yes x hs (ap passes same ∙ hit))
-      ∙ ap (λ b. b || has_number (passing_numbers hs) h.number)
-      (eq-eqb x.number h.number (ap (λ (g : History). g.number) same))
-  passing_has (x ∷ hs) (suc i) h e hit = elim (cases_Bool (passes x)) [
-    | inl here ↦ ap (λ ns. has_number ns h.number) (passing_yes x hs here) ∙ later (eqb x.number h.number)
-        (passing_has hs i h e hit)
-    | inr miss ↦ ap (λ ns. has_number ns h.number) (passing_no x hs miss) ∙ passing_has hs i h e hit
-  ]
-    where
-      later : (b : Bool) → has_number (passing_numbers hs) h.number ≡ true
-          → (b || has_number (passing_numbers hs) h.number) ≡ true
-      later true e = refl
-      later false e = e
+  passing_has (x ∷ hs) zero h e hit = grind (arith, common_steps, eq-eqb, passing_yes)
+  passing_has (x ∷ hs) (suc i) h e hit = grind (arith, common_steps, cases_Bool, passing_no, passing_yes, passing_has hs i h e hit)
 
   passing_from : (hs : List History) (n : ℕ) → has_number (passing_numbers hs) n ≡ true → (h : History)
       × (passes h ≡ true) × (h.number ≡ n)
   passing_from [] n e = absurd (cc)
-  passing_from (h ∷ hs) n e = elim (cases_Bool (passes h)) [
-    | inl hit ↦ elim (or_cases (eqb h.number n) (has_number (passing_numbers hs) n)
-        (sym (ap (λ ns. has_number ns n) (passing_yes h hs hit)) ∙ e)) [
-          | inl here ↦ (h, hit, eqb-true h.number n here)
-          | inr later ↦ passing_from hs n later
-        ]
-    | inr miss ↦ passing_from hs n (sym (ap (λ ns. has_number ns n) (passing_no h hs miss)) ∙ e)
-  ]
+  passing_from (h ∷ hs) n e = grind (arith, common_steps, cases_Bool, eqb-true, or_cases, passing_no, passing_yes, passing_from hs n)
 
   -- The moves of the histories that pass are those from the source to the target, if all are assigned to the source.
   pub moves_passing : (source target : ℕ) (apart : source ≢ target) (number : ℕ) (hs : List History)
       → AllAssigned passes source target apart hs → new_moves passes target number hs ≡ move_rows number source target
       (passing_numbers hs)
   moves_passing source target apart number [] all = refl
-  moves_passing source target apart number (h ∷ hs) all = elim (cases_Bool (passes h)) [
-    | inl hit ↦
-        let at = (stands_parts source h (all.0 hit)).1 in
-        ap (λ b. cond b (row number (place h) ∷ new_moves passes target (number + 1) hs)
-        (new_moves passes target number hs)) hit
-        ∙ (λ i. row number (at i) ∷ moves_passing source target apart (number + 1) hs all.1 i)
-        ∙ sym (ap (move_rows number source target) (passing_yes h hs hit))
-    | inr miss ↦
-        ap (λ b. cond b (row number (place h) ∷ new_moves passes target (number + 1) hs)
-        (new_moves passes target number hs)) miss
-        ∙ moves_passing source target apart number hs all.1
-        ∙ sym (ap (move_rows number source target) (passing_no h hs miss))
-  ]
-    where
-      row : ℕ → ℕ → MoveRow
-      row k from = record { number = k; posting = h.number; source = from; target = target }
+  moves_passing source target apart number (h ∷ hs) all = grind (arith, common_steps, cases_Bool, passing_no, passing_yes, stands_parts, moves_passing source target apart (number + 1) hs all.1, moves_passing source target apart number hs all.1)
 
 -- The listed postings, sorted, are the numbers of the histories that are listed.
 pub listed_sorted : (hs : List History) (source : ℕ) (postings ordered : List ℕ)
@@ -166,15 +123,7 @@ listed_sorted hs source postings ordered numbers row same up =
     forward n e = let p = passing_from (is_listed postings) hs n e in subst (λ k. has_number postings k ≡ true) p.2 p.1
 
     back : (n : ℕ) → has_number postings n ≡ true → has_number (passing_numbers (is_listed postings) hs) n ≡ true
-    back n e = let k = has_of_each (IsKnownPosting hs) postings known n e in go n k.0 k.1 e
-      where
-        go : (m : ℕ) (h : History) → entry_at hs m ≡ Some h → has_number postings m ≡ true
-            → has_number (passing_numbers (is_listed postings) hs) m ≡ true
-        go zero h at e = absurd (cc)
-        go (suc i) h at e =
-            let n = numbers i h at in
-            subst (λ k. has_number (passing_numbers (is_listed postings) hs) k ≡ true) n
-            (passing_has (is_listed postings) hs i h at (subst (λ k. has_number postings k ≡ true) (sym n) e))
+    back n e = grind (arith, common_steps, has_of_each, known, passing_has)
 
 -- The changes of place read off the rows of moves are those made for their postings.
 pub places_of_moves : (number source target : ℕ) (ps : List ℕ)

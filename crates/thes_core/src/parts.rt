@@ -17,6 +17,7 @@ use thes_vocab::Vocab;
 impl Core {
     /// Creates a core from a vocabulary, its links and the counts of its postings, which must be
     /// those of a legal state.
+    #[tactic(auto, using(crate::proofs::PartLemmas::legal_without))]
     pub fn of_parts(alloc: Global, vocab: Vocab, graph: Graph, book: Book, limits: Limits) -> Core
         requires marks { MarksOutside vocab.resources graph }
         requires legal { (s : State) × ArePartsOf s vocab graph.links book

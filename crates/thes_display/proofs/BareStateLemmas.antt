@@ -1,16 +1,13 @@
 -- Proves that the alphabetical display of a state doesn't depend on its posting histories.
-use Rattle.std.proofs.Common.{◌≡◌, refl, subst, ℕ, List, [], ◌∷◌, Bool, true, false}
+use Rattle.std.proofs.lemmas.Grind.{common_steps}
+use Rattle.std.proofs.Common.{◌≡◌, refl, subst, ℕ, List, [], ◌∷◌, Bool, true, false, arith}
 use Rattle.thes_base.specs.declared.data.History.{History}
-use Rattle.thes_base.specs.Listing.{IsListing}
 use Rattle.thes_base.specs.State.{State}
 use Rattle.thes_core.specs.CoreView.{CoreView, IsViewOf, with_histories}
-use Rattle.thes_vocab.specs.Vocabulary.{IsConceptOf}
-use Rattle.thes_display.specs.declared.entry.Heading.{Heading}
 use Rattle.thes_display.specs.declared.symbol.Symbol.{Symbol}
-use Rattle.thes_display.specs.declared.symbol.Symbol.TheVariants.{ScopeNote, UsedFor, Broader, Narrower, Related}
-use Rattle.thes_display.specs.Alphabetical.{AreLinesOf, AreTexts, IsAlphabetical, IsEntry, IsEntryOf, IsHeadedBy}
-use Rattle.thes_display.specs.Alphabetical.{IsUnder, heading_cmp, symbols}
-use Rattle.thes_display.specs.Order.{Term, term_cmp}
+use Rattle.thes_display.specs.Alphabetical.{AreLinesOf, AreTexts, IsAlphabetical, IsEntryOf, IsHeadedBy}
+use Rattle.thes_display.specs.Alphabetical.{IsUnder, symbols}
+use Rattle.thes_display.specs.Order.{Term}
 
 texts_as : {A : Type 0} (P Q : A → List ℕ → Type 0) → ((x : A) (text : List ℕ) → P x text → Q x text)
     → (xs : List A) (text : List ℕ) → AreTexts P xs text → AreTexts Q xs text
@@ -26,21 +23,11 @@ module _ (k : CoreView) (hs : List History) (tag : List ℕ) where
   Whole = with_histories hs k
 
   same_under : (n : ℕ) (symbol : Symbol) → IsUnder Bare tag n symbol ≡ IsUnder Whole tag n symbol
-  same_under n ScopeNote = refl
-  same_under n UsedFor = refl
-  same_under n (Broader type) = refl
-  same_under n (Narrower type) = refl
-  same_under n Related = refl
+  same_under n symbol = grind (arith, common_steps)
 
   lines_as : (n : ℕ) (symbol : Symbol) (text : List ℕ) → AreLinesOf Bare tag n symbol text → AreLinesOf Whole tag n
       symbol text
-  lines_as n symbol text l =
-      record {
-        terms = l.terms;
-        listing = subst (λ (P : Term → Type 0). IsListing term_cmp P l.terms)
-            (same_under n symbol) l.listing;
-        is = l.is;
-      }
+  lines_as n symbol text l = grind (arith, common_steps, same_under)
 
   entry_of : (lead_in : Bool) (t : Term) (text : List ℕ) → IsEntryOf Bare tag lead_in t text
       → IsEntryOf Whole tag lead_in t text
@@ -58,13 +45,7 @@ module _ (k : CoreView) (hs : List History) (tag : List ℕ) where
 
   whole_display : (scheme : ℕ) (text : List ℕ) → IsAlphabetical Bare scheme tag text → IsAlphabetical Whole scheme tag
       text
-  whole_display scheme text a = record {
-    headings = a.headings;
-    listing = subst (λ (P : Heading → Type 0). IsListing heading_cmp P a.headings)
-        (λ i h. IsConceptOf k.resources scheme h.term.concept × same_head h.lead_in h.term i) a.listing;
-    entries = texts_as (IsEntry Bare tag) (IsEntry Whole tag) (λ h. entry_of h.lead_in h.term) a.headings text
-        a.entries;
-  }
+  whole_display scheme text a = grind (arith, common_steps, entry_of, same_head, texts_as)
 
 pub alphabetical_held : (k : CoreView) (s : State) → IsViewOf k s → (scheme : ℕ) (tag text : List ℕ)
     → IsAlphabetical (with_histories [] k) scheme tag text → IsAlphabetical s scheme tag text

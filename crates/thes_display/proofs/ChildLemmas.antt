@@ -1,7 +1,7 @@
 -- Proves that the children computed for a concept are exactly its children, sorted by rank.
+use Rattle.std.proofs.lemmas.Grind.{common_steps}
 use Rattle.std.proofs.Common.{◌≡◌, ◌∙◌, ◌<◌, sym, ap, refl, subst, ℕ, Bool, true, false, List, [], ◌∷◌, ◌++◌, map}
-use Rattle.std.proofs.Common.{length, Option, Some, None, arith, rules, ⊎_elim, inl, inr, true≢false, IsPermutation}
-use Rattle.std.proofs.Common.{IsSorted}
+use Rattle.std.proofs.Common.{length, Option, Some, None, arith, rules, ⊎_elim, inl, inr, IsPermutation, IsSorted}
 use Rattle.std.specs.Prelude.{Contains, slice_get, is_some, IsTrue, ◌↔◌}
 use Rattle.std.specs.Option.{option_map_or}
 use Rattle.std.specs.List.{filter, filter_map}
@@ -15,10 +15,8 @@ use Rattle.std.specs.List.Sorted.{IsStrictlySortedBy}
 use Rattle.std.proofs.lemmas.Option.{slice_get-get_or}
 use Rattle.std.proofs.lemmas.Map.Lookups.{exact_unsigned}
 use Rattle.thes_base.specs.Links.{Links}
-use Rattle.thes_base.specs.declared.data.LinkKind.{LinkKind}
-use Rattle.thes_base.specs.declared.data.LinkKind.TheVariants.{BroaderGeneric, BroaderPartitive, BroaderInstantial}
 use Rattle.thes_base.specs.Listing.{IsListing}
-use Rattle.thes_base.specs.Views.{HasBroader, HasLink}
+use Rattle.thes_base.specs.Views.{HasBroader}
 use Rattle.thes_display.specs.declared.walk.Child.{Child}
 use Rattle.thes_display.specs.declared.walk.Types.{Types}
 use Rattle.thes_display.specs.Order.{Term}
@@ -37,11 +35,7 @@ module _ (links : Links) (terms : List Term) (b : ℕ) where
     pub kinds : (c : Child) → IsOneOf c children → IsChild links terms b c
 
   pub children_none : (children : List Child) → children ≡ [] → AreChildren [] children
-  children_none children e = record {
-    ranks_are = ap (map (λ (c : Child). c.rank)) e;
-    kinds =
-        λ c a. absurd (subst (IsOneOf c) e a);
-  }
+  children_none children e = grind (arith, common_steps)
 
   -- A broader concept is the home or not, depending on the table of homes.
   kind_of : (homes : List (Option ℕ)) → AreHomes links terms (length terms) homes → (k : ℕ) (h : Bool)
@@ -116,33 +110,18 @@ module _ (links : Links) (terms : List Term) (b : ℕ) where
   by_rank c k (d ∷ children) (inr a) = let r = by_rank c k children a in (r.0, inr r.1, r.2)
 
   one_kind : (k : ℕ) (g h : Bool) → IsChildAt links terms g k b → IsChildAt links terms h k b → g ≡ h
-  one_kind k true true p q = refl
-  one_kind k false false p q = refl
-  one_kind k true false p q = absurd (q.other p)
-  one_kind k false true p q = absurd (p.other q)
+  one_kind k g h p q = grind (arith, common_steps)
 
   same_child : (c d : Child) → c.rank ≡ d.rank → c.types ≡ d.types → c.at_home ≡ d.at_home → c ≡ d
   same_child c d e t f = λ i. record { rank = e i; types = t i; at_home = f i }
 
   -- Two tests of the same property have the same result.
   same_test : {P : Type 0} (x y : Bool) → IsTrue x ↔ P → IsTrue y ↔ P → x ≡ y
-  same_test true true p q = refl
-  same_test false false p q = refl
-  same_test true false p q = absurd (true≢false (sym (q.1 (p.0 refl))))
-  same_test false true p q = absurd (true≢false (sym (p.1 (q.0 refl))))
+  same_test x y p q = grind (arith, common_steps)
 
   -- Only one value of types fits the links between two ranks.
   pub one_types : (k : ℕ) (x y : Types) → AreTypes links terms x k b → AreTypes links terms y k b → x ≡ y
-  one_types k x y p q =
-      let lower = one_concept terms q.lower p.lower k q.lower_rank p.lower_rank in
-      let upper = one_concept terms q.upper p.upper b q.upper_rank p.upper_rank in
-      let moved = λ (kind : LinkKind) (t : Bool) (r : IsTrue t ↔ HasLink links kind q.lower q.upper).
-      subst (λ n. IsTrue t ↔ HasLink links kind p.lower n) upper (subst (λ n. IsTrue t ↔ HasLink links kind n q.upper)
-      lower r) in
-      let g = same_test x.generic y.generic p.generic (moved BroaderGeneric y.generic q.generic) in
-      let h = same_test x.partitive y.partitive p.partitive (moved BroaderPartitive y.partitive q.partitive) in
-      let j = same_test x.instantial y.instantial p.instantial (moved BroaderInstantial y.instantial q.instantial) in
-      λ i. record { generic = g i; partitive = h i; instantial = j i }
+  one_types k x y p q = grind (arith, common_steps, one_concept, same_test)
 
   broader_of_child : (h : Bool) (k : ℕ) → IsChildAt links terms h k b → IsNarrowerTerm links terms k b
   broader_of_child true k p = p.broader
@@ -195,8 +174,7 @@ module _ (links : Links) (terms : List Term) (b : ℕ) where
         upper = n;
         lower_rank = are.rank_is x.0 k x.2;
         upper_rank = here;
-        link =
-            listed.sound x.0 (contains_of x.0 xs x.1);
+        link = listed.sound x.0 (contains_of x.0 xs x.1);
       }
 
   pub known_home : (homes : List (Option ℕ)) → AreHomes links terms (length terms) homes → (k : ℕ)

@@ -1,4 +1,5 @@
 -- Proves that the lists computed are a hierarchy, and that its lines are those of the display.
+use Rattle.std.proofs.lemmas.Grind.{common_steps}
 use Rattle.std.proofs.Common.{◌≡◌, ◌∙◌, ◌⊎◌, ◌<◌, ◌≤◌, sym, ap, refl, subst, ℕ, Bool, true, false, List, [], ◌∷◌}
 use Rattle.std.proofs.Common.{length, Option, arith, inl, inr}
 use Rattle.std.specs.Prelude.{Contains}
@@ -21,7 +22,7 @@ use Rattle.thes_display.specs.ChildLists.{IsHierarchyText}
 use Rattle.thes_display.specs.Hierarchical.{HasRank, IsNarrowerTerm, IsTop, IsHome, IsAway, AreTypes, AreTerms}
 use Rattle.thes_display.specs.Hierarchical.{IsHierarchicalDisplay}
 use Rattle.thes_display.specs.HierarchyParts.{IsGathered, IsChildAt, IsChild, IsClosed, IsRoot}
-use Rattle.thes_display.proofs.WalkLemmas.{IsOneOf, among_from, rises_none}
+use Rattle.thes_display.proofs.WalkLemmas.{among_from, rises_none}
 
 -- If the relations that define the lines of one hierarchy imply those of another, its lines are lines of the other.
 module _ (T : ℕ → Type 0) (H A : ℕ → ℕ → Type 0) (Y : Types → ℕ → ℕ → Type 0) (T' : ℕ → Type 0)
@@ -34,24 +35,14 @@ module _ (T : ℕ → Type 0) (H A : ℕ → ℕ → Type 0) (Y : Types → ℕ 
   is_homeward_too (k ∷ b ∷ above) p = (h k b p.0, is_homeward_too (b ∷ above) p.1)
 
   is_placed_too : (home : Bool) (up : List ℕ) → IsPlaced T H A Y home up → IsPlaced T' H' A' Y' home up
-  is_placed_too true up p = is_homeward_too up p
-  is_placed_too false [] p = p
-  is_placed_too false (k ∷ []) p = p
-  is_placed_too false (k ∷ b ∷ above) p = (a k b p.0, is_homeward_too (b ∷ above) p.1)
+  is_placed_too home up p = grind (arith, common_steps, is_homeward_too)
 
   has_types_too : (types : Types) (home : Bool) (up : List ℕ) → IsPlaced T H A Y home up → HasTypes T H A Y types up
       → HasTypes T' H' A' Y' types up
-  has_types_too types home [] q p = p
-  has_types_too types home (k ∷ []) q p = p
-  has_types_too types true (k ∷ b ∷ above) q p = y types k b (inl q.0) p
-  has_types_too types false (k ∷ b ∷ above) q p = y types k b (inr q.0) p
+  has_types_too types home up q p = grind (arith, common_steps)
 
   pub line_as : (l : TreeLine) → IsTreeLine T H A Y l → IsTreeLine T' H' A' Y' l
-  line_as l p = (
-    is_placed_too l.at_home (l.rank ∷ l.above) p.0,
-    has_types_too l.types l.at_home (l.rank ∷ l.above) p.0
-        p.1,
-  )
+  line_as l p = grind (arith, common_steps, has_types_too, is_placed_too)
 
 pub one_concept : (terms : List Term) (m n k : ℕ) → HasRank terms m k → HasRank terms n k → m ≡ n
 one_concept terms m n k g h = sym g.concept ∙ ap (λ (t : Term). t.concept)
@@ -74,15 +65,7 @@ types_between links a b = record {
 
 pub types_are : (links : Links) (terms : List Term) (k b : ℕ) → (r : IsNarrowerTerm links terms k b)
     → AreTypes links terms (types_between links r.lower r.upper) k b
-types_are links terms k b r = record {
-  lower = r.lower;
-  upper = r.upper;
-  lower_rank = r.lower_rank;
-  upper_rank = r.upper_rank;
-  generic = (λ e. e, λ e. e);
-  partitive = (λ e. e, λ e. e);
-  instantial = (λ e. e, λ e. e);
-}
+types_are links terms k b r = grind (arith, common_steps)
 
 module _ (links : Links) (terms : List Term) (tops : List Child) (below : List (List Child))
     (g : IsGathered links terms tops below) where
@@ -92,8 +75,7 @@ module _ (links : Links) (terms : List Term) (tops : List Child) (below : List (
     where
       by_bound : (b < length terms) ⊎ (length terms ≤ b) → IsChild links terms b c
       by_bound (inl l) = (g.below_listed b l).sound c i
-      by_bound (inr l) = let s = g.size in let e = at_past below b (omega (arith, s, l)) in
-          absurd (subst (IsOneOf c) e (among_from c (children_at below b) i))
+      by_bound (inr l) = grind (arith, common_steps, among_from, at_past)
 
   child_under : (home : Bool) (k b : ℕ) → IsChildOf tops below home k b → IsChildAt links terms home k b
   child_under home k b c = (listed_under (child k c.0 home) b c.1).0
@@ -115,12 +97,7 @@ module _ (links : Links) (terms : List Term) (tops : List Child) (below : List (
   child_within home k b h = lower_within k b (broader_of home k b h)
 
   rises_at : (b : ℕ) → IsStrictlySortedBy child_cmp (children_at below b)
-  rises_at b = by_bound (cases_lt b (length terms))
-    where
-      by_bound : (b < length terms) ⊎ (length terms ≤ b) → IsStrictlySortedBy child_cmp (children_at below b)
-      by_bound (inl l) = (g.below_listed b l).rises
-      by_bound (inr l) = let s = g.size in subst (IsStrictlySortedBy child_cmp)
-          (sym (at_past below b (omega (arith, s, l)))) (rises_none child_cmp)
+  rises_at b = grind (arith, common_steps, at_past, cases_lt, rises_none)
 
   -- The lists computed from the links are a hierarchy.
   pub is_hierarchy : AreHierarchyLists tops below (length terms)

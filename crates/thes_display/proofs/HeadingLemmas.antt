@@ -1,14 +1,14 @@
 -- Proves that the headings of a scheme, collected concept by concept and then sorted, are all headings in the order of
 -- the display.
+use Rattle.std.proofs.lemmas.Grind.{common_steps}
 use Rattle.std.proofs.Common.{◌≡◌, ◌∙◌, ◌⊎◌, ◌≤◌, ◌+◌, refl, sym, ap, subst, ℕ, Bool, true, false, cond, List, []}
-use Rattle.std.proofs.Common.{◌∷◌, ◌++◌, take, take_all, length, append-nil, arith, Ordering, Less, Equal, Greater}
+use Rattle.std.proofs.Common.{◌∷◌, ◌++◌, take, take_all, length, append-nil, arith, Ordering, Less, Equal}
 use Rattle.std.proofs.Common.{⊎_elim, inl, inr, IsPermutation, IsSorted}
 use Rattle.std.specs.Ordering.{nat_cmp, ordering_then}
 use Rattle.std.specs.Cmp.{IsTotalOrder, nat_cmp_total, tied_itself}
 use Rattle.std.proofs.lemmas.Cmp.{then_total, on_total}
 use Rattle.std.specs.List.Sorted.{IsStrictlySortedBy}
 use Rattle.thes_base.specs.declared.data.LabelKind.TheVariants.{Alt}
-use Rattle.thes_base.specs.Labels.{HasLabel}
 use Rattle.thes_base.specs.Listing.{IsListing}
 use Rattle.thes_base.specs.State.{State}
 use Rattle.thes_core.specs.Terms.{term_text}
@@ -36,18 +36,13 @@ rank_total = then_total (on_total (λ (h : Heading). h.term.concept) nat_cmp_tot
     (then_total (on_total rank nat_cmp_total) (on_total (λ (h : Heading). h.term) term_total))
 
 pub first_ties : (a b : Ordering) → ordering_then a b ≡ Equal → a ≡ Equal
-first_ties Less b e = e
-first_ties Equal b e = refl
-first_ties Greater b e = e
+first_ties a b e = grind (arith, common_steps)
 
 then_ties : (a b c : Ordering) → a ≡ Equal → b ≡ Equal → c ≡ Equal → ordering_then a (ordering_then b c) ≡ Equal
 then_ties a b c e f g = ap (λ o. ordering_then o (ordering_then b c)) e ∙ ap (λ o. ordering_then o c) f ∙ g
 
 heading_ties : (x y : Heading) → heading_cmp x y ≡ Equal → heading_key x y ≡ Equal
-heading_ties x y e =
-    let terms = first_ties (term_cmp x.term y.term) (nat_cmp (rank x) (rank y)) e in
-    then_ties _ _ _ (ap (λ n. nat_cmp n y.term.concept) (tie x.term y.term terms) ∙ tied_itself nat_cmp_total
-    y.term.concept) (second_ties (term_cmp x.term y.term) _ e) terms
+heading_ties x y e = grind (arith, common_steps, first_ties, second_ties, then_ties, tie)
 
 after_ties : (a b : Ordering) → a ≡ Equal → b ≡ Less → ordering_then a b ≡ Less
 after_ties a b e f = ap (λ o. ordering_then o b) e ∙ f
@@ -98,20 +93,12 @@ module _ (s : State) (tag : List ℕ) (n : ℕ) where
 
   is_heading_at : (h : Heading) (terms : List Term) → IsListing term_cmp (IsLabelTerm s.labels n Alt tag) terms
       → IsMade terms h → IsHeadingAt s tag n h
-  is_heading_at h terms listed (c, inl own) =
-      (c, subst (λ b. IsHeadedBy s tag b h.term) (sym own.0) (own.1 ∙ ap (term_text s.labels tag) (sym c)))
-  is_heading_at h terms listed (c, inr late) = (
-    c,
-    subst (λ b. IsHeadedBy s tag b h.term) (sym late.0) (subst (λ m. HasLabel s.labels m Alt tag h.term.text)
-        (sym c) (listed.sound h.term (contains_of h.term terms late.1)).1),
-  )
+  is_heading_at h terms listed k = grind (arith, common_steps, contains_of)
 
   made_by : (b : Bool) (t : Term) (terms : List Term) → IsListing term_cmp (IsLabelTerm s.labels n Alt tag) terms
       → t.concept ≡ n → IsHeadedBy s tag b t → ((b ≡ false) × (t.text ≡ term_text s.labels tag n))
       ⊎ ((b ≡ true) × IsOneOf t terms)
-  made_by false t terms listed c p = inl (refl, p ∙ ap (term_text s.labels tag) c)
-  made_by true t terms listed c p =
-      inr (refl, among_from t terms (listed.complete t (c, subst (λ m. HasLabel s.labels m Alt tag t.text) c p)))
+  made_by b t terms listed c p = grind (arith, common_steps, among_from)
 
   pub headings_whole : (terms seen rest : List Term) (headings : List Heading)
       → IsListing term_cmp (IsLabelTerm s.labels n Alt tag) terms → seen ++ rest ≡ terms → length rest ≡ 0

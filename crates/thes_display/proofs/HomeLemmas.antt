@@ -1,5 +1,6 @@
 -- Proves that the least rank of the broader concepts is the home.
-use Rattle.std.proofs.Common.{◌≡◌, ◌∙◌, ◌≤◌, sym, ap, refl, subst, ℕ, List, [], ◌∷◌, length, Option, Some, None}
+use Rattle.std.proofs.lemmas.Grind.{common_steps}
+use Rattle.std.proofs.Common.{◌≡◌, ◌≤◌, sym, refl, subst, ℕ, List, [], ◌∷◌, length, Option, Some, None}
 use Rattle.std.proofs.Common.{arith, inl, inr}
 use Rattle.std.specs.Prelude.{Contains, MatchOption}
 use Rattle.std.specs.List.{filter_map, cons_option}
@@ -18,9 +19,7 @@ from_one : (f : ℕ → Option ℕ) (x k : ℕ) (xs : List ℕ) (o : Option ℕ)
     → (IsOneOf k (filter_map f xs) → (y : ℕ) × IsOneOf y xs × (f y ≡ Some k))
     → IsOneOf k (cons_option o (filter_map f xs))
     → (y : ℕ) × IsOneOf y (x ∷ xs) × (f y ≡ Some k)
-from_one f x k xs None g rest a = let r = rest a in (r.0, inr r.1, r.2)
-from_one f x k xs (Some j) g rest (inl same) = (x, inl refl, g ∙ ap Some (sym same))
-from_one f x k xs (Some j) g rest (inr a) = let r = rest a in (r.0, inr r.1, r.2)
+from_one f x k xs o g rest a = grind (arith, common_steps)
 
 of_found : (f : ℕ → Option ℕ) (xs : List ℕ) (k : ℕ) → IsOneOf k (filter_map f xs) → (x : ℕ) × IsOneOf x xs
     × (f x ≡ Some k)
@@ -38,8 +37,7 @@ with_one k (Some j) ks a = inr a
 
 found_of : (f : ℕ → Option ℕ) (xs : List ℕ) (x k : ℕ) → IsOneOf x xs → f x ≡ Some k → IsOneOf k (filter_map f xs)
 found_of f [] x k a g = absurd a
-found_of f (y ∷ xs) x k (inl same) g = subst (λ o. IsOneOf k (cons_option o (filter_map f xs))) (sym g ∙ ap f same)
-    (inl refl)
+found_of f (y ∷ xs) x k (inl same) g = grind (arith, common_steps)
 found_of f (y ∷ xs) x k (inr a) g = with_one k (f y) (filter_map f xs) (found_of f xs x k a g)
 
 -- The rank of each concept in the list that has one is found.
@@ -74,8 +72,7 @@ module _ (links : Links) (terms : List Term) (ranks : ℕ → Option ℕ) (are :
           upper = x.0;
           lower_rank = here;
           upper_rank = are.rank_is x.0 b x.2;
-          link =
-              listed.sound x.0 (contains_of x.0 xs x.1);
+          link = listed.sound x.0 (contains_of x.0 xs x.1);
         };
         least = λ c r.
             let same = one_concept terms r.lower n rank r.lower_rank here in

@@ -1,8 +1,8 @@
 -- Proves that each concept of a legal state has exactly one line at home: its path of homes ends at a top concept,
 -- since no concept is above itself.
-use Rattle.std.proofs.Common.{◌≡◌, ◌⊎◌, ◌∙◌, ◌<◌, ◌≤◌, ◌+◌, sym, ap, refl, subst, ℕ, zero, suc, Bool, true, false}
-use Rattle.std.proofs.Common.{◌||◌, List, [], ◌∷◌, ◌++◌, length, get_or, arith, eqb, ne_eqb, true≢false, ⊎_elim, inl}
-use Rattle.std.proofs.Common.{inr}
+use Rattle.std.proofs.lemmas.Grind.{common_steps}
+use Rattle.std.proofs.Common.{◌≡◌, ◌⊎◌, ◌∙◌, ◌<◌, ◌≤◌, ◌+◌, sym, refl, subst, ℕ, zero, suc, Bool, true, false}
+use Rattle.std.proofs.Common.{◌||◌, List, [], ◌∷◌, ◌++◌, length, get_or, arith, eqb, ne_eqb, inl, inr}
 use Rattle.std.specs.FinSet.{contains}
 use Rattle.std.specs.List.{AllByRecursion, IsDistinct}
 use Rattle.std.proofs.lemmas.Bool.{cases_lt, or_cases, or_left, or_right}
@@ -37,33 +37,11 @@ is_broader links a b =
     (has_link_test links kinds.BroaderPartitive a b || has_link_test links kinds.BroaderInstantial a b))
 
 broader_from : (links : Links) (a b : ℕ) → is_broader links a b ≡ true → HasBroader links a b
-broader_from links a b e = elim (or_cases _ _ e) [
-  | inl l ↦ (kinds.Broader, (refl, refl), l)
-  | inr f ↦ elim (or_cases _ _ f) [
-    | inl l ↦ (kinds.BroaderGeneric, (refl, refl), l)
-    | inr g ↦ elim (or_cases _ _ g) [
-      | inl l ↦ (kinds.BroaderPartitive, (refl, refl), l)
-      | inr l ↦ (kinds.BroaderInstantial, (refl, refl), l)
-    ]
-  ]
-]
+broader_from links a b e = grind (arith, common_steps, or_cases)
 
 -- The test holds of each broader concept.
 broader_to : (links : Links) (a b : ℕ) → HasBroader links a b → is_broader links a b ≡ true
-broader_to links a b (kinds.Broader, is, l) = or_left _ _ l
-broader_to links a b (kinds.BroaderGeneric, is, l) = or_right (has_link_test links kinds.Broader a b) _ (or_left _ _ l)
-broader_to links a b (kinds.BroaderPartitive, is, l) = or_right (has_link_test links kinds.Broader a b) _
-    (or_right (has_link_test links kinds.BroaderGeneric a b) _ (or_left _ _ l))
-broader_to links a b (kinds.BroaderInstantial, is, l) =
-    or_right (has_link_test links kinds.Broader a b) _ (or_right (has_link_test links kinds.BroaderGeneric a b) _
-    (or_right (has_link_test links kinds.BroaderPartitive a b) _ l))
-broader_to links a b (kinds.Related, is, l) = absurd (let e = is.1 in cc)
-broader_to links a b (kinds.Exact, is, l) = absurd (let e = is.1 in cc)
-broader_to links a b (kinds.Close, is, l) = absurd (let e = is.1 in cc)
-broader_to links a b (kinds.Broad, is, l) = absurd (let e = is.0 in cc)
-broader_to links a b (kinds.Narrow, is, l) = absurd (let e = is.1 in cc)
-broader_to links a b (kinds.RelMatch, is, l) = absurd (let e = is.1 in cc)
-broader_to links a b (kinds.Member, is, l) = absurd (let e = is.1 in cc)
+broader_to links a b h = grind (arith, common_steps, or_left, or_right)
 
 -- The least number that passes a test.
 
@@ -75,25 +53,9 @@ HasNone test n = (b : ℕ) → b < n → test b ≡ true → ⊥
 
 least_of : (test : ℕ → Bool) (n : ℕ) (t : Bool) → test n ≡ t → HasNone test n ⊎ HasLeast test n → HasNone test (suc n)
     ⊎ HasLeast test (suc n)
-least_of test n t e (inr w) =
-    let a = w.1 in
-    inr (
-      w.0,
-      omega (arith, a),
-      w.2,
-      λ c l f. ⊎_elim (λ below. w.3 c below f) (λ past. omega (arith, a, past))
-          (cases_lt c n),
-    )
-least_of test n true e (inl none) =
-    inr (
-      n,
-      omega arith,
-      e,
-      λ c l f. ⊎_elim (λ below. absurd (none c below f)) (λ past. omega (arith, past))
-          (cases_lt c n),
-    )
-least_of test n false e (inl none) = inl (λ b l f. ⊎_elim (λ below. none b below f)
-    (λ past. let same : b ≡ n = omega (arith, l, past) in true≢false (sym f ∙ ap test same ∙ e)) (cases_lt b n))
+least_of test n t e (inr w) = grind (arith, common_steps, cases_lt)
+least_of test n true e (inl none) = grind (arith, common_steps, cases_lt)
+least_of test n false e (inl none) = grind (arith, common_steps, cases_lt)
 
 least : (test : ℕ → Bool) (n : ℕ) → HasNone test n ⊎ HasLeast test n
 least test zero = inl (λ b l f. absurd (omega (arith, l)))
@@ -158,8 +120,7 @@ module _ (links : Links) (terms : List Term) (shut : IsClosed links terms) (cycl
       let h = concepts_linked k b r in (
         record { kind = h.0; a = concept_of k; b = concept_of b },
         h.2,
-        subst (λ w. LinkLeads w (concept_of k) (concept_of b) (concept_of k) (concept_of b)) (sym h.1.1)
-            (refl, refl),
+        subst (λ w. LinkLeads w (concept_of k) (concept_of b) (concept_of k) (concept_of b)) (sym h.1.1) (refl, refl),
       )
 
   -- The concept with the rank `k` is above that with the rank `j`.

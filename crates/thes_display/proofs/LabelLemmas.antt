@@ -1,8 +1,9 @@
 -- Proves that selecting from a concept's labels of a kind by language lists its labels of the kind in that language.
-use Rattle.std.proofs.Common.{◌≡◌, ◌∙◌, ◌≤◌, ◌+◌, refl, sym, ap, subst, ℕ, List, [], ◌∷◌, ◌++◌, take, take_all}
+use Rattle.std.proofs.lemmas.Grind.{common_steps}
+use Rattle.std.proofs.Common.{◌≡◌, ◌∙◌, ◌≤◌, ◌+◌, refl, sym, ap, subst, ℕ, List, [], ◌∷◌, ◌++◌, take, take_all, arith}
 use Rattle.std.proofs.Common.{length, Ordering, Less, Equal, ⊎_elim, inl, inr, IsPermutation, IsSorted}
-use Rattle.std.specs.Ordering.{nat_cmp, ordering_then}
-use Rattle.std.specs.Cmp.{IsTotalOrder, tied_itself}
+use Rattle.std.specs.Ordering.{nat_cmp}
+use Rattle.std.specs.Cmp.{IsTotalOrder}
 use Rattle.std.specs.Cmp.Lexicographic.{slice_cmp}
 use Rattle.std.specs.List.Sorted.{IsStrictlySortedBy}
 use Rattle.std.proofs.lemmas.Cmp.{on_total, nat_list_cmp_total}
@@ -26,9 +27,7 @@ by_text_total : IsTotalOrder by_text
 by_text_total = on_total (λ (t : Term). t.text) nat_list_cmp_total
 
 text_less : (x y : TaggedText) → x.tag ≡ y.tag → tagged_text_cmp x y ≡ Less → slice_cmp nat_cmp x.text y.text ≡ Less
-text_less x y e l =
-    sym (ap (λ o. ordering_then o (slice_cmp nat_cmp x.text y.text)) (ap (λ t. slice_cmp nat_cmp t y.tag) e
-    ∙ tied_itself nat_list_cmp_total y.tag)) ∙ l
+text_less x y e l = grind (arith, common_steps, nat_list_cmp_total)
 
 module _ (n : ℕ) (tag : List ℕ) (all : List TaggedText) where
   -- The term is one of these labels, in the language.

@@ -1,31 +1,22 @@
 -- Proves that extending a listing, concatenating two and selecting from one give listings again.
+use Rattle.std.proofs.lemmas.Grind.{common_steps}
 use Rattle.std.proofs.Common.{◌≡◌, ◌∙◌, ◌⊎◌, ◌≤◌, ◌+◌, refl, sym, ap, subst, ℕ, zero, suc, List, [], ◌∷◌, ◌++◌, take}
-use Rattle.std.proofs.Common.{take_all, length, Ordering, Less, ⊎_elim, inl, inr}
+use Rattle.std.proofs.Common.{take_all, length, Ordering, Less, ⊎_elim, inl, inr, arith}
 use Rattle.std.specs.List.{AllByRecursion}
 use Rattle.std.specs.List.Sorted.{IsStrictlySortedBy}
 use Rattle.thes_base.specs.Listing.{IsListing}
 use Rattle.thes_display.proofs.WalkLemmas.{IsOneOf, among_from, contains_of, among_append, among_left, among_right}
-use Rattle.thes_display.proofs.WalkLemmas.{all_of, each_of, rises_none, rises_more}
+use Rattle.thes_display.proofs.WalkLemmas.{each_of, rises_none, rises_more, rises_append}
 
 -- A listing of one property is a listing of an equivalent one.
 pub listing_as : {X : Type 0} (cmp : X → X → Ordering) (P Q : X → Type 0) (xs : List X) → ((x : X) → P x → Q x)
     → ((x : X) → Q x → P x) → IsListing cmp P xs → IsListing cmp Q xs
-listing_as cmp P Q xs to from l = record {
-  rises = l.rises;
-  sound = λ x c. to x (l.sound x c);
-  complete =
-      λ x q. l.complete x (from x q);
-}
+listing_as cmp P Q xs to from l = grind (arith, common_steps)
 
 -- The empty list lists a property that nothing has.
 pub listing_none : {X : Type 0} (cmp : X → X → Ordering) (P : X → Type 0) (xs : List X) → xs ≡ []
     → ((x : X) → P x → ⊥) → IsListing cmp P xs
-listing_none cmp P xs e none =
-    subst (IsListing cmp P) (sym e) (record {
-      rises = rises_none cmp;
-      sound = λ x c. absurd (among_from x [] c);
-      complete = λ x p. absurd (none x p);
-    })
+listing_none cmp P xs e none = grind (arith, common_steps, among_from, rises_none)
 
 -- A listing extended by a greater element is a listing.
 pub listing_more : {X : Type 0} (cmp : X → X → Ordering) (P Q : X → Type 0) (xs new : List X) (z : X)
@@ -40,16 +31,6 @@ listing_more cmp P Q xs new z l e less split keep last = subst (IsListing cmp Q)
       (⊎_elim (λ p. among_left x xs (z ∷ []) (among_from x xs (l.complete x p)))
       (λ same. among_right x xs (z ∷ []) (inl same)) (split x q));
 })
-
-rises_append : {X : Type 0} (cmp : X → X → Ordering) (xs ys : List X) → IsStrictlySortedBy cmp xs
-    → IsStrictlySortedBy cmp ys → ((x y : X) → IsOneOf x xs → IsOneOf y ys → cmp x y ≡ Less) → IsStrictlySortedBy cmp
-    (xs ++ ys)
-unfolding IsStrictlySortedBy
-rises_append cmp [] ys s t f = t
-rises_append cmp (x ∷ xs) ys s t f = (
-  all_of _ (xs ++ ys) (λ z a. ⊎_elim (λ l. each_of _ xs z s.0 l) (λ r. f x z (inl refl) r) (among_append z xs ys a)),
-  rises_append cmp xs ys s.1 t (λ z y a b. f z y (inr a) b),
-)
 
 -- The concatenation of two listings, of which each element of the first is less than each of the second, is a listing.
 pub listing_joined : {X : Type 0} (cmp : X → X → Ordering) (P R Q : X → Type 0) (xs ys new : List X)
@@ -74,9 +55,7 @@ before_rest cmp (x ∷ xs) rest z w s (inl e) = ap (λ v. cmp v z) e ∙ each_of
 before_rest cmp (x ∷ xs) rest z w s (inr a) = before_rest cmp xs rest z w s.1 a
 
 all_taken : {X : Type 0} (P : X → Type 0) (i : ℕ) (xs : List X) → AllByRecursion P xs → AllByRecursion P (take i xs)
-all_taken P zero xs all = tt
-all_taken P (suc i) [] all = tt
-all_taken P (suc i) (x ∷ xs) all = (all.0, all_taken P i xs all.1)
+all_taken P i xs all = grind (arith, common_steps)
 
 rises_taken : {X : Type 0} (cmp : X → X → Ordering) (i : ℕ) (xs : List X) → IsStrictlySortedBy cmp xs
     → IsStrictlySortedBy cmp (take i xs)
@@ -121,6 +100,4 @@ module _ {X : Type 0} (cmp : X → X → Ordering) (all : List X) (rises : IsStr
 
   pub chosen_whole : (P : X → Type 0) (i : ℕ) (found : List X) → IsListing cmp P all → length all ≤ i
       → ((x : X) → Q x → P x) → IsChosenUpTo i found → IsListing cmp Q found
-  chosen_whole P i found listed long has l =
-      listing_as cmp _ Q found (λ x p. p.1)
-      (λ x q. (subst (IsOneOf x) (sym (take_all i all long)) (among_from x all (listed.complete x (has x q))), q)) l
+  chosen_whole P i found listed long has l = grind (arith, common_steps, among_from, listing_as, take_all)

@@ -1,6 +1,7 @@
 -- Proves which lines of a hierarchy in lists have paths through a given line.
+use Rattle.std.proofs.lemmas.Grind.{common_steps}
 use Rattle.std.proofs.Common.{◌≡◌, ◌⊎◌, ◌∙◌, ◌<◌, sym, ap, refl, subst, ℕ, Bool, true, false, List, [], ◌∷◌, map, inl}
-use Rattle.std.proofs.Common.{inr, Less, true≢false}
+use Rattle.std.proofs.Common.{inr, Less, true≢false, arith}
 use Rattle.std.specs.Ordering.{nat_cmp}
 use Rattle.std.specs.Cmp.{tied_itself, nat_cmp_total}
 use Rattle.std.specs.List.Sorted.{IsStrictlySortedBy}
@@ -8,8 +9,7 @@ use Rattle.thes_display.specs.declared.walk.Child.{Child}
 use Rattle.thes_display.specs.declared.walk.Types.{Types}
 use Rattle.thes_display.specs.Lines.{TreeLine, IsHomeward, IsPlaced, HasTypes, untyped}
 use Rattle.thes_display.specs.ChildLists.{children_at, child, child_cmp, IsTopRank, IsChildOf, IsTypedUnder}
-use Rattle.thes_display.specs.ChildLists.{IsLineOfLists}
-use Rattle.thes_display.specs.ChildLists.{AreHierarchyLists}
+use Rattle.thes_display.specs.ChildLists.{IsLineOfLists, AreHierarchyLists}
 use Rattle.thes_display.proofs.WalkLemmas.{IsOneOf, among_from, contains_of, among_map, map_among, each_of, path_up}
 use Rattle.thes_display.proofs.WalkLemmas.{path_onto, Extends, child_line}
 
@@ -31,11 +31,11 @@ one_child (c ∷ cs) s k x y p q (inr a) (inl f) =
 one_child (c ∷ cs) s k x y p q (inr a) (inr b) = one_child cs s.1 k x y p q a b
 
 module _ (tops : List Child) (below : List (List Child)) (n : ℕ) (o : AreHierarchyLists tops below n) where
-  abbrev Homeward : List ℕ → Type 0
+  abbrev pub Homeward : List ℕ → Type 0
   Homeward = IsHomeward (IsTopRank tops below) (IsChildOf tops below true) (IsChildOf tops below false)
       (IsTypedUnder tops below)
 
-  abbrev IsPlacedHere : Bool → List ℕ → Type 0
+  abbrev pub IsPlacedHere : Bool → List ℕ → Type 0
   IsPlacedHere = IsPlaced (IsTopRank tops below) (IsChildOf tops below true) (IsChildOf tops below false)
       (IsTypedUnder tops below)
 
@@ -71,8 +71,7 @@ module _ (tops : List Child) (below : List (List Child)) (n : ℕ) (o : AreHiera
       → ((g : Bool) × IsChildOf tops below g x k × ((r ≡ []) → g ≡ h)) × Homeward (k ∷ ys)
   child_of [] x k ys true p = ((true, p.0, λ e. refl), p.1)
   child_of [] x k ys false p = ((false, p.0, λ e. refl), p.1)
-  child_of (y ∷ r) x k ys h p = let deeper = (child_of r y x (k ∷ ys) h p).1 in
-      ((true, deeper.0, λ e. absurd (cc)), deeper.1)
+  child_of (y ∷ r) x k ys h p = grind (arith, common_steps, child_of r y x (k ∷ ys) h p)
 
   abbrev pub IsIt : TreeLine → Type 0
   IsIt = IsLineOfLists tops below
@@ -102,22 +101,14 @@ module _ (tops : List Child) (below : List (List Child)) (n : ℕ) (o : AreHiera
       let kid = child x c.1.0 c.0 in
       inr (
         child_line (path_up p) kid,
-        map_among (child_line (path_up p)) kid (children_at below p.rank)
-            (among_from _ _ c.1.1),
+        map_among (child_line (path_up p)) kid (children_at below p.rank) (among_from _ _ c.1.1),
         (r, e),
       )
 
   -- The children of a line at home are lines of the hierarchy.
   placed_line : (p : TreeLine) → Homeward (path_up p) → (c : Child) → IsOneOf c (children_at below p.rank)
       → IsIt (child_line (path_up p) c)
-  placed_line p i c a =
-      let here = contains_of c (children_at below p.rank) a in (
-        elim c.at_home as (λ h. IsChildOf tops below h c.rank p.rank → IsPlacedHere h (c.rank ∷ path_up p)) [
-          | true ↦ λ u. (u, i)
-          | false ↦ λ u. (u, i)
-        ] (c.types, here),
-        (c.at_home, here),
-      )
+  placed_line p i c a = grind (arith, common_steps, contains_of)
 
   pub children_below : (p : TreeLine) → IsIt p → p.at_home ≡ true → (k : TreeLine)
       → IsOneOf k (map (child_line (path_up p)) (children_at below p.rank)) → IsIt k
@@ -139,13 +130,7 @@ module _ (tops : List Child) (below : List (List Child)) (n : ℕ) (o : AreHiera
       cc
 
   pub one_home_line : (l p : TreeLine) → IsIt l → IsIt p → l.at_home ≡ true → p.at_home ≡ true → l.rank ≡ p.rank → l ≡ p
-  one_home_line l p i j g h e =
-      let f : l.above ≡ p.above =
-      one_above p.rank l.above p.above
-      (subst (λ z. Homeward (z ∷ l.above)) e (subst (λ z. IsPlacedHere z (path_up l)) g i.0))
-      (subst (λ z. IsPlacedHere z (path_up p)) h j.0) in
-      let u : path_up l ≡ path_up p = cc in
-      same_line l p i j u
+  one_home_line l p i j g h e = grind (arith, common_steps, one_above, same_line)
 
   -- The ranks of lines are below `n`.
   pub line_known : (l : TreeLine) → IsIt l → l.rank < n

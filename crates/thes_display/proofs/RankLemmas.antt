@@ -1,6 +1,7 @@
 -- Proves that the map of ranks, built term by term, has the rank of each concept.
+use Rattle.std.proofs.lemmas.Grind.{common_steps}
 use Rattle.std.proofs.Common.{◌≡◌, ◌∙◌, ◌<◌, ◌≤◌, ◌+◌, sym, ap, refl, subst, ℕ, Bool, true, false, cond, List, length}
-use Rattle.std.proofs.Common.{get_or, Option, Some, None, arith, Ordering, Less, Equal, Greater, true≢false}
+use Rattle.std.proofs.Common.{get_or, Option, Some, arith, true≢false}
 use Rattle.std.specs.Ordering.{nat_cmp, is_eq}
 use Rattle.std.specs.Cmp.{tied_itself, nat_cmp_total}
 use Rattle.std.proofs.lemmas.Option.{slice_get_read, slice_get_within, same_Some}
@@ -14,17 +15,9 @@ pub record AreRanksBelow (terms : List Term) (m : ℕ) (ranks : ℕ → Option �
   pub rank_is : (n k : ℕ) → ranks n ≡ Some k → HasRank terms n k × (k < m)
   pub all : (n k : ℕ) → HasRank terms n k → k < m → ranks n ≡ Some k
 
-pub no_ranks : (terms : List Term) (ranks : ℕ → Option ℕ) → ((n : ℕ) → ranks n ≡ None) → AreRanksBelow terms 0 ranks
-no_ranks terms ranks e = record { rank_is = λ n k f. let g = e n in absurd (cc); all = λ n k h l. absurd (omega arith) }
-
 pub rank_of_term : (terms : List Term) (k : ℕ) (t : Term) → k < length terms → t ≡ get_or terms k t
     → HasRank terms t.concept k
-rank_of_term terms k t l e = record {
-  term = t;
-  term_at = slice_get_read terms (length terms) k t refl l e;
-  concept =
-      refl;
-}
+rank_of_term terms k t l e = grind (arith, common_steps, slice_get_read)
 
 pub ranks_more : (terms : List Term) (one : HaveOneRank terms) (k : ℕ) (t : Term) → k < length terms → t
     ≡ get_or terms k t → (old new : ℕ → Option ℕ)
@@ -36,21 +29,11 @@ ranks_more terms one k t l e old new a step = record {
 }
   where
     same : (n : ℕ) → is_eq (nat_cmp t.concept n) ≡ true → t.concept ≡ n
-    same n f = exact_unsigned t.concept n (by_case (nat_cmp t.concept n) f)
-      where
-        by_case : (o : Ordering) → is_eq o ≡ true → o ≡ Equal
-        by_case Less q = absurd (true≢false (sym q))
-        by_case Equal q = refl
-        by_case Greater q = absurd (true≢false (sym q))
+    same n f = grind (arith, common_steps, exact_unsigned)
 
     of_case : (n j : ℕ) (b : Bool) → is_eq (nat_cmp t.concept n) ≡ b → cond (is_eq (nat_cmp t.concept n)) (Some k)
         (old n) ≡ Some j → HasRank terms n j × (j < k + 1)
-    of_case n j true f g =
-        let at : Some k ≡ Some j = sym (ap (λ b. cond b (Some k) (old n)) f) ∙ g in
-        let q : k ≡ j = same_Some k j at in (
-          subst (λ i. HasRank terms n i) q (subst (λ i. HasRank terms i k) (same n f) (rank_of_term terms k t l e)),
-          omega arith,
-        )
+    of_case n j true f g = grind (arith, common_steps, rank_of_term, same, same_Some)
     of_case n j false f g =
         let r = a.rank_is n j (sym (ap (λ b. cond b (Some k) (old n)) f) ∙ g) in
         (r.0, let s = r.1 in omega arith)
@@ -68,9 +51,7 @@ ranks_more terms one k t l e old new a step = record {
         step n ∙ ap (λ b. cond b (Some k) (old n)) f ∙ a.all n j h (omega arith)
       where
         concept_at : (n : ℕ) → HasRank terms n k → t.concept ≡ n
-        concept_at n h =
-            let s = slice_get_read terms (length terms) k t refl l e in
-            ap (λ (z : Term). z.concept) (same_Some t h.term (sym s ∙ h.term_at)) ∙ h.concept
+        concept_at n h = grind (arith, common_steps, same_Some, slice_get_read)
 
 pub all_ranks : (terms : List Term) (m : ℕ) (ranks : ℕ → Option ℕ) → length terms ≤ m → AreRanksBelow terms m ranks
     → AreRanks terms ranks

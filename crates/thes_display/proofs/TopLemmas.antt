@@ -1,5 +1,6 @@
 -- Proves that the top concepts listed are the concepts without a home.
-use Rattle.std.proofs.Common.{◌≡◌, ◌∙◌, ◌<◌, ◌≤◌, ◌+◌, sym, ap, refl, subst, ℕ, Bool, true, false, List, [], ◌∷◌}
+use Rattle.std.proofs.lemmas.Grind.{common_steps}
+use Rattle.std.proofs.Common.{◌≡◌, ◌<◌, ◌≤◌, ◌+◌, sym, refl, subst, ℕ, Bool, true, false, List, [], ◌∷◌}
 use Rattle.std.proofs.Common.{◌++◌, length, Option, Some, None, arith, Less, ⊎_elim, inl, lt-ltb}
 use Rattle.std.specs.Prelude.{slice_get, is_some, not}
 use Rattle.std.specs.Ordering.{nat_cmp}
@@ -25,14 +26,7 @@ AreTops homes m tops = IsListing child_cmp (λ c. IsTopByHomes homes c × (c.ran
 
 module _ (homes : List (Option ℕ)) where
   pub tops_none : (tops : List Child) → tops ≡ [] → AreTops homes 0 tops
-  tops_none tops e =
-      subst (AreTops homes 0) (sym e)
-      (record {
-        rises = rises_none child_cmp;
-        sound = λ c a. absurd (among_from c [] a);
-        complete = λ c i. let l =
-            i.1 in absurd (omega arith);
-      })
+  tops_none tops e = grind (arith, common_steps, among_from, rises_none)
 
   -- A rank without a home extends the list of top concepts.
   pub tops_more : (m : ℕ) (tops new : List Child) → AreTops homes m tops → slice_get homes m ≡ Some None → new ≡ tops
@@ -55,23 +49,11 @@ module _ (homes : List (Option ℕ)) where
 
   pub tops_skip : (m j : ℕ) (tops : List Child) → AreTops homes m tops → slice_get homes m ≡ Some (Some j)
       → AreTops homes (m + 1) tops
-  tops_skip m j tops t h = record {
-    rises = t.rises;
-    sound = λ c a. let r = t.sound c a in (r.0, let l = r.1 in omega arith);
-    complete = λ c i. ⊎_elim (λ old. t.complete c (i.0, old))
-        (λ last. let l = i.1 in let k : c.rank ≡ m = omega (arith, l, last) in let f : Some None ≡ Some (Some j) =
-        sym i.0.1 ∙ ap (slice_get homes) k ∙ h in let g : None ≡ Some j = same_Some None (Some j) f in
-        absurd (cc))
-        (cases_lt c.rank m);
-  }
+  tops_skip m j tops t h = grind (arith, common_steps, cases_lt, same_Some)
 
   pub tops_whole : (m : ℕ) (tops : List Child) → length homes ≤ m → AreTops homes m tops
       → IsListing child_cmp (IsTopByHomes homes) tops
-  tops_whole m tops l t = record {
-    rises = t.rises;
-    sound = λ c a. (t.sound c a).0;
-    complete = λ c i. t.complete c (i, let w = slice_get_within homes c.rank None i.1 in omega (arith, w, l));
-  }
+  tops_whole m tops l t = grind (arith, common_steps, slice_get_within)
 
   pub is_gathered : (links : Links) (terms : List Term) (tops : List Child) (below : List (List Child))
       → AreHomes links terms (length terms) homes → IsListing child_cmp (IsTopByHomes homes) tops

@@ -1,4 +1,5 @@
 -- Proves that a depth-first walk from the top concepts writes the lines in the order of their paths.
+use Rattle.std.proofs.lemmas.Grind.{common_steps}
 use Rattle.std.proofs.Common.{◌≡◌, ◌⊎◌, ◌∙◌, ◌<◌, sym, ap, refl, subst, ℕ, zero, suc, List, [], ◌∷◌, ◌++◌, reverse}
 use Rattle.std.proofs.Common.{map, length, arith, ⊎_elim, inl, inr, append_assoc, append-nil, Ordering, Less, Equal}
 use mathlib.Core.List.{reverse-cons}
@@ -69,18 +70,22 @@ pub rises_none : {X : Type 0} (cmp : X → X → Ordering) → IsStrictlySortedB
 unfolding IsStrictlySortedBy
 rises_none cmp = tt
 
+pub rises_append : {X : Type 0} (cmp : X → X → Ordering) (xs ys : List X) → IsStrictlySortedBy cmp xs
+    → IsStrictlySortedBy cmp ys → ((x y : X) → IsOneOf x xs → IsOneOf y ys → cmp x y ≡ Less) → IsStrictlySortedBy cmp
+    (xs ++ ys)
+unfolding IsStrictlySortedBy
+rises_append cmp [] ys s t f = t
+rises_append cmp (x ∷ xs) ys s t f = (
+  all_of _ (xs ++ ys) (λ z a. ⊎_elim (λ l. each_of _ xs z s.0 l) (λ r. f x z (inl refl) r) (among_append z xs ys a)),
+  rises_append cmp xs ys s.1 t (λ z y a b. f z y (inr a) b),
+)
+
 -- A sorted list extended by a greater element is sorted.
 pub rises_more : {X : Type 0} (cmp : X → X → Ordering) (xs : List X) (z : X) → IsStrictlySortedBy cmp xs
     → ((w : X) → IsOneOf w xs → cmp w z ≡ Less) → IsStrictlySortedBy cmp (xs ++ z ∷ [])
 unfolding IsStrictlySortedBy
-rises_more cmp [] z s f = (tt, tt)
-rises_more cmp (x ∷ xs) z s f = (
-  all_of _ (xs ++ z ∷ [])
-      (λ y a. ⊎_elim (λ l. each_of _ xs y s.0 l)
-      (λ r. ⊎_elim (λ e. subst (λ q. cmp x q ≡ Less) (sym e) (f x (inl refl))) (λ n. absurd n) r)
-      (among_append y xs (z ∷ []) a)),
-  rises_more cmp xs z s.1 (λ w a. f w (inr a)),
-)
+rises_more cmp xs z s f = rises_append cmp xs (z ∷ []) s (tt, tt)
+    (λ x y a b. ⊎_elim (λ e. subst (λ q. cmp x q ≡ Less) (sym e) (f x a)) (λ n. absurd n) b)
 
 -- The ranks from a line's concept up to its top concept.
 abbrev pub path_up : TreeLine → List ℕ
@@ -93,8 +98,7 @@ path_onto (x ∷ r) u = path_onto r (x ∷ u)
 
 reverse_onto : (r u : List ℕ) → reverse (path_onto r u) ≡ reverse u ++ r
 reverse_onto [] u = sym (append-nil (reverse u))
-reverse_onto (x ∷ r) u = reverse_onto r (x ∷ u) ∙ ap (λ z. z ++ r) (reverse-cons x u) ∙ append_assoc (reverse u)
-    (x ∷ []) r
+reverse_onto (x ∷ r) u = grind (arith, common_steps, append_assoc, reverse-cons, reverse_onto r (x ∷ u))
 
 -- The path of the second line extends that of the first, or equals it.
 abbrev pub Extends : TreeLine → TreeLine → Type 0
@@ -180,11 +184,7 @@ pub record IsWalk (IsIt : TreeLine → Type 0) (written waiting : List TreeLine)
 -- A walk without a waiting line has written all lines, in order.
 pub walk_done : (IsIt : TreeLine → Type 0) (written : List TreeLine) → IsWalk IsIt written []
     → IsListing line_cmp IsIt written
-walk_done IsIt written h = record {
-  rises = h.rises;
-  sound = λ l c. h.written_lines l (among_from l written c);
-  complete = λ l q. contains_of l written (⊎_elim (λ w. w) (λ p. absurd p.1) (h.rest l q));
-}
+walk_done IsIt written h = grind (arith, common_steps, among_from, contains_of)
 
 -- A step of the walk writes the first waiting line, and its children become the first waiting ones.
 module _ (IsIt : TreeLine → Type 0) (written : List TreeLine) (p : TreeLine) (ps kids : List TreeLine)

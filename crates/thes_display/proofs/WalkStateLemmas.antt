@@ -1,23 +1,23 @@
 -- Proves that each step of the depth-first walk keeps its invariant, and that the text at its end is that of the
 -- hierarchy.
-use Rattle.std.proofs.Common.{◌≢◌, Less, set, append-nil, replicate, add-one, length-append, length-set, ◌≡◌, ◌⊎◌}
-use Rattle.std.proofs.Common.{◌∙◌, ◌<◌, ◌≤◌, ◌+◌, ◌*◌, sym, ap, refl, subst, ℕ, zero, suc, Bool, true, false, List}
+use Rattle.std.proofs.lemmas.Grind.{common_steps}
+use Rattle.std.proofs.Common.{◌≢◌, Less, set, append-nil, add-one, length-append, length-set, ◌≡◌, ◌⊎◌}
+use Rattle.std.proofs.Common.{◌∙◌, ◌<◌, ◌≤◌, ◌+◌, sym, ap, refl, subst, ℕ, zero, suc, Bool, true, false, List}
 use Rattle.std.proofs.Common.{[], ◌∷◌, ◌++◌, map, length, reverse, arith, ⊎_elim, inl, inr}
 use Rattle.thes_display.specs.declared.walk.Child.{Child}
 use Rattle.thes_display.specs.declared.walk.WaitingLine.{WaitingLine}
 use Rattle.thes_display.specs.Order.{Term}
-use Rattle.thes_display.specs.Lines.{TreeLine, lines_text, path, line_cmp, tree_line_text, line_end, placed_text}
-use Rattle.thes_display.specs.Lines.{types_text, text_at, IsHomeward, IsPlaced, untyped}
+use Rattle.thes_display.specs.Lines.{TreeLine, lines_text, path, line_cmp, line_end, placed_text, untyped}
 use Rattle.thes_display.specs.ChildLists.{children_at, IsLineOfLists, AreHierarchyLists, waiting_at, IsHierarchyText}
-use Rattle.thes_display.specs.ChildLists.{child}
-use Rattle.thes_display.specs.ChildLists.{IsTopRank, IsChildOf, IsTypedUnder}
+use Rattle.thes_display.specs.ChildLists.{child, IsTopRank}
 use Rattle.std.proofs.lemmas.List.{reverse-append, reverse-reverse, length-reverse, map-append}
 use Rattle.std.proofs.lemmas.List.Concat.{flat_map-append}
 use Rattle.std.proofs.lemmas.Bool.{cases_eq}
 use Rattle.thes_display.proofs.WalkLemmas.{IsOneOf, among_from, contains_of, among_map, map_among, among_left}
 use Rattle.thes_display.proofs.WalkLemmas.{among_right, among_append, IsWalk, rises_none, less_itself, path_up}
 use Rattle.thes_display.proofs.WalkLemmas.{path_onto, child_line, placed_apart, walk_step, walk_done}
-use Rattle.thes_display.proofs.PlaceLemmas.{below_away, below_home, children_below, one_home_line, line_known}
+use Rattle.thes_display.proofs.PlaceLemmas.{Homeward, IsPlacedHere, below_away, below_home, children_below}
+use Rattle.thes_display.proofs.PlaceLemmas.{one_home_line, line_known}
 
 -- The frame of a waiting line on the stack.
 abbrev pub frame : TreeLine → WaitingLine
@@ -56,26 +56,18 @@ module _ (terms : List Term) (tops : List Child) (below : List (List Child)) (n 
   abbrev IsIt : TreeLine → Type 0
   IsIt = IsLineOfLists tops below
 
-  abbrev Homeward : List ℕ → Type 0
-  Homeward = IsHomeward (IsTopRank tops below) (IsChildOf tops below true) (IsChildOf tops below false)
-      (IsTypedUnder tops below)
-
-  abbrev IsPlacedHere : Bool → List ℕ → Type 0
-  IsPlacedHere = IsPlaced (IsTopRank tops below) (IsChildOf tops below true) (IsChildOf tops below false)
-      (IsTypedUnder tops below)
-
   onto_more : (r : List ℕ) (k : ℕ) (u : List ℕ) → path_onto (r ++ k ∷ []) u ≡ k ∷ path_onto r u
   onto_more [] k u = refl
   onto_more (x ∷ r) k u = onto_more r k (x ∷ u)
 
   -- A path of homes ends at a top concept.
-  top_of : (u : List ℕ) → Homeward u → (x : ℕ) × IsTopRank tops below x × ((r : List ℕ) × (u ≡ path_onto r (x ∷ [])))
+  top_of : (u : List ℕ) → Homeward tops below n o u → (x : ℕ) × IsTopRank tops below x × ((r : List ℕ) × (u ≡ path_onto r (x ∷ [])))
   top_of [] p = absurd p
   top_of (k ∷ []) p = (k, p, ([], refl))
   top_of (k ∷ b ∷ above) p = let t = top_of (b ∷ above) p.1 in
       (t.0, t.1, (t.2.0 ++ k ∷ [], ap (λ z. k ∷ z) t.2.1 ∙ sym (onto_more t.2.0 k (t.0 ∷ []))))
 
-  top_above : (h : Bool) (k : ℕ) (above : List ℕ) → IsPlacedHere h (k ∷ above) → (x : ℕ) × IsTopRank tops below x
+  top_above : (h : Bool) (k : ℕ) (above : List ℕ) → IsPlacedHere tops below n o h (k ∷ above) → (x : ℕ) × IsTopRank tops below x
       × ((r : List ℕ) × (k ∷ above ≡ path_onto r (x ∷ [])))
   top_above true k above p = top_of (k ∷ above) p
   top_above false k [] p = absurd p
@@ -87,7 +79,7 @@ module _ (terms : List Term) (tops : List Child) (below : List (List Child)) (n 
       let h = o.tops_home c (contains_of c tops a) in
       let at_top = subst (λ t. IsOneOf (child c.rank t true) tops) h.1
       (subst (λ b. IsOneOf (child c.rank c.types b) tops) h.0 a) in
-      (subst (λ b. IsPlacedHere b (c.rank ∷ [])) (sym h.0) (contains_of (child c.rank untyped true) tops at_top), h.1)
+      (subst (λ b. IsPlacedHere tops below n o b (c.rank ∷ [])) (sym h.0) (contains_of (child c.rank untyped true) tops at_top), h.1)
 
   walk_at_start : IsWalk IsIt [] (map (child_line []) tops)
   walk_at_start = record {
@@ -99,25 +91,14 @@ module _ (terms : List Term) (tops : List Child) (below : List (List Child)) (n 
     rest = λ l i. let t = top_above l.at_home l.rank l.above i.0 in
         inr (
           child_line [] (child t.0 untyped true),
-          map_among (child_line []) (child t.0 untyped true) tops
-              (among_from _ _ t.1),
+          map_among (child_line []) (child t.0 untyped true) tops (among_from _ _ t.1),
           t.2,
         );
   }
 
   pub under_way_first : (text : List ℕ) (stack old : List WaitingLine) → text ≡ [] → old ≡ [] → stack ≡ old
       ++ reverse (map (waiting_at 0) tops) → IsUnderWay terms tops below text stack below
-  under_way_first text stack old e f g = record {
-    written = [];
-    waiting = map (child_line []) tops;
-    text_is = e;
-    stack_is = g ∙ ap (λ s. s ++ reverse (map (waiting_at 0) tops)) f ∙ ap reverse (sym (frames [] tops));
-    walk = walk_at_start;
-    left_is = λ k. inl refl;
-    depths = λ l a. let c = among_map (child_line []) l tops a in let d : length l.above ≡ 0 =
-        ap (λ (z : TreeLine). length z.above) c.2 in omega (arith, d);
-    left_size = refl;
-  }
+  under_way_first text stack old e f g = grind (arith, common_steps, among_map, frames, walk_at_start)
 
   -- One step of the walk writes the next line.
 
@@ -143,25 +124,8 @@ module _ (terms : List Term) (tops : List Child) (below : List (List Child)) (n 
       by_waiting : (waiting : List TreeLine) → IsWalk IsIt s.written waiting
           → ((l : TreeLine) → IsOneOf l waiting → length l.above ≤ length text) → reverse (map frame waiting) ≡ rest
           ++ next ∷ [] → HasNext text rest next left
-      by_waiting [] w d f = let g : length (rest ++ next ∷ []) ≡ 0 = ap length (sym f) in let h =
-          length-append rest (next ∷ []) in absurd (omega (arith, g, h))
-      by_waiting (p ∷ ps) w d f =
-          let g : frame p ∷ map frame ps ≡ next ∷ reverse rest = sym (reverse-reverse (map frame (p ∷ ps)))
-          ∙ ap reverse f ∙ reverse-append rest (next ∷ []) in
-          let a : next ≡ frame p = cc in
-          let b : map frame ps ≡ reverse rest = cc in
-          record {
-            line = p;
-            others = ps;
-            written = s.written;
-            text_is = s.text_is;
-            next_is = a;
-            rest_is = sym (reverse-reverse rest) ∙ ap reverse (sym b);
-            walk = w;
-            left_is = s.left_is;
-            depths = d;
-            left_size = s.left_size;
-          }
+      by_waiting [] w d f = grind (arith, common_steps, length-append)
+      by_waiting (p ∷ ps) w d f = grind (arith, common_steps, reverse-append, reverse-reverse)
 
   module _ (text : List ℕ) (rest : List WaitingLine) (next : WaitingLine) (left : List (List Child))
       (s : HasNext text rest next left) where
@@ -180,11 +144,7 @@ module _ (terms : List Term) (tops : List Child) (below : List (List Child)) (n 
 
     text_more : (text' : List ℕ) → text' ≡ text ++ placed_text terms next.rank next.depth next.types next.at_home
         → text' ≡ lines_text terms (s.written ++ s.line ∷ [])
-    text_more text' e =
-        e ∙ ap (λ (f : WaitingLine). text ++ placed_text terms f.rank f.depth f.types f.at_home) s.next_is
-        ∙ ap (λ t. t ++ tree_line_text terms s.line) s.text_is
-        ∙ ap (λ t. lines_text terms s.written ++ t) (sym (append-nil (tree_line_text terms s.line)))
-        ∙ sym (flat_map-append (tree_line_text terms) s.written (s.line ∷ []))
+    text_more text' e = grind (arith, common_steps, append-nil, flat_map-append)
 
     star_length : (h : Bool) → 1 ≤ length (line_end h)
     star_length true = omega arith
@@ -192,15 +152,7 @@ module _ (terms : List Term) (tops : List Child) (below : List (List Child)) (n 
 
     text_longer : (text' : List ℕ) → text' ≡ text ++ placed_text terms next.rank next.depth next.types next.at_home
         → length text + 1 ≤ length text'
-    text_longer text' e =
-        let star = line_end next.at_home in
-        let a = ap length e ∙ length-append text (placed_text terms next.rank next.depth next.types next.at_home) in
-        let types = types_text next.types in
-        let b = length-append (replicate (2 * next.depth) 32) (text_at terms next.rank ++ (types ++ star)) in
-        let c = length-append (text_at terms next.rank) (types ++ star) in
-        let d = length-append types star in
-        let f = star_length next.at_home in
-        omega (arith, a, b, c, d, f)
+    text_longer text' e = grind (arith, common_steps, length-append, star_length)
 
     -- The children of the next line are still in the lists.
     still_there : next.at_home ≡ true → children_at left next.rank ≡ children_at below next.rank
@@ -218,21 +170,7 @@ module _ (terms : List Term) (tops : List Child) (below : List (List Child)) (n 
     left_more : (left' : List (List Child)) → next.at_home ≡ true → left' ≡ set left next.rank [] → (k : ℕ)
         → (children_at left' k ≡ children_at below k) ⊎ ((w : TreeLine) × IsOneOf w (s.written ++ s.line ∷ [])
         × (w.at_home ≡ true) × (w.rank ≡ k))
-    left_more left' home e k =
-        let here : next.rank ≡ s.line.rank = ap (λ (f : WaitingLine). f.rank) s.next_is in
-        elim (cases_eq k next.rank) [
-          | inl same ↦ inr (
-            s.line,
-            among_right s.line s.written (s.line ∷ []) (inl refl),
-            sym next_home ∙ home,
-            sym here ∙ sym same,
-          )
-          | inr other ↦
-              ⊎_elim (λ f. inl (ap (λ x. children_at x k) e ∙ at_other left next.rank k other ∙ f))
-              (λ (w : (w : TreeLine) × IsOneOf w s.written × (w.at_home ≡ true) × (w.rank ≡ k)).
-              inr (w.0, among_left w.0 s.written (s.line ∷ []) w.1, w.2, w.3))
-              (s.left_is k)
-        ]
+    left_more left' home e k = grind (arith, common_steps, among_left, among_right, at_other, cases_eq, next_home)
 
     -- The invariant holds after a line at home is written and its children are pushed.
     pub under_way_home : (text' : List ℕ) (stack' : List WaitingLine) (left' : List (List Child))
@@ -304,5 +242,4 @@ module _ (terms : List Term) (tops : List Child) (below : List (List Child)) (n 
       by_waiting : (waiting : List TreeLine) → IsWalk IsIt s.written waiting → reverse (map frame waiting) ≡ []
           → IsHierarchyText terms tops below text
       by_waiting [] w f = record { lines = s.written; listing = walk_done IsIt s.written w; is = s.text_is }
-      by_waiting (p ∷ ps) w f = let g : length (reverse (map frame (p ∷ ps))) ≡ 0 = ap length f in let h =
-          length-reverse (map frame (p ∷ ps)) in absurd (omega (arith, g, h))
+      by_waiting (p ∷ ps) w f = grind (arith, common_steps, length-reverse)

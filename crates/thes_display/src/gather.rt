@@ -36,6 +36,7 @@ fn terms_of(alloc: Global, core: &Core, scheme: ResNo, tag: &Tag) -> Result<Vec<
 }
 
 // Maps each concept to its rank: the index of its term in alphabetical order.
+#[tactic(auto, using(crate::proofs::RankLemmas::ranks_more, crate::proofs::RankLemmas::all_ranks))]
 fn ranks_of(alloc: Global, terms: &[Term]) -> Result<BTreeMap<ResNo, usize>, AllocError>
     requires { HaveOneRank terms.now }
     ensures { IfOk result (λ ranks. AreRanks terms.now (get nat_cmp ranks)) }
@@ -120,6 +121,7 @@ fn sort_children(children: &mut Vec<Child>) -> Result<(), AllocError>
 }
 
 // Returns the types of the links from a concept to a broader one, both given by rank.
+#[tactic(auto, using(crate::proofs::RankLemmas::rank_of_term))]
 fn types_at(core: &Core, terms: &[Term], child: usize, rank: usize) -> Types
     requires unspent { core.now.spent ≡ false }
     requires within { (child < length terms.now) × (rank < length terms.now) }

@@ -1,5 +1,6 @@
 -- Proves that the concatenated lines of triples have one reading as a document: these triples.
-use Rattle.std.proofs.Common.{◌≡◌, ◌∙◌, sym, ap, refl, subst, ℕ, List, [], ◌∷◌, ◌++◌, map, arith, inl, inr, ⊎_elim}
+use Rattle.std.proofs.lemmas.Grind.{common_steps}
+use Rattle.std.proofs.Common.{◌≡◌, ◌∙◌, sym, refl, subst, ℕ, List, [], ◌∷◌, ◌++◌, map, arith, inl, inr, ⊎_elim}
 use Rattle.std.proofs.lemmas.List.Elements.{All-head}
 use Rattle.thes_base.specs.Triples.{Triple}
 use Rattle.thes_export.specs.NTriples.{Statement, IsBlankByte, IsEolByte, IsEol, IsSpaced, IsSubject, IsTriple}
@@ -12,13 +13,7 @@ use Rattle.thes_export.proofs.LineReadingLemmas.{line_then, not_blank, line_same
 -- If a text begins with neither white space nor `#`, nothing comes before the end of its line.
 no_line_end : (text : List ℕ) (c : ℕ) (x rest : List ℕ) → text ≡ c ∷ x → ¬ IsBlankByte c → (c ≡ 35 → ⊥)
     → IsLineEnd text rest → rest ≡ c ∷ x
-no_line_end text c x rest e blank hash at_line_end = elim at_line_end.content [
-  | inl none ↦ sym (at_line_end.text_is ∙ ap (λ l. l ++ rest) none) ∙ start
-  | inr comment ↦ heads_differ _ _ _ _ hash (sym start ∙ at_line_end.text_is ∙ ap (λ l. l ++ rest) comment.text_is)
-]
-  where
-    start : at_line_end.start ≡ c ∷ x
-    start = no_gap_before text at_line_end.start c x at_line_end.gap_before e blank
+no_line_end text c x rest e blank hash at_line_end = grind (arith, common_steps, heads_differ, no_gap_before)
 
 -- An end of line is one byte if the next byte belongs to no line end.
 one_eol : (eol rest text x : List ℕ) → IsEol eol → text ≡ eol ++ rest → text ≡ 10 ∷ x
@@ -30,9 +25,7 @@ one_eol (b ∷ c ∷ eol) rest text x has_form text_is e stops =
 
 no_eol : (eol rest text : List ℕ) (c : ℕ) (x : List ℕ) → IsEol eol → text ≡ eol ++ rest → text ≡ c ∷ x → ¬ IsEolByte c
     → ⊥
-no_eol [] rest text c x has_form text_is e stops = let l = has_form.0 in omega arith
-no_eol (b ∷ eol) rest text c x has_form text_is e stops =
-    stops (subst IsEolByte (head_of _ _ _ _ (sym text_is ∙ e)) (All-head IsEolByte b eol has_form.1))
+no_eol eol rest text c x has_form text_is e stops = grind (arith, common_steps, All-head, head_of)
 
 no_eol_empty : (eol rest text : List ℕ) → IsEol eol → text ≡ eol ++ rest → text ≡ [] → ⊥
 no_eol_empty [] rest text has_form text_is e = let l = has_form.0 in omega arith
@@ -40,11 +33,7 @@ no_eol_empty (b ∷ eol) rest text has_form text_is e = let bad : [] ≡ b ∷ (
 
 -- An empty text has an empty rest after white space.
 spaced_empty : (text rest : List ℕ) → IsSpaced text rest → text ≡ [] → rest ≡ []
-spaced_empty text rest gap_before e = go gap_before.gap (sym gap_before.text_is ∙ e)
-  where
-    go : (gap : List ℕ) → gap ++ rest ≡ [] → rest ≡ []
-    go [] same = same
-    go (b ∷ gap) same = absurd (let bad : b ∷ (gap ++ rest) ≡ [] = same in cc)
+spaced_empty text rest gap_before e = grind (arith, common_steps)
 
 no_triple : (text : List ℕ) (content : Statement) (rest : List ℕ) → IsTriple text content rest → text ≡ [] → ⊥
 no_triple text content rest read e = go read.subject
@@ -57,14 +46,7 @@ no_triple text content rest read e = go read.subject
     go (inr (label, is, node)) = let bad : [] ≡ 95 ∷ 58 ∷ (label ++ read.after_subject) = sym first ∙ node.text_is in cc
 
 line_end_empty : (text rest : List ℕ) → IsLineEnd text rest → text ≡ [] → rest ≡ []
-line_end_empty text rest at_line_end e = elim at_line_end.content [
-  | inl none ↦ sym (at_line_end.text_is ∙ ap (λ l. l ++ rest) none) ∙ start
-  | inr comment ↦ absurd (let bad : [] ≡ 35 ∷ (comment.content ++ rest) = sym start ∙ at_line_end.text_is
-      ∙ ap (λ l. l ++ rest) comment.text_is in cc)
-]
-  where
-    start : at_line_end.start ≡ []
-    start = spaced_empty text at_line_end.start at_line_end.gap_before e
+line_end_empty text rest at_line_end e = grind (arith, common_steps, spaced_empty)
 
 abbrev pub AllWritable : List Triple → Type 0
 AllWritable [] = Unit {0}

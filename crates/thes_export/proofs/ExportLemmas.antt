@@ -1,5 +1,6 @@
 -- Proves that the only reading of the export of a legal state is the state's triples.
-use Rattle.std.proofs.Common.{◌≡◌, ◌∙◌, sym, ap, refl, subst, ℕ, List, [], ◌∷◌, ◌++◌, map, Contains, inl, inr}
+use Rattle.std.proofs.lemmas.Grind.{common_steps}
+use Rattle.std.proofs.Common.{◌≡◌, ◌∙◌, sym, ap, refl, subst, ℕ, List, [], ◌∷◌, ◌++◌, map, Contains, inl, inr, arith}
 use Rattle.std.specs.List.{concat}
 use Rattle.std.proofs.lemmas.Cmp.{nat_list_cmp_total}
 use Rattle.thes_base.specs.Legal.{IsLegalState}
@@ -27,13 +28,7 @@ module _ (base : List ℕ) (s : State) (legal : IsLegalState base s) where
   -- The lines of an export are those of a list of triples that can be spelled.
   triples_found : (lines : List (List ℕ)) → ((line : List ℕ) → Contains lines line → IsTripleLine base s line)
       → AreOf lines
-  triples_found [] each = record {
-    list = [];
-    fine = tt;
-    text_is = refl;
-    sound = λ t c. absurd (Contains-none t c);
-    complete = λ l c. absurd (Contains-none l c);
-  }
+  triples_found [] each = grind (arith, common_steps, Contains-none)
   triples_found (line ∷ lines) each =
       let one = each line (Contains-head line lines) in
       let more = triples_found lines (λ l c. each l (Contains-later line lines l c)) in

@@ -1,5 +1,6 @@
 -- Proves that the sorted parts about all resources are the export.
-use Rattle.std.proofs.Common.{◌≡◌, ◌∙◌, sym, ap, refl, subst, inl, inr, ⊎_elim, ℕ, ◌+◌, ◌-◌, ◌<◌, ◌≤◌, Bool, true}
+use Rattle.std.proofs.lemmas.Grind.{common_steps}
+use Rattle.std.proofs.Common.{◌≡◌, ◌∙◌, sym, refl, subst, inl, inr, ⊎_elim, ℕ, ◌+◌, ◌-◌, ◌<◌, ◌≤◌, Bool, true}
 use Rattle.std.proofs.Common.{false, List, [], ◌∷◌, ◌++◌, length, get_or, take, Contains, IsPermutation, IsSorted}
 use Rattle.std.proofs.Common.{nat_eq, arith, eqb, eqb-true}
 use borrow.Author.Tests.{eqb-false}
@@ -32,10 +33,7 @@ use Rattle.thes_export.proofs.ResourceTripleLemmas.{written_from, written_to}
 
 -- Before the first resource there are no parts.
 pub parts_first : (core : CoreView) → AreParts core 0 []
-parts_first core = record {
-  sound = λ x c. absurd (Contains-none x c);
-  complete = λ n least most. absurd (omega arith);
-}
+parts_first core = grind (arith, common_steps, Contains-none)
 
 -- The part about the next resource is appended.
 pub parts_next : (core : CoreView) (i : ℕ) (text : List ℕ) (old new : List (List ℕ)) → IsPartOf core (i + 1) text
@@ -101,11 +99,7 @@ sorted_listing xs ys zs moved sorted filtered =
 -- One more part is appended to the text.
 pub joined_more : (xs : List (List ℕ)) (i : ℕ) (x old new : List ℕ) → i < length xs → x ≡ get_or xs i x → old
     ≡ concat (take i xs) → new ≡ old ++ x → new ≡ concat (take (i + 1) xs)
-joined_more xs i x old new below at so_far more =
-    let taken : take (i + 1) xs ≡ take i xs ++ x ∷ [] = take_more xs i x below ∙ ap (λ z. take i xs ++ z ∷ [])
-    (sym at) in
-    more ∙ ap (λ t. t ++ x) so_far ∙ ap (λ t. concat (take i xs) ++ t) (sym (append-nil x))
-    ∙ sym (concat-append (take i xs) (x ∷ [])) ∙ ap concat (sym taken)
+joined_more xs i x old new below at so_far more = grind (arith, common_steps, append-nil, concat-append, take_more)
 
 -- Each number up to the number of resources is that of a resource.
 exists_up : (xs : List Resource) (n : ℕ) → 1 ≤ n → n ≤ length xs → Exists xs n

@@ -1,6 +1,7 @@
 -- Proves that the lists of top concepts and members are complete after each resource.
-use Rattle.std.proofs.Common.{◌≡◌, ◌⊎◌, ◌∙◌, sym, refl, subst, inl, inr, ⊎_elim, ℕ, ◌+◌, ◌<◌, Bool, true, false}
-use Rattle.std.proofs.Common.{ap, List, [], ◌∷◌, ◌++◌, length, get_or, take, Contains, arith, eqb, eqb-true, None, Some}
+use Rattle.std.proofs.lemmas.Grind.{common_steps}
+use Rattle.std.proofs.Common.{◌≡◌, ◌⊎◌, ◌∙◌, sym, refl, subst, inl, inr, ⊎_elim, ℕ, ◌+◌, ◌<◌}
+use Rattle.std.proofs.Common.{ap, List, [], ◌∷◌, ◌++◌, length, get_or, take, Contains, arith, eqb-true, None, Some}
 use borrow.Author.Tests.{eqb-false}
 use Rattle.std.specs.BTreeSet.{insert_key}
 use Rattle.std.specs.Ordering.{nat_cmp}
@@ -26,11 +27,7 @@ none_listed Is lists none n = subst (IsListing nat_cmp (IsUpTo 0 (Is n))) (sym (
 
 -- A number up to `i + 1` is one up to `i`, or `i + 1`.
 pub one_more : (Is : ℕ → Type 0) (i n : ℕ) → IsUpTo (i + 1) Is n → IsUpTo i Is n ⊎ ((n ≡ i + 1) × Is (i + 1))
-one_more Is i n (least, most, is) = go (eqb n (i + 1)) refl
-  where
-    go : (b : Bool) → eqb n (i + 1) ≡ b → IsUpTo i Is n ⊎ ((n ≡ i + 1) × Is (i + 1))
-    go true e = let same = eqb-true n (i + 1) e in inr (same, subst Is same is)
-    go false e = let other = eqb-false n (i + 1) e in inl (least, omega arith, is)
+one_more Is i n (least, most, is) = grind (arith, common_steps, eqb-false, eqb-true)
 
 pub still_up : (Is : ℕ → Type 0) (i n : ℕ) → IsUpTo i Is n → IsUpTo (i + 1) Is n
 still_up Is i n (least, most, is) = (least, omega arith, is)

@@ -1,23 +1,21 @@
 -- Proves that the texts in the triples of a legal state have spellings.
-use Rattle.std.proofs.Common.{◌≡◌, ◌∙◌, sym, ap, refl, subst, ℕ, zero, suc, ◌+◌, ◌<◌, ◌≤◌, ◌==◌, ◌%◌, ◌/◌, Bool, true}
-use Rattle.std.proofs.Common.{false, cond, List, [], ◌∷◌, ◌++◌, All, arith, inl, inr, Option, None, Some, ne_eqb}
+use Rattle.std.proofs.lemmas.Grind.{common_steps}
+use Rattle.std.proofs.Common.{◌≡◌, sym, ap, refl, subst, ℕ, zero, suc, ◌<◌, ◌≤◌, ◌==◌, ◌%◌, ◌/◌, Bool, true}
+use Rattle.std.proofs.Common.{false, cond, List, [], ◌∷◌, ◌++◌, All, arith, Option, None, Some}
 use Rattle.std.specs.Prelude.{codes, flat_map, unwrap_or}
 use Rattle.std.specs.List.{list_any, slice_split, join_with_byte}
-use Rattle.std.specs.Char.{IsAsciiAlphabetic, IsAsciiAlphanumeric}
 use Rattle.std.specs.Fmt.{decimal, digits, digits_onto, digit_glyph}
 use Rattle.std.specs.FinMap as dict
 use Rattle.std.proofs.lemmas.List.{append-nil}
-use Rattle.std.proofs.lemmas.Bool.Decides.{nat_tests}
 use Rattle.std.proofs.lemmas.List.Elements.{All-cons, All-nil, All-append}
 use Rattle.std.proofs.lemmas.List.Splits.{join_with_byte-slice_split}
 use Rattle.thes_base.specs.declared.triple.Property.{Property}
-use Rattle.thes_base.specs.declared.triple.Property.TheVariants.{HasType, InScheme, TopConceptOf, HasTopConcept}
+use Rattle.thes_base.specs.declared.triple.Property.TheVariants.{InScheme, TopConceptOf, HasTopConcept}
 use Rattle.thes_base.specs.declared.triple.Property.TheVariants.{Deprecated, IsReplacedBy, PrefLabel, AltLabel}
 use Rattle.thes_base.specs.declared.triple.Property.TheVariants.{HiddenLabel, ScopeNote, Broader, Narrower, Related}
 use Rattle.thes_base.specs.declared.triple.Property.TheVariants.{ExactMatch, CloseMatch, RelatedMatch, BroadMatch}
 use Rattle.thes_base.specs.declared.triple.Property.TheVariants.{NarrowMatch, Member}
 use Rattle.thes_base.specs.declared.triple.Class.{Class as SkosClass}
-use Rattle.thes_base.specs.declared.triple.Class.TheVariants.{Concept, ConceptScheme, Collection}
 use Rattle.thes_base.specs.declared.data.LabelKind.{LabelKind}
 use Rattle.thes_base.specs.declared.data.LabelKind.TheVariants.{Pref, Alt, Hidden, Scope}
 use Rattle.thes_base.specs.Forms.{IsIriByte, IsSchemeByte, IsIriWithin, IsTag, IsTagPart, AreTagParts, IsPrintable}
@@ -32,59 +30,27 @@ use Rattle.thes_export.proofs.SpellingLemmas.{text_byte}
 
 no_sign : (b : ℕ) → (60 ≡ b → ⊥) → (62 ≡ b → ⊥) → (34 ≡ b → ⊥) → (123 ≡ b → ⊥) → (125 ≡ b → ⊥) → (124 ≡ b → ⊥)
     → (94 ≡ b → ⊥) → (96 ≡ b → ⊥) → (92 ≡ b → ⊥) → list_any (λ c. c == b) (codes "<>\"{}|^`\\") ≡ false
-no_sign b h1 h2 h3 h4 h5 h6 h7 h8 h9 = simp (
-  ne_eqb 60 b h1,
-  ne_eqb 62 b h2,
-  ne_eqb 34 b h3,
-  ne_eqb 123 b h4,
-  ne_eqb 125 b h5,
-  ne_eqb 124 b h6,
-  ne_eqb 94 b h7,
-  ne_eqb 96 b h8,
-  ne_eqb 92 b h9,
-)
+no_sign b h1 h2 h3 h4 h5 h6 h7 h8 h9 = grind (arith, common_steps)
 
 -- The bytes from the plus sign to the colon are allowed in IRIs.
 middle_byte : (b : ℕ) → 43 ≤ b → b ≤ 58 → IsIriByte b
-middle_byte b least most = (
-  omega arith,
-  no_sign b (λ q. omega arith) (λ q. omega arith) (λ q. omega arith) (λ q. omega arith)
-      (λ q. omega arith) (λ q. omega arith) (λ q. omega arith) (λ q. omega arith) (λ q. omega arith),
-)
+middle_byte b least most = grind (arith, common_steps, no_sign)
 
 capital_byte : (b : ℕ) → 65 ≤ b → b ≤ 90 → IsIriByte b
-capital_byte b least most = (
-  omega arith,
-  no_sign b (λ q. omega arith) (λ q. omega arith) (λ q. omega arith) (λ q. omega arith)
-      (λ q. omega arith) (λ q. omega arith) (λ q. omega arith) (λ q. omega arith) (λ q. omega arith),
-)
+capital_byte b least most = grind (arith, common_steps, no_sign)
 
 small_byte : (b : ℕ) → 97 ≤ b → b ≤ 122 → IsIriByte b
-small_byte b least most = (
-  omega arith,
-  no_sign b (λ q. omega arith) (λ q. omega arith) (λ q. omega arith) (λ q. omega arith)
-      (λ q. omega arith) (λ q. omega arith) (λ q. omega arith) (λ q. omega arith) (λ q. omega arith),
-)
+small_byte b least most = grind (arith, common_steps, no_sign)
 
 scheme_byte : (b : ℕ) → IsSchemeByte b → IsIriByte b
-scheme_byte b (inl (inl (inl digit))) = middle_byte b (omega (arith, digit.0)) (omega (arith, digit.1))
-scheme_byte b (inl (inl (inr capital))) = capital_byte b capital.0 capital.1
-scheme_byte b (inl (inr small)) = small_byte b small.0 small.1
-scheme_byte b (inr (inl e)) = middle_byte b (omega arith) (omega arith)
-scheme_byte b (inr (inr (inl e))) = middle_byte b (omega arith) (omega arith)
-scheme_byte b (inr (inr (inr e))) = middle_byte b (omega arith) (omega arith)
+scheme_byte b h = grind (arith, common_steps, capital_byte, middle_byte, small_byte)
 
 iri_bytes : (most : ℕ) (iri : List ℕ) → IsIriWithin most iri → All IsIriByte iri
-iri_bytes most iri of = subst (All IsIriByte) (sym of.spelled)
-    (All-append IsIriByte of.scheme _ (λ k d below. scheme_byte _ (of.named.each k d below))
-    (All-cons IsIriByte 58 of.rest (middle_byte 58 (omega arith) (omega arith)) of.more.each))
+iri_bytes most iri of = grind (arith, common_steps, All-append, All-cons, middle_byte, scheme_byte)
 
 -- The digits of numbers are allowed in IRIs.
 glyph_byte : (d : ℕ) → d < 10 → IsIriByte (digit_glyph false d)
-glyph_byte d small = subst IsIriByte (sym (is_glyph d small)) (middle_byte (48 + d) (omega arith) (omega arith))
-  where
-    is_glyph : (d : ℕ) → d < 10 → digit_glyph false d ≡ 48 + d
-    is_glyph d small = grind (arith, nat_tests)
+glyph_byte d small = grind (arith, common_steps, middle_byte)
 
 onto_bytes : (k n : ℕ) (acc : List ℕ) → All IsIriByte acc → All IsIriByte (digits_onto k 10 false n acc)
 onto_bytes zero n acc each = each
@@ -118,22 +84,13 @@ tag_form tag of = go (slice_split (λ b. b == 45) tag) of.parts (join_with_byte-
   where
     go : (parts : List (List ℕ)) → AreTagParts parts → join_with_byte 45 parts ≡ tag → IsTagForm tag
     go [] none e = absurd none
-    go (first ∷ others) each e = record {
-      letters = first;
-      parts = others;
-      first = part_of IsAsciiAlphabetic first each.0;
-      others = λ k d below. part_of IsAsciiAlphanumeric _ (each.1 k d below);
-      read = sym e ∙ joined_parts first others;
-    }
+    go (first ∷ others) each e = grind (arith, common_steps, joined_parts, part_of)
 
 printed_bytes : (text : List ℕ) → All IsPrintable text → All IsTextByte text
 printed_bytes text each k d below = text_byte _ (each k d below).0
 
 label_bytes : (kind : LabelKind) (text : List ℕ) → IsLabelText kind text → All IsTextByte text
-label_bytes Pref text of = printed_bytes text of.line.printed
-label_bytes Alt text of = printed_bytes text of.line.printed
-label_bytes Hidden text of = printed_bytes text of.line.printed
-label_bytes Scope text of = printed_bytes text of.line.printed
+label_bytes kind text of = grind (arith, common_steps, printed_bytes)
 
 module _ (base : List ℕ) (s : State) (forms : StateHasForms base s) where
   named_bytes : (n : ℕ) (x : List ℕ) → IsIriOf base s n x → All IsIriByte x
@@ -167,10 +124,7 @@ module _ (base : List ℕ) (s : State) (forms : StateHasForms base s) where
   node_bytes _ x y content = absurd content
 
   class_bytes : (p : Property) (kind : SkosClass) (x : List ℕ) → HasProperty base s x p (Class kind) → All IsIriByte x
-  class_bytes HasType ConceptScheme x (n, is, e) = named_bytes n x e
-  class_bytes HasType Concept x (n, is, e) = named_bytes n x e
-  class_bytes HasType Collection x (n, is, e) = named_bytes n x e
-  class_bytes _ kind x content = absurd content
+  class_bytes p kind x content = grind (arith, common_steps, named_bytes)
 
   true_bytes : (p : Property) (x : List ℕ) → HasProperty base s x p True → All IsIriByte x
   true_bytes Deprecated x (n, is, e) = named_bytes n x e
@@ -181,9 +135,7 @@ module _ (base : List ℕ) (s : State) (forms : StateHasForms base s) where
 
   label_bytes_of : (kind : LabelKind) (x tag text : List ℕ) → HasLabelOfKind base s kind x tag text
       → IsSpelled x tag text
-  label_bytes_of kind x tag text (n, has, e) =
-      let form = forms.labels (record { owner = n; kind = kind; tag = tag; text = text }) has in
-      (named_bytes n x e, (tag_form tag form.tag_form.form, label_bytes kind text form.text_form))
+  label_bytes_of kind x tag text (n, has, e) = grind (arith, common_steps, label_bytes, named_bytes, tag_form)
 
   literal_bytes : (p : Property) (x tag text : List ℕ) → HasProperty base s x p (Literal tag text)
       → IsSpelled x tag text

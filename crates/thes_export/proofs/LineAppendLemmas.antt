@@ -1,6 +1,7 @@
 -- Proves which lines a list has after each step that appends lines.
+use Rattle.std.proofs.lemmas.Grind.{common_steps}
 use Rattle.std.proofs.Common.{◌≡◌, ◌⊎◌, ◌∙◌, sym, ap, subst, inl, inr, ⊎_elim, ℕ, List, [], ◌∷◌, ◌++◌, Contains, ◌+◌}
-use Rattle.std.proofs.Common.{◌<◌, ◌≤◌, length, get_or, take, take_all}
+use Rattle.std.proofs.Common.{◌<◌, ◌≤◌, length, get_or, take, take_all, arith}
 use Rattle.std.proofs.lemmas.List.{take_more}
 use Rattle.std.proofs.lemmas.List.Elements.{Contains-append_left, Contains-append_right, Contains-append_cases}
 use Rattle.thes_base.specs.Triples.{Triple}
@@ -79,10 +80,7 @@ module _ {A : Type 0} (Is : A → Triple → Type 0) where
   pub added_next : (xs : List A) (i : ℕ) (x : A) (old mid new : List (List ℕ)) → i < length xs → x ≡ get_or xs i x
       → Adds (IsLineOf (OfSome (take i xs))) old mid → Adds (IsLineOf (Is x)) mid new
       → Adds (IsLineOf (OfSome (take (i + 1) xs))) old new
-  added_next xs i x old mid new below at inv one =
-      subst (λ (ys : List A). Adds (IsLineOf (OfSome ys)) old new)
-      (sym (take_more xs i x below ∙ ap (λ z. take i xs ++ z ∷ []) (sym at)))
-      (added_each (take i xs) x old mid new inv one)
+  added_next xs i x old mid new below at inv one = grind (arith, common_steps, added_each, take_more)
 
   -- At its end the loop has appended the lines of all elements.
   pub all_taken : (xs : List A) (i : ℕ) (old new : List (List ℕ)) → length xs ≤ i

@@ -1,4 +1,5 @@
 -- Proves that a spelled line has only one reading, although the grammar allows other spellings.
+use Rattle.std.proofs.lemmas.Grind.{common_steps}
 use Rattle.std.proofs.Common.{◌≡◌, ◌⊎◌, ◌∙◌, sym, ap, refl, subst, ℕ, List, [], ◌∷◌, ◌++◌, All, arith, inl, inr, ⊎_elim}
 use Rattle.std.specs.Prelude.{codes, flat_map}
 use Rattle.std.proofs.lemmas.List.Elements.{All-head}
@@ -36,28 +37,20 @@ iri_subject : (text iri x : List ℕ) (other : RdfTerm) (rest : List ℕ) → Al
     ∷ (iri ++ 62 ∷ x) → IsSubject text other rest → (other ≡ Iri iri) × (rest ≡ x)
 iri_subject text iri x other rest own e (inl (that, is, ref)) = let same = iriref_same text iri x that rest own e
     ref in (is ∙ ap Iri same.0, same.1)
-iri_subject text iri x other rest own e (inr (label, is, node)) = heads_differ _ _ _ _ (λ q. omega arith)
-    (sym e ∙ node.text_is)
+iri_subject text iri x other rest own e (inr (label, is, node)) = grind (arith, common_steps, heads_differ)
 
 iri_object : (text iri x : List ℕ) (other : RdfTerm) (rest : List ℕ) → All IsIriByte iri → text ≡ 60 ∷ (iri ++ 62 ∷ x)
     → IsObject text other rest → (other ≡ Iri iri) × (rest ≡ x)
 iri_object text iri x other rest own e (inl subject) = iri_subject text iri x other rest own e subject
-iri_object text iri x other rest own e (inr literal) = heads_differ _ _ _ _ (λ q. omega arith)
-    (sym e ∙ literal.quoted.text_is)
+iri_object text iri x other rest own e (inr literal) = grind (arith, common_steps, heads_differ)
 
 -- A text that begins with a quotation mark is read as a literal.
 literal_object : {A : Type 0} (text inner : List ℕ) (other : RdfTerm) (rest : List ℕ) → text ≡ 34 ∷ inner
     → (IsLiteral text other rest → A) → IsObject text other rest → A
-literal_object text inner other rest e known (inl (inl (that, is, ref))) = heads_differ _ _ _ _ (λ q. omega arith)
-    (sym e ∙ ref.text_is)
-literal_object text inner other rest e known (inl (inr (label, is, node))) = heads_differ _ _ _ _ (λ q. omega arith)
-    (sym e ∙ node.text_is)
-literal_object text inner other rest e known (inr literal) = known literal
+literal_object text inner other rest e known h = grind (arith, common_steps, heads_differ)
 
 stops_gap : (gap x : List ℕ) → IsGap gap → Stops (gap ++ 46 ∷ x)
-stops_gap [] x blank = λ is. omega arith
-stops_gap (b ∷ gap) x blank = λ is. elim (All-head IsBlankByte b gap blank)
-    [ inl e ↦ omega arith | inr e ↦ omega arith ]
+stops_gap gap x blank = grind (arith, common_steps, All-head)
 
 -- A language tag of the grammar's form has only bytes that are allowed in tags.
 form_bytes : (tag : List ℕ) → IsTagForm tag → All IsTagByte tag
@@ -67,8 +60,7 @@ form_bytes tag form = tag_bytes (64 ∷ (tag ++ [])) tag []
       parts = form.parts;
       first = form.first;
       others = form.others;
-      read =
-          form.read;
+      read = form.read;
       text_is = refl;
     })
 
@@ -166,11 +158,7 @@ iriref_unspaced : (text iri rest z : List ℕ) → IsIriref text iri rest → te
 iriref_unspaced text iri rest z ref e = heads_differ _ _ _ _ (λ q. omega arith) (sym e ∙ ref.text_is)
 
 object_unspaced : (text : List ℕ) (term : RdfTerm) (rest z : List ℕ) → IsObject text term rest → text ≡ 32 ∷ z → ⊥
-object_unspaced text term rest z (inl (inl (iri, is, ref))) e = iriref_unspaced text iri rest z ref e
-object_unspaced text term rest z (inl (inr (label, is, node))) e = heads_differ _ _ _ _ (λ q. omega arith)
-    (sym e ∙ node.text_is)
-object_unspaced text term rest z (inr literal) e = heads_differ _ _ _ _ (λ q. omega arith)
-    (sym e ∙ literal.quoted.text_is)
+object_unspaced text term rest z h e = grind (arith, common_steps, heads_differ, iriref_unspaced)
 
 -- A line is read as its triple, and the remaining text begins with its line feed.
 pub line_same : (t : Triple) (x text : List ℕ) (content : Statement) (rest : List ℕ) → IsWritable t → text

@@ -1,9 +1,9 @@
 -- Proves that the sorted parts about all resources are together the sorted lines.
-use Rattle.std.proofs.Common.{◌≡◌, ◌∙◌, sym, ap, refl, subst, ⊎_elim, ℕ, Bool, true, false}
-use Rattle.std.proofs.Common.{List, [], ◌∷◌, ◌++◌, Contains, All, eqb, eqb-true, append_assoc, Ordering}
-use Rattle.std.proofs.Common.{Less, Equal, Greater}
+use Rattle.std.proofs.lemmas.Grind.{common_steps}
+use Rattle.std.proofs.Common.{◌≡◌, ◌∙◌, sym, ap, refl, subst, ⊎_elim, ℕ, Bool, true, false, arith}
+use Rattle.std.proofs.Common.{List, [], ◌∷◌, ◌++◌, Contains, All, eqb, eqb-true, append_assoc, Ordering, Less, Equal}
 use borrow.Author.Tests.{eqb-false}
-use Rattle.std.specs.List.{concat, AllByRecursion}
+use Rattle.std.specs.List.{concat}
 use Rattle.std.specs.List.Sorted.{IsStrictlySortedBy}
 use Rattle.std.specs.Cmp.{tied_itself}
 use Rattle.std.specs.Cmp.Lexicographic.{nat_list_cmp_total, slice_cmp}
@@ -11,6 +11,7 @@ use Rattle.std.specs.Ordering.{nat_cmp, ordering_then}
 use Rattle.std.proofs.lemmas.List.Elements.{All-head, All-tail, Contains-append_left, Contains-append_right}
 use Rattle.std.proofs.lemmas.List.Elements.{Contains-append_cases}
 use Rattle.std.proofs.lemmas.List.Folds.{concat-append}
+use Rattle.std.proofs.lemmas.Map.Keys.{sorted_tail}
 use Rattle.std.proofs.lemmas.Map.Lookups.{exact_unsigned}
 use Rattle.thes_base.specs.declared.data.History.{History}
 use Rattle.thes_base.specs.Forms.{IsIriByte}
@@ -22,10 +23,10 @@ use Rattle.thes_base.specs.Triples.{Triple}
 use Rattle.thes_base.proofs.ListMemberLemmas.{Contains-none, Contains-head, Contains-later, Contains-cons_cases}
 use Rattle.thes_base.proofs.TripleLemmas.{resources_apart}
 use Rattle.thes_base.proofs.UniqueListingLemmas.{one_listing}
+use Rattle.thes_lists.proofs.MemberLemmas.{Has-from, Contains-from}
+use Rattle.thes_lists.proofs.OrderLemmas.{sorted_none, sorted_cons, above_head}
 use Rattle.thes_core.specs.CoreView.{CoreView, with_histories}
 use Rattle.thes_export.specs.declared.topic.Topic.{Topic}
-use Rattle.thes_export.specs.declared.topic.Topic.TheVariants.{Kind, Belonging, Top, TopConcepts, Death, Replacement}
-use Rattle.thes_export.specs.declared.topic.Topic.TheVariants.{Labels, Broader, Narrower, Related, Mappings, Members}
 use Rattle.thes_export.specs.Spelling.{line_of}
 use Rattle.thes_export.specs.Topics.{IsLineOf, IsPartOf, IsResourceTriple, IsTopicTriple, number_iri}
 use Rattle.thes_export.proofs.LegalTripleLemmas.{asserted_writable}
@@ -35,9 +36,7 @@ use Rattle.thes_export.proofs.TerminalLemmas.{head_of, iri_not, tail_of}
 -- Two texts that begin with different IRIs are ordered by these beginnings.
 
 then_same : (o p q : Ordering) → (o ≡ Equal → p ≡ q) → ordering_then o p ≡ ordering_then o q
-then_same Less p q same = refl
-then_same Equal p q same = same refl
-then_same Greater p q same = refl
+then_same o p q same = grind (arith, common_steps)
 
 ordered_by_iri : (a b : List ℕ) → All IsIriByte a → All IsIriByte b → (a ≡ b → ⊥) → (x y u v : List ℕ)
     → slice_cmp nat_cmp (a ++ 62 ∷ x) (b ++ 62 ∷ y) ≡ slice_cmp nat_cmp (a ++ 62 ∷ u) (b ++ 62 ∷ v)
@@ -46,18 +45,13 @@ ordered_by_iri [] (d ∷ b) one two other x y u v = then_same (nat_cmp 62 d) _ _
     (λ e. absurd (iri_not d 62 (All-head IsIriByte d b two) (sym (exact_unsigned 62 d e)) refl))
 ordered_by_iri (c ∷ a) [] one two other x y u v = then_same (nat_cmp c 62) _ _
     (λ e. absurd (iri_not c 62 (All-head IsIriByte c a one) (exact_unsigned c 62 e) refl))
-ordered_by_iri (c ∷ a) (d ∷ b) one two other x y u v = then_same (nat_cmp c d) _ _
-    (λ e. ordered_by_iri a b (All-tail IsIriByte c a one) (All-tail IsIriByte d b two)
-    (λ same. other (λ i. exact_unsigned c d e i ∷ same i)) x y u v)
+ordered_by_iri (c ∷ a) (d ∷ b) one two other x y u v = grind (arith, common_steps, All-tail, exact_unsigned, then_same, ordered_by_iri a b (All-tail IsIriByte c a one) (All-tail IsIriByte d b two))
 
 same_iri : (a b : List ℕ) → All IsIriByte a → All IsIriByte b → (x y : List ℕ) → a ++ 62 ∷ x ≡ b ++ 62 ∷ y → a ≡ b
 same_iri [] [] one two x y e = refl
-same_iri [] (d ∷ b) one two x y e =
-    absurd (iri_not d 62 (All-head IsIriByte d b two) (sym (head_of _ _ _ _ e)) refl)
+same_iri [] (d ∷ b) one two x y e = grind (arith, common_steps, All-head, head_of, iri_not)
 same_iri (c ∷ a) [] one two x y e = absurd (iri_not c 62 (All-head IsIriByte c a one) (head_of _ _ _ _ e) refl)
-same_iri (c ∷ a) (d ∷ b) one two x y e =
-    let more = same_iri a b (All-tail IsIriByte c a one) (All-tail IsIriByte d b two) x y (tail_of _ _ _ _ e) in
-    (λ i. head_of _ _ _ _ e i ∷ more i)
+same_iri (c ∷ a) (d ∷ b) one two x y e = grind (arith, common_steps, All-tail, head_of, tail_of, same_iri a b (All-tail IsIriByte c a one) (All-tail IsIriByte d b two) x y (tail_of _ _ _ _ e))
 
 -- The text begins with the IRI in angle brackets.
 abbrev Begins : List ℕ → List ℕ → Type 0
@@ -66,8 +60,7 @@ Begins iri text = (rest : List ℕ) × (text ≡ 60 ∷ (iri ++ 62 ∷ rest))
 begins_more : (iri text more : List ℕ) → Begins iri text → Begins iri (text ++ more)
 begins_more iri text more (rest, is) = (
   rest ++ more,
-  ap (λ t. t ++ more) is ∙ ap (λ t. 60 ∷ t)
-      (append_assoc iri (62 ∷ rest) more),
+  ap (λ t. t ++ more) is ∙ ap (λ t. 60 ∷ t) (append_assoc iri (62 ∷ rest) more),
 )
 
 line_begins : (t : Triple) → Begins t.subject (line_of t)
@@ -76,34 +69,15 @@ line_begins t = (_, ap (λ x. 60 ∷ x) (append_assoc t.subject (62 ∷ []) _))
 
 -- Sorted lists of which one is below the other are sorted together.
 
-all_of : {X : Type 0} (P : X → Type 0) (xs : List X) → ((x : X) → Contains xs x → P x) → AllByRecursion P xs
-all_of P [] each = tt
-all_of P (x ∷ xs) each = (each x (Contains-head x xs), all_of P xs (λ y c. each y (Contains-later x xs y c)))
-
-each_of : {X : Type 0} (P : X → Type 0) (xs : List X) (z : X) → AllByRecursion P xs → Contains xs z → P z
-each_of P [] z each c = absurd (Contains-none z c)
-each_of P (x ∷ xs) z each c = ⊎_elim (λ e. subst P e each.0) (λ more. each_of P xs z each.1 more)
-    (Contains-cons_cases x xs z c)
-
 sorted_append : {X : Type 0} (cmp : X → X → Ordering) (xs ys : List X) → IsStrictlySortedBy cmp xs
     → IsStrictlySortedBy cmp ys → ((x y : X) → Contains xs x → Contains ys y → cmp x y ≡ Less)
     → IsStrictlySortedBy cmp (xs ++ ys)
-unfolding IsStrictlySortedBy
 sorted_append cmp [] ys one two below = two
-sorted_append cmp (x ∷ xs) ys one two below = (
-  all_of (λ z. cmp x z ≡ Less) (xs ++ ys) (λ z c. ⊎_elim (each_of (λ w. cmp x w ≡ Less) xs z one.0)
-      (below x z (Contains-head x xs)) (Contains-append_cases xs ys z c)),
-  sorted_append cmp xs ys one.1 two (λ w y c d. below w y (Contains-later x xs w c) d),
-)
-
-sorted_parts : {X : Type 0} (cmp : X → X → Ordering) (x : X) (xs : List X) → IsStrictlySortedBy cmp (x ∷ xs)
-    → ((y : X) → Contains xs y → cmp x y ≡ Less) × IsStrictlySortedBy cmp xs
-unfolding IsStrictlySortedBy
-sorted_parts cmp x xs sorted = (λ y c. each_of (λ z. cmp x z ≡ Less) xs y sorted.0 c, sorted.1)
-
-sorted_nothing : {X : Type 0} (cmp : X → X → Ordering) → IsStrictlySortedBy cmp []
-unfolding IsStrictlySortedBy
-sorted_nothing cmp = tt
+sorted_append cmp (x ∷ xs) ys one two below =
+    sorted_cons cmp x (xs ++ ys)
+    (λ z has. ⊎_elim (λ c. above_head cmp x xs z one (Has-from xs z c)) (below x z (Contains-head x xs))
+    (Contains-append_cases xs ys z (Contains-from (xs ++ ys) z has)))
+    (sorted_append cmp xs ys (sorted_tail cmp x xs one) two (λ w y c d. below w y (Contains-later x xs w c) d))
 
 module _ (core : CoreView) (hs : List History) (legal : IsLegalState core.setting.base (with_histories hs core)) where
   abbrev base : List ℕ
@@ -114,18 +88,7 @@ module _ (core : CoreView) (hs : List History) (legal : IsLegalState core.settin
 
   -- Each triple about a resource has it as the subject.
   subject_is : (topic : Topic) (n : ℕ) (t : Triple) → IsTopicTriple core topic n t → t.subject ≡ number_iri core n
-  subject_is Kind n t (class, is, e) = ap (λ (u : Triple). u.subject) e
-  subject_is Belonging n t (m, is, e) = ap (λ (u : Triple). u.subject) e
-  subject_is Top n t (m, is, e) = ap (λ (u : Triple). u.subject) e
-  subject_is TopConcepts n t (m, is, e) = ap (λ (u : Triple). u.subject) e
-  subject_is Death n t (concept, dead, e) = ap (λ (u : Triple). u.subject) e
-  subject_is Replacement n t (m, is, e) = ap (λ (u : Triple). u.subject) e
-  subject_is Labels n t (l, is, e) = ap (λ (u : Triple). u.subject) e
-  subject_is Broader n t (m, is, e) = ap (λ (u : Triple). u.subject) e
-  subject_is Narrower n t (m, is, e) = ap (λ (u : Triple). u.subject) e
-  subject_is Related n t (m, is, e) = ap (λ (u : Triple). u.subject) e
-  subject_is Mappings n t (concept, (p, (m, by, e))) = ap (λ (u : Triple). u.subject) e
-  subject_is Members n t (m, is, e) = ap (λ (u : Triple). u.subject) e
+  subject_is topic n t h = grind (arith, common_steps)
 
   -- The line is one about the resource.
   abbrev pub IsAbout : ℕ → List ℕ → Type 0
@@ -211,16 +174,9 @@ module _ (core : CoreView) (hs : List History) (legal : IsLegalState core.settin
 
   pub lines_found : (texts : List (List ℕ)) → IsStrictlySortedBy (slice_cmp nat_cmp) texts
       → ((x : List ℕ) → Contains texts x → IsPart x) → AreLinesOf texts
-  lines_found [] sorted each = record {
-    lines = [];
-    text_is = refl;
-    rises = sorted_nothing (slice_cmp nat_cmp);
-    sound = λ l c. absurd (Contains-none l c);
-    complete = λ x l n there c part about. absurd (Contains-none x c);
-  }
+  lines_found [] sorted each = grind (arith, common_steps, Contains-none, sorted_none)
   lines_found (x ∷ xs) sorted each =
-      let order = sorted_parts (slice_cmp nat_cmp) x xs sorted in
-      let more = lines_found xs order.1 (λ y c. each y (Contains-later x xs y c)) in
+      let more = lines_found xs (sorted_tail (slice_cmp nat_cmp) x xs sorted) (λ y c. each y (Contains-later x xs y c)) in
       let one = each x (Contains-head x xs) in
       let part = one.2 in
       let own = part.0 in
@@ -232,7 +188,7 @@ module _ (core : CoreView) (hs : List History) (legal : IsLegalState core.settin
             let other = more.sound d e in
             let of = other.2 in
             lines_below one.0 of.0 x other.0 l d one.1 of.1 part of.2 (listed.sound l c) of.3
-            (order.0 other.0 other.1));
+            (above_head (slice_cmp nat_cmp) x xs other.0 sorted (Has-from xs other.0 other.1)));
         sound = λ l c. ⊎_elim
             (λ d. (x, Contains-head x xs, (one.0, one.1, part, listed.sound l d)))
             (λ d. let w = more.sound l d in (w.0, Contains-later x xs w.0 w.1, w.2))

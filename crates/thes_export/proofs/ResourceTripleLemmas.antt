@@ -1,4 +1,6 @@
 -- Proves that the triples of a legal state are those written about its resources, topic by topic.
+use Rattle.std.proofs.Common.{arith}
+use Rattle.std.proofs.lemmas.Grind.{common_steps}
 use Rattle.std.proofs.Common.{length, ◌≡◌, ◌⊎◌, ◌∙◌, sym, ap, refl, subst, inl, inr, ⊎_elim, ℕ, List, Option, None, Some}
 use Rattle.std.specs.Prelude.{option_and_then}
 use Rattle.thes_base.specs.declared.data.Resource.{Resource}
@@ -18,7 +20,7 @@ use Rattle.thes_base.specs.Labels.{HasLabel}
 use Rattle.thes_base.specs.Legal.{IsLegalState}
 use Rattle.thes_base.specs.Links.{Holds, IsHierarchical, form_of}
 use Rattle.thes_base.specs.declared.data.LinkForm.TheVariants.{Within, Mapping}
-use Rattle.thes_base.specs.Resources.{CanOwn, Exists, IsConcept, IsCollection, entry_at, scheme_of, is_concept_kind}
+use Rattle.thes_base.specs.Resources.{Exists, IsConcept, IsCollection, entry_at, scheme_of, is_concept_kind}
 use Rattle.thes_base.specs.Resources.{is_collection_kind, is_scheme_kind, is_outside_kind}
 use Rattle.thes_base.specs.Triples.{Triple, Object, Node, Class, Literal, True, triple, HasProperty, IsAsserted}
 use Rattle.thes_base.specs.Triples.{HasLinkOfKind, HasLabelOfKind, IsTopOf}
@@ -27,6 +29,7 @@ use Rattle.thes_base.specs.Views.{HasLink, HasBroader}
 use Rattle.thes_core.specs.CoreView.{CoreView, with_histories}
 use Rattle.std.proofs.lemmas.Bool.{and_parts}
 use Rattle.std.proofs.lemmas.Option.{same_Some}
+use Rattle.thes_base.proofs.ConditionLemmas.{owner_exists}
 use Rattle.thes_base.proofs.NumberedLemmas.{numbered_bound}
 use Rattle.thes_export.specs.Holdings.{IsTopIn, IsUpTo}
 use Rattle.thes_export.specs.declared.topic.Topic.{Topic}
@@ -82,23 +85,13 @@ module _ (core : CoreView) (hs : List History) (legal : IsLegalState core.settin
 
   within_ends : (j : LinkKind) (a b : ℕ) → form_of j ≡ Within → HasLink core.links j a b → IsConcept core.resources a
       × IsConcept core.resources b
-  within_ends kind.Broader a b is has = (legal.links.each _ has).ends
-  within_ends kind.Related a b is has = (legal.links.each _ has).ends
-  within_ends kind.BroaderGeneric a b is has = (legal.links.each _ has).ends
-  within_ends kind.BroaderPartitive a b is has = (legal.links.each _ has).ends
-  within_ends kind.BroaderInstantial a b is has = (legal.links.each _ has).ends
-  within_ends _ a b is has = absurd (cc)
+  within_ends j a b is has = grind (arith, common_steps)
 
   broader_ends : (a b : ℕ) → HasBroader core.links a b → IsConcept core.resources a × IsConcept core.resources b
   broader_ends a b (j, is, has) = within_ends j a b is.0 has
 
   mapping_start : (j : LinkKind) (a b : ℕ) → form_of j ≡ Mapping → HasLink core.links j a b → IsConcept core.resources a
-  mapping_start kind.Exact a b is has = (legal.links.each _ has).ends.0
-  mapping_start kind.Close a b is has = (legal.links.each _ has).ends.0
-  mapping_start kind.Broad a b is has = (legal.links.each _ has).ends.0
-  mapping_start kind.Narrow a b is has = (legal.links.each _ has).ends.0
-  mapping_start kind.RelMatch a b is has = (legal.links.each _ has).ends.0
-  mapping_start _ a b is has = absurd (cc)
+  mapping_start j a b is has = grind (arith, common_steps)
 
   top_in : (c m : ℕ) → IsTopOf k c m → IsTopIn core c m
   top_in c m top = (top.live, top.within, λ b has. top.top (record { kind = has.0; a = c; b = b }) has.2 refl has.1)
@@ -121,13 +114,9 @@ module _ (core : CoreView) (hs : List History) (legal : IsLegalState core.settin
 
   label_written : (j : LabelKind) (x tag text : List ℕ) → HasLabelOfKind base k j x tag text
       → IsWritten (triple x (label_property j) (Literal tag text))
-  label_written j x tag text (n, has, e) = topic_written n Labels _ (owner (legal.labels.owners _ has))
+  label_written j x tag text (n, has, e) =
+      topic_written n Labels _ (owner_exists core.resources n (legal.labels.owners _ has))
       (record { kind = j; tag = tag; text = text }, has, λ i. triple (e i) (label_property j) (Literal tag text))
-    where
-      owner : CanOwn core.resources n → Exists core.resources n
-      owner (inl (r, at, is)) = (r, at)
-      owner (inr (inl (r, at, is))) = (r, at)
-      owner (inr (inr (r, at, is))) = (r, at)
 
   maps : (p : Property) (m n : ℕ) (x y : List ℕ) → IsConcept core.resources m → MapsBy core p m n → x
       ≡ number_iri core m → y ≡ number_iri core n → IsWritten (triple x p (Node y))
@@ -183,12 +172,7 @@ module _ (core : CoreView) (hs : List History) (legal : IsLegalState core.settin
   class_written : (p : Property) (class : SkosClass) (x : List ℕ) → HasProperty base k x p (Class class)
       → IsWritten (triple x p (Class class))
   class_written property.HasType ConceptScheme x (n, is, e) =
-      topic_written n Kind _ (is.0, is.1) (
-        ConceptScheme,
-        is,
-        λ i. triple (e i) property.HasType
-            (Class ConceptScheme),
-      )
+      topic_written n Kind _ (is.0, is.1) (ConceptScheme, is, λ i. triple (e i) property.HasType (Class ConceptScheme))
   class_written property.HasType Concept x (n, is, e) =
       topic_written n Kind _ (is.0, is.1) (Concept, is, λ i. triple (e i) property.HasType (Class Concept))
   class_written property.HasType Collection x (n, is, e) =
@@ -222,9 +206,7 @@ module _ (core : CoreView) (hs : List History) (legal : IsLegalState core.settin
 
   class_said : (class : SkosClass) (n : ℕ) → IsOfClass core class n → HasProperty base k (number_iri core n)
       property.HasType (Class class)
-  class_said ConceptScheme n is = (n, is, refl)
-  class_said Concept n is = (n, is, refl)
-  class_said Collection n is = (n, is, refl)
+  class_said class n is = grind (arith, common_steps)
 
   scheme_kinds : (n m : ℕ) (r : Resource) → entry_at core.resources n ≡ Some r → r.scheme ≡ Some m
       → IsConcept core.resources n ⊎ IsCollection core.resources n
@@ -242,28 +224,19 @@ module _ (core : CoreView) (hs : List History) (legal : IsLegalState core.settin
 
   belongs : (n m : ℕ) (o : Option Resource) → entry_at core.resources n ≡ o → scheme_of core.resources n ≡ Some m
       → IsConcept core.resources n ⊎ IsCollection core.resources n
-  belongs n m None at of =
-      absurd (let bad : None ≡ Some m = ap (λ (q : Option Resource). option_and_then (λ (r : Resource). r.scheme) q)
-      (sym at) ∙ of in cc)
-  belongs n m (Some r) at of =
-      scheme_kinds n m r at (ap (λ (q : Option Resource). option_and_then (λ (r : Resource). r.scheme) q) (sym at)
-      ∙ of)
+  belongs n m o at of = grind (arith, common_steps, scheme_kinds)
 
   top_said : (n m : ℕ) → IsTopIn core n m → IsTopOf k n m
   top_said n m top =
       record {
         live = top.0;
         within = top.1;
-        top =
-            λ l held start is. top.2 l.b (l.kind, is, as_link l l.kind n l.b held refl start refl);
+        top = λ l held start is. top.2 l.b (l.kind, is, as_link l l.kind n l.b held refl start refl);
       }
 
   label_said : (j : LabelKind) (n : ℕ) (tag text : List ℕ) → HasLabel core.labels n j tag text
       → HasProperty base k (number_iri core n) (label_property j) (Literal tag text)
-  label_said Pref n tag text has = (n, has, refl)
-  label_said Alt n tag text has = (n, has, refl)
-  label_said Hidden n tag text has = (n, has, refl)
-  label_said Scope n tag text has = (n, has, refl)
+  label_said j n tag text has = grind (arith, common_steps)
 
   mapping_linked : (j : LinkKind) (n m : ℕ) → IsConcept core.resources n → HasLink core.links j n m
       ⊎ HasLink core.links j m n → HasLinkOfKind base k (λ i. i ≡ j) n m
@@ -273,34 +246,11 @@ module _ (core : CoreView) (hs : List History) (legal : IsLegalState core.settin
 
   map_said : (p : Property) (n m : ℕ) → IsConcept core.resources n → MapsBy core p n m
       → HasProperty base k (number_iri core n) p (Node (number_iri core m))
-  map_said property.ExactMatch n m concept by = (n, m, mapping_linked kind.Exact n m concept by, refl, refl)
-  map_said property.CloseMatch n m concept by = (n, m, mapping_linked kind.Close n m concept by, refl, refl)
-  map_said property.RelatedMatch n m concept by = (n, m, mapping_linked kind.RelMatch n m concept by, refl, refl)
-  map_said property.BroadMatch n m concept by = (n, m, link_kind kind.Broad n m by, refl, refl)
-  map_said property.NarrowMatch n m concept by = (n, m, link_kind kind.Narrow n m by, refl, refl)
-  map_said _ n m concept by = absurd by
+  map_said p n m concept by = grind (arith, common_steps, link_kind, mapping_linked)
 
   -- Each triple written is asserted by the state, topic by topic.
   said_of : (topic : Topic) (n : ℕ) (t : Triple) → IsTopicTriple core topic n t → IsAsserted base k t
-  said_of Kind n t (class, is, e) = asserted_same t _ e (class_said class n is)
-  said_of Belonging n t (m, of, e) = asserted_same t _ e (
-    n,
-    m,
-    (belongs n m (entry_at core.resources n) refl of, of),
-    refl,
-    refl,
-  )
-  said_of Top n t (m, top, e) = asserted_same t _ e (n, m, top_said n m top, refl, refl)
-  said_of TopConcepts n t (m, top, e) = asserted_same t _ e (n, m, top_said m n top.2, refl, refl)
-  said_of Death n t (concept, dead, e) = asserted_same t _ e (n, (concept, dead), refl)
-  said_of Replacement n t (m, by, e) = asserted_same t _ e (n, m, by, refl, refl)
-  said_of Labels n t (l, has, e) = asserted_same t _ e (label_said l.kind n l.tag l.text has)
-  said_of Broader n t (m, has, e) = asserted_same t _ e (n, m, link_broader n m has, refl, refl)
-  said_of Narrower n t (m, has, e) = asserted_same t _ e (n, m, link_broader m n has, refl, refl)
-  said_of Related n t (m, inl has, e) = asserted_same t _ e (n, m, inl (link_kind kind.Related n m has), refl, refl)
-  said_of Related n t (m, inr has, e) = asserted_same t _ e (n, m, inr (link_kind kind.Related m n has), refl, refl)
-  said_of Mappings n t (concept, (p, (m, by, e))) = asserted_same t _ e (map_said p n m concept by)
-  said_of Members n t (m, has, e) = asserted_same t _ e (n, m, link_kind kind.Member n m has.2, refl, refl)
+  said_of topic n t h = grind (arith, common_steps, asserted_same, belongs, class_said, label_said, link_broader, link_kind, map_said, top_said)
 
   pub written_to : (n : ℕ) (t : Triple) → IsResourceTriple core n t → IsAsserted base k t
   written_to n t (topic, is) = said_of topic n t is

@@ -1,4 +1,5 @@
 -- Proves that the spelled lines of triples are a document of these triples.
+use Rattle.std.proofs.lemmas.Grind.{common_steps}
 use Rattle.std.proofs.Common.{◌≡◌, ◌∙◌, sym, ap, refl, subst, ℕ, ◌≤◌, List, [], ◌∷◌, ◌++◌, map, All, arith, inl, inr}
 use Rattle.std.proofs.Common.{append_assoc}
 use Rattle.std.specs.Prelude.{codes, flat_map}
@@ -47,8 +48,7 @@ by_piece b fine = elim (spelled_byte b) [
     piece = Echar b;
     fine = is_echar b w.0;
     text = w.1;
-    read =
-        ap (λ c. c ∷ []) (sym (special_value b w.0));
+    read = ap (λ c. c ∷ []) (sym (special_value b w.0));
   }
   | inr w ↦ record { piece = Plain b; fine = (w.0, w.1, fine.0, fine.1); text = w.2; read = refl }
 ]
@@ -67,32 +67,16 @@ string_made (b ∷ text) each =
     }
 
 quoted_reads : (text x : List ℕ) → All IsTextByte text → IsQuoted (34 ∷ (flat_map byte_spelling text ++ 34 ∷ x)) text x
-quoted_reads text x each = record {
-  inner = flat_map byte_spelling text;
-  spelling = string_made text each;
-  text_is =
-      refl;
-}
+quoted_reads text x each = grind (arith, common_steps, string_made)
 
 pub text_byte : (b : ℕ) → 32 ≤ b → IsTextByte b
 text_byte b least = (λ q. omega arith, λ q. omega arith)
 
 true_bytes : All IsTextByte (codes "true")
-true_bytes =
-    All-cons IsTextByte 116 (codes "rue") (text_byte 116 (omega arith))
-    (All-cons IsTextByte 114 (codes "ue") (text_byte 114 (omega arith))
-    (All-cons IsTextByte 117 (codes "e") (text_byte 117 (omega arith))
-    (All-cons IsTextByte 101 [] (text_byte 101 (omega arith)) (All-nil IsTextByte))))
+true_bytes = grind (arith, common_steps, All-cons, All-nil, text_byte)
 
 tag_reads : (tag x : List ℕ) → IsTagForm tag → IsLangtag (64 ∷ (tag ++ x)) tag x
-tag_reads tag x form = record {
-  letters = form.letters;
-  parts = form.parts;
-  first = form.first;
-  others = form.others;
-  read = form.read;
-  text_is = refl;
-}
+tag_reads tag x form = grind (arith, common_steps)
 
 unspaced_reads : (text : List ℕ) → IsSpaced text text
 unspaced_reads text = record { gap = []; blank = λ k d below. absurd (omega arith); text_is = refl }
@@ -116,8 +100,7 @@ object_reads (Literal tag text) x fine = inr (record {
         start = 64 ∷ (tag ++ x);
         gap_before = unspaced_reads _;
         tag = tag;
-        langtag =
-            tag_reads tag x fine.0;
+        langtag = tag_reads tag x fine.0;
         read = refl;
       }));
 })
@@ -160,8 +143,7 @@ no_gap text = record {
   gap_before = unspaced_reads text;
   comment = [];
   content = inl refl;
-  text_is =
-      refl;
+  text_is = refl;
 }
 
 one_line_feed : {Next : List ℕ → Type 0} (rest : List ℕ) → Next rest → IsEolThen Next (10 ∷ rest)
@@ -169,8 +151,7 @@ one_line_feed rest more =
     record {
       eol = 10 ∷ [];
       has_form = (omega arith, All-cons IsEolByte 10 [] (inr refl) (All-nil IsEolByte));
-      rest =
-          rest;
+      rest = rest;
       text_is = refl;
       more = more;
     }
@@ -184,8 +165,7 @@ tail_reads (t ∷ ts) fine = record {
       (record {
         rest = 10 ∷ lines_text ts;
         triple = line_reads t (lines_text ts) fine.0;
-        more =
-            tail_reads ts fine.1;
+        more = tail_reads ts fine.1;
       });
 }
 
@@ -195,15 +175,11 @@ lines_read (t ∷ ts) fine =
     inl (record {
       rest = 10 ∷ lines_text ts;
       triple = line_reads t (lines_text ts) fine.0;
-      more =
-          tail_reads ts fine.1;
+      more = tail_reads ts fine.1;
     })
 
 object_spelled : (o : Object) (x : List ℕ) → object_text o ++ x ≡ object_then o x
-object_spelled (Node iri) x = simp append_assoc
-object_spelled (Class kind) x = simp append_assoc
-object_spelled (Literal tag text) x = simp append_assoc
-object_spelled True x = simp append_assoc
+object_spelled o x = grind (arith, common_steps, append_assoc)
 
 -- A line followed by other text is spelled as `line_then` spells it.
 pub line_spelled : (t : Triple) (x : List ℕ) → line_of t ++ x ≡ line_then t x

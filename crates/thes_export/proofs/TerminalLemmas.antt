@@ -1,6 +1,7 @@
 -- Proves that spelled terminals have only one reading, although the grammar allows other spellings.
-use Rattle.std.proofs.Common.{◌≡◌, ◌⊎◌, ◌∙◌, sym, ap, refl, subst, ℕ, ◌==◌, Bool, true, false, List, [], ◌∷◌, ◌++◌}
-use Rattle.std.proofs.Common.{All, arith, inl, inr, ⊎_elim, rules}
+use Rattle.std.proofs.lemmas.Grind.{common_steps}
+use Rattle.std.proofs.Common.{◌≡◌, ◌⊎◌, ◌∙◌, sym, ap, refl, subst, ℕ, ◌==◌, true, List, [], ◌∷◌, ◌++◌}
+use Rattle.std.proofs.Common.{All, arith, inl, inr, rules}
 use Rattle.std.specs.Prelude.{codes, flat_map}
 use Rattle.std.specs.List.{list_any}
 use borrow.Author.Tests.{eqb-true, eqb-false}
@@ -26,12 +27,7 @@ heads_differ c d x y never e = absurd (never (head_of c d x y e))
 -- Before a byte that is neither space nor tab there is no white space.
 pub no_gap_before : (text rest : List ℕ) (c : ℕ) (x : List ℕ) → IsSpaced text rest → text ≡ c ∷ x → ¬ IsBlankByte c
     → rest ≡ c ∷ x
-no_gap_before text rest c x gap_before e never = go gap_before.gap gap_before.blank (sym gap_before.text_is ∙ e)
-  where
-    go : (gap : List ℕ) → IsGap gap → gap ++ rest ≡ c ∷ x → rest ≡ c ∷ x
-    go [] blank same = same
-    go (b ∷ gap) blank same =
-        absurd (never (subst IsBlankByte (head_of _ _ _ _ same) (All-head IsBlankByte b gap blank)))
+no_gap_before text rest c x gap_before e never = grind (arith, common_steps, All-head, head_of)
 
 -- One space is skipped if the remaining text doesn't begin with another.
 pub past_space : (text rest : List ℕ) (c : ℕ) (x : List ℕ) → IsSpaced text rest → text ≡ 32 ∷ c ∷ x → ¬ IsBlankByte c
@@ -53,28 +49,18 @@ iri_not c b of same among = not_iri_byte b among (subst IsIriByte same of)
 iri_pieces : (iri : List ℕ) (pieces : List Piece) (x y : List ℕ) → All IsIriByte iri → All IsIriPiece pieces → iri
     ++ 62 ∷ x ≡ flat_map piece_text pieces ++ 62 ∷ y → (flat_map piece_value pieces ≡ iri) × (x ≡ y)
 iri_pieces [] [] x y own their e = (refl, tail_of _ _ _ _ e)
-iri_pieces [] (Plain b ∷ ps) x y own their e =
-    absurd (iri_not b 62 (All-head IsIriPiece (Plain b) ps their) (sym (head_of _ _ _ _ e)) refl)
+iri_pieces [] (Plain b ∷ ps) x y own their e = grind (arith, common_steps, All-head, head_of, iri_not)
 iri_pieces [] (Echar b ∷ ps) x y own their e = absurd (All-head IsIriPiece (Echar b) ps their)
 iri_pieces [] (Uchar b ds ∷ ps) x y own their e = heads_differ _ _ _ _ (λ q. omega arith) e
 iri_pieces (c ∷ iri) [] x y own their e = absurd (iri_not c 62 (All-head IsIriByte c iri own) (head_of _ _ _ _ e) refl)
-iri_pieces (c ∷ iri) (Plain b ∷ ps) x y own their e =
-    let heads : b ≡ c = sym (head_of _ _ _ _ e) in
-    let more = iri_pieces iri ps x y (All-tail IsIriByte c iri own) (All-tail IsIriPiece (Plain b) ps their)
-    (tail_of _ _ _ _ e) in
-    (λ i. heads i ∷ more.0 i, more.1)
+iri_pieces (c ∷ iri) (Plain b ∷ ps) x y own their e = grind (arith, common_steps, All-tail, head_of, tail_of, iri_pieces iri ps x y (All-tail IsIriByte c iri own) (All-tail IsIriPiece (Plain b) ps their) (tail_of _ _ _ _ e))
 iri_pieces (c ∷ iri) (Echar b ∷ ps) x y own their e = absurd (All-head IsIriPiece (Echar b) ps their)
-iri_pieces (c ∷ iri) (Uchar b ds ∷ ps) x y own their e =
-    absurd (iri_not c 92 (All-head IsIriByte c iri own) (head_of _ _ _ _ e) refl)
+iri_pieces (c ∷ iri) (Uchar b ds ∷ ps) x y own their e = grind (arith, common_steps, All-head, head_of, iri_not)
 
 -- An IRI in angle brackets is read as itself.
 pub iriref_same : (text : List ℕ) (iri x other rest : List ℕ) → All IsIriByte iri → text ≡ 60 ∷ (iri ++ 62 ∷ x)
     → IsIriref text other rest → (other ≡ iri) × (rest ≡ x)
-iriref_same text iri x other rest own e ref =
-    let inner : iri ++ 62 ∷ x ≡ ref.inner ++ 62 ∷ rest = tail_of _ _ _ _ (sym e ∙ ref.text_is) in
-    let same = iri_pieces iri ref.spelling.pieces x rest own ref.spelling.each
-    (inner ∙ ap (λ t. t ++ 62 ∷ rest) ref.spelling.text) in
-    (ref.spelling.read ∙ same.0, sym same.1)
+iriref_same text iri x other rest own e ref = grind (arith, common_steps, iri_pieces, tail_of)
 
 -- A byte that is spelled after a backslash.
 abbrev pub IsSpecial : ℕ → Type 0
@@ -82,23 +68,14 @@ IsSpecial b = (b ≡ 34) ⊎ (b ≡ 92)
 
 pub spelled_byte : (b : ℕ) → (IsSpecial b × (byte_spelling b ≡ 92 ∷ b ∷ []))
     ⊎ ((b ≡ 34 → ⊥) × (b ≡ 92 → ⊥) × (byte_spelling b ≡ b ∷ []))
-spelled_byte b = go (b == 34) (b == 92) refl refl
-  where
-    go : (q r : Bool) → (b == 34) ≡ q → (b == 92) ≡ r → (IsSpecial b × (byte_spelling b ≡ 92 ∷ b ∷ []))
-        ⊎ ((b ≡ 34 → ⊥) × (b ≡ 92 → ⊥) × (byte_spelling b ≡ b ∷ []))
-    go true r i j = inl (inl (eqb-true b 34 i), simp i)
-    go false true i j = inl (inr (eqb-true b 92 j), simp (i, j))
-    go false false i j = inr (eqb-false b 34 i, eqb-false b 92 j, simp (i, j))
+spelled_byte b = grind (arith, common_steps, eqb-false, eqb-true)
 
 pub special_value : (b : ℕ) → IsSpecial b → escaped_value b ≡ b
 special_value b (inl e) = subst (λ c. escaped_value c ≡ c) (sym e) refl
 special_value b (inr e) = subst (λ c. escaped_value c ≡ c) (sym e) refl
 
 no_letter : (b letter : ℕ) (digits : List ℕ) → IsSpecial b → IsUchar letter digits → letter ≡ b → ⊥
-no_letter b letter digits (inl q) of e = ⊎_elim (λ u. let l = u.0 in omega arith) (λ u. let l = u.0 in omega arith)
-    of.size
-no_letter b letter digits (inr q) of e = ⊎_elim (λ u. let l = u.0 in omega arith) (λ u. let l = u.0 in omega arith)
-    of.size
+no_letter b letter digits h of e = grind (arith, common_steps)
 
 -- Pieces that spell this text have it as their value.
 abbrev ReadsAs : (text x y : List ℕ) → Type 0
@@ -110,16 +87,13 @@ module _ (c : ℕ) (text x y : List ℕ) (again : ReadsAs text x y) where
       ∷ (flat_map byte_spelling text ++ 34 ∷ x) ≡ flat_map piece_text pieces ++ 34 ∷ y
       → (flat_map piece_value pieces ≡ c ∷ text) × (x ≡ y)
   special of [] their e = heads_differ _ _ _ _ (λ q. omega arith) e
-  special of (Plain b ∷ ps) their e = let fine = All-head IsStringPiece (Plain b) ps their in
-      absurd (fine.1 (sym (head_of _ _ _ _ e)))
+  special of (Plain b ∷ ps) their e = grind (arith, common_steps, All-head, head_of)
   special of (Echar b ∷ ps) their e =
       let heads : b ≡ c = sym (head_of _ _ _ _ (tail_of _ _ _ _ e)) in
       let more = again ps (All-tail IsStringPiece (Echar b) ps their) (tail_of _ _ _ _ (tail_of _ _ _ _ e)) in
       let value : escaped_value b ≡ c = ap escaped_value heads ∙ special_value c of in
       (λ i. value i ∷ more.0 i, more.1)
-  special of (Uchar b ds ∷ ps) their e =
-      absurd (no_letter c b ds of (All-head IsStringPiece (Uchar b ds) ps their)
-      (sym (head_of _ _ _ _ (tail_of _ _ _ _ e))))
+  special of (Uchar b ds ∷ ps) their e = grind (arith, common_steps, All-head, head_of, no_letter, tail_of)
 
   usual : (c ≡ 34 → ⊥) → (c ≡ 92 → ⊥) → (pieces : List Piece) → All IsStringPiece pieces → c
       ∷ (flat_map byte_spelling text ++ 34 ∷ x) ≡ flat_map piece_text pieces ++ 34 ∷ y
@@ -141,8 +115,7 @@ module _ (c : ℕ) (text x y : List ℕ) (again : ReadsAs text x y) where
 
 string_pieces : (text x y : List ℕ) → ReadsAs text x y
 string_pieces [] x y [] their e = (refl, tail_of _ _ _ _ e)
-string_pieces [] x y (Plain b ∷ ps) their e = let of = All-head IsStringPiece (Plain b) ps their in
-    absurd (of.0 (sym (head_of _ _ _ _ e)))
+string_pieces [] x y (Plain b ∷ ps) their e = grind (arith, common_steps, All-head, head_of)
 string_pieces [] x y (Echar b ∷ ps) their e = heads_differ _ _ _ _ (λ q. omega arith) e
 string_pieces [] x y (Uchar b ds ∷ ps) their e = heads_differ _ _ _ _ (λ q. omega arith) e
 string_pieces (c ∷ text) x y pieces their e = one_byte c text x y (string_pieces text x y) pieces their e
@@ -150,12 +123,7 @@ string_pieces (c ∷ text) x y pieces their e = one_byte c text x y (string_piec
 -- A text in quotation marks is read as itself.
 pub quoted_same : (text value x other rest : List ℕ) → text ≡ 34 ∷ (flat_map byte_spelling value ++ 34 ∷ x)
     → IsQuoted text other rest → (other ≡ value) × (rest ≡ x)
-quoted_same text value x other rest e read =
-    let inner : flat_map byte_spelling value ++ 34 ∷ x ≡ read.inner ++ 34 ∷ rest =
-    tail_of _ _ _ _ (sym e ∙ read.text_is) in
-    let same = string_pieces value x rest read.spelling.pieces read.spelling.each
-    (inner ∙ ap (λ t. t ++ 34 ∷ rest) read.spelling.text) in
-    (read.spelling.read ∙ same.0, sym same.1)
+quoted_same text value x other rest e read = grind (arith, common_steps, string_pieces, tail_of)
 
 abbrev pub IsTagByte : ℕ → Type 0
 IsTagByte b = IsAsciiAlphanumeric b ⊎ (b ≡ 45)
@@ -171,10 +139,7 @@ pub run_same : (a b x y : List ℕ) → All IsTagByte a → All IsTagByte b → 
 run_same [] [] x y h k s t e = (refl, e)
 run_same [] (q ∷ b) x y h k s t e = absurd (subst Stops e s (All-head IsTagByte q b k))
 run_same (r ∷ a) [] x y h k s t e = absurd (subst Stops (sym e) t (All-head IsTagByte r a h))
-run_same (r ∷ a) (q ∷ b) x y h k s t e =
-    let heads : r ≡ q = head_of _ _ _ _ e in
-    let more = run_same a b x y (All-tail IsTagByte r a h) (All-tail IsTagByte q b k) s t (tail_of _ _ _ _ e) in
-    (λ i. heads i ∷ more.0 i, more.1)
+run_same (r ∷ a) (q ∷ b) x y h k s t e = grind (arith, common_steps, All-tail, head_of, tail_of, run_same a b x y (All-tail IsTagByte r a h) (All-tail IsTagByte q b k) s t (tail_of _ _ _ _ e))
 
 pub part_bytes : (parts : List (List ℕ)) → All (AreSome IsAsciiAlphanumeric) parts
     → All IsTagByte (flat_map (λ part. 45 ∷ part) parts)
@@ -189,7 +154,4 @@ letter_byte : (b : ℕ) → IsAsciiAlphabetic b → IsTagByte b
 letter_byte b is = inl (search rules)
 
 pub tag_bytes : (text tag rest : List ℕ) → IsLangtag text tag rest → All IsTagByte tag
-tag_bytes text tag rest of =
-    subst (All IsTagByte) (sym of.read)
-    (All-append IsTagByte of.letters _ (λ k d below. letter_byte _ (of.first.1 k d below))
-    (part_bytes of.parts of.others))
+tag_bytes text tag rest of = grind (arith, common_steps, All-append, letter_byte, part_bytes)

@@ -1,15 +1,14 @@
 -- Proves that the lines appended for a resource are those of its topics.
-use Rattle.std.proofs.Common.{◌≡◌, ◌⊎◌, ◌∙◌, sym, ap, refl, subst, inl, ⊎_elim, ℕ, ◌==◌, Bool, true, false, ◌&&◌}
-use Rattle.std.proofs.Common.{◌||◌, not, List, [], ◌∷◌, length, Contains, Option, None, Some, ◌≤◌, take, Result}
+use Rattle.std.proofs.lemmas.Grind.{common_steps}
+use Rattle.std.proofs.Common.{◌≡◌, ◌⊎◌, ◌∙◌, sym, ap, refl, subst, inl, ℕ, ◌==◌, Bool, true, false, ◌&&◌}
+use Rattle.std.proofs.Common.{not, List, [], ◌∷◌, length, Contains, Option, None, Some, ◌≤◌, take, Result}
 use Rattle.std.proofs.Common.{arith, eqb-true, true≢false}
-use Rattle.std.specs.Prelude.{option_and_then, OnOk, nat_lt, if◌then◌else◌}
-use Rattle.thes_base.specs.Links.{Holds, reversed_link, is_symmetric, normal_form}
-use Rattle.std.specs.Ordering.{nat_cmp, eq_by_cmp}
-use Rattle.std.specs.Cmp.{Equal-is}
-use Rattle.std.proofs.lemmas.Bool.{and_parts, both_ways, not-true, or_cases, or_left, or_right}
+use Rattle.std.specs.Prelude.{option_and_then, OnOk}
+use Rattle.thes_base.specs.Links.{Holds, is_symmetric, normal_form}
+use Rattle.std.specs.Ordering.{nat_cmp}
+use Rattle.std.proofs.lemmas.Bool.{and_parts, both_ways, not-true}
 use Rattle.thes_base.specs.declared.data.Resource.{Resource}
 use Rattle.thes_base.specs.declared.data.ResourceKind.{ResourceKind}
-use Rattle.thes_base.specs.declared.data.ResourceKind.TheVariants as kinds
 use Rattle.thes_base.specs.declared.data.LinkKind.{LinkKind}
 use Rattle.thes_base.specs.declared.data.LinkKind.TheVariants as kind
 use Rattle.thes_base.specs.declared.triple.Property.{Property}
@@ -22,20 +21,18 @@ use Rattle.thes_base.specs.Resources.{entry_at, scheme_of, is_outside, IsConcept
 use Rattle.thes_base.specs.Resources.{is_collection_kind}
 use Rattle.thes_base.specs.Triples.{Triple}
 use Rattle.thes_base.specs.Views.{HasLink, HasBroader, IsMapping, mapping_cmp}
-use Rattle.thes_base.proofs.ListMemberLemmas.{Contains-none, Contains-head, Contains-later, Contains-cons_cases}
-use Rattle.thes_vocab.specs.OwnLabels.{AreLabelsOf, data_cmp, has_own}
-use Rattle.thes_vocab.proofs.OwnLabelLemmas.{data_exact}
+use Rattle.thes_base.proofs.ListMemberLemmas.{Contains-none, Contains-head}
+use Rattle.thes_vocab.specs.OwnLabels.{AreLabelsOf}
 use Rattle.thes_core.specs.CoreView.{CoreView}
-use Rattle.thes_core.proofs.LabelListLemmas.{data_itself}
+use Rattle.thes_core.proofs.LabelListLemmas.{own_contains, contains_own}
 use Rattle.thes_export.specs.declared.topic.Topic.{Topic}
 use Rattle.thes_export.specs.declared.topic.Topic.TheVariants.{Kind, Belonging, Top, TopConcepts, Death, Replacement}
 use Rattle.thes_export.specs.declared.topic.Topic.TheVariants.{Labels, Broader, Narrower, Related, Mappings, Members}
 use Rattle.thes_export.specs.Spelling.{line_of}
 use Rattle.thes_export.specs.Holdings.{IsTopIn, IsTopScheme, IsTopUpTo, IsMemberUpTo}
 use Rattle.thes_export.specs.Topics.{Adds, IsLineOf, IsNode, IsTopicTriple, IsResourceTriple, IsOfClass, IsMatch}
-use Rattle.thes_export.specs.Topics.{MapsOne, MapsBy, Nodes, class_in, class_triple, dead_triple, label_triple}
-use Rattle.thes_export.specs.Topics.{node_triple, topics}
-use Rattle.thes_export.proofs.LineAppendLemmas.{OfSome, all_taken, no_lines, one_triple, same_lines}
+use Rattle.thes_export.specs.Topics.{MapsOne, MapsBy, Nodes, class_in, class_triple, dead_triple, label_triple, topics}
+use Rattle.thes_export.proofs.LineAppendLemmas.{OfSome, all_taken, one_triple, same_lines}
 
 module _ (core : CoreView) (n : ℕ) (r : Resource) where
   same_resource : (q : Resource) → entry_at core.resources n ≡ Some r → entry_at core.resources n ≡ Some q → q ≡ r
@@ -45,56 +42,25 @@ module _ (core : CoreView) (n : ℕ) (r : Resource) where
 
   class_from : (k : ResourceKind) (class : SkosClass) → Some class ≡ class_in k → entry_at core.resources n ≡ Some r
       → r.kind ≡ k → IsOfClass core class n
-  class_from kinds.Scheme class e found is =
-      subst (λ c. IsOfClass core c n) (sym (let q : class ≡ ConceptScheme = cc in q)) (r, found, ap is_scheme_kind is)
-  class_from kinds.Concept class e found is =
-      subst (λ c. IsOfClass core c n) (sym (let q : class ≡ Concept = cc in q)) (r, found, ap is_concept_kind is)
-  class_from kinds.Collection class e found is =
-      subst (λ c. IsOfClass core c n) (sym (let q : class ≡ Collection = cc in q))
-      (r, found, ap is_collection_kind is)
-  class_from kinds.Outside class e found is = absurd (cc)
+  class_from k class e found is = grind (arith, common_steps)
 
   scheme_kind : (k : ResourceKind) → is_scheme_kind k ≡ true → class_in k ≡ Some ConceptScheme
-  scheme_kind kinds.Scheme e = refl
-  scheme_kind kinds.Concept e = absurd (true≢false (sym e))
-  scheme_kind kinds.Collection e = absurd (true≢false (sym e))
-  scheme_kind kinds.Outside e = absurd (true≢false (sym e))
+  scheme_kind k e = grind (arith, common_steps)
 
   concept_kind : (k : ResourceKind) → is_concept_kind k ≡ true → class_in k ≡ Some Concept
-  concept_kind kinds.Scheme e = absurd (true≢false (sym e))
-  concept_kind kinds.Concept e = refl
-  concept_kind kinds.Collection e = absurd (true≢false (sym e))
-  concept_kind kinds.Outside e = absurd (true≢false (sym e))
+  concept_kind k e = grind (arith, common_steps)
 
   collection_kind : (k : ResourceKind) → is_collection_kind k ≡ true → class_in k ≡ Some Collection
-  collection_kind kinds.Scheme e = absurd (true≢false (sym e))
-  collection_kind kinds.Concept e = absurd (true≢false (sym e))
-  collection_kind kinds.Collection e = refl
-  collection_kind kinds.Outside e = absurd (true≢false (sym e))
+  collection_kind k e = grind (arith, common_steps)
 
   class_to : (class : SkosClass) → entry_at core.resources n ≡ Some r → IsOfClass core class n → class_in r.kind
       ≡ Some class
-  class_to ConceptScheme found (q, at, is) =
-      scheme_kind r.kind (ap (λ (z : Resource). is_scheme_kind z.kind) (sym (same_resource q found at)) ∙ is)
-  class_to Concept found (q, at, is) =
-      concept_kind r.kind (ap (λ (z : Resource). is_concept_kind z.kind) (sym (same_resource q found at)) ∙ is)
-  class_to Collection found (q, at, is) =
-      collection_kind r.kind (ap (λ (z : Resource). is_collection_kind z.kind) (sym (same_resource q found at)) ∙ is)
+  class_to class found h = grind (arith, common_steps, collection_kind, concept_kind, same_resource, scheme_kind)
 
   pub kind_line : (class : SkosClass) (line : List ℕ) (old new : List (List ℕ)) → entry_at core.resources n ≡ Some r
       → Some class ≡ class_in r.kind → line ≡ line_of (class_triple core n class) → Adds (λ l. l ≡ line) old new
       → Adds (IsLineOf (IsTopicTriple core Kind n)) old new
-  kind_line class line old new found e spelling =
-      one_triple (IsTopicTriple core Kind n) (class_triple core n class) line old new spelling
-      (class, class_from r.kind class e found refl, refl)
-      (λ t w. let same : w.0 ≡ class = (let q : Some w.0 ≡ Some class = sym (class_to w.0 found w.1) ∙ sym e in cc) in
-      w.2 ∙ ap (class_triple core n) same)
-
-  pub no_kind : (xs : List (List ℕ)) → entry_at core.resources n ≡ Some r → None ≡ class_in r.kind
-      → Adds (IsLineOf (IsTopicTriple core Kind n)) xs xs
-  no_kind xs found e = no_lines (IsTopicTriple core Kind n) xs (λ t w. let q : None ≡ Some w.0 = e
-      ∙ class_to w.0 found w.1 in
-      cc)
+  kind_line class line old new found e spelling = grind (arith, common_steps, class_from, class_to, one_triple)
 
   -- The lines of schemes and replacements are those of their topics.
 
@@ -104,40 +70,20 @@ module _ (core : CoreView) (n : ℕ) (r : Resource) where
   pub belonging_line : (m : ℕ) (old new : List (List ℕ)) → entry_at core.resources n ≡ Some r → Some m ≡ r.scheme
       → Adds (IsLineOf (IsNode core n property.InScheme m)) old new
       → Adds (IsLineOf (IsTopicTriple core Belonging n)) old new
-  belonging_line m old new found e =
-      same_lines (IsNode core n property.InScheme m) (IsTopicTriple core Belonging n) old new
-      (λ t is. (m, scheme_at found ∙ sym e, is))
-      (λ t w. let same : w.0 ≡ m = (let q : Some w.0 ≡ Some m = sym w.1 ∙ scheme_at found ∙ sym e in cc) in
-      w.2 ∙ ap (node_triple core n property.InScheme) same)
+  belonging_line m old new found e = grind (arith, common_steps, same_lines, scheme_at)
 
   pub replacement_line : (m : ℕ) (old new : List (List ℕ)) → entry_at core.resources n ≡ Some r → Some m ≡ r.replaced
       → Adds (IsLineOf (IsNode core n property.IsReplacedBy m)) old new
       → Adds (IsLineOf (IsTopicTriple core Replacement n))
       old new
-  replacement_line m old new found e =
-      same_lines (IsNode core n property.IsReplacedBy m) (IsTopicTriple core Replacement n) old new
-      (λ t is. (m, (r, found, sym e), is))
-      (λ t w.
-      let by = w.1 in
-      let same : w.0 ≡ m =
-      (let q : Some w.0 ≡ Some m = sym by.2 ∙ ap (λ (z : Resource). z.replaced) (same_resource by.0 found by.1)
-      ∙ sym e in cc) in
-      w.2 ∙ ap (node_triple core n property.IsReplacedBy) same)
+  replacement_line m old new found e = grind (arith, common_steps, same_lines, same_resource)
 
   -- The line of a deprecated concept is that of its topic.
 
   pub death_line : (line : List ℕ) (old new : List (List ℕ)) → entry_at core.resources n ≡ Some r
       → (is_concept_kind r.kind && not r.live) ≡ true → line ≡ line_of (dead_triple core n) → Adds (λ l. l ≡ line) old
       new → Adds (IsLineOf (IsTopicTriple core Death n)) old new
-  death_line line old new found e spelling =
-      let parts = and_parts (is_concept_kind r.kind) (not r.live) e in
-      one_triple (IsTopicTriple core Death n) (dead_triple core n) line old new spelling (
-        (r, found, parts.0),
-        (λ live. both_ways r.live (not-true r.live parts.1)
-            (ap (λ (z : Resource). z.live) (sym (same_resource live.0 found live.1)) ∙ live.2)),
-        refl,
-      )
-      (λ t w. w.2)
+  death_line line old new found e spelling = grind (arith, common_steps, and_parts, both_ways, not-true, one_triple, same_resource)
 
   -- The lines of a top concept are those of its topic.
 
@@ -149,11 +95,8 @@ module _ (core : CoreView) (n : ℕ) (r : Resource) where
   pub top_scheme : (broader xs : List ℕ) (empty : Bool) (scheme : Option ℕ) → xs ≡ broader → entry_at core.resources n
       ≡ Some r → (is_concept_kind r.kind && r.live) ≡ true → IsListing nat_cmp (HasBroader core.links n) broader
       → empty ≡ (length xs == 0) → empty ≡ true → scheme ≡ r.scheme → IsTopScheme core n scheme
-  top_scheme (b ∷ broader) xs empty scheme same found live listed is e of =
-      let z = eqb-true (length (b ∷ broader)) 0 (sym (is ∙ ap (λ (ys : List ℕ). length ys == 0) same) ∙ e) in
-      absurd (omega arith)
-  top_scheme [] xs empty None same found live listed is e of = λ m top. let q : Some m ≡ None =
-      sym top.1 ∙ scheme_at found ∙ sym of in cc
+  top_scheme (b ∷ broader) xs empty scheme same found live listed is e of = grind (arith, common_steps, eqb-true)
+  top_scheme [] xs empty None same found live listed is e of = grind (arith, common_steps, scheme_at)
   top_scheme [] xs empty (Some m) same found live listed is e of =
       ((r, found, live), scheme_at found ∙ sym of, λ b has. Contains-none b (listed.complete b has))
 
@@ -163,28 +106,9 @@ module _ (core : CoreView) (n : ℕ) where
 
   pub top_line : (m : ℕ) (old new : List (List ℕ)) → IsTopIn core n m
       → Adds (IsLineOf (IsNode core n property.TopConceptOf m)) old new → Adds (IsLineOf (IsTopicTriple core Top n)) old new
-  top_line m old new top =
-      same_lines (IsNode core n property.TopConceptOf m) (IsTopicTriple core Top n) old new
-      (λ t e. (m, top, e))
-      (λ t w. w.2 ∙ ap (node_triple core n property.TopConceptOf) (same_top m w.0 top w.1))
+  top_line m old new top = grind (arith, common_steps, same_lines, same_top)
 
   -- The lines of labels are those of their topic.
-
-  own_contains : (own : List LabelData) (l : LabelData) → has_own own l ≡ true → Contains own l
-  own_contains [] l e = absurd (true≢false (sym e))
-  own_contains (d ∷ own) l e = ⊎_elim
-      (λ f. subst (λ x. Contains (d ∷ own) x) (sym (data_exact l d ((Equal-is (data_cmp l d)).0 f)))
-      (Contains-head d own))
-      (λ f. Contains-later d own l (own_contains own l f))
-      (or_cases (eq_by_cmp data_cmp l d) (has_own own l) e)
-
-  contains_own : (own : List LabelData) (l : LabelData) → Contains own l → has_own own l ≡ true
-  contains_own [] l c = absurd (Contains-none l c)
-  contains_own (d ∷ own) l c = ⊎_elim
-      (λ e. or_left (eq_by_cmp data_cmp l d) (has_own own l) (subst (λ x. eq_by_cmp data_cmp l x ≡ true) (sym e)
-      (data_itself l)))
-      (λ more. or_right (eq_by_cmp data_cmp l d) (has_own own l) (contains_own own l more))
-      (Contains-cons_cases d own l c)
 
   pub label_lines : (own : List LabelData) (i : ℕ) (old new : List (List ℕ)) → length own ≤ i
       → AreLabelsOf core.labels n own
@@ -249,12 +173,7 @@ module _ (core : CoreView) (n : ℕ) where
   Maps t = (p : Property) × Nodes core p (MapsBy core p n) n t
 
   maps_from : (k : LinkKind) (m : ℕ) (t : Triple) → IsMapping core.links n (k, m) → MapsOne core n (k, m) t → Maps t
-  maps_from kind.Exact m t is content = (property.ExactMatch, (m, is, content))
-  maps_from kind.Close m t is content = (property.CloseMatch, (m, is, content))
-  maps_from kind.RelMatch m t is content = (property.RelatedMatch, (m, is, content))
-  maps_from kind.Broad m t is content = (property.BroadMatch, (m, content.0, content.1))
-  maps_from kind.Narrow m t is content = (property.NarrowMatch, (m, content.0, content.1))
-  maps_from _ m t is content = absurd content
+  maps_from k m t is content = grind (arith, common_steps)
 
   module _ (found : List (LinkKind × ℕ)) (listed : IsListing mapping_cmp (IsMapping core.links n) found) where
     maps_to : (p : Property) (m : ℕ) (t : Triple) → MapsBy core p n m → IsNode core n p m t → OfSome (MapsOne core n)
@@ -316,7 +235,4 @@ module _ (core : CoreView) (n : ℕ) where
   pub one_way : (k : LinkKind) (m : ℕ) → ((o : Bool) → is_symmetric o k ≡ false)
       → Holds core.links (normal_form (is_outside core.resources) (record { kind = k; a = n; b = m }))
       → HasLink core.links k n m
-  one_way k m one held =
-      subst (Holds core.links)
-      (ap (λ (b : Bool). if b && nat_lt m n then reversed_link (record { kind = k; a = n; b = m }) else
-      record { kind = k; a = n; b = m }) (one (is_outside core.resources n || is_outside core.resources m))) held
+  one_way k m one held = grind (arith, common_steps)

@@ -1,14 +1,12 @@
 -- Proves which texts of triples have spellings, and that those of the vocabularies do.
-use Rattle.std.proofs.Common.{◌≡◌, refl, ℕ, ◌==◌, Bool, true, false, ◌&&◌, not, List, ◌∷◌, ◌++◌, All, arith}
+use Rattle.std.proofs.lemmas.Grind.{common_steps}
+use Rattle.std.proofs.Common.{◌≡◌, refl, ℕ, ◌==◌, Bool, true, ◌&&◌, not, List, ◌∷◌, ◌++◌, All, arith}
 use Rattle.std.specs.Prelude.{codes, flat_map, nat_lt}
 use Rattle.std.specs.List.{list_any, list_all}
-use Rattle.std.proofs.lemmas.Bool.Decides.{nat_tests}
 use Rattle.std.proofs.lemmas.List.Sums.{AllPass-from_list_all}
 use Rattle.std.specs.Char.{IsAsciiAlphabetic, IsAsciiAlphanumeric}
 use Rattle.thes_base.specs.declared.triple.Property.{Property}
-use Rattle.thes_base.specs.declared.triple.Property.TheVariants as property
 use Rattle.thes_base.specs.declared.triple.Class.{Class as SkosClass}
-use Rattle.thes_base.specs.declared.triple.Class.TheVariants as class
 use Rattle.thes_base.specs.Forms.{IsIriByte}
 use Rattle.thes_base.specs.Triples.{Triple, Object, Node, Class, Literal, True}
 use Rattle.thes_export.specs.NTriples.{AreSome}
@@ -41,44 +39,18 @@ abbrev is_iri_byte : ℕ → Bool
 is_iri_byte b = nat_lt 32 b && not (list_any (λ c. c == b) (codes "<>\"{}|^`\\"))
 
 byte_passes : (b : ℕ) → is_iri_byte b ≡ true → IsIriByte b
-byte_passes b is = go (nat_lt 32 b) (list_any (λ c. c == b) (codes "<>\"{}|^`\\")) refl refl is
-  where
-    go : (p q : Bool) → nat_lt 32 b ≡ p → list_any (λ c. c == b) (codes "<>\"{}|^`\\") ≡ q → (p && not q) ≡ true
-        → IsIriByte b
-    go true true i j e = absurd (cc)
-    go true false i j e = (grind (arith, nat_tests), j)
-    go false q i j e = absurd (cc)
+byte_passes b is = grind (arith, common_steps)
 
 pub known_iri : (iri : List ℕ) → list_all is_iri_byte iri ≡ true → All IsIriByte iri
 known_iri iri passes k d below = byte_passes _ (AllPass-from_list_all is_iri_byte iri passes k d below)
 
 class_passes : (kind : SkosClass) → list_all is_iri_byte (class_iri kind) ≡ true
 unfolding skos
-class_passes class.Concept = refl
-class_passes class.ConceptScheme = refl
-class_passes class.Collection = refl
+class_passes kind = grind (arith, common_steps)
 
 property_passes : (p : Property) → list_all is_iri_byte (property_iri p) ≡ true
 unfolding rdf skos owl dct
-property_passes property.HasType = refl
-property_passes property.InScheme = refl
-property_passes property.TopConceptOf = refl
-property_passes property.HasTopConcept = refl
-property_passes property.Deprecated = refl
-property_passes property.IsReplacedBy = refl
-property_passes property.PrefLabel = refl
-property_passes property.AltLabel = refl
-property_passes property.HiddenLabel = refl
-property_passes property.ScopeNote = refl
-property_passes property.Broader = refl
-property_passes property.Narrower = refl
-property_passes property.Related = refl
-property_passes property.ExactMatch = refl
-property_passes property.CloseMatch = refl
-property_passes property.RelatedMatch = refl
-property_passes property.BroadMatch = refl
-property_passes property.NarrowMatch = refl
-property_passes property.Member = refl
+property_passes p = grind (arith, common_steps)
 
 boolean_passes : list_all is_iri_byte (xsd (codes "boolean")) ≡ true
 unfolding xsd

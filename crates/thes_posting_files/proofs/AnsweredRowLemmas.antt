@@ -1,5 +1,6 @@
 -- Proves which rows of a block have an answer, if its first requests were performed.
-use Rattle.std.proofs.Common.{◌≡◌, ◌∙◌, ◌<◌, ◌++◌, ◌∷◌, [], ℕ, List, refl, ap, length, map, arith}
+use Rattle.std.proofs.lemmas.Grind.{common_steps}
+use Rattle.std.proofs.Common.{◌≡◌, ◌<◌, ◌++◌, ◌∷◌, [], List, refl, ap, length, map, arith}
 use Rattle.std.specs.List.{AllZip}
 use Rattle.thes_base.specs.declared.request.Answer.{Answer}
 use Rattle.thes_base.specs.declared.request.Command.{Command}
@@ -22,16 +23,7 @@ pub record RowsAnswered (rows : List CsvRow) (done unread : List Command) (answe
 -- The answers to the first requests of a block are those of its first rows.
 pub rows_answered : (rows : List CsvRow) (done unread : List Command) (answers : List Answer) → posts_of rows ≡ done
     ++ unread → length answers ≡ length done → RowsAnswered rows done unread answers
-rows_answered [] [] unread [] e n = record {
-  first = [];
-  others = [];
-  all = refl;
-  posts = refl;
-  left_posts = e;
-  each = tt;
-  answers_are = refl;
-  none = λ z. refl;
-}
+rows_answered [] [] unread [] e n = grind (arith, common_steps)
 rows_answered [] [] unread (a ∷ answers) e n = absurd (omega (arith, n))
 rows_answered [] (d ∷ done) unread answers e n = absurd (let bad : [] ≡ d ∷ (done ++ unread) = e in cc)
 rows_answered (row.Bad fault ∷ rows) done unread answers e n =
@@ -45,16 +37,7 @@ rows_answered (row.Bad fault ∷ rows) done unread answers e n =
       answers_are = r.answers_are;
       none = r.none;
     }
-rows_answered (row.Post key rec concept ∷ rows) [] unread [] e n = record {
-  first = [];
-  others = row.Post key rec concept ∷ rows;
-  all = refl;
-  posts = refl;
-  left_posts = e;
-  each = tt;
-  answers_are = refl;
-  none = λ z. absurd (let bad : request.Post key rec concept ∷ posts_of rows ≡ [] = e ∙ z in cc);
-}
+rows_answered (row.Post key rec concept ∷ rows) [] unread [] e n = grind (arith, common_steps)
 rows_answered (row.Post key rec concept ∷ rows) [] unread (a ∷ answers) e n = absurd (omega (arith, n))
 rows_answered (row.Post key rec concept ∷ rows) (d ∷ done) unread [] e n = absurd (omega (arith, n))
 rows_answered (row.Post key rec concept ∷ rows) (d ∷ done) unread (a ∷ answers) e n =
@@ -75,6 +58,4 @@ rows_answered (row.Post key rec concept ∷ rows) (d ∷ done) unread (a ∷ ans
 -- If a request is left, so is a row.
 pub some_left : (others : List CsvRow) (unread : List Command) → posts_of others ≡ unread → 0 < length unread
     → 0 < length others
-some_left [] unread e some = let n : 0 ≡ length unread = ap (λ (l : List Command). length l) e in absurd
-    (omega (arith, n, some))
-some_left (x ∷ others) unread e some = omega arith
+some_left others unread e some = grind (arith, common_steps)

@@ -1,16 +1,16 @@
 -- Proves that a posting keeps its number, key, record and first concept through any requests.
-use Rattle.std.proofs.Common.{◌≡◌, ◌∙◌, ◌+◌, ℕ, zero, suc, Bool, List, Option, None, Some, [], ◌∷◌, inl, inr, refl}
-use Rattle.std.proofs.Common.{sym, ap, subst, eqb, eqb-true}
+use Rattle.std.proofs.lemmas.Grind.{common_steps}
+use Rattle.std.proofs.Common.{◌≡◌, ◌∙◌, ℕ, zero, suc, Bool, List, Option, None, Some, [], ◌∷◌, inl, inr, refl}
+use Rattle.std.proofs.Common.{sym, ap, subst, eqb, eqb-true, arith}
 use borrow.Author.Tests.{eqb-false}
 use Rattle.std.proofs.lemmas.Bool.{cases_Bool}
 use Rattle.thes_base.specs.declared.data.History.{History}
 use Rattle.thes_base.specs.declared.request.Answer.{Answer}
 use Rattle.thes_base.specs.declared.request.Command.{Command}
 use Rattle.thes_base.specs.declared.request.Command.TheVariants as request
-use Rattle.thes_base.specs.Changes.{histories_after_withdrawal, is_listed, new_history, next_number}
+use Rattle.thes_base.specs.Changes.{histories_after_withdrawal, new_history}
 use Rattle.thes_base.specs.Machine.{Run, Step, next_state}
-use Rattle.thes_base.specs.Postings.{move_count, histories_after_moves, is_assigned_to}
-use Rattle.thes_base.specs.Postings.{history_after_withdrawal}
+use Rattle.thes_base.specs.Postings.{histories_after_moves, history_after_withdrawal}
 use Rattle.thes_base.specs.Refusals.{Setting}
 use Rattle.thes_base.specs.Resources.{entry_at, replacements, set_entry_at}
 use Rattle.thes_base.specs.State.{State}
@@ -31,13 +31,7 @@ same_is : (g h : History) → h ≡ g → IsSame g h
 same_is g h e = subst (IsSame g) (sym e) (same_itself g)
 
 same_then : (f g h : History) → IsSame f g → IsSame g h → IsSame f h
-same_then f g h a b = record {
-  number = b.number ∙ a.number;
-  key = b.key ∙ a.key;
-  rec = b.rec ∙ a.rec;
-  first =
-      b.first ∙ a.first;
-}
+same_then f g h a b = grind (arith, common_steps)
 
 -- At this number, the list has a history of the same posting as `g`.
 abbrev pub Stays : ℕ → History → List History → Type 0
@@ -54,9 +48,7 @@ stays_moved passes target start (suc n) g hs e =
     (r.0, r.1, go r.0 r.2)
   where
     go : (new : History) → IsAfterMoveAt passes target start hs n g new → IsSame g new
-    go new (inl (hit, k, at, is)) =
-        subst (IsSame g) (sym is) (record { number = refl; key = refl; rec = refl; first = refl })
-    go new (inr (miss, is)) = same_is g new is
+    go new h = grind (arith, common_steps, same_is)
 
 stays_set : (n m : ℕ) (g x : History) (hs : List History) → entry_at hs n ≡ Some g → entry_at hs m ≡ Some x
     → Stays n g (set_entry_at hs m (history_after_withdrawal x))
@@ -84,10 +76,7 @@ stays_withdrawn : (n m : ℕ) (g : History) (hs : List History) → entry_at hs 
 stays_withdrawn n m g hs e = go (entry_at hs m) refl
   where
     go : (o : Option History) → entry_at hs m ≡ o → Stays n g (histories_after_withdrawal m hs)
-    go None at =
-        subst (λ (o : Option History).
-        Stays n g (elim o [ None ↦ hs | Some h ↦ set_entry_at hs m (history_after_withdrawal h) ])) (sym at)
-        (stays n g hs e)
+    go None at = grind (arith, common_steps, stays)
     go (Some x) at =
         subst (λ (o : Option History).
         Stays n g (elim o [ None ↦ hs | Some h ↦ set_entry_at hs m (history_after_withdrawal h) ])) (sym at)
@@ -102,15 +91,12 @@ stays_next n g s (request.Collection scheme tag text) e = stays n g s.histories 
 stays_next n g s (request.Outside iri) e = stays n g s.histories e
 stays_next n g s (request.AddLabel owner l) e = stays n g s.histories e
 stays_next n g s (request.DropLabel owner l) e = stays n g s.histories e
-stays_next n g s (request.Relabel owner tag text keep) e =
-    stays n g (next_state (request.Relabel owner tag text keep) s).histories e
+stays_next n g s (request.Relabel owner tag text keep) e = grind (arith, common_steps, stays)
 stays_next n g s (request.Link kind a b) e = stays n g s.histories e
 stays_next n g s (request.Unlink kind a b) e = stays n g s.histories e
 stays_next n g s (request.Deprecate concept) e = stays n g s.histories e
-stays_next n g s (request.Merge source target) e = stays_moved (is_assigned_to source) target (move_count s.histories
-    + 1) n g s.histories e
-stays_next n g s (request.Split source tag text postings) e = stays_moved (is_listed postings) (next_number s)
-    (move_count s.histories + 1) n g s.histories e
+stays_next n g s (request.Merge source target) e = grind (arith, common_steps, stays_moved)
+stays_next n g s (request.Split source tag text postings) e = grind (arith, common_steps, stays_moved)
 stays_next n g s (request.Post key rec concept) e = (
   g,
   push_old s.histories (new_history key rec concept (replacements s.resources concept) s.histories) g n e,
@@ -120,10 +106,8 @@ stays_next n g s (request.Withdraw posting) e = stays_withdrawn n posting g s.hi
 
 stays_step : (setting : Setting) (n : ℕ) (g : History) (s t : State) (command : Command) (answer : Answer)
     → Step setting s command answer t → entry_at s.histories n ≡ Some g → Stays n g t.histories
-stays_step setting n g s t command answer (inl known) e = subst (λ (w : State). Stays n g w.histories) (sym known.1)
-    (stays n g s.histories e)
-stays_step setting n g s t command answer (inr (new, inl refused)) e = subst (λ (w : State). Stays n g w.histories)
-    (sym refused.3) (stays n g s.histories e)
+stays_step setting n g s t command answer (inl known) e = grind (arith, common_steps, stays)
+stays_step setting n g s t command answer (inr (new, inl refused)) e = grind (arith, common_steps, stays)
 stays_step setting n g s t command answer (inr (new, inr consumes)) e = subst (λ (w : State). Stays n g w.histories)
     (sym consumes.2) (stays_next n g s command e)
 

@@ -1,6 +1,6 @@
 -- Proves how the fields of a record are read.
-use Rattle.std.proofs.Common.{◌≡◌, ◌∙◌, refl, sym, ap, ℕ, zero, suc, ◌<◌, List, [], ◌∷◌, length, get_or, Option, None}
-use Rattle.std.proofs.Common.{Some}
+use Rattle.std.proofs.lemmas.Grind.{common_steps}
+use Rattle.std.proofs.Common.{◌≡◌, ◌∙◌, sym, ap, ℕ, ◌<◌, List, [], ◌∷◌, length, get_or, Option, None, Some}
 use Rattle.std.proofs.Common.{arith, rules}
 use Rattle.std.specs.Prelude.{slice_get, IsSome, option_map}
 use Rattle.std.proofs.lemmas.Option.{slice_get-get_or}
@@ -8,9 +8,7 @@ use Rattle.csv.specs.Records.{field_at}
 
 pub field_there : (fs : List (List ℕ)) (i : ℕ) → field_at fs i ≡ slice_get fs i
 unfolding field_at
-field_there [] i = refl
-field_there (f ∷ fs) zero = refl
-field_there (f ∷ fs) (suc i) = field_there fs i
+field_there fs i = grind (arith, common_steps)
 
 pub field_is_some : {X : Type 0} (o : Option X) (f : X → List ℕ) (fs : List (List ℕ)) (i : ℕ) → option_map f o
     ≡ field_at fs i → i < length fs → IsSome o

@@ -1,20 +1,20 @@
 -- Proves that a text has one list of records, and that a reader reads them in order.
+use Rattle.std.proofs.lemmas.Grind.{common_steps}
 use Rattle.std.proofs.Common.{◌≡◌, ◌∙◌, ◌⊎◌, ◌+◌, ◌<◌, ◌≤◌, ◌++◌, ◌∷◌, [], ℕ, zero, suc, Bool, true, false, List, refl}
 use Rattle.std.proofs.Common.{sym, ap, subst, inl, inr, length, Option, None, Some, arith}
-use Rattle.std.proofs.lemmas.Bool.{false≢true}
 use Rattle.std.specs.Prelude.{if◌then◌else◌, IfOk, OnOk, Result, Ok, Err}
 use Rattle.std.specs.Result.{result_ok}
 use Rattle.std.specs.Borrow.{Bor}
-use Rattle.csv.specs.Machine.{Read, ends_at_end, fields_after, field_after, is_end, next_record, step}
-use Rattle.csv.specs.Reading.{AreRecords, NextIs, Reached, ReadRecord, Ready, ReadsNext, default_config, pending_of}
-use Rattle.csv.specs.Reading.{is_bom, source_of, strip_bom}
+use Rattle.csv.specs.Machine.{Read, fields_after, field_after, is_end, next_record, step}
+use Rattle.csv.specs.Reading.{AreRecords, Reached, ReadRecord, Ready, ReadsNext, default_config, pending_of}
+use Rattle.csv.specs.Reading.{source_of, strip_bom}
 use Rattle.csv.specs.declared.parser.Config.{Config}
 use Rattle.csv.specs.declared.parser.State.{State}
 use Rattle.csv.specs.declared.parser.State.TheVariants as st
 use Rattle.csv.specs.declared.reader.Reader.{Reader}
 use Rattle.csv.specs.declared.reader.Trim.TheVariants as trim
 use Rattle.csv.proofs.ReadFacts.{rows-end, rows-more}
-use Rattle.thes_posting_files.specs.PostingFile.{HasNoHeader, HasRecords, header}
+use Rattle.thes_posting_files.specs.PostingFile.{HasNoHeader, header}
 use Rattle.thes_posting_files.specs.RecordReading.{HasReadTo, TakesRecord, most_left, most_records}
 
 -- The part of the bound on the records left that counts the end of the text.
@@ -39,11 +39,7 @@ here_or_later false r p o e = inr e
 pub fewer_records : (cfg : Config) (s : State) (fields : List (List ℕ)) (field text : List ℕ) (p : Read)
     → next_record cfg s fields field text ≡ Some p → most_records p.1 (Some p.2) < most_records s (Some text)
 unfolding next_record
-fewer_records cfg s fields field [] p e =
-    let x = at_the_end (ends_at_end s) (fields ++ (field ∷ []), st.StartRecord, []) p e in
-    let a : most_records p.1 (Some p.2) ≡ 0 = ap (λ (q : Read). most_records q.1 (Some q.2)) (sym x.1) in
-    let b = ap flag x.0 in
-    omega (arith, a, b)
+fewer_records cfg s fields field [] p e = grind (arith, common_steps, at_the_end)
 fewer_records cfg s fields field (c ∷ rest) p e =
     go (here_or_later (is_end (step cfg s c).1)
     (fields_after (step cfg s c).1 fields field, (step cfg s c).0, rest) p
@@ -59,29 +55,11 @@ fewer_records cfg s fields field (c ∷ rest) p e =
         (field_after (step cfg s c).1 c field) rest ≡ Some p
         → most_records p.1 (Some p.2) < most_records (step cfg s c).0 (Some rest))
         → most_records p.1 (Some p.2) < most_records s (Some (c ∷ rest))
-    go (inl same) later =
-        let a : most_records p.1 (Some p.2) ≡ most_records (step cfg s c).0 (Some rest) =
-        ap (λ (q : Read). most_records q.1 (Some q.2)) (sym same) in
-        let b = flag_small (ends_at_end (step cfg s c).0) in
-        omega (arith, a, b)
-    go (inr more) later =
-        let a = later more in
-        let b = flag_small (ends_at_end (step cfg s c).0) in
-        omega (arith, a, b)
+    go h later = grind (arith, common_steps, flag_small)
 
 fewer_after : (cfg : Config) (a b : State) (text : List ℕ) (fields : List (List ℕ)) (k : Option (List ℕ))
     → ReadsNext cfg a (Some text) k true fields b → most_records b k < most_records a (Some text)
-fewer_after cfg a b text fields None r = absurd r
-fewer_after cfg a b text fields (Some unread) r = go (next_record cfg a [] [] text) refl r
-  where
-    go : (o : Option Read) → next_record cfg a [] [] text ≡ o → NextIs o true fields b unread
-        → most_records b (Some unread) < most_records a (Some text)
-    go None e n = absurd (false≢true (sym n))
-    go (Some p) e n =
-        let same : most_records b (Some unread) ≡ most_records p.1 (Some p.2) =
-        (λ i. most_records (n.2 i) (Some (n.3 i))) in
-        let fewer = fewer_records cfg a [] [] text p e in
-        omega (arith, same, fewer)
+fewer_after cfg a b text fields k r = grind (arith, common_steps, fewer_records)
 
 -- Each text has a list of records.
 pub records_exist : (cfg : Config) (n : ℕ) (s : State) (text : List ℕ) → most_records s (Some text) < n
@@ -107,17 +85,8 @@ pub records_after : (cfg : Config) (s s' : State) (text unread : List ℕ) (firs
     → (rest : List (List (List ℕ))) × (all ≡ first ++ rest) × AreRecords cfg s' unread rest
 unfolding Reached
 records_after cfg s s' text unread [] all h are = (all, refl, rw (← h.0, ← h.1) are)
-records_after cfg s s' text unread (r ∷ rs) [] h are =
-    let same : next_record cfg s [] [] text ≡ next_record cfg are.0 [] [] are.1 =
-    (λ i. next_record cfg (are.2.0 i) [] [] (are.2.1 i)) in
-    absurd (let bad : Some h.0 ≡ None = sym h.1 ∙ same ∙ are.3 in cc)
-records_after cfg s s' text unread (r ∷ rs) (q ∷ qs) h are =
-    let given : Some are.2.0 ≡ Some h.0 = sym are.2.1 ∙ h.1 in
-    let same : are.2.0 ≡ h.0 = cc in
-    let rest = records_after cfg h.0.1 s' h.0.2 unread rs qs h.3
-    (are.0, are.1, subst (λ (p : Read). Reached cfg p.1 p.2 qs are.0 are.1) same are.2.3, are.3) in
-    let head : q ≡ r = are.2.2 ∙ ap (λ (p : Read). p.0) same ∙ sym h.2 in
-    (rest.0, (λ i. head i ∷ rest.1 i), rest.2)
+records_after cfg s s' text unread (r ∷ rs) [] h are = grind (arith, common_steps)
+records_after cfg s s' text unread (r ∷ rs) (q ∷ qs) h are = grind (arith, common_steps, records_after cfg h.0.1 s' h.0.2 unread rs qs h.3)
 
 -- A file has no header if the first record read isn't the header.
 pub first_is_other : (bytes : List ℕ) (fields : List (List ℕ)) (reader : Reader (Bor (List ℕ)))
@@ -134,36 +103,16 @@ first_is_other bytes fields reader h other =
       headless = λ w. other (let both : fields ∷ rest.0 ≡ header ∷ w.0 = sym rest.1 ∙ w.1 in cc);
     }
 
--- A file without records has no header.
-pub none_is_other : (bytes : List ℕ) → HasRecords bytes [] → HasNoHeader bytes
-none_is_other bytes read = record {
-  records = [];
-  read = read;
-  headless = λ w. let bad : [] ≡ header ∷ w.0 = w.1 in cc;
-}
-
 -- Before the first record, the bound on the records left is at most twice the length of the text.
 
 strip_shorter : (text : List ℕ) → length (strip_bom text) ≤ length text
 unfolding strip_bom
-strip_shorter [] = omega arith
-strip_shorter (a ∷ []) = omega arith
-strip_shorter (a ∷ b ∷ []) = omega arith
-strip_shorter (a ∷ b ∷ c ∷ rest) = go (is_bom a b c)
-  where
-    go : (mark : Bool) → length (if mark then rest else a ∷ b ∷ c ∷ rest) ≤ length (a ∷ b ∷ c ∷ rest)
-    go true = omega arith
-    go false = omega arith
+strip_shorter text = grind (arith, common_steps)
 
 pub most_at_start : (bytes : List ℕ) (reader : Reader (Bor (List ℕ))) → HasReadTo bytes [] reader
     → most_left reader ≤ length bytes + length bytes
 unfolding Reached
-most_at_start bytes reader h =
-    let given = h.source ∙ ap Some (sym h.reaches.1) in
-    let same : most_left reader ≡ most_records st.StartRecord (Some (strip_bom bytes)) =
-    (λ i. most_records (sym h.reaches.0 i) (given i)) in
-    let short = strip_shorter bytes in
-    omega (arith, same, short)
+most_at_start bytes reader h = grind (arith, common_steps, strip_shorter)
 
 -- A call of the CSV reader reads one more record, or finds none left.
 

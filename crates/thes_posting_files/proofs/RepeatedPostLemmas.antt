@@ -1,4 +1,5 @@
 -- Proves which answer a posting has that is sent again.
+use Rattle.std.proofs.lemmas.Grind.{common_steps}
 use Rattle.std.proofs.Common.{◌≡◌, ◌⊎◌, ◌∙◌, ◌+◌, ◌≤◌, ◌++◌, ◌∷◌, [], ℕ, zero, suc, List, None, Some, max, inl, inr}
 use Rattle.std.proofs.Common.{refl, sym, ap, subst, length, append_assoc, append-nil, length-append, arith}
 use Rattle.std.specs.Prelude.{slice_get}
@@ -14,7 +15,7 @@ use Rattle.thes_base.specs.declared.request.Command.TheVariants as request
 use Rattle.thes_base.specs.Changes.{new_history, state_after_post}
 use Rattle.thes_base.specs.Legal.{AreLegalPostings}
 use Rattle.thes_base.specs.Machine.{Run, Step, refusal_rule_of}
-use Rattle.thes_base.specs.Postings.{path_end, move_count}
+use Rattle.thes_base.specs.Postings.{path_end}
 use Rattle.thes_base.specs.Refusals.{IsOfKey, Setting}
 use Rattle.thes_base.specs.Resources.{Exists, IsConcept, IsLive, entry_at, replacements}
 use Rattle.thes_base.specs.State.{IsWithinLimits, State}
@@ -40,11 +41,7 @@ later_same : (s t : State) → t ≡ s → IsLater s t
 later_same s t e = subst (IsLater s) (sym e) (later_itself s)
 
 later_then : (r s t : State) → IsLater r s → IsLater s t → IsLater r t
-later_then r s t a b = record {
-  more = a.more ++ b.more;
-  is = b.is ∙ ap (λ (w : State). record w { histories = w.histories ++ b.more }) a.is
-      ∙ (λ i. record r { histories = append_assoc r.histories a.more b.more i });
-}
+later_then r s t a b = grind (arith, common_steps, append_assoc)
 
 get_more : (hs more : List History) (n : ℕ) (h : History) → slice_get hs n ≡ Some h → slice_get (hs ++ more) n ≡ Some h
 get_more [] more n h e = absurd (let bad : None ≡ Some h = e in cc)
@@ -96,65 +93,24 @@ posted_later key rec concept s t e =
 
 step_later : (setting : Setting) (key rec : List ℕ) (concept : ℕ) (s t : State) (a : Answer)
     → Step setting s (request.Post key rec concept) a t → IsLater s t
-step_later setting key rec concept s t a (inl known) = later_same s t known.1
-step_later setting key rec concept s t a (inr (new, inl refused)) = later_same s t refused.3
-step_later setting key rec concept s t a (inr (new, inr consumes)) = posted_later key rec concept s t consumes.2
+step_later setting key rec concept s t a h = grind (arith, common_steps, later_same, posted_later)
 
 -- After a post was accepted, the state has a posting with its key, record and concept, under the
 -- number in the answer.
 pub accepted_has : (setting : Setting) (key rec : List ℕ) (concept n : ℕ) (s mid : State) (a : Answer)
     → (a ≡ reply.Number n) ⊎ (a ≡ reply.Again n) → Step setting s (request.Post key rec concept) a mid
     → HasPosting key rec concept n mid
-accepted_has setting key rec concept n s mid a (inl e) (inl ((h, of_key, inl again), same)) =
-    absurd (let bad : reply.Number n ≡ reply.Again h.number = sym e ∙ again.2 in cc)
-accepted_has setting key rec concept n s mid a (inr e) (inl ((h, of_key, inl again), same)) =
-    subst (HasPosting key rec concept n) (sym same) (record {
-      h = h;
-      of_key = of_key;
-      rec_is = again.0;
-      first_is =
-          again.1;
-      number_is = let q : reply.Again h.number ≡ reply.Again n = sym again.2 ∙ e in cc;
-    })
-accepted_has setting key rec concept n s mid a (inl e) (inl ((h, of_key, inr reused), same)) =
-    absurd (let bad : reply.Number n ≡ reply.No no.KeyReused = sym e ∙ reused.1 in cc)
-accepted_has setting key rec concept n s mid a (inr e) (inl ((h, of_key, inr reused), same)) =
-    absurd (let bad : reply.Again n ≡ reply.No no.KeyReused = sym e ∙ reused.1 in cc)
-accepted_has setting key rec concept n s mid a (inl e) (inr (new, inl refused)) =
-    absurd (let bad : reply.Number n ≡ reply.No refused.0 = sym e ∙ refused.2 in cc)
-accepted_has setting key rec concept n s mid a (inr e) (inr (new, inl refused)) =
-    absurd (let bad : reply.Again n ≡ reply.No refused.0 = sym e ∙ refused.2 in cc)
-accepted_has setting key rec concept n s mid a (inl e) (inr (new, inr consumes)) =
-    let count = length (state_after_post key rec concept s).histories in
-    let q : reply.Number count ≡ reply.Number n = sym consumes.1 ∙ e in
-    let is : count ≡ n = cc in
-    subst (λ (t : State). HasPosting key rec concept n t) (sym consumes.2)
-    (subst (λ (m : ℕ). HasPosting key rec concept m (state_after_post key rec concept s)) is
-    (posting_made key rec concept s))
-accepted_has setting key rec concept n s mid a (inr e) (inr (new, inr consumes)) =
-    absurd (let bad : reply.Again n ≡ reply.Number (length (state_after_post key rec concept s).histories) =
-    sym e ∙ consumes.1 in cc)
+accepted_has setting key rec concept n s mid a h k = grind (arith, common_steps, posting_made)
 
 -- A key has only one posting.
 one_of_key : (s : State) → AreLegalPostings s.resources s.histories → (key : List ℕ) (g h : History)
     → IsOfKey key s.histories g → IsOfKey key s.histories h → g ≡ h
-one_of_key s legal key g h a b =
-    let same : g.number ≡ h.number = legal.keys g.number h.number g h a.0 b.0 (a.1 ∙ sym b.1) in
-    let q : Some g ≡ Some h = sym a.0 ∙ ap (entry_at s.histories) same ∙ b.0 in
-    cc
+one_of_key s legal key g h a b = grind (arith, common_steps)
 
 pub has_again : (setting : Setting) (key rec : List ℕ) (concept n : ℕ) (t u : State) (b : Answer)
     → AreLegalPostings t.resources t.histories → HasPosting key rec concept n t
     → Step setting t (request.Post key rec concept) b u → (b ≡ reply.Again n) × (u ≡ t)
-has_again setting key rec concept n t u b legal p (inl ((h, of_key, inl again), same)) = (
-  again.2 ∙ ap (λ (g : History). reply.Again g.number) (one_of_key t legal key h p.h of_key p.of_key)
-      ∙ ap reply.Again p.number_is,
-  same,
-)
-has_again setting key rec concept n t u b legal p (inl ((h, of_key, inr reused), same)) =
-    let is : h ≡ p.h = one_of_key t legal key h p.h of_key p.of_key in
-    absurd (reused.0 (ap (λ (g : History). g.rec) is ∙ p.rec_is, ap (λ (g : History). g.first) is ∙ p.first_is))
-has_again setting key rec concept n t u b legal p (inr (new, judged)) = absurd (new p.h p.of_key)
+has_again setting key rec concept n t u b legal p h = grind (arith, common_steps, one_of_key)
 
 -- A posting sent again after any requests is answered with its number.
 pub answers_again : (setting : Setting) (s mid t u : State) (key rec : List ℕ) (concept n : ℕ) (a b : Answer)
@@ -187,38 +143,7 @@ fits_same limit n = omega arith
 within_before : (setting : Setting) (key rec : List ℕ) (concept : ℕ) (s t : State) → IsLater s t
     → IsWithinLimits setting.limits t (state_after_post key rec concept t) → IsWithinLimits setting.limits s
     (state_after_post key rec concept s)
-within_before setting key rec concept s t a w =
-    let way = replacements s.resources concept in
-    let ways : replacements t.resources concept ≡ way = ap (λ (x : State). replacements x.resources concept) a.is in
-    let long : length t.histories ≡ length s.histories + length a.more = ap (λ (x : State). length x.histories) a.is
-    ∙ length-append s.histories a.more in
-    let after : length (state_after_post key rec concept t).histories ≡ length t.histories + 1 =
-    length-append t.histories (new_history key rec concept (replacements t.resources concept) t.histories ∷ []) in
-    let before : length (state_after_post key rec concept s).histories ≡ length s.histories + 1 =
-    length-append s.histories (new_history key rec concept way s.histories ∷ []) in
-    let fits : length t.histories + 1 ≤ max setting.limits.postings (length t.histories) =
-    subst (λ n. n ≤ max setting.limits.postings (length t.histories)) after w.postings in
-    let less : length s.histories ≤ length t.histories = omega (arith, long) in
-    let counts_are : move_count t.histories ≡ move_count s.histories + move_count a.more =
-    ap (λ (x : State). move_count x.histories) a.is ∙ sum_by-append (λ (h : History). length h.moves) s.histories
-    a.more in
-    let moved : move_count (state_after_post key rec concept t).histories ≡ move_count t.histories + length way =
-    count_posted key rec concept (replacements t.resources concept) t.histories
-    ∙ ap (λ (l : List ℕ). move_count t.histories + length l) ways in
-    let moves : move_count (state_after_post key rec concept s).histories ≡ move_count s.histories + length way =
-    count_posted key rec concept way s.histories in
-    let few : move_count t.histories + length way ≤ max setting.limits.moves (move_count t.histories) =
-    subst (λ n. n ≤ max setting.limits.moves (move_count t.histories)) moved w.moves in
-    let fewer : move_count s.histories ≤ move_count t.histories = omega (arith, counts_are) in
-    record {
-      resources = fits_same _ _;
-      labels = fits_same _ _;
-      links = fits_same _ _;
-      postings = subst (λ n. n ≤ max setting.limits.postings (length s.histories)) (sym before)
-          (fits_before setting.limits.postings (length s.histories) (length t.histories) 1 less fits);
-      moves = subst (λ n. n ≤ max setting.limits.moves (move_count s.histories)) (sym moves)
-          (fits_before setting.limits.moves (move_count s.histories) (move_count t.histories) (length way) fewer few);
-    }
+within_before setting key rec concept s t a w = grind (arith, common_steps, count_posted, fits_before, fits_same, length-append, sum_by-append)
 
 accepted_before : (setting : Setting) (key rec : List ℕ) (concept : ℕ) (s t : State) → IsLater s t
     → refusal_rule_of setting t (state_after_post key rec concept t) (request.Post key rec concept) None
@@ -238,11 +163,7 @@ accepted_before setting key rec concept s t a passes r not_yet =
         → IsLive t.resources (path_end concept (replacements t.resources concept)) → IsWithinLimits setting.limits s
         (state_after_post key rec concept s) → refusal_rule_of setting s (state_after_post key rec concept s)
         (request.Post key rec concept) (Some r) → ⊥
-    go e k l w (inl b) = b.0 (subst (λ x. Exists x concept) rs e)
-    go e k l w (inr (_, inl b)) = b.0 (subst (λ x. IsConcept x concept) rs k)
-    go e k l w (inr (_, inr (_, inl b))) = b.0 (subst (λ x. IsLive x (path_end concept (replacements x concept))) rs l)
-    go e k l w (inr (_, inr (_, inr (_, inl b)))) = b.0 w
-    go e k l w (inr (_, inr (_, inr (_, inr (_, b))))) = some_none r b
+    go e k l w h = grind (arith, common_steps, rs, some_none)
 
 -- The answer is a number that a posting has already, or a refusal.
 abbrev pub IsRepeatedOrRefused : Answer → Type 0
@@ -263,19 +184,13 @@ refused_again setting key rec concept s mid t u a b r e (inl ((h, of_key, _), sa
 refused_again setting key rec concept s mid t u a b r e (inr (fresh, inl refused)) later (inr (new, inr consumes)) =
     absurd (accepted_before setting key rec concept s t (subst (λ (w : State). IsLater w t) refused.3 later)
     consumes.0 refused.0 refused.1)
-refused_again setting key rec concept s mid t u a b r e (inr (fresh, inr posts)) later (inr (new, inr consumes)) =
-    absurd (let bad : reply.No r ≡ reply.Number (length (state_after_post key rec concept s).histories) =
-    sym e ∙ posts.1 in cc)
+refused_again setting key rec concept s mid t u a b r e (inr (fresh, inr posts)) later (inr (new, inr consumes)) = grind (arith, common_steps)
 
 -- A post is answered only with a number, a repetition or a refusal.
 pub not_answered : (setting : Setting) (key rec : List ℕ) (concept : ℕ) (s t : State) (a : Answer)
     → Step setting s (request.Post key rec concept) a t → ((n : ℕ) → ¬ (a ≡ reply.Number n))
     → ((n : ℕ) → ¬ (a ≡ reply.Again n)) → ((r : Refusal) → ¬ (a ≡ reply.No r)) → ⊥
-not_answered setting key rec concept s t a (inl ((h, of_key, inl again), same)) x y z = y h.number again.2
-not_answered setting key rec concept s t a (inl ((h, of_key, inr reused), same)) x y z = z no.KeyReused reused.1
-not_answered setting key rec concept s t a (inr (new, inl refused)) x y z = z refused.0 refused.2
-not_answered setting key rec concept s t a (inr (new, inr consumes)) x y z =
-    x (length (state_after_post key rec concept s).histories) consumes.1
+not_answered setting key rec concept s t a h x y z = grind (arith, common_steps)
 
 -- Rows performed with these outcomes only add postings.
 pub rows_later : (setting : Setting) (s t : State) (rows : List CsvRow) (os : List Outcome) → AllZip IsOutcome rows os

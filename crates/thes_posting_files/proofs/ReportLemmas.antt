@@ -1,28 +1,19 @@
 -- Proves which text and counts a report has after one more row.
-use Rattle.std.proofs.Common.{◌≡◌, ◌∙◌, ◌+◌, ◌++◌, ◌∷◌, [], ℕ, List, refl, sym, ap, subst, cond, length, append_assoc}
+use Rattle.std.proofs.lemmas.Grind.{common_steps}
+use Rattle.std.proofs.Common.{◌≡◌, ◌∙◌, ◌+◌, ◌++◌, ◌∷◌, [], ℕ, List, refl, sym, ap, cond, length, append_assoc}
 use Rattle.std.proofs.Common.{length-append}
 use Rattle.std.proofs.Common.{append-nil, arith}
-use Rattle.std.specs.Prelude.{codes, count_by}
 use Rattle.std.proofs.lemmas.List.Sums.{sum_by-cons}
-use Rattle.thes_base.specs.declared.request.Answer.TheVariants as reply
 use Rattle.thes_posting_files.specs.Outcomes.{AddsOutcomes, counts_of, is_again, is_new, is_refused, outcome_line}
 use Rattle.thes_posting_files.specs.Outcomes.{outcome_lines, outcomes_text, row_count}
 use Rattle.thes_posting_files.specs.declared.outcome.Outcome.{Outcome}
-use Rattle.thes_posting_files.specs.declared.outcome.Outcome.TheVariants as outcome
 use Rattle.thes_posting_files.specs.declared.report.Report.{Report}
 
 joined : (line : ℕ → Outcome → List ℕ) (lines : ℕ → List Outcome → List ℕ) → ((n : ℕ) → lines n [] ≡ [])
     → ((n : ℕ) (o : Outcome) (os : List Outcome) → lines n (o ∷ os) ≡ line n o ++ lines (n + 1) os)
     → (n : ℕ) (os qs : List Outcome) → lines n (os ++ qs) ≡ lines n os ++ lines (n + length os) qs
-joined line lines none one n [] qs =
-    let e : n ≡ n + 0 = omega arith in
-    ap (λ (k : ℕ). lines k qs) e ∙ ap (λ (l : List ℕ). l ++ lines (n + 0) qs) (sym (none n))
-joined line lines none one n (x ∷ os) qs =
-    let e : n + 1 + length os ≡ n + length (x ∷ os) = omega arith in
-    one n x (os ++ qs) ∙ ap (λ (l : List ℕ). line n x ++ l) (joined line lines none one (n + 1) os qs)
-    ∙ sym (append_assoc (line n x) (lines (n + 1) os) (lines (n + 1 + length os) qs))
-    ∙ ap (λ (l : List ℕ). l ++ lines (n + 1 + length os) qs) (sym (one n x os))
-    ∙ ap (λ (k : ℕ). lines n (x ∷ os) ++ lines k qs) e
+joined line lines none one n [] qs = grind (arith, common_steps)
+joined line lines none one n (x ∷ os) qs = grind (arith, common_steps, append_assoc, joined line lines none one (n + 1) os qs)
 
 lines_joined : (n : ℕ) (os qs : List Outcome) → outcome_lines n (os ++ qs) ≡ outcome_lines n os
     ++ outcome_lines (n + length os) qs
@@ -32,45 +23,22 @@ lines_joined = joined outcome_line outcome_lines (λ n. refl) (λ n x xs. refl)
 -- second.
 pub text_of_more : (os qs : List Outcome) → outcomes_text (os ++ qs) ≡ outcomes_text os
     ++ outcome_lines (1 + length os) qs
-text_of_more os qs =
-    ap (λ (l : List ℕ). codes "row,outcome,number\n" ++ l) (lines_joined 1 os qs)
-    ∙ sym (append_assoc (codes "row,outcome,number\n") (outcome_lines 1 os) (outcome_lines (1 + length os) qs))
+text_of_more os qs = grind (arith, common_steps, append_assoc, lines_joined)
 
 -- Each outcome is counted exactly once.
 one_count : (o : Outcome) → cond (is_new o) 1 0 + cond (is_again o) 1 0 + cond (is_refused o) 1 0 ≡ 1
-one_count (outcome.Reply (reply.Number n)) = refl
-one_count (outcome.Reply (reply.Again n)) = refl
-one_count (outcome.Reply reply.Done) = refl
-one_count (outcome.Reply (reply.Moved k)) = refl
-one_count (outcome.Reply (reply.Parted n k)) = refl
-one_count (outcome.Reply (reply.No refusal)) = refl
-one_count (outcome.Bad fault) = refl
+one_count o = grind (arith, common_steps)
 
 pub row_count_all : (os : List Outcome) → row_count (counts_of os) ≡ length os
 row_count_all [] = refl
-row_count_all (o ∷ os) =
-    let a : count_by is_new (o ∷ os) ≡ cond (is_new o) 1 0 + count_by is_new os =
-    sum_by-cons (λ (x : Outcome). cond (is_new x) 1 0) o os in
-    let b : count_by is_again (o ∷ os) ≡ cond (is_again o) 1 0 + count_by is_again os =
-    sum_by-cons (λ (x : Outcome). cond (is_again x) 1 0) o os in
-    let d : count_by is_refused (o ∷ os) ≡ cond (is_refused o) 1 0 + count_by is_refused os =
-    sum_by-cons (λ (x : Outcome). cond (is_refused x) 1 0) o os in
-    let one = one_count o in
-    let rest = row_count_all os in
-    omega (arith, a, b, d, one, rest)
+row_count_all (o ∷ os) = grind (arith, common_steps, one_count, sum_by-cons, row_count_all os)
 
 -- A report to which one line is appended, and which counts its row, has that outcome added.
 pub adds_one : (o : Outcome) (old new : Report) (n : ℕ) → n ≡ row_count old.counts + 1 → new.text.items
     ≡ old.text.items ++ outcome_line n o
     → ((os : List Outcome) → old.counts ≡ counts_of os → new.counts ≡ counts_of (os ++ o ∷ []))
     → AddsOutcomes (o ∷ []) old new
-adds_one o old new n e text counts earlier is =
-    let c : row_count old.counts ≡ length earlier = ap row_count is ∙ row_count_all earlier in
-    let k : n ≡ 1 + length earlier = omega (arith, e, c) in (
-      counts earlier is,
-      text ∙ ap (λ (l : List ℕ). old.text.items ++ l)
-          (ap (λ (m : ℕ). outcome_line m o) k ∙ sym (append-nil (outcome_line (1 + length earlier) o))),
-    )
+adds_one o old new n e text counts earlier is = grind (arith, common_steps, append-nil, row_count_all)
 
 -- Adding some outcomes and then others adds all of them in order.
 pub adds_both : (os qs : List Outcome) (old mid new : Report) → AddsOutcomes os old mid → AddsOutcomes qs mid new
@@ -96,6 +64,4 @@ adds_none old new text counts earlier is =
 -- Adding outcomes to a report with the same text and counts is adding them to the report itself.
 pub adds_same : (os : List Outcome) (old mid new : Report) → mid.text.items ≡ old.text.items
     → mid.counts ≡ old.counts → AddsOutcomes os mid new → AddsOutcomes os old new
-adds_same os old mid new text counts adds earlier is =
-    let a = adds earlier (counts ∙ is) in
-    (a.0, subst (λ (l : List ℕ). new.text.items ≡ l ++ outcome_lines (1 + length earlier) os) text a.1)
+adds_same os old mid new text counts adds earlier is = grind (arith, common_steps)

@@ -1,4 +1,5 @@
 -- Proves that the rows of a posting file are read in order, and which are left.
+use Rattle.std.proofs.lemmas.Grind.{common_steps}
 use Rattle.std.proofs.Common.{◌≡◌, ◌+◌, ◌++◌, ◌∷◌, [], ℕ, List, sym, subst, length}
 use Rattle.std.proofs.Common.{drop, length-drop, arith, length-append}
 use Rattle.std.specs.List.{AllZip}
@@ -18,11 +19,7 @@ zip_replaced [] unread [] rows all each = all
 zip_replaced [] unread (y ∷ first) rows all each = absurd each
 zip_replaced (x ∷ done) unread [] rows all each = absurd each
 zip_replaced (x ∷ done) unread (y ∷ first) [] all each = absurd all
-zip_replaced (x ∷ done) unread (y ∷ first) (z ∷ rows) all each = (
-  each.0,
-  zip_replaced done unread first rows all.1
-      each.1,
-)
+zip_replaced (x ∷ done) unread (y ∷ first) (z ∷ rows) all each = grind (arith, common_steps, zip_replaced done unread first rows all.1 each.1)
 
 -- The rows read are the first rows of the file, and the reader has the number of the others.
 pub others_left : (bytes : List ℕ) (rows first : List CsvRow) (reader : RowReader) → HasReadRows bytes rows first reader

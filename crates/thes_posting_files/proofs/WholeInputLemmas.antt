@@ -1,5 +1,6 @@
 -- Proves that an input read in parts is read whole.
-use Rattle.std.proofs.Common.{◌≡◌, ◌+◌, ◌<◌, ◌≤◌, ◌++◌, ℕ, List, length, take, length-append, arith}
+use Rattle.std.proofs.lemmas.Grind.{common_steps}
+use Rattle.std.proofs.Common.{◌+◌, ◌<◌, ◌≤◌, ℕ, List, length, take, length-append, arith}
 use Rattle.std.specs.Prelude.{Option}
 use Rattle.std.specs.Io.KnownBytes.{Consumes}
 use Rattle.std.proofs.KnownBytes.{Consumes-trans}
@@ -14,12 +15,4 @@ pub gives_more : {R : Type 0} (remaining : R → Option (List ℕ)) (limit : ℕ
     → Consumes (unread_bytes remaining old)
     (unread_bytes remaining new) (take count buf) → count ≤ length buf → limit < length bytes + count
     → GivesMore remaining limit start new
-gives_more remaining limit start old new bytes buf count read more in_limit over_limit = record {
-  bytes = bytes ++ take count buf;
-  consumes = Consumes-trans (unread_bytes remaining start) (unread_bytes remaining old) (unread_bytes remaining new)
-      bytes (take count buf) read.consumes more;
-  over_limit =
-      let a = length-append bytes (take count buf) in
-      let b : length (take count buf) ≡ count = length-take-le count buf in_limit in
-      omega (arith, a, b);
-}
+gives_more remaining limit start old new bytes buf count read more in_limit over_limit = grind (arith, common_steps, Consumes-trans, length-append, length-take-le)

@@ -60,6 +60,7 @@ fn read_number(bytes: &[u8]) -> Result<ResNo, FormFault>
 }
 
 // Returns the field with this index, counted from 0.
+#[tactic(auto, using(crate::proofs::RecordLemmas::field_is_some, crate::proofs::RecordLemmas::field_value))]
 pub(crate) fn field(entry: &ByteRecord, i: usize) -> &[u8]
     requires { i < length (fields_of entry.now) }
     ensures { slice_get (fields_of entry.now) i ≡ Some result.now }

@@ -33,6 +33,7 @@ fn is_text(field: &[u8], text: &[u8]) -> bool
 }
 
 // Returns whether the record has exactly these three fields.
+#[tactic(auto, using(crate::proofs::RecordLemmas::third_of, crate::proofs::RecordLemmas::three_fields))]
 fn has_fields(entry: &ByteRecord, first: &[u8], second: &[u8], third: &[u8]) -> bool
     ensures { IsTrue result ↔ (fields_of entry.now ≡ first.now ∷ second.now ∷ third.now ∷ []) }
 {

@@ -7,6 +7,7 @@ use csv::{ByteRecord, Reader, ReaderBuilder};
 use std::alloc::{AllocError, Global};
 
 /// Opens a text for reading its records, each of which may have any number of fields.
+#[tactic(auto, unfolding(csv::specs::Reading::Reached))]
 pub(crate) fn open_records(alloc: Global, bytes: &[u8]) -> Reader<&[u8]>
     ensures { HasReadTo bytes.now [] result }
 {
@@ -17,6 +18,7 @@ pub(crate) fn open_records(alloc: Global, bytes: &[u8]) -> Reader<&[u8]>
 }
 
 /// Reads the next record into `entry`; returns false at the end of the text. Fails only if memory runs out.
+#[tactic(auto, using(crate::proofs::RecordReadingLemmas::takes_found))]
 pub(crate) fn next_record(
     records: &mut Reader<&[u8]>,
     entry: &mut ByteRecord,

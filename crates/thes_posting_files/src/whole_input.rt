@@ -11,6 +11,7 @@ use thes_base::pipe::{Budget, Pipe};
 
 // Reads into the chunk, and appends the bytes read; returns `false` at the end of the input. Bytes
 // that would exceed the limit are `TooLong`, and are not appended.
+#[tactic(auto, using(crate::proofs::WholeInputLemmas::gives_more))]
 fn read_more<R: Read>(
     reader: &mut Pipe<R>,
     budget: &mut Budget,

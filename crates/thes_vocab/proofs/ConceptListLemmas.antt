@@ -1,5 +1,7 @@
 -- The index of live concepts is complete after a resource is added or marked as dead.
-use Rattle.std.proofs.Common.{◌≡◌, ◌≢◌, ◌⊎◌, inl, inr, ℕ, ◌+◌, length, List, [], ◌∷◌, ◌++◌, refl, sym, ◌∙◌, subst}
+use Rattle.std.proofs.Common.{arith}
+use Rattle.std.proofs.lemmas.Grind.{common_steps}
+use Rattle.std.proofs.Common.{◌≡◌, ◌≢◌, ◌⊎◌, inl, inr, ℕ, ◌+◌, length, List, [], ◌∷◌, ◌++◌, refl, sym, ◌∙◌}
 use Rattle.std.specs.Prelude.{Option, None, Some}
 use Rattle.std.specs.Option.{MatchOption}
 use Rattle.std.specs.Ordering.{nat_cmp}
@@ -7,7 +9,7 @@ use Rattle.std.proofs.lemmas.Cmp.{nat_cmp_total}
 use Rattle.std.proofs.lemmas.Map.Lookups.{exact_unsigned}
 use Rattle.std.proofs.lemmas.Bool.{cases_eq}
 use Rattle.thes_base.specs.declared.data.Resource.{Resource}
-use Rattle.thes_base.specs.Resources.{entry_at, set_entry_at, scheme_of}
+use Rattle.thes_base.specs.Resources.{entry_at, set_entry_at}
 use Rattle.thes_base.specs.Changes.{resource_after_death}
 use Rattle.thes_base.proofs.UniquePreferredLemmas.{live_before}
 use Rattle.thes_base.proofs.NumberedLemmas.{push_old, push_new, push_cases, numbered_bound, set_other}
@@ -22,10 +24,7 @@ use Rattle.thes_vocab.specs.ConceptLists.{ConceptListsAfterInsert, ConceptListsA
 -- A concept of a scheme is the new resource, or was one before it.
 pub concept_cases : (rs : List Resource) (r : Resource) (scheme n : ℕ) → IsConceptOf (rs ++ r ∷ []) scheme n
     → IsConceptOf rs scheme n ⊎ ((n ≡ length rs + 1) × IsConceptIn scheme r)
-concept_cases rs r scheme n c = elim (push_cases rs r c.0.0 n c.0.1) [
-  | inl was ↦ inl ((c.0.0, was, c.0.2), scheme_at rs n c.0.0 was ∙ sym (scheme_at (rs ++ r ∷ []) n c.0.0 c.0.1) ∙ c.1)
-  | inr new ↦ inr (new.0, subst (IsConceptIn scheme) new.1 (c.0.2, sym (scheme_at (rs ++ r ∷ []) n c.0.0 c.0.1) ∙ c.1))
-]
+concept_cases rs r scheme n c = grind (arith, common_steps, push_cases, scheme_at)
 
 -- Assumes that a resource is added, and its number to the list of its scheme if it is a live concept.
 module _ (rs : List Resource) (r : Resource) (old new : Lists ℕ) where
@@ -62,16 +61,7 @@ module _ (rs : List Resource) (n : ℕ) (replaced : Option ℕ) (r : Resource) (
 
   -- A concept of a scheme before is one after, or is the dead one.
   concept_after : (s m : ℕ) → IsConceptOf rs s m → IsConceptOf resources_with_dead s m ⊎ ((r.scheme ≡ Some s) × (m ≡ n))
-  concept_after s m c = elim (cases_eq m n) [
-    | inl same ↦ inr (sym (scheme_at rs n r at) ∙ subst (λ k. scheme_of rs k ≡ Some s) same c.1, same)
-    | inr apart ↦
-        let stays = set_other rs (resource_after_death replaced r) c.0.0 n m (numbered_bound rs n r at).0 apart c.0.1 in
-        inl (
-          (c.0.0, stays, c.0.2),
-          scheme_at resources_with_dead m c.0.0 stays ∙ sym (scheme_at rs m c.0.0 c.0.1)
-              ∙ c.1,
-        )
-  ]
+  concept_after s m c = grind (arith, common_steps, cases_eq, numbered_bound, scheme_at, set_other)
 
   pub listed_dead : (o : Option ℕ) → r.scheme ≡ o → ConceptListsAfterRemove old new o n
       → AreListings nat_cmp (IsConceptOf rs) old → AreListings nat_cmp (IsConceptOf resources_with_dead) new

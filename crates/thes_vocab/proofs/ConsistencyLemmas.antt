@@ -1,4 +1,5 @@
 -- Each change of a vocabulary keeps its invariant.
+use Rattle.std.proofs.lemmas.Grind.{common_steps}
 use Rattle.std.proofs.Common.{◌≡◌, ◌≢◌, ◌⊎◌, ◌<◌, ◌^◌, inl, inr, ℕ, zero, suc, get_or, ◌+◌, ◌-◌, length, List, []}
 use Rattle.std.proofs.Common.{◌∷◌, ◌++◌, refl, sym, ap, ◌∙◌, subst, arith, Bool, true, false}
 use Rattle.std.specs.Prelude.{Option, None, Some, slice_get}
@@ -7,12 +8,9 @@ use Rattle.std.specs.Ordering.{nat_cmp}
 use Rattle.std.specs.FinSet as set
 use Rattle.std.specs.FinMap as dict
 use Rattle.thes_base.specs.declared.data.Resource.{Resource}
-use Rattle.thes_base.specs.declared.data.ResourceKind.{ResourceKind}
-use Rattle.thes_base.specs.declared.data.ResourceKind.TheVariants as kinds
 use Rattle.thes_base.specs.declared.data.LabelKind.TheVariants.{Pref}
 use Rattle.thes_base.specs.Resources.{Iris, entry_at, set_entry_at, IsConcept, IsLive, IsLiveConcept, BeginsWith}
 use Rattle.thes_base.specs.Resources.{CanOwn, scheme_of, is_concept_kind, is_outside_kind, is_scheme_kind}
-use Rattle.thes_base.specs.Resources.{is_collection_kind}
 use Rattle.thes_base.specs.Labels.{Label, Labels, HasLabel, IsPreferredTaken, S13}
 use Rattle.thes_base.specs.Legal.{AreLegalResources, AreLegalLabels}
 use Rattle.thes_base.specs.Changes.{label, resource_after_death, replace_preferred, labels_after_relabel}
@@ -43,9 +41,8 @@ use Rattle.thes_lists.specs.Lists as lists
 use Rattle.thes_lists.specs.Lists.{listed_at, AreListings}
 use Rattle.thes_lists.proofs.ListingLemmas.{listing_none, listings_same}
 use Rattle.thes_vocab.specs.Vocabulary.{Vocabulary, IsConceptIn, IsConceptOf, IsReplacement}
-use Rattle.thes_vocab.specs.NameIndex.{AreHoldersIndexed, HasNameEntry, HasEntryInScheme, HasLabelEntry, KeepsNames}
-use Rattle.thes_vocab.specs.NameIndex.{KeepsOtherNames}
-use Rattle.thes_vocab.specs.OwnLabels.{AreLabelsOf, own_label}
+use Rattle.thes_vocab.specs.NameIndex.{AreHoldersIndexed, HasEntryInScheme, HasLabelEntry, KeepsNames, KeepsOtherNames}
+use Rattle.thes_vocab.specs.OwnLabels.{AreLabelsOf}
 use Rattle.thes_vocab.specs.ConceptLists.{ConceptListsAfterInsert, ConceptListsAfterRemove}
 use Rattle.thes_vocab.specs.NewResources.{IsNewOwner, IsFreeName}
 use Rattle.thes_vocab.specs.Consistency.{IsConsistentVocabulary}
@@ -78,12 +75,7 @@ pub finds_added : (rs : List Resource) (labels : Labels) (l : Label) (old new : 
     → KeepsNames old new → (o : Option ℕ) → IsSchemeOf rs l.owner o
     → HasLabelEntry new o (record { kind = l.kind; tag = l.tag; text = l.text }) l.owner
     → AreHoldersIndexed rs (set.insert labels l) new
-finds_added rs labels l old new finds keeps o at noted s n t x h = elim (inserted_cases labels l _ h.1) [
-  | inl is ↦ subst (λ (q : Label). HasNameEntry new s q.tag q.text q.owner) (sym is)
-      (noted (sym (ap (λ (q : Label). q.kind) is)) s
-      (scheme_is rs l.owner o at s (subst (IsConceptOf rs s) (ap (λ (q : Label). q.owner) is) h.0)))
-  | inr held ↦ keeps s n t x (finds s n t x (h.0, held))
-]
+finds_added rs labels l old new finds keeps o at noted s n t x h = grind (arith, common_steps, inserted_cases, scheme_is)
 
 -- The index finds all holders after a label is removed.
 pub finds_less : (rs : List Resource) (labels : Labels) (l : Label) (names : Names) → AreHoldersIndexed rs labels names
@@ -95,24 +87,13 @@ pub finds_renamed : (rs : List Resource) (labels : Labels) (owner : ℕ) (tag te
     (old new : Names) → AreHoldersIndexed rs labels old → KeepsNames old new → (o : Option ℕ) → IsSchemeOf rs owner o
     → HasEntryInScheme new o tag text owner
     → AreHoldersIndexed rs (replace_preferred owner tag text keep was labels) new
-finds_renamed rs labels owner tag text was keep old new finds keeps o at noted s n t x h =
-    elim (renamed_cases labels owner tag text was keep _ h.1) [
-      | inl is ↦ subst (λ (q : Label). HasNameEntry new s q.tag q.text q.owner) (sym is)
-          (noted s (scheme_is rs owner o at s (subst (IsConceptOf rs s) (ap (λ (q : Label). q.owner) is) h.0)))
-      | inr (inl (_, is)) ↦ absurd (let k = ap (λ (q : Label). q.kind) is in cc)
-      | inr (inr (_, held)) ↦ keeps s n t x (finds s n t x (h.0, held))
-    ]
+finds_renamed rs labels owner tag text was keep old new finds keeps o at noted s n t x h = grind (arith, common_steps, renamed_cases, scheme_is)
 
 -- The index finds all holders after the entry of a label that its owner doesn't have is removed.
 pub finds_forgotten : (rs : List Resource) (labels : Labels) (owner : ℕ) (own : List LabelData) (o : Option ℕ)
     (old new : Names) → AreLabelsOf labels owner own → IsSchemeOf rs owner o → KeepsOtherNames old new o owner own
     → AreHoldersIndexed rs labels old → AreHoldersIndexed rs labels new
-finds_forgotten rs labels owner own o old new are at keeps finds s n t x h = keeps s n t x
-    (λ is. (
-      scheme_is rs owner o at s (subst (IsConceptOf rs s) is h.0),
-      are.each (own_label Pref t x) ∙ subst (λ k. HasLabel labels k Pref t x) is h.1,
-    ))
-    (finds s n t x h)
+finds_forgotten rs labels owner own o old new are at keeps finds s n t x h = grind (arith, common_steps, scheme_is)
 
 module _ (rs : List Resource) (labels : Labels) (r : Resource) (tag text : List ℕ) (old new : Names)
     (legal : AreLegalLabels rs labels) (finds : AreHoldersIndexed rs labels old) (keeps : KeepsNames old new) where
@@ -141,14 +122,7 @@ module _ (rs : List Resource) (labels : Labels) (r : Resource) (tag text : List 
   pub finds_new : (o : Option ℕ) → MatchOption o ((scheme : ℕ) → IsConceptIn scheme r → ⊥)
       (λ scheme. IsConceptIn scheme r) → HasEntryInScheme new o tag text number_of_new
       → AreHoldersIndexed (rs ++ r ∷ []) with_name new
-  finds_new o at noted s n t x h = elim (concept_cases rs r s n h.0) [
-    | inl was ↦ keeps s n t x (finds s n t x (was, old_only n t x (exists_apart s n was) h.1))
-    | inr (here, is) ↦ elim (inserted_cases labels (label number_of_new Pref tag text) _ h.1) [
-      | inl same ↦ subst (λ (q : Label). HasNameEntry new s q.tag q.text q.owner) (sym same)
-          (noted s (scheme_of_new o at s is))
-      | inr held ↦ absurd (not_next _ held here)
-    ]
-  ]
+  finds_new o at noted s n t x h = grind (arith, common_steps, concept_cases, exists_apart, inserted_cases, not_next, old_only, scheme_of_new)
 
 -- The invariant holds after a resource with a preferred label is added.
 pub kept_named : (base : List ℕ) (rs : List Resource) (iris : Iris) (labels : Labels) (names : Names)
@@ -168,16 +142,7 @@ kept_named base rs iris labels names concepts r tag text legal named is free few
 }
   where
     inside : is_outside_kind r.kind ≡ false
-    inside = not_outside r.kind is.owner
-      where
-        not_outside : (k : ResourceKind) → (is_scheme_kind k ≡ true) ⊎ (is_concept_kind k ≡ true)
-            ⊎ (is_collection_kind k ≡ true) → is_outside_kind k ≡ false
-        not_outside kinds.Scheme o = refl
-        not_outside kinds.Concept o = refl
-        not_outside kinds.Collection o = refl
-        not_outside kinds.Outside (inl e) = absurd (cc)
-        not_outside kinds.Outside (inr (inl e)) = absurd (cc)
-        not_outside kinds.Outside (inr (inr e)) = absurd (cc)
+    inside = grind (arith, common_steps)
 
     no_scheme : (is_scheme_kind r.kind ≡ true) ⊎ (is_outside_kind r.kind ≡ true) → r.scheme ≡ None
     no_scheme (inl e) = is.no_scheme e
@@ -206,12 +171,7 @@ kept_outside base rs iris labels names concepts iri kept few foreign fresh = rec
 -- The next number has no IRI yet.
 pub no_iri : (base : List ℕ) (rs : List Resource) (iris : Iris) → AreLegalResources base rs iris
     → dict.get iris (length rs + 1) ≡ None
-no_iri base rs iris legal = go (dict.get iris (length rs + 1)) refl
-  where
-    go : (o : Option (List ℕ)) → dict.get iris (length rs + 1) ≡ o → dict.get iris (length rs + 1) ≡ None
-    go None e = e
-    go (Some iri) e = absurd (let at = legal.outside.only (length rs + 1) iri e in let b =
-        numbered_bound rs (length rs + 1) at.0 at.1 in omega (arith, b.1))
+no_iri base rs iris legal = grind (arith, common_steps, numbered_bound)
 
 -- The invariant holds after a concept is marked as dead.
 pub kept_dead : (base : List ℕ) (rs : List Resource) (iris : Iris) (labels : Labels) (names : Names)
@@ -234,9 +194,7 @@ kept_dead base rs iris labels names old new n replaced r kept at live fit remove
 
     fits : (o : Option ℕ) → IsReplacement rs n o → (m : ℕ) → o ≡ Some m → (m ≢ n) × IsConcept rs m × IsLive rs m
         × (scheme_of rs m ≡ r.scheme)
-    fits None h m e = absurd (cc)
-    fits (Some k) h m e = subst (λ j. (j ≢ n) × IsConcept rs j × IsLive rs j × (scheme_of rs j ≡ r.scheme))
-        (same_Some _ _ e) (h.0, concept_of_live rs k h.1, live_of_live rs k h.1, h.2 ∙ scheme_at rs n r at)
+    fits o h m e = grind (arith, common_steps, concept_of_live, live_of_live, same_Some, scheme_at)
 
 module _ (base : List ℕ) (rs : List Resource) (iris : Iris) (labels : Labels) (old new : Names) (concepts : Lists ℕ)
     (kept : IsConsistentVocabulary base rs iris labels old concepts) where
@@ -310,12 +268,7 @@ kept_dropped base rs iris labels names concepts kept l row = record {
 pub kept_same : (base : List ℕ) (rs : List Resource) (iris : Iris) (labels : Labels) (names : Names)
     (was is : Lists ℕ) → IsConsistentVocabulary base rs iris labels names was
     → lists.HaveSameValues was is → IsConsistentVocabulary base rs iris labels names is
-kept_same base rs iris labels names was is kept listed = record {
-  legal = kept.legal;
-  named = kept.named;
-  found = kept.found;
-  listed = listings_same nat_cmp (IsConceptOf rs) (IsConceptOf rs) was is listed (λ s n c. c) (λ s n c. c) kept.listed;
-}
+kept_same base rs iris labels names was is kept listed = grind (arith, common_steps, listings_same)
 
 -- A concept that passes its check has a preferred label that no live concept of its scheme has.
 pub free_concept : (rs : List Resource) (labels : Labels) (scheme : ℕ) (tag text : List ℕ) → unless_scheme rs scheme
@@ -425,5 +378,4 @@ relabel_to_same_text rs labels owner tag text old keep legal has same row =
     go : (b : Bool) → S13 (replace_preferred owner tag text b old labels) → labels ≡ replace_preferred owner tag text
         b old labels
     go true s13 = absurd (renamed_breaks_s13 labels owner tag text old true (inr (inr (refl, same))) s13)
-    go false s13 = sym (ap (λ x. set.insert (set.remove labels (label owner Pref tag old)) (label owner Pref tag x))
-        (sym same) ∙ insert_after_remove labels (label owner Pref tag old) has)
+    go false s13 = grind (arith, common_steps, insert_after_remove)

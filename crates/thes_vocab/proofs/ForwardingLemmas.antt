@@ -1,9 +1,10 @@
 -- Splits a chain of replacements at each step into the steps so far and the remaining chain.
-use Rattle.std.proofs.Common.{◌≡◌, ◌<◌, ◌≤◌, ℕ, suc, ◌+◌, ◌-◌, length, List, [], ◌∷◌, ap, ◌∙◌, arith}
+use Rattle.std.proofs.lemmas.Grind.{common_steps}
+use Rattle.std.proofs.Common.{◌≡◌, ◌<◌, ◌≤◌, ℕ, ◌+◌, ◌-◌, length, List, [], ◌∷◌, ap, arith, append_assoc, append-nil}
 use Rattle.std.specs.Prelude.{Some}
 use Rattle.thes_base.specs.declared.data.Resource.{Resource}
 use Rattle.thes_base.specs.Resources.{replacement_of, replacements_within, replacements}
-use Rattle.thes_base.proofs.ForwardingLemmas.{within_some}
+use Rattle.thes_base.proofs.ForwardingLemmas.{within_none, within_some}
 
 module _ (rs : List Resource) where
   abbrev pub remaining_replacements : ℕ → ℕ → List ℕ
@@ -15,11 +16,11 @@ module _ (rs : List Resource) where
 
   pub remaining_at_step : (done place next : ℕ) → done < length rs → replacement_of rs place ≡ Some next
       → remaining_replacements done place ≡ next ∷ remaining_replacements (done + 1) next
-  remaining_at_step done place next less e =
-      ap (λ k. replacements_within rs k place) (let q : length rs - done ≡ suc (length rs - (done + 1)) =
-      omega (arith, less) in q)
-      ∙ within_some rs (length rs - (done + 1)) place next e
+  remaining_at_step done place next less e = grind (arith, common_steps, within_some)
 
   pub remaining_at_end : (done place : ℕ) → length rs ≤ done → remaining_replacements done place ≡ []
   remaining_at_end done place all = ap (λ k. replacements_within rs k place) (let q : length rs - done ≡ 0 =
       omega (arith, all) in q)
+
+-- What a loop along a chain of replacements cites.
+pub ruleset along_chain = (remaining_at_start, remaining_at_step, remaining_at_end, within_none, append-nil, append_assoc)

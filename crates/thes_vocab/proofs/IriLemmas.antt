@@ -1,4 +1,6 @@
 -- The two maps of numbers and IRIs stay inverse to each other at each change.
+use Rattle.std.proofs.Common.{arith}
+use Rattle.std.proofs.lemmas.Grind.{common_steps}
 use Rattle.std.proofs.Common.{◌≡◌, ◌≢◌, ◌⊎◌, inl, inr, ℕ, List, [], ◌∷◌, refl, sym, ap, ◌∙◌, Bool, true, false, cond}
 use Rattle.std.specs.Prelude.{Option, None, Some}
 use Rattle.std.specs.Option.{MatchOption}
@@ -27,9 +29,7 @@ same_or_not : (i iri : List ℕ) → (i ≡ iri) ⊎ (i ≡ iri → ⊥)
 same_or_not i iri = go (is_at (iri_cmp iri) i) refl
   where
     go : (b : Bool) → is_at (iri_cmp iri) i ≡ b → (i ≡ iri) ⊎ (i ≡ iri → ⊥)
-    go true at = inl (sym (exact_bytes iri i ((Equal-is (iri_cmp iri i)).0 at)))
-    go false at = inr (λ same. both_ways (is_at (iri_cmp iri) i) at
-        (ap (is_at (iri_cmp iri)) same ∙ ap is_eq (tied_itself nat_list_cmp_total iri)))
+    go b at = grind (arith, common_steps, Equal-is, both_ways, exact_bytes, nat_list_cmp_total)
 
 -- The new map has `value` at the IRI, and the old values at all others.
 pub record IsNumberSet (old new : Numbers) (iri : List ℕ) (value : Option ℕ) : Type 0 where
@@ -38,14 +38,7 @@ pub record IsNumberSet (old new : Numbers) (iri : List ℕ) (value : Option ℕ)
 
 pub number_updated : (old new : Numbers) (iri : List ℕ) (value : Option ℕ) → Updates iri_cmp old new iri value
     → IsNumberSet old new iri value
-number_updated old new iri value u = record { at = u.1; others = λ i apart. u.2 i (differs i apart) }
-  where
-    differs : (i : List ℕ) → (i ≡ iri → ⊥) → is_at (iri_cmp iri) i ≡ false
-    differs i apart = go (is_at (iri_cmp iri) i) refl
-      where
-        go : (b : Bool) → is_at (iri_cmp iri) i ≡ b → is_at (iri_cmp iri) i ≡ false
-        go true at = absurd (apart (sym (exact_bytes iri i ((Equal-is (iri_cmp iri i)).0 at))))
-        go false at = at
+number_updated old new iri value u = grind (arith, common_steps, Equal-is, exact_bytes)
 
 find_is : (es : List (ℕ × List ℕ)) (n : ℕ) → dict.find nat_cmp n es ≡ lookup (is_at (nat_cmp n)) es
 find_is [] n = refl
@@ -102,21 +95,12 @@ module _ (iris : Iris) (numbers more : Numbers) (n : ℕ) (iri : List ℕ) (tied
 
       iri_at : (m : ℕ) (i : List ℕ) → get iri_cmp more i ≡ Some m → (i ≡ iri) ⊎ (i ≡ iri → ⊥)
           → dict.get (dict.insert iris n iri) m ≡ Some i
-      iri_at m i e (inl same) =
-          let here = same_Some _ _ (sym set.at ∙ ap (get iri_cmp more) (sym same) ∙ e) in
-          ap (dict.get (dict.insert iris n iri)) (sym here) ∙ put_at ∙ ap Some (sym same)
+      iri_at m i e (inl same) = grind (arith, common_steps, put_at, same_Some)
       iri_at m i e (inr apart) = kept m i (tied.iri m i (sym (set.others i apart) ∙ e))
 
   -- Removing the IRI from the second map again restores the old maps.
   pub inverse_after_undo : (back : Numbers) → IsNumberSet more back iri None → AreInverse iris back
-  inverse_after_undo back unset = record {
-    number = λ m i has. unset.others i (other_iri m i has) ∙ set.others i (other_iri m i has) ∙ tied.number m i has;
-    iri = λ m i e. iri_at m i e (same_or_not i iri);
-  }
-    where
-      iri_at : (m : ℕ) (i : List ℕ) → get iri_cmp back i ≡ Some m → (i ≡ iri) ⊎ (i ≡ iri → ⊥) → dict.get iris m ≡ Some i
-      iri_at m i e (inl same) = absurd (none-some _ (sym unset.at ∙ ap (get iri_cmp back) (sym same) ∙ e))
-      iri_at m i e (inr apart) = tied.iri m i (sym (set.others i apart) ∙ sym (unset.others i apart) ∙ e)
+  inverse_after_undo back unset = grind (arith, common_steps, none-some, other_iri, same_or_not)
 
 pub inverse_of_empty : (iris : Iris) (numbers : Numbers) → ((n : ℕ) → dict.get iris n ≡ None)
     → ((i : List ℕ) → get iri_cmp numbers i ≡ None) → AreInverse iris numbers

@@ -1,6 +1,7 @@
 -- The checks of labels agree with the conditions on labels after one is added, removed or replaced.
+use Rattle.std.proofs.lemmas.Grind.{common_steps}
 use Rattle.std.proofs.Common.{◌≡◌, ◌≢◌, ◌⊎◌, ◌≤◌, inl, inr, ℕ, ◌+◌, length, List, [], ◌∷◌, ◌++◌, refl, sym, ap, ◌∙◌}
-use Rattle.std.proofs.Common.{subst, Bool, true, false, Bor}
+use Rattle.std.proofs.Common.{subst, Bool, true, false, Bor, arith}
 use Rattle.std.specs.Prelude.{Option, None, Some}
 use Rattle.std.specs.Option.{MatchOption, is_some}
 use Rattle.std.specs.Bool.{MatchBool}
@@ -60,10 +61,7 @@ owners_bound rs labels legal l held = let at = owner_exists rs l.owner (legal.ow
 
 pub kind_of_name : (labels : Labels) (owner : ℕ) (tag text : List ℕ) → has_lexical_label labels owner tag text ≡ true
     → (k : LabelKind) × (is_lexical_kind k ≡ true) × HasLabel labels owner k tag text
-kind_of_name labels owner tag text e = elim (or_cases _ _ e) [
-  | inl first ↦ elim (or_cases _ _ first) [ inl pref ↦ (Pref, refl, pref) | inr alt ↦ (Alt, refl, alt) ]
-  | inr hidden ↦ (Hidden, refl, hidden)
-]
+kind_of_name labels owner tag text e = grind (arith, common_steps, or_cases)
 
 module _ (labels : Labels) (l : Label) where
   abbrev labels_with_new : Labels
@@ -80,23 +78,7 @@ module _ (labels : Labels) (l : Label) where
   -- SKOS S13 is kept if the label isn't lexical, or its owner lacks the text in the language.
   pub keeps_s13 : S13 labels → (is_lexical_kind l.kind ≡ false) ⊎ (has_lexical_label labels l.owner l.tag l.text
       ≡ false) → S13 labels_with_new
-  keeps_s13 s13 apart owner j k tag text nj nk hj hk = go (inserted_cases labels l _ hj) (inserted_cases labels l _ hk)
-    where
-      never : (k : LabelKind) (n : LabelKind) → is_lexical_kind n ≡ true → is_lexical_kind k ≡ true
-          → label owner n tag text ≡ l → HasLabel labels owner k tag text → (is_lexical_kind l.kind ≡ false)
-          ⊎ (has_lexical_label labels l.owner l.tag l.text ≡ false) → ⊥
-      never k n nn nk is held (inl note) = true≢false (sym (ap (λ (x : Label). is_lexical_kind x.kind) (sym is) ∙ nn)
-          ∙ note)
-      never k n nn nk is held (inr free) =
-          true≢false (sym (ap (λ (x : Label). has_lexical_label labels x.owner x.tag x.text) (sym is)
-          ∙ name_of labels owner k tag text nk held) ∙ free)
-
-      go : (label owner j tag text ≡ l) ⊎ HasLabel labels owner j tag text → (label owner k tag text ≡ l)
-          ⊎ HasLabel labels owner k tag text → j ≡ k
-      go (inl a) (inl b) = ap (λ (x : Label). x.kind) a ∙ sym (ap (λ (x : Label). x.kind) b)
-      go (inl a) (inr b) = absurd (never k j nj nk a b apart)
-      go (inr a) (inl b) = absurd (never j k nk nj b a apart)
-      go (inr a) (inr b) = s13 owner j k tag text nj nk a b
+  keeps_s13 s13 apart owner j k tag text nj nk hj hk = grind (arith, common_steps, inserted_cases, name_of)
 
   pub breaks_s14 : set.contains labels l ≡ false → l.kind ≡ Pref → (text : List ℕ) → HasLabel labels l.owner Pref
       l.tag text → S14 labels_with_new → ⊥
@@ -111,19 +93,7 @@ module _ (labels : Labels) (l : Label) where
   -- SKOS S14 is kept if the label isn't a preferred one, or its owner has none in the language.
   pub keeps_s14 : S14 labels → (l.kind ≢ Pref) ⊎ ((text : List ℕ) → HasLabel labels l.owner Pref l.tag text → ⊥)
       → S14 labels_with_new
-  keeps_s14 s14 apart owner tag x y hx hy = go (inserted_cases labels l _ hx) (inserted_cases labels l _ hy)
-    where
-      never : (z w : List ℕ) → label owner Pref tag z ≡ l → HasLabel labels owner Pref tag w → (l.kind ≢ Pref)
-          ⊎ ((text : List ℕ) → HasLabel labels l.owner Pref l.tag text → ⊥) → ⊥
-      never z w is held (inl other) = other (sym (ap (λ (q : Label). q.kind) is))
-      never z w is held (inr none) = none w (subst (λ (q : Label). HasLabel labels q.owner Pref q.tag w) is held)
-
-      go : (label owner Pref tag x ≡ l) ⊎ HasLabel labels owner Pref tag x → (label owner Pref tag y ≡ l)
-          ⊎ HasLabel labels owner Pref tag y → x ≡ y
-      go (inl a) (inl b) = ap (λ (q : Label). q.text) a ∙ sym (ap (λ (q : Label). q.text) b)
-      go (inl a) (inr b) = absurd (never x y a b apart)
-      go (inr a) (inl b) = absurd (never y x b a apart)
-      go (inr a) (inr b) = s14 owner tag x y a b
+  keeps_s14 s14 apart owner tag x y hx hy = grind (arith, common_steps, inserted_cases)
 
   module _ (rs : List Resource) where
     pub breaks_unique : l.kind ≡ Pref → HasRival rs labels l.owner l.tag l.text → UniquePreferred rs labels_with_new → ⊥
@@ -156,11 +126,7 @@ module _ (labels : Labels) (l : Label) where
 
         go : (label m Pref tag text ≡ l) ⊎ HasLabel labels m Pref tag text → (label n Pref tag text ≡ l)
             ⊎ HasLabel labels n Pref tag text → (n ≡ m) ⊎ (n ≢ m) → m ≡ n
-        go a b (inl same) = sym same
-        go (inl a) (inl b) (inr differ) = ap (λ (x : Label). x.owner) a ∙ sym (ap (λ (x : Label). x.owner) b)
-        go (inl a) (inr b) (inr differ) = absurd (rival_at m n a b differ lm sm ln sn apart)
-        go (inr a) (inl b) (inr differ) = absurd (rival_at n m b a (λ e. differ (sym e)) ln sn lm sm apart)
-        go (inr a) (inr b) (inr differ) = p1 m n scheme tag text lm ln sm sn a b
+        go a b h = grind (arith, common_steps, rival_at)
 
 pub leaves_of_two : (labels : Labels) (l : Label) → HasTwoPreferred labels l.owner → LeavesPreferred labels l
 leaves_of_two labels l two = elim (same_label_or_not (label l.owner Pref two.first_tag two.first_text) l) [
@@ -206,68 +172,14 @@ module _ (labels : Labels) (owner : ℕ) (tag text old : List ℕ) (keep : Bool)
   -- SKOS S13 is kept if the new preferred label has no clash.
   pub renamed_keeps_s13 : S13 labels → HasLabel labels owner Pref tag old → (IsClashOfText → ⊥)
       → S13 labels_after_rename
-  renamed_keeps_s13 s13 has_old free n j k t x nj nk hj hk =
-      go j k nj nk (renamed_cases labels owner tag text old keep _ hj)
-      (renamed_cases labels owner tag text old keep _ hk)
-    where
-      -- An old lexical label with the text of the new preferred one is preferred.
-      beside : (k : LabelKind) → is_lexical_kind k ≡ true → n ≡ owner → t ≡ tag → x ≡ text → HasLabel labels n k t x
-          → Pref ≡ k
-      beside k nk en et ex held =
-          at k nk (subst (λ (p : ℕ × (List ℕ × List ℕ)). HasLabel labels p.0 k p.1.0 p.1.1)
-          (λ i. (en i, (et i, ex i))) held)
-        where
-          at : (k : LabelKind) → is_lexical_kind k ≡ true → HasLabel labels owner k tag text → Pref ≡ k
-          at Pref nk held = refl
-          at Alt nk held = absurd (free (inl held))
-          at Hidden nk held = absurd (free (inr (inl held)))
-          at Scope nk held = absurd (cc)
-
-      -- No other lexical label of the owner has the old text in the language, so it can be kept as an alternative
-      -- label.
-      beside_kept : (k : LabelKind) → is_lexical_kind k ≡ true → n ≡ owner → t ≡ tag → x ≡ old → label n k t x
-          ≢ label owner Pref tag old → HasLabel labels n k t x → ⊥
-      beside_kept k nk en et ex apart held =
-          let here = subst (λ (p : ℕ × (List ℕ × List ℕ)). HasLabel labels p.0 k p.1.0 p.1.1)
-          (λ i. (en i, (et i, ex i))) held in
-          let same = s13 owner k Pref tag old nk refl here has_old in
-          apart (λ i. label (en i) (same i) (et i) (ex i))
-
-      both_new : (j k : LabelKind) → label n j t x ≡ label owner Pref tag text → (keep ≡ true)
-          × (label n k t x ≡ label owner Alt tag old) → ⊥
-      both_new j k a (keeps, b) =
-          free (inr (inr (keeps, sym (ap (λ (l : Label). l.text) b) ∙ ap (λ (l : Label). l.text) a)))
-
-      go : (j k : LabelKind) → is_lexical_kind j ≡ true → is_lexical_kind k ≡ true → Cases (label n j t x)
-          → Cases (label n k t x) → j ≡ k
-      go j k nj nk (inl a) (inl b) = ap (λ (l : Label). l.kind) a ∙ sym (ap (λ (l : Label). l.kind) b)
-      go j k nj nk (inl a) (inr (inl b)) = absurd (both_new j k a b)
-      go j k nj nk (inl a) (inr (inr (apart, b))) = ap (λ (l : Label). l.kind) a
-          ∙ beside k nk (ap (λ (l : Label). l.owner) a) (ap (λ (l : Label). l.tag) a) (ap (λ (l : Label). l.text) a) b
-      go j k nj nk (inr (inl a)) (inl b) = absurd (both_new k j b a)
-      go j k nj nk (inr (inl (_, a))) (inr (inl (_, b))) = ap (λ (l : Label). l.kind) a
-          ∙ sym (ap (λ (l : Label). l.kind) b)
-      go j k nj nk (inr (inl (_, a))) (inr (inr (apart, b))) =
-          absurd (beside_kept k nk (ap (λ (l : Label). l.owner) a) (ap (λ (l : Label). l.tag) a)
-          (ap (λ (l : Label). l.text) a) apart b)
-      go j k nj nk (inr (inr (apart, a))) (inl b) =
-          sym (ap (λ (l : Label). l.kind) b ∙ beside j nj (ap (λ (l : Label). l.owner) b)
-          (ap (λ (l : Label). l.tag) b) (ap (λ (l : Label). l.text) b) a)
-      go j k nj nk (inr (inr (apart, a))) (inr (inl (_, b))) =
-          absurd (beside_kept j nj (ap (λ (l : Label). l.owner) b) (ap (λ (l : Label). l.tag) b)
-          (ap (λ (l : Label). l.text) b) apart a)
-      go j k nj nk (inr (inr (_, a))) (inr (inr (_, b))) = s13 n j k t x nj nk a b
+  renamed_keeps_s13 s13 has_old free n j k t x nj nk hj hk = grind (arith, common_steps, renamed_cases)
 
   never_kept : (n : ℕ) (t x : List ℕ) → label n Pref t x ≡ label owner Alt tag old → ⊥
   never_kept n t x e = let k = ap (λ (l : Label). l.kind) e in cc
 
   module _ (rs : List Resource) where
     pub renamed_breaks_unique : HasRival rs labels owner tag text → UniquePreferred rs labels_after_rename → ⊥
-    renamed_breaks_unique rival p1 =
-        rival.other (p1 rival.rival owner rival.scheme tag text rival.holder.0.0 rival.concept rival.holder.0.1
-        rival.within
-        (other_label_stays (label rival.rival Pref tag text) (λ e. rival.other (ap (λ (l : Label). l.owner) e))
-        rival.holder.1) at_fresh)
+    renamed_breaks_unique rival p1 = grind (arith, common_steps, at_fresh, other_label_stays)
 
     -- Preferred labels stay unique in each scheme if the new one has no rival.
     pub renamed_keeps_unique : UniquePreferred rs labels → (HasRival rs labels owner tag text → ⊥)
@@ -292,13 +204,7 @@ module _ (labels : Labels) (owner : ℕ) (tag text old : List ℕ) (keep : Bool)
             }))
 
         go : Cases (label m Pref t x) → Cases (label n Pref t x) → (n ≡ m) ⊎ (n ≢ m) → m ≡ n
-        go a b (inl same) = sym same
-        go (inl a) (inl b) (inr differ) = ap (λ (l : Label). l.owner) a ∙ sym (ap (λ (l : Label). l.owner) b)
-        go (inl a) (inr (inr (_, b))) (inr differ) = absurd (rival_at m n a b differ lm sm ln sn)
-        go (inr (inr (_, a))) (inl b) (inr differ) = absurd (rival_at n m b a (λ e. differ (sym e)) ln sn lm sm)
-        go (inr (inr (_, a))) (inr (inr (_, b))) (inr differ) = p1 m n scheme t x lm ln sm sn a b
-        go (inr (inl (_, a))) b (inr differ) = absurd (never_kept m t x a)
-        go a (inr (inl (_, b))) (inr differ) = absurd (never_kept n t x b)
+        go a b h = grind (arith, common_steps, never_kept, rival_at)
 
 pub relabelled_is : (labels : Labels) (owner : ℕ) (tag text old : List ℕ) (keep : Bool) → S14 labels
     → HasLabel labels owner Pref tag old → labels_after_relabel owner tag text keep labels ≡ replace_preferred owner
@@ -352,29 +258,18 @@ module _ (rs : List Resource) (labels : Labels) (owner : ℕ) (tag text old : Li
         ))
 
 pub name_unless_scope : (k : LabelKind) → k ≢ Scope → is_lexical_kind k ≡ true
-name_unless_scope Pref apart = refl
-name_unless_scope Alt apart = refl
-name_unless_scope Hidden apart = refl
-name_unless_scope Scope apart = absurd (apart refl)
+name_unless_scope k apart = grind (arith, common_steps)
 
 pub answers_s14 : (labels : Labels) (l : Label) → set.contains labels l ≡ false → l.kind ≡ Pref → S14 labels
     → (o : Option (Bor (List ℕ))) → MatchOption o ((text : List ℕ) → HasLabel labels l.owner Pref l.tag text → ⊥)
     (λ text. HasLabel labels l.owner Pref l.tag text.now)
     → (answer : Bool) → answer ≡ is_some o → MatchBool answer (S14 (set.insert labels l) → ⊥)
     (S14 (set.insert labels l))
-answers_s14 labels l new is s14 None none answer e =
-    subst (λ b. MatchBool b (S14 (set.insert labels l) → ⊥) (S14 (set.insert labels l))) (sym e)
-    (keeps_s14 labels l s14 (inr none))
-answers_s14 labels l new is s14 (Some text) has answer e =
-    subst (λ b. MatchBool b (S14 (set.insert labels l) → ⊥) (S14 (set.insert labels l))) (sym e)
-    (breaks_s14 labels l new is text.now has)
+answers_s14 labels l new is s14 o none answer e = grind (arith, common_steps, breaks_s14, keeps_s14)
 
 pub not_pref : (value : LabelValue) → ((text : List ℕ) → value ≡ values.Pref text → ⊥) → label_value_kind value ≡ Pref
     → ⊥
-not_pref (values.Pref text) other e = other text refl
-not_pref (values.Alt text) other e = cc
-not_pref (values.Hidden text) other e = cc
-not_pref (values.Scope text) other e = cc
+not_pref value other e = grind (arith, common_steps)
 
 -- Reads the result of a look-up as a condition on preferred labels.
 module _ (rs : List Resource) (labels : Labels) (scheme : ℕ) (tag text : List ℕ) where

@@ -1,11 +1,11 @@
 -- Changes of an owner's row change the set of all labels in the same way.
+use Rattle.std.proofs.lemmas.Grind.{common_steps}
 use Rattle.std.proofs.Common.{◌≡◌, ◌≢◌, ◌≤◌, ◌<◌, ℕ, zero, suc, ◌+◌, ◌-◌, List, [], ◌∷◌, refl, sym, ap, ◌∙◌, arith, inl}
 use Rattle.std.proofs.Common.{inr, Bool, true, false, not, ◌&&◌, ◌||◌, cond, map, length, get_or, set as set_at}
-use Rattle.std.specs.Prelude.{Option, None, Some, slice_get}
+use Rattle.std.specs.Prelude.{Option, Some, slice_get}
 use Rattle.std.specs.Option.{unwrap_or, MatchOption}
-use Rattle.std.specs.Ordering.{nat_cmp, eq_by_cmp, is_eq, ordering_then}
-use Rattle.std.specs.Cmp.{nat_cmp_total, tied_itself, Equal-is}
-use Rattle.std.specs.Cmp.Lexicographic.{slice_cmp}
+use Rattle.std.specs.Ordering.{nat_cmp, eq_by_cmp}
+use Rattle.std.specs.Cmp.{Equal-is}
 use Rattle.std.specs.List.{list_any}
 use Rattle.std.proofs.lemmas.Bool.{cases_lt, both_ways}
 use Rattle.std.proofs.lemmas.Grind.{get_or-set_at}
@@ -16,7 +16,7 @@ use Rattle.std.proofs.lemmas.List.Folds.{list_any-append}
 use Rattle.std.proofs.Math.Bool.{and_assoc, and-false, and-or_distrib_left, or-false}
 use Rattle.std.specs.FinSet as set
 use Rattle.thes_base.specs.Data.{LabelData}
-use Rattle.thes_base.specs.Labels.{Label, Labels, HasLabel, label_cmp, label_kind_no}
+use Rattle.thes_base.specs.Labels.{Label, Labels, HasLabel, label_cmp}
 use Rattle.thes_base.specs.declared.data.LabelKind.TheVariants.{Pref, Alt}
 use Rattle.thes_base.specs.Changes.{label, replace_preferred}
 use Rattle.thes_base.specs.Machine.{owned_label}
@@ -35,63 +35,28 @@ data_of q = own_label q.kind q.tag q.text
 -- Labels are equal exactly when their owners and their remaining parts are.
 pub owned_tie : (q : Label) (owner : ℕ) (l : LabelData) → eq_by_cmp label_cmp q (owned_label owner l)
     ≡ (eq_by_cmp nat_cmp q.owner owner && eq_by_cmp data_cmp (data_of q) l)
-owned_tie q owner l =
-    both_equal (nat_cmp q.owner owner) _
-    ∙ ap (λ b. eq_by_cmp nat_cmp q.owner owner && b) (
-    both_equal (nat_cmp (label_kind_no q.kind) (label_kind_no l.kind)) _
-    ∙ ap (λ b. is_eq (nat_cmp (label_kind_no q.kind) (label_kind_no l.kind)) && b)
-    (both_equal (slice_cmp nat_cmp q.tag l.tag) _)
-    ∙ sym (and_assoc (is_eq (nat_cmp (label_kind_no q.kind) (label_kind_no l.kind)))
-    (is_eq (slice_cmp nat_cmp q.tag l.tag)) (is_eq (slice_cmp nat_cmp q.text l.text)))
-    ∙ sym (both_equal (ordering_then (nat_cmp (label_kind_no q.kind) (label_kind_no l.kind))
-    (slice_cmp nat_cmp q.tag l.tag)) _
-    ∙ ap (λ b. b && is_eq (slice_cmp nat_cmp q.text l.text))
-    (both_equal (nat_cmp (label_kind_no q.kind) (label_kind_no l.kind)) (slice_cmp nat_cmp q.tag l.tag)))
-    )
+owned_tie q owner l = grind (arith, common_steps, and_assoc, both_equal)
 
 any_row : (q : Label) (owner : ℕ) (row : List LabelData) → list_any (eq_by_cmp label_cmp q)
     (map (owned_label owner) row) ≡ (eq_by_cmp nat_cmp q.owner owner && has_own row (data_of q))
 any_row q owner [] = sym (and-false (eq_by_cmp nat_cmp q.owner owner))
-any_row q owner (l ∷ row) =
-    ap (λ b. b || list_any (eq_by_cmp label_cmp q) (map (owned_label owner) row)) (owned_tie q owner l)
-    ∙ ap (λ b. (eq_by_cmp nat_cmp q.owner owner && eq_by_cmp data_cmp (data_of q) l) || b) (any_row q owner row)
-    ∙ sym (and-or_distrib_left (eq_by_cmp nat_cmp q.owner owner) (eq_by_cmp data_cmp (data_of q) l)
-    (has_own row (data_of q)))
+any_row q owner (l ∷ row) = grind (arith, common_steps, and-or_distrib_left, owned_tie, any_row q owner row)
 
 -- Different numbers don't compare as equal.
 apart_by_cmp : (m n : ℕ) → m ≢ n → eq_by_cmp nat_cmp m n ≡ false
-apart_by_cmp m n apart = go (eq_by_cmp nat_cmp m n) refl
-  where
-    go : (b : Bool) → eq_by_cmp nat_cmp m n ≡ b → eq_by_cmp nat_cmp m n ≡ false
-    go true tie = absurd (apart (exact_unsigned m n ((Equal-is (nat_cmp m n)).0 tie)))
-    go false tie = tie
+apart_by_cmp m n apart = grind (arith, common_steps, Equal-is, exact_unsigned)
 
 module _ (q : Label) where
   -- Rows whose first owner has number `k` have no labels of owners before it.
   none_before : (k : ℕ) (rows : LabelRows) → q.owner < k → list_any (eq_by_cmp label_cmp q) (all_owned k rows) ≡ false
   none_before k [] before = refl
-  none_before k (row ∷ rows) before =
-      list_any-append (eq_by_cmp label_cmp q) (map (owned_label k) row) (all_owned (k + 1) rows)
-      ∙ ap (λ b. b || list_any (eq_by_cmp label_cmp q) (all_owned (k + 1) rows))
-      (any_row q k row ∙ ap (λ b. b && has_own row (data_of q)) (apart_by_cmp q.owner k (omega (arith, before))))
-      ∙ none_before (k + 1) rows (omega (arith, before))
+  none_before k (row ∷ rows) before = grind (arith, common_steps, any_row, apart_by_cmp, list_any-append, none_before (k + 1) rows (omega (arith, before)))
 
   found_from : (k i : ℕ) (rows : LabelRows) → q.owner ≡ k + i
       → list_any (eq_by_cmp label_cmp q) (all_owned k rows) ≡ has_own (owner_row rows i) (data_of q)
   found_from k i [] at = refl
-  found_from k zero (row ∷ rows) at =
-      list_any-append (eq_by_cmp label_cmp q) (map (owned_label k) row) (all_owned (k + 1) rows)
-      ∙ (λ j. first j || none_before (k + 1) rows (omega (arith, at)) j) ∙ or-false (has_own row (data_of q))
-    where
-      first : list_any (eq_by_cmp label_cmp q) (map (owned_label k) row) ≡ has_own row (data_of q)
-      first = any_row q k row ∙ ap (λ b. b && has_own row (data_of q))
-          (ap (λ m. eq_by_cmp nat_cmp m k) (let same : q.owner ≡ k = omega (arith, at) in same)
-          ∙ ap is_eq (tied_itself nat_cmp_total k))
-  found_from k (suc i) (row ∷ rows) at =
-      list_any-append (eq_by_cmp label_cmp q) (map (owned_label k) row) (all_owned (k + 1) rows)
-      ∙ ap (λ b. b || list_any (eq_by_cmp label_cmp q) (all_owned (k + 1) rows))
-      (any_row q k row ∙ ap (λ b. b && has_own row (data_of q)) (apart_by_cmp q.owner k (omega (arith, at))))
-      ∙ found_from (k + 1) i rows (omega (arith, at))
+  found_from k zero (row ∷ rows) at = grind (arith, common_steps, any_row, list_any-append, none_before, or-false)
+  found_from k (suc i) (row ∷ rows) at = grind (arith, common_steps, any_row, apart_by_cmp, list_any-append, found_from (k + 1) i rows (omega (arith, at)))
 
 -- The set has a label exactly when its owner's row has it.
 pub has_label : (rows : LabelRows) (q : Label) → set.contains (labels_in rows) q
@@ -121,9 +86,7 @@ take_labels old new owner l is = set.same_set labels_total labels_exact _ _ (λ 
 
 pub row_owns : (rows : LabelRows) (owner : ℕ) (o : Option (List LabelData)) → o ≡ slice_get rows owner
     → MatchOption o (HasNoLabels (labels_in rows) owner) (IsRowOfOwner (labels_in rows) owner)
-row_owns rows owner None e = λ l. has_label rows (owned_label owner l) ∙ ap (λ r. has_own (unwrap_or r []) l) (sym e)
-row_owns rows owner (Some row) e =
-    λ l. sym (has_label rows (owned_label owner l) ∙ ap (λ r. has_own (unwrap_or r []) l) (sym e))
+row_owns rows owner o e = grind (arith, common_steps, has_label)
 
 -- Writing a row at the index of an owner that has one replaces this row alone.
 pub row_set : (rows : LabelRows) (owner i : ℕ) (now : List LabelData) → i ≡ owner → i < length rows
@@ -147,63 +110,29 @@ row_at rows owner i row at within is = ap (owner_row rows) (sym at)
 
 pub row_after : (old new : LabelRows) (owner : ℕ) (now : List LabelData) → IsRowWritten old new owner now → (n : ℕ)
     → owner_row new n ≡ cond (eq_by_cmp nat_cmp n owner) now (owner_row old n)
-row_after old new owner now w n = go (eq_by_cmp nat_cmp n owner) refl
-  where
-    go : (b : Bool) → eq_by_cmp nat_cmp n owner ≡ b → owner_row new n ≡ cond b now (owner_row old n)
-    go true tie = ap (owner_row new) (exact_unsigned n owner ((Equal-is (nat_cmp n owner)).0 tie)) ∙ w.own
-    go false tie = w.others n (λ same. both_ways (eq_by_cmp nat_cmp n owner) tie
-        (ap (λ k. eq_by_cmp nat_cmp k owner) same ∙ ap is_eq (tied_itself nat_cmp_total owner)))
+row_after old new owner now w n = grind (arith, common_steps, Equal-is, both_ways, exact_unsigned)
 
 pub row_put : (old new : LabelRows) (owner : ℕ) (now : List LabelData) (l : LabelData)
     → IsRowWritten old new owner now
     → ((q : LabelData) → has_own now q ≡ (eq_by_cmp data_cmp q l || has_own (owner_row old owner) q))
     → RowsAfterInsert old new owner l
-row_put old new owner now l w each n q = ap (λ row. has_own row q) (row_after old new owner now w n)
-    ∙ go (eq_by_cmp nat_cmp n owner) refl
-  where
-    go : (b : Bool) → eq_by_cmp nat_cmp n owner ≡ b → has_own (cond b now (owner_row old n)) q
-        ≡ ((b && eq_by_cmp data_cmp q l) || has_own (owner_row old n) q)
-    go true tie = each q ∙ ap (λ k. eq_by_cmp data_cmp q l || has_own (owner_row old k) q)
-        (sym (exact_unsigned n owner ((Equal-is (nat_cmp n owner)).0 tie)))
-    go false tie = refl
+row_put old new owner now l w each n q = grind (arith, common_steps, Equal-is, exact_unsigned, row_after)
 
 pub row_put_all : (old new : LabelRows) (owner : ℕ) (now inserted : List LabelData) → IsRowWritten old new owner now
     → ((q : LabelData) → has_own now q ≡ (has_own inserted q || has_own (owner_row old owner) q))
     → RowsAfterInsertions old new owner inserted
-row_put_all old new owner now inserted w each = record {
-  own = λ q. ap (λ row. has_own row q) w.own ∙ each q;
-  others = w.others;
-}
-
--- Rows that show the same labels are the same after the insertions.
-pub put_all_after : (old mid new : LabelRows) (owner : ℕ) (inserted : List LabelData) → AreSameLabelRows old mid
-    → RowsAfterInsertions mid new owner inserted → RowsAfterInsertions old new owner inserted
-put_all_after old mid new owner inserted same after = record {
-  own = λ q. after.own q ∙ ap (λ row. has_own inserted q || has_own row q) (same owner);
-  others = λ n apart. after.others n apart ∙ same n;
-}
+row_put_all old new owner now inserted w each = grind (arith, common_steps)
 
 pub row_taken : (old new : LabelRows) (owner : ℕ) (now : List LabelData) (l : LabelData)
     → IsRowWritten old new owner now
     → ((q : LabelData) → has_own now q ≡ (not (eq_by_cmp data_cmp q l) && has_own (owner_row old owner) q))
     → RowsAfterRemove old new owner l
-row_taken old new owner now l w each n q = ap (λ row. has_own row q) (row_after old new owner now w n)
-    ∙ go (eq_by_cmp nat_cmp n owner) refl
-  where
-    go : (b : Bool) → eq_by_cmp nat_cmp n owner ≡ b → has_own (cond b now (owner_row old n)) q
-        ≡ (not (b && eq_by_cmp data_cmp q l) && has_own (owner_row old n) q)
-    go true tie = each q ∙ ap (λ k. not (eq_by_cmp data_cmp q l) && has_own (owner_row old k) q)
-        (sym (exact_unsigned n owner ((Equal-is (nat_cmp n owner)).0 tie)))
-    go false tie = refl
+row_taken old new owner now l w each n q = grind (arith, common_steps, Equal-is, exact_unsigned, row_after)
 
 -- Replacing a row by itself changes nothing.
 pub row_kept : (old new : LabelRows) (owner : ℕ) (now : List LabelData) → IsRowWritten old new owner
     now → now ≡ owner_row old owner → AreSameLabelRows old new
-row_kept old new owner now w same n = row_after old new owner now w n ∙ go (eq_by_cmp nat_cmp n owner) refl
-  where
-    go : (b : Bool) → eq_by_cmp nat_cmp n owner ≡ b → cond b now (owner_row old n) ≡ owner_row old n
-    go true tie = same ∙ ap (owner_row old) (sym (exact_unsigned n owner ((Equal-is (nat_cmp n owner)).0 tie)))
-    go false tie = refl
+row_kept old new owner now w same n = grind (arith, common_steps, Equal-is, exact_unsigned, row_after)
 
 pub preferred_owned : (labels : Labels) (owner : ℕ) (tag : List ℕ) (row : List LabelData) → IsRowOfOwner labels owner
     row → HasNoOwnPreferred row tag → (text : List ℕ) → HasLabel labels owner Pref tag text → ⊥
@@ -213,26 +142,7 @@ preferred_owned labels owner tag row owns none text has = none text (owns (own_l
 pub two_owned : (labels : Labels) (owner : ℕ) (row : List LabelData) → IsRowOfOwner labels owner row
     → (HasTwoOwnPreferred row → HasTwoPreferred labels owner)
     × (HasTwoPreferred labels owner → HasTwoOwnPreferred row)
-two_owned labels owner row owns = (
-  λ two. record {
-    first_tag = two.first_tag;
-    first_text = two.first_text;
-    second_tag = two.second_tag;
-    second_text = two.second_text;
-    first = sym (owns (own_label Pref two.first_tag two.first_text)) ∙ two.first;
-    second = sym (owns (own_label Pref two.second_tag two.second_text)) ∙ two.second;
-    apart = λ e. two.apart (ap data_of e);
-  },
-  λ two. record {
-    first_tag = two.first_tag;
-    first_text = two.first_text;
-    second_tag = two.second_tag;
-    second_text = two.second_text;
-    first = owns (own_label Pref two.first_tag two.first_text) ∙ two.first;
-    second = owns (own_label Pref two.second_tag two.second_text) ∙ two.second;
-    apart = λ e. two.apart (ap (owned_label owner) e);
-  },
-)
+two_owned labels owner row owns = grind (arith, common_steps)
 
 pub none_two : (labels : Labels) (owner : ℕ) → HasNoLabels labels owner → HasTwoPreferred labels owner → ⊥
 none_two labels owner none two = let e = none (own_label Pref two.first_tag two.first_text) in let f = two.first in cc
@@ -269,17 +179,7 @@ module _ (old new : LabelRows) (count owner : ℕ) (l : LabelData) (counted : co
 
   -- A set with a label isn't empty.
   pub counted_one : has_own (owner_row old owner) l ≡ true → 1 ≤ count
-  counted_one has = go count refl
-    where
-      go : (n : ℕ) → count ≡ n → 1 ≤ count
-      go zero e =
-          absurd (cc (
-            ap (λ s. set.contains s (owned_label owner l)) (set.empty_of_len (labels_in old) (sym counted ∙ e)),
-            set.contains-empty label_cmp (owned_label owner l),
-            was_there,
-            has,
-          ))
-      go (suc n) e = omega (arith, e)
+  counted_one has = grind (arith, common_steps, set.contains-empty, set.empty_of_len, was_there)
 
 module _ (labels : Labels) where
   -- Removing a new label after its insertion gives the old set.
@@ -333,9 +233,4 @@ module _ (labels : Labels) (owner : ℕ) (tag text old : List ℕ) (differ : old
 
   pub renamed_keeping : set.remove (set.insert (set.insert labels (label owner Pref tag text))
       (label owner Alt tag old)) old_label ≡ replace_preferred owner tag text true old labels
-  renamed_keeping = insert_and_remove_commute (set.insert labels (label owner Pref tag text))
-      (label owner Alt tag old) old_label other ∙ ap (λ (s : Labels). set.insert s (label owner Alt tag old))
-      renamed_plain
-    where
-      other : (label owner Alt tag old) ≢ old_label
-      other e = let k = ap (λ (l : Label). l.kind) e in cc
+  renamed_keeping = grind (arith, common_steps, insert_and_remove_commute, renamed_plain)

@@ -1,5 +1,6 @@
 -- A list has a text as a lexical label exactly when one of its labels is lexical and has the text.
-use Rattle.std.proofs.Common.{◌≡◌, ◌∙◌, inl, inr, List, ℕ, refl, sym, ap, true, ◌&&◌}
+use Rattle.std.proofs.lemmas.Grind.{common_steps}
+use Rattle.std.proofs.Common.{◌≡◌, ◌∙◌, List, ℕ, sym, ap, true, ◌&&◌, arith}
 use Rattle.std.specs.Prelude.{nat_eq}
 use Rattle.std.specs.Cmp.{both_ways, tied_itself}
 use Rattle.std.specs.Cmp.Lexicographic.{pointwise, texts_ties, same_text}
@@ -8,7 +9,6 @@ use Rattle.std.specs.Ordering.{is_eq}
 use Rattle.std.proofs.lemmas.Bool.{or_cases, or_left, or_right, and_from, and_parts}
 use Rattle.std.proofs.lemmas.Cmp.{nat_list_cmp_total}
 use Rattle.thes_base.specs.declared.data.LabelKind.{LabelKind}
-use Rattle.thes_base.specs.declared.data.LabelKind.TheVariants.{Pref, Alt, Hidden, Scope}
 use Rattle.thes_base.specs.Data.{LabelData}
 use Rattle.thes_base.specs.Labels.{is_lexical_kind}
 use Rattle.thes_vocab.specs.OwnLabels.{own_label, has_own}
@@ -30,10 +30,7 @@ module _ (tag text : List ℕ) where
 
   in_one : (own : List LabelData) (k : LabelKind) → is_lexical_kind k ≡ true → has_own own (own_label k tag text)
       ≡ true → has_own_name own tag text ≡ true
-  in_one own Pref lexical has = or_left _ _ (or_left _ _ has)
-  in_one own Alt lexical has = or_left _ _ (or_right (has_own own (own_label Pref tag text)) _ has)
-  in_one own Hidden lexical has = or_right _ _ has
-  in_one own Scope lexical has = absurd (cc)
+  in_one own k lexical has = grind (arith, common_steps, or_left, or_right)
 
   passes : (k : LabelKind) → is_lexical_kind k ≡ true → is_name tag text (own_label k tag text) ≡ true
   passes k lexical = and_from _ _ (text_itself text) (and_from _ _ (text_itself tag) lexical)
@@ -52,10 +49,4 @@ module _ (tag text : List ℕ) where
       one k lexical has = any_of (is_name tag text) own (own_label k tag text) (passes k lexical) has
 
       back : has_own_name own tag text ≡ true → list_any (is_name tag text) own ≡ true
-      back e = elim (or_cases _ _ e) [
-        | inl first ↦ elim (or_cases _ _ first) [
-          | inl pref ↦ one Pref refl pref
-          | inr alt ↦ one Alt refl alt
-        ]
-        | inr hidden ↦ one Hidden refl hidden
-      ]
+      back e = grind (arith, common_steps, one, or_cases)

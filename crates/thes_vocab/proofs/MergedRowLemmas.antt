@@ -1,27 +1,26 @@
 -- The target's row after a merge, and the number of labels copied to it, are those of the machine's definition.
+use Rattle.std.proofs.lemmas.Grind.{common_steps}
 use Rattle.std.proofs.Common.{◌≡◌, ◌⊎◌, inl, inr, ◌<◌, ℕ, zero, suc, ◌+◌, length, List, [], ◌∷◌, ◌++◌, refl, sym, ap, ◌∙◌}
-use Rattle.std.proofs.Common.{subst, arith, Bool, true, false, not, ◌&&◌, ◌||◌, cond, get_or, take, map, eqb-true}
-use Rattle.std.proofs.Common.{eq-eqb}
+use Rattle.std.proofs.Common.{arith, Bool, true, false, not, ◌&&◌, ◌||◌, cond, get_or, take, map, eqb-true, eq-eqb}
 use Rattle.std.specs.Prelude.{filter, if◌then◌else◌, ◌==◌}
 use Rattle.std.specs.declared.cmp.Ordering.{Ordering}
-use Rattle.std.specs.declared.cmp.Ordering.TheVariants.{Less, Equal}
+use Rattle.std.specs.declared.cmp.Ordering.TheVariants.{Less}
 use Rattle.std.specs.Ordering.{nat_cmp, eq_by_cmp, is_eq}
 use Rattle.std.specs.Cmp.{nat_cmp_total, both_ways, tied_itself, Equal-is}
 use Rattle.std.specs.List.{list_any, AllByRecursion}
 use Rattle.std.specs.List.Sorted.{IsStrictlySortedBy}
 use Rattle.std.proofs.lemmas.Map.Lookups.{exact_unsigned}
 use Rattle.std.specs.FinSet as set
-use Rattle.std.proofs.lemmas.Bool.{or_cases, or_left, or_right, true≢false, and_from, cases_Bool, not-true, and_parts}
+use Rattle.std.proofs.lemmas.Bool.{or_cases, or_left, or_right, and_from, cases_Bool, not-true, and_parts}
 use Rattle.std.proofs.Math.Bool.{and-false, and-or_distrib_left, or-false, or_assoc, or_comm}
-use Rattle.thes_base.specs.declared.data.LabelKind.TheVariants.{Pref, Alt, Hidden}
 use Rattle.thes_base.specs.Data.{LabelData}
-use Rattle.thes_base.specs.Labels.{Label, Labels, label_cmp, HasLabel, is_lexical_kind, S13}
+use Rattle.thes_base.specs.Labels.{Label, Labels, label_cmp, is_lexical_kind, S13}
 use Rattle.thes_base.specs.Changes.{label, has_lexical_label, copied_label_kind, copied_labels}
 use Rattle.thes_base.specs.Machine.{owned_label}
 use Rattle.thes_base.proofs.LabelSetLemmas.{labels_total, labels_exact}
 use Rattle.thes_base.proofs.CopiedLabelLemmas.{name_of, name_taken}
 use Rattle.thes_base.proofs.SetMemberLemmas.{or_swap}
-use Rattle.thes_vocab.specs.OwnLabels.{data_cmp, own_label, has_own, AreLabelsOf}
+use Rattle.thes_vocab.specs.OwnLabels.{data_cmp, has_own, AreLabelsOf}
 use Rattle.thes_vocab.specs.CopiedLabels.{lacks_name, lacks_own_name, merged_label, copies_label}
 use Rattle.thes_vocab.specs.LabelRows.{LabelRows, IsRowOfOwner, labels_in, owner_row, IsRowWritten, RowsAfterInsertions}
 use Rattle.thes_vocab.specs.LabelRows.{AreMissingLabels}
@@ -34,33 +33,23 @@ any_more : {A : Type 0} (p : A → Bool) (xs : List A) (i : ℕ) (x : A) → i <
 any_more p [] i x b e = absurd (omega arith)
 any_more p (y ∷ []) zero x b e = ap (λ z. p z || false) (sym e) ∙ or-false (p x)
 any_more p (y ∷ z ∷ xs) zero x b e = ap (λ w. p w || false) (sym e) ∙ or-false (p x)
-any_more p (y ∷ xs) (suc i) x b e = ap (λ c. p y || c) (any_more p xs i x (omega arith) e)
-    ∙ sym (or_assoc (p y) (list_any p (take i xs)) (p x))
+any_more p (y ∷ xs) (suc i) x b e = grind (arith, common_steps, or_assoc, any_more p xs i x (omega arith) e)
 
 pub gives_more : (source target : List LabelData) (i : ℕ) (l q : LabelData) → i < length source → l
     ≡ get_or source i l → copies_label (take (i + 1) source) target q
     ≡ (copies_label (take i source) target q || (lacks_own_name target l && eq_by_cmp data_cmp q (merged_label l)))
-gives_more source target i l q b e = ap (λ k. copies_label (take k source) target q) (let s : i + 1 ≡ suc i =
-    omega arith in s) ∙ any_more (λ x. lacks_own_name target x && eq_by_cmp data_cmp q (merged_label x)) source i l b
-    e
+gives_more source target i l q b e = grind (arith, common_steps, any_more)
 
 -- The copies after one step: the label is copied if the target lacks it.
 pub copies_taken : (source target copies : List LabelData) (i : ℕ) (l q : LabelData) → i < length source → l
     ≡ get_or source i l → has_own copies q ≡ copies_label (take i source) target q → lacks_own_name target l ≡ true
     → has_own (copies ++ merged_label l ∷ []) q ≡ copies_label (take (i + 1) source) target q
-copies_taken source target copies i l q b e before picks =
-    has_pushed copies (merged_label l) q ∙ ap (λ c. c || eq_by_cmp data_cmp q (merged_label l)) before
-    ∙ ap (λ y. copies_label (take i source) target q || (y && eq_by_cmp data_cmp q (merged_label l))) (sym picks)
-    ∙ sym (gives_more source target i l q b e)
+copies_taken source target copies i l q b e before picks = grind (arith, common_steps, gives_more, has_pushed)
 
 pub copies_left : (source target copies : List LabelData) (i : ℕ) (l q : LabelData) → i < length source → l
     ≡ get_or source i l → has_own copies q ≡ copies_label (take i source) target q → lacks_own_name target l ≡ false
     → has_own copies q ≡ copies_label (take (i + 1) source) target q
-copies_left source target copies i l q b e before no_name =
-    before
-    ∙ sym (gives_more source target i l q b e
-    ∙ ap (λ y. copies_label (take i source) target q || (y && eq_by_cmp data_cmp q (merged_label l))) no_name
-    ∙ or-false (copies_label (take i source) target q))
+copies_left source target copies i l q b e before no_name = grind (arith, common_steps, gives_more, or-false)
 
 module _ {A : Type 0} (p : A → Bool) where
   pub kept_yes : (x : A) (xs : List A) → p x ≡ true → filter p (x ∷ xs) ≡ x ∷ filter p xs
@@ -74,22 +63,7 @@ any_mapped : {A : Type 0} (cmp : A → A → Ordering) (equal_is_tie : (x : A) �
     (f : A → Label) (q : Label) (xs : List A) → list_any (eq_by_cmp label_cmp q) (map f (filter p xs)) ≡ true
     → (x : A) × (p x ≡ true) × (list_any (eq_by_cmp cmp x) xs ≡ true) × (q ≡ f x)
 any_mapped cmp equal_is_tie p f q [] e = absurd (cc)
-any_mapped cmp equal_is_tie p f q (x ∷ xs) e = elim (cases_Bool (p x)) [
-  | inl picks ↦ elim (or_cases _ _
-      (sym (ap (λ ys. list_any (eq_by_cmp label_cmp q) (map f ys)) (kept_yes p x xs picks)) ∙ e)) [
-        | inl same ↦ (
-          x,
-          picks,
-          or_left _ _ (equal_is_tie x),
-          labels_exact q (f x) ((Equal-is (label_cmp q (f x))).0 same),
-        )
-        | inr later ↦ let found = any_mapped cmp equal_is_tie p f q xs later in
-            (found.0, found.1, or_right (eq_by_cmp cmp found.0 x) _ found.2, found.3)
-      ]
-  | inr miss ↦ let found = any_mapped cmp equal_is_tie p f q xs
-      (sym (ap (λ ys. list_any (eq_by_cmp label_cmp q) (map f ys)) (kept_no p x xs miss)) ∙ e) in
-      (found.0, found.1, or_right (eq_by_cmp cmp found.0 x) _ found.2, found.3)
-]
+any_mapped cmp equal_is_tie p f q (x ∷ xs) e = grind (arith, common_steps, Equal-is, cases_Bool, kept_no, kept_yes, labels_exact, or_cases, or_left, or_right, any_mapped cmp equal_is_tie p f q xs)
 
 equal_is_tie : (x : Label) → eq_by_cmp label_cmp x x ≡ true
 equal_is_tie x = ap is_eq (tied_itself labels_total x)
@@ -172,9 +146,7 @@ module _ (labels : Labels) (source target : ℕ) (own : List LabelData) (owns : 
 -- The target lacks a lexical label exactly when its own list does.
 pub takes_is : (labels : Labels) (target : ℕ) (own : List LabelData) → IsRowOfOwner labels target own
     → (d : LabelData) → lacks_own_name own d ≡ lacks_name labels target d
-takes_is labels target own owns d =
-    (λ i. is_lexical_kind d.kind && not ((owns (own_label Pref d.tag d.text) i || owns (own_label Alt d.tag d.text) i)
-    || owns (own_label Hidden d.tag d.text) i))
+takes_is labels target own owns d = grind (arith, common_steps)
 
 any_same : {A : Type 0} (p q : A → Bool) → ((x : A) → p x ≡ q x) → (xs : List A) → list_any p xs ≡ list_any q xs
 any_same p q same [] = refl
@@ -183,9 +155,7 @@ any_same p q same (x ∷ xs) = λ i. same x i || any_same p q same xs i
 pub gives_is : (labels : Labels) (target : ℕ) (own : List LabelData) → IsRowOfOwner labels target own
     → (source : List LabelData) (q : LabelData) → copies_label source own q
     ≡ list_any (λ d. lacks_name labels target d && eq_by_cmp data_cmp q (merged_label d)) source
-gives_is labels target own owns source q =
-    any_same _ _ (λ d. ap (λ b. b && eq_by_cmp data_cmp q (merged_label d)) (takes_is labels target own owns d))
-    source
+gives_is labels target own owns source q = grind (arith, common_steps, any_same, takes_is)
 
 -- Assumes labels that meet SKOS S13, and counts those that are copied.
 module _ (labels : Labels) (source target : ℕ) (s13 : S13 labels) where
@@ -223,33 +193,18 @@ module _ (labels : Labels) (source target : ℕ) (s13 : S13 labels) where
 
   -- The target lacks each label that is copied to it.
   copied_is_new : (d : LabelData) → lacks_name labels target d ≡ true → set.contains labels (as_taken d) ≡ true → ⊥
-  copied_is_new d picks held =
-      let name = (and_parts (is_lexical_kind d.kind) _ picks).0 in
-      let free = not-true _ (and_parts (is_lexical_kind d.kind) (not (has_lexical_label labels target d.tag d.text))
-      picks).1 in
-      true≢false (sym (name_of labels target (copied_label_kind d.kind) d.tag d.text (name_taken d.kind name) held)
-      ∙ free)
+  copied_is_new d picks held = grind (arith, common_steps, and_parts, name_of, name_taken, not-true)
 
   -- Labels with equal copies are equal (SKOS S13).
   same_taken : (c d : LabelData) → lacks_name labels target c ≡ true → lacks_name labels target d ≡ true
       → set.contains labels (owned_label source c) ≡ true → set.contains labels (owned_label source d) ≡ true
       → as_taken c ≡ as_taken d → c ≡ d
-  same_taken c d tc td hc hd is =
-      let tag = ap (λ (l : Label). l.tag) is in
-      let text = ap (λ (l : Label). l.text) is in
-      let there = subst (λ (p : List ℕ × List ℕ). HasLabel labels source c.kind p.0 p.1) (λ i. (tag i, text i)) hc in
-      let kind = s13 source c.kind d.kind d.tag d.text (and_parts (is_lexical_kind c.kind) _ tc).0
-      (and_parts (is_lexical_kind d.kind) _ td).0 there hd in
-      λ i. own_label (kind i) (tag i) (text i)
+  same_taken c d tc td hc hd is = grind (arith, common_steps, and_parts)
 
   after_none : (x d : LabelData) (own : List LabelData) → AllByRecursion (λ y. data_cmp x y ≡ Less) own
       → has_own own d ≡ true → x ≡ d → ⊥
   after_none x d [] each e same = cc
-  after_none x d (y ∷ own) each e same = elim (or_cases _ _ e) [
-    | inl here ↦ less_not_equal (data_cmp x y) each.0
-        (subst (λ z. data_cmp x z ≡ Equal) (same ∙ label_data_of_tie d y here) (tied_itself data_total x))
-    | inr later ↦ after_none x d own each.1 later same
-  ]
+  after_none x d (y ∷ own) each e same = grind (arith, common_steps, data_total, label_data_of_tie, less_not_equal, or_cases, after_none x d own each.1)
 
   -- The union with the copies has one further label for each label of the list that the target lacks.
   len_built : (own : List LabelData) → IsStrictlySortedBy data_cmp own → AreSome own
@@ -290,10 +245,7 @@ module _ (labels : Labels) (source target : ℕ) (s13 : S13 labels) where
           (set.len (set.union labels (set_of_copies own)) + 1)) (absent picks _ refl) in
           let count = ap length kept in
           omega (arith, rest, more, count)
-      go rest (inr miss) =
-          let kept = kept_no (lacks_name labels target) x own miss in
-          ap (λ ys. set.len (set.union labels (set.from_list (map as_taken ys)))) kept ∙ rest
-          ∙ ap (λ ys. set.len labels + length ys) (sym kept)
+      go rest (inr miss) = grind (arith, common_steps, kept_no)
 
   -- A label is among the copies exactly when it is the copy of a label in the list that the target lacks.
   built_any : (own : List LabelData) (q : Label) → list_any (eq_by_cmp label_cmp q)
@@ -311,22 +263,7 @@ module _ (labels : Labels) (source target : ℕ) (s13 : S13 labels) where
           ≡ (eq_by_cmp nat_cmp q.owner target &&
           ((lacks_name labels target x && eq_by_cmp data_cmp (data_of q) (merged_label x)) || list_any
           (λ d. lacks_name labels target d && eq_by_cmp data_cmp (data_of q) (merged_label d)) own))
-      go rest (inl picks) =
-          ap (λ ys. list_any (eq_by_cmp label_cmp q) (map as_taken ys))
-          (kept_yes (lacks_name labels target) x own picks)
-          ∙ (λ i. owned_tie q target (merged_label x) i || rest i)
-          ∙ sym (and-or_distrib_left (eq_by_cmp nat_cmp q.owner target)
-          (eq_by_cmp data_cmp (data_of q) (merged_label x))
-          (list_any (λ d. lacks_name labels target d && eq_by_cmp data_cmp (data_of q) (merged_label d)) own))
-          ∙ ap (λ b. eq_by_cmp nat_cmp q.owner target && ((b && eq_by_cmp data_cmp (data_of q) (merged_label x)) ||
-          list_any (λ d. lacks_name labels target d && eq_by_cmp data_cmp (data_of q) (merged_label d)) own))
-          (sym picks)
-      go rest (inr miss) =
-          ap (λ ys. list_any (eq_by_cmp label_cmp q) (map as_taken ys))
-          (kept_no (lacks_name labels target) x own miss) ∙ rest
-          ∙ ap (λ b. eq_by_cmp nat_cmp q.owner target && ((b && eq_by_cmp data_cmp (data_of q) (merged_label x)) ||
-          list_any (λ d. lacks_name labels target d && eq_by_cmp data_cmp (data_of q) (merged_label d)) own))
-          (sym miss)
+      go rest picks = grind (arith, common_steps, and-or_distrib_left, kept_no, kept_yes, owned_tie)
 
   pub taken_len : (own : List LabelData) → AreLabelsOf labels source own → set.len labels
       + length (missing_labels own) ≡ set.len (set.union labels (copied_labels source target labels))
@@ -361,16 +298,4 @@ union_rows old new source target copies after missing = set.same_set labels_tota
         ≡ (set.contains (labels_in old) q ||
         (eq_by_cmp nat_cmp q.owner target && list_any (λ d. lacks_name (labels_in old) target d &&
         eq_by_cmp data_cmp (data_of q) (merged_label d)) (owner_row old source)))
-    at q true tie =
-        let here = exact_unsigned q.owner target ((Equal-is (nat_cmp q.owner target)).0 tie) in
-        merged (data_of q)
-        ∙ (λ i. (ap (λ k. has_own (owner_row old k) (data_of q)) (sym here) ∙ sym (has_label old q)) i || gives_is
-        (labels_in old) target (owner_row old target) (owns target) (owner_row old source) (data_of q) i)
-        ∙ ap (λ b. set.contains (labels_in old) q ||
-        (b && list_any (λ d. lacks_name (labels_in old) target d && eq_by_cmp data_cmp (data_of q)
-        (merged_label d)) (owner_row old source))) (sym tie)
-    at q false apart =
-        sym (has_label old q) ∙ sym (or-false (set.contains (labels_in old) q))
-        ∙ ap (λ b. set.contains (labels_in old) q ||
-        (b && list_any (λ d. lacks_name (labels_in old) target d && eq_by_cmp data_cmp (data_of q)
-        (merged_label d)) (owner_row old source))) (sym apart)
+    at q b tie = grind (arith, common_steps, Equal-is, exact_unsigned, gives_is, has_label, merged, or-false, owns)

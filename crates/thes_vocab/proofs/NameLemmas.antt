@@ -1,10 +1,10 @@
 -- Look-ups in the index of preferred labels, and its changes, which keep all other entries.
-use Rattle.std.proofs.Common.{◌≡◌, ◌⊎◌, inl, inr, ℕ, List, [], ◌∷◌, ◌++◌, ◌≤◌, refl, sym, ap, ◌∙◌, subst, Bool, true}
-use Rattle.std.proofs.Common.{false, cond, map, Bor, arith, ◌||◌}
-use Rattle.std.specs.Ordering.{nat_cmp, eq_by_cmp, is_gt, ordering_then}
-use Rattle.std.specs.declared.cmp.Ordering.TheVariants.{Less, Equal}
+use Rattle.std.proofs.lemmas.Grind.{common_steps}
+use Rattle.std.proofs.Common.{◌≡◌, ◌⊎◌, inl, inr, ℕ, List, [], ◌∷◌, ◌++◌, ◌≤◌, ◌∙◌, subst, Bool, true}
+use Rattle.std.proofs.Common.{false, map, Bor, arith}
+use Rattle.std.specs.Ordering.{nat_cmp, eq_by_cmp, is_gt}
 use Rattle.std.specs.declared.ops.Bound.TheVariants.{Included}
-use Rattle.std.specs.Cmp.{IsTotalOrder, nat_cmp_total, nat_cmp_is, tied_itself, Equal-is}
+use Rattle.std.specs.Cmp.{IsTotalOrder, nat_cmp_total, Equal-is}
 use Rattle.std.specs.BTreeMap.{is_at}
 use Rattle.std.specs.BTreeMap.Range.{range_contains}
 use Rattle.std.specs.BTreeSet.{BTreeSet, contains, keys_between, Updates}
@@ -32,26 +32,14 @@ same_entry e f at = entry_exact e f ((Equal-is (entry_cmp e f)).0 at)
 
 pub kept_by_insert : (old new : BTreeSet (ℕ × ℕ)) (added e : ℕ × ℕ) → Updates entry_cmp old new added true
     → contains entry_cmp old e ≡ true → contains entry_cmp new e ≡ true
-kept_by_insert old new added e updates had = updates.0 e ∙ go (is_at (entry_cmp added) e)
-  where
-    go : (b : Bool) → cond b true (contains entry_cmp old e) ≡ true
-    go true = refl
-    go false = had
+kept_by_insert old new added e updates had = grind (arith, common_steps)
 
 pub kept_by_remove : (old new : BTreeSet (ℕ × ℕ)) (gone e : ℕ × ℕ) → Updates entry_cmp old new gone false
     → (gone ≡ e → ⊥) → contains entry_cmp old e ≡ true → contains entry_cmp new e ≡ true
-kept_by_remove old new gone e updates apart had = updates.0 e ∙ go (is_at (entry_cmp gone) e) refl
-  where
-    go : (b : Bool) → is_at (entry_cmp gone) e ≡ b → cond b false (contains entry_cmp old e) ≡ true
-    go true at = absurd (apart (same_entry gone e at))
-    go false at = had
+kept_by_remove old new gone e updates apart had = grind (arith, common_steps, same_entry)
 
 not_greater : (d m n : ℕ) → m ≤ n → is_gt (entry_cmp (d, m) (d, n)) ≡ false
-not_greater d m n le =
-    ap (λ r. is_gt (ordering_then r (nat_cmp m n))) (tied_itself nat_cmp_total d) ∙ elim (cases_eq m n) [
-      | inl same ↦ ap is_gt (sym (nat_cmp_is m n Equal same))
-      | inr apart ↦ ap is_gt (sym (nat_cmp_is m n Less (omega (arith, le, apart))))
-    ]
+not_greater d m n le = grind (arith, common_steps, cases_eq)
 
 -- The entries of a digest from the first possible concept to the last one have each entry of the digest.
 pub all_of_digest : (set : BTreeSet (ℕ × ℕ)) (d first last n : ℕ) → first ≤ n → n ≤ last
@@ -81,12 +69,4 @@ other_digest (l ∷ own) scheme digest tag text none has same =
 -- A test passed by one of several entries is passed by the last, or by one of those before it.
 pub last_entry : (p : ℕ × ℕ → Bool) (es : List (Bor (ℕ × ℕ))) (e : Bor (ℕ × ℕ))
     → list_any p (map deref (es ++ e ∷ [])) ≡ true → (list_any p (map deref es) ≡ true) ⊎ (p e.now ≡ true)
-last_entry p [] e any = elim (or_cases (p e.now) false any) [ inl here ↦ inr here | inr none ↦ absurd (cc) ]
-last_entry p (f ∷ es) e any = elim (or_cases (p f.now) (list_any p (map deref (es ++ e ∷ []))) any) [
-  | inl first ↦ inl (ap (λ b. b || list_any p (map deref es)) first)
-  | inr rest ↦ elim (last_entry p es e rest) [ inl was ↦ inl (right (p f.now) was) | inr here ↦ inr here ]
-]
-  where
-    right : (b : Bool) → list_any p (map deref es) ≡ true → (b || list_any p (map deref es)) ≡ true
-    right true h = refl
-    right false h = h
+last_entry p es e any = grind (arith, common_steps, or_cases)

@@ -1,4 +1,5 @@
 -- Searches, insertions and removals in an owner's sorted list of labels.
+use Rattle.std.proofs.lemmas.Grind.{common_steps}
 use Rattle.std.proofs.Common.{◌≡◌, ◌≢◌, inl, inr, ◌<◌, ◌≤◌, ◌+◌, ℕ, suc, length, List, [], ◌∷◌, ◌++◌, refl, sym, ap, ◌∙◌}
 use Rattle.std.proofs.Common.{subst, arith, Bool, true, false, not, ◌&&◌, ◌||◌, get_or}
 use Rattle.std.specs.Prelude.{Result, Ok, Err, is_ok}
@@ -21,7 +22,7 @@ use Rattle.std.specs.Cmp.Lexicographic.{slice_cmp}
 use Rattle.std.proofs.lemmas.Cmp.{then_total, on_total, nat_list_cmp_total}
 use Rattle.std.proofs.lemmas.List.Folds.{list_any_at, list_any-append}
 use Rattle.thes_base.specs.declared.data.LabelKind.{LabelKind}
-use Rattle.thes_base.specs.declared.data.LabelKind.TheVariants.{Pref, Alt, Hidden, Scope}
+use Rattle.thes_base.specs.declared.data.LabelKind.TheVariants.{Pref}
 use Rattle.thes_base.specs.Data.{LabelData}
 use Rattle.thes_base.specs.Labels.{label_kind_no}
 use Rattle.thes_base.specs.Machine.{owned_label}
@@ -76,11 +77,7 @@ found_is own l (Err i) at = sym (has_missed data_cmp data_total own i l at.1 at.
 pub any_found : (test : LabelData → Bool) (own : List LabelData) → list_any test own ≡ true → (d : LabelData)
     × (test d ≡ true) × (has_own own d ≡ true)
 any_found test [] e = absurd (cc)
-any_found test (x ∷ own) e = elim (or_cases _ _ e) [
-  | inl hit ↦ (x, hit, or_left _ _ (tie_of_label_data x x refl))
-  | inr later ↦ let found = any_found test own later in
-      (found.0, found.1, or_right (eq_by_cmp data_cmp found.0 x) _ found.2)
-]
+any_found test (x ∷ own) e = grind (arith, common_steps, or_cases, or_left, or_right, tie_of_label_data, any_found test own)
 
 -- A label of a list that passes a test is found.
 pub any_of : (test : LabelData → Bool) (own : List LabelData) (d : LabelData) → test d ≡ true → has_own own d ≡ true
@@ -101,10 +98,7 @@ has_pushed own l q = list_any-append (eq_by_cmp data_cmp q) own (l ∷ [])
 pub has_moved : (labels rest own now : List LabelData) (l q : LabelData) → labels ≡ rest ++ l ∷ []
     → has_own now q ≡ (eq_by_cmp data_cmp q l || has_own own q)
     → (has_own rest q || has_own now q) ≡ (has_own labels q || has_own own q)
-has_moved labels rest own now l q is after =
-    ap (λ b. has_own rest q || b) after
-    ∙ sym (or_assoc (has_own rest q) (eq_by_cmp data_cmp q l) (has_own own q))
-    ∙ ap (λ b. b || has_own own q) (sym (has_pushed rest l q) ∙ ap (λ ls. has_own ls q) (sym is))
+has_moved labels rest own now l q is after = grind (arith, common_steps, has_pushed, or_assoc)
 
 pub insert_is : (own : List LabelData) (l : LabelData) (i : ℕ) → IsLabelPosition own l (Err i) → insert own i l
     ≡ insert_key data_cmp own l
@@ -144,9 +138,7 @@ has_removed own l r sorted at q = ap (λ xs. has_own xs q) (remove_is own l r so
 
 -- If a label comes before another, the second doesn't come before the first by kind and language.
 language_rises : (r s : Ordering) → ordering_then r s ≡ Less → is_lt (ordering_reverse r) ≡ false
-language_rises Less s e = refl
-language_rises Equal s e = refl
-language_rises Greater s e = absurd (cc)
+language_rises r s e = grind (arith, common_steps)
 
 -- Labels that compare as equal by kind and language have the same kind and language.
 same_language : (x y : LabelData) → language_cmp x y ≡ Equal → (x.kind ≡ y.kind) × (x.tag ≡ y.tag)
@@ -186,34 +178,16 @@ preferred_searched own tag (Err i) sorted bound found = λ text has. go text has
 
     go : (text : List ℕ) → HasOwnPreferred own tag text → IsPartitionPoint (λ l. preferred_ord tag l ≡ Less)
         (λ l. preferred_ord tag l ≡ Greater) own i → ⊥
-    go text has p =
-        none text own (λ k d b e. elim (cases_lt k i) [
-          | inl below ↦ (let l = p.0 k d (omega arith) below in cc)
-          | inr from ↦ (let g = p.1 k d from b in cc)
-        ]) has
+    go text has p = grind (arith, common_steps, cases_lt, none)
 
 -- A preferred label at an index is a member of the list.
 pub preferred_at : (own : List LabelData) (tag text : List ℕ) (place : ℕ) (l : LabelData)
     → IsPreferredAt own tag place → get_or own place l ≡ l → l.text ≡ text → HasOwnPreferred own tag text
-preferred_at own tag text place l at is e =
-    list_any_at (eq_by_cmp data_cmp (own_label Pref tag text)) own place l at.within
-    (tie_of_label_data (own_label Pref tag text) (get_or own place l)
-    (λ i. record {
-      kind = sym (at.kind l) i;
-      tag = sym (at.tag_is l) i;
-      text =
-          (sym e ∙ sym (ap (λ (x : LabelData). x.text) is)) i;
-    }))
+preferred_at own tag text place l at is e = grind (arith, common_steps, list_any_at, tie_of_label_data)
 
 kind_before : (j k : LabelKind) (r s : Ordering)
     → ordering_then (ordering_then (nat_cmp (label_kind_no j) (label_kind_no k)) r) s ≡ Less → k ≡ Pref → j ≡ Pref
-kind_before Pref k r s e f = refl
-kind_before Alt k r s e f =
-    absurd (let g = subst (λ x. ordering_then (ordering_then (nat_cmp 2 (label_kind_no x)) r) s ≡ Less) f e in cc)
-kind_before Hidden k r s e f =
-    absurd (let g = subst (λ x. ordering_then (ordering_then (nat_cmp 3 (label_kind_no x)) r) s ≡ Less) f e in cc)
-kind_before Scope k r s e f =
-    absurd (let g = subst (λ x. ordering_then (ordering_then (nat_cmp 4 (label_kind_no x)) r) s ≡ Less) f e in cc)
+kind_before j k r s e f = grind (arith, common_steps)
 
 has_first : (x : LabelData) (xs : List LabelData) → has_own (x ∷ xs) x ≡ true
 has_first x xs = ap (λ b. b || has_own xs x) (tie_of_label_data x x refl)
@@ -255,11 +229,7 @@ preferred_in_rest y xs tag text sorted has = elim (or_cases _ _ has) [
     below : (zs : List LabelData) → AllByRecursion (λ z. data_cmp y z ≡ Less) zs
         → has_own zs (own_label Pref tag text) ≡ true → y.kind ≡ Pref
     below [] each e = absurd (cc)
-    below (z ∷ zs) each e = elim (or_cases _ _ e) [
-      | inl same ↦ kind_before y.kind z.kind _ _ each.0
-          (sym (ap (λ (l : LabelData). l.kind) (label_data_of_tie (own_label Pref tag text) z same)))
-      | inr later ↦ below zs each.1 later
-    ]
+    below (z ∷ zs) each e = grind (arith, common_steps, kind_before, label_data_of_tie, or_cases, below zs each.1)
 
 pub second_of_two : (x y : LabelData) (xs : List LabelData) → IsStrictlySortedBy data_cmp (x ∷ y ∷ xs)
     → HasTwoOwnPreferred (x ∷ y ∷ xs) → y.kind ≡ Pref
@@ -295,10 +265,4 @@ two_of_none (x ∷ y ∷ own) short two = absurd (omega arith)
 
 pub two_of_second : (own : List LabelData) (l : LabelData) → IsStrictlySortedBy data_cmp own → 1 < length own → l
     ≡ get_or own 1 l → (l.kind ≡ Pref → HasTwoOwnPreferred own) × (HasTwoOwnPreferred own → l.kind ≡ Pref)
-two_of_second [] l sorted b e = absurd (omega arith)
-two_of_second (x ∷ []) l sorted b e = absurd (omega arith)
-two_of_second (x ∷ y ∷ own) l sorted b e =
-    let same : y ≡ l = sym e in (
-      λ is. two_first x y own sorted (ap (λ (z : LabelData). z.kind) same ∙ is),
-      λ two. sym (ap (λ (z : LabelData). z.kind) same) ∙ second_of_two x y own sorted two,
-    )
+two_of_second own l sorted b e = grind (arith, common_steps, second_of_two, two_first)

@@ -170,6 +170,7 @@ impl Vocab {
     }
 
     // Removes the entry of a label that the owner has lost from the index of preferred labels.
+    #[tactic(auto, using(crate::proofs::ConsistencyLemmas::kept_forgotten))]
     fn forget_name(&mut self, owner: ResNo, tag: &Tag, text: &str)
         ensures { self.new ≡ self.old }
     {

@@ -18,6 +18,7 @@ pub struct Forwarding {
 
 impl Vocab {
     /// Returns the end and the length of a concept's chain of replacements.
+    #[tactic(auto, using(crate::proofs::ForwardingLemmas::along_chain))]
     pub fn forwarding(&self, concept: ResNo) -> Forwarding
         ensures place { result.place ≡ path_end concept (replacements self.now.resources concept) }
         ensures steps { result.steps ≡ length (replacements self.now.resources concept) }
@@ -37,6 +38,7 @@ impl Vocab {
     }
 
     /// Returns the chain of replacements of a concept in order, without the concept itself.
+    #[tactic(auto, using(crate::proofs::ForwardingLemmas::along_chain))]
     pub fn replacements(&self, alloc: Global, concept: ResNo) -> Result<Vec<ResNo>, AllocError>
         ensures { IfOk result (λ way. way.items ≡ replacements self.now.resources concept) }
     {

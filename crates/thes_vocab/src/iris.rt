@@ -46,6 +46,7 @@ impl IriTable {
     }
 
     // Returns the IRI of an outside concept by its number; None if the map has none.
+    #[tactic(auto, using(crate::proofs::IriLemmas::get_iri_at))]
     pub(crate) fn iri(&self, n: ResNo) -> Option<&Iri>
         ensures { option_copied result ≡ dict.get self.now n }
     {
@@ -53,6 +54,7 @@ impl IriTable {
     }
 
     // Returns the number of the outside concept that has the IRI.
+    #[tactic(auto, using(crate::proofs::IriLemmas::number_found))]
     pub(crate) fn number(&self, iri: &Iri) -> Option<ResNo>
         ensures { MatchOption result ((n : ℕ) → dict.get self.now n ≢ Some iri.now)
             (λ n. dict.get self.now n ≡ Some iri.now) }

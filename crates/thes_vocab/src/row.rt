@@ -59,6 +59,7 @@ impl OwnerRow {
     }
 
     // Checks whether the row has the label of this kind, language and text.
+    #[tactic(auto, using(crate::proofs::OwnLabelLemmas::found_is))]
     pub(crate) fn contains(&self, kind: LabelKind, tag: &Tag, text: &str) -> bool
         ensures { result ≡ has_own self.now (own_label kind tag.now text.now) }
     {
@@ -66,6 +67,7 @@ impl OwnerRow {
     }
 
     // Returns a preferred label in the language; SKOS S14 allows at most one.
+    #[tactic(auto, using(crate::proofs::OwnLabelLemmas::preferred_at))]
     pub(crate) fn preferred(&self, tag: &Tag) -> Option<&Text>
         ensures { MatchOption result (HasNoOwnPreferred self.now tag.now)
             (λ text. HasOwnPreferred self.now tag.now text.now) }
@@ -79,6 +81,7 @@ impl OwnerRow {
 
     // Checks whether the row has the text in the language as a preferred, alternative or hidden
     // label.
+    #[tactic(auto, using(crate::proofs::LexicalLabelLemmas::any_name))]
     pub(crate) fn has_lexical_label(&self, tag: &Tag, text: &str) -> bool
         ensures { result ≡ has_own_name self.now tag.now text.now }
     {
@@ -142,6 +145,7 @@ impl OwnerRow {
 
     // Checks whether the row has two different preferred labels. They come first in the row, so the
     // second label decides.
+    #[tactic(auto, using(crate::proofs::OwnLabelLemmas::two_of_none, crate::proofs::OwnLabelLemmas::two_of_second))]
     pub(crate) fn has_two_preferred(&self) -> bool
         ensures { IsTrue result ↔ HasTwoOwnPreferred self.now }
     {
@@ -214,6 +218,7 @@ fn insert_in(list: &mut Vec<Label>, label: Label)
 
 // Returns copies of the lexical labels of the source that the target lacks, with preferred ones as
 // alternative ones.
+#[tactic(auto, using(crate::proofs::MergedRowLemmas::copies_left, crate::proofs::MergedRowLemmas::copies_taken))]
 pub(crate) fn missing_labels(
     alloc: Global,
     source: &OwnerRow,

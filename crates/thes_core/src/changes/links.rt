@@ -56,6 +56,7 @@ fn copy_merged_label(alloc: Global, label: &Label) -> Result<Label, AllocError>
 
 impl Thesaurus {
     // Returns the held links with an end at a resource, each once.
+    #[tactic(auto, using(crate::proofs::DeltaLemmas::take_got, crate::proofs::DeltaLemmas::take_none))]
     fn links_at(&self, n: ResNo) -> Result<Vec<Link>, AllocError>
         ensures { IfOk result (λ found. IsRow self.now.graph.links n found.items) }
     {
@@ -68,6 +69,7 @@ impl Thesaurus {
     }
 
     // Returns the changes that mark a concept as dead and delete its links.
+    #[tactic(auto, using(crate::proofs::DeltaLemmas::deprecated_leads))]
     pub(super) fn changes_of_deprecate(&self, concept: ResNo) -> Result<Delta, AllocError>
         ensures { IfOk result (λ delta. (histories : List History)
             → PartsAccept self.now histories (request.Deprecate concept)

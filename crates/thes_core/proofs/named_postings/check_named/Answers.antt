@@ -1,5 +1,4 @@
-use Rattle.std.proofs.Common.{◌≡◌, refl, Bool, true, false, not, eqb, sym, ap, subst, ◌∙◌, inl, inr}
-use Rattle.std.specs.Prelude.{Some, None}
+use Rattle.std.proofs.Common.{◌≡◌, Bool, true, not, eqb, sym, ap, subst, ◌∙◌, arith}
 use Rattle.thes_base.specs.Postings.{place}
 use Rattle.thes_base.specs.Refusals.{IsKnownPosting}
 use Rattle.thes_post.proofs.EachLemmas.{each_at, each_more}
@@ -9,21 +8,7 @@ use Rattle.thes_core.proofs.FactLemmas.{named_at, row_found, row_missing}
 use Rattle.thes_core.proofs.named_postings.check_named.Goals as goal
 
 pub returns-in-None : goal.returns-in-None
-returns-in-None c = λ hs is.
-    let n = named_at hs c.args.postings.now c.args.named_postings.now c.loop-row.row-index c.row-item.result is
-    c.loop-row-test.true c.row-item.is in
-    let missing = row_missing _ (n.3 ∙ c.in-None.is) in
-    inr (
-      c.requires,
-      inl (
-        λ all.
-            let known = subst (IsKnownPosting hs) (sym n.2) (each_at (IsKnownPosting hs) c.args.postings.now
-            c.loop-row.row-index n.0 all n.1) in
-            let clash : Some known.0 ≡ None = sym known.1 ∙ missing in
-            absurd (cc),
-        refl,
-      ),
-    )
+returns-in-None c = grind (arith, each_at, named_at, row_missing)
 
 pub loop-row-preserved : goal.loop-row-preserved
 loop-row-preserved c = λ hs is.
@@ -50,5 +35,4 @@ loop-row-preserved c = λ hs is.
     }
   where
     not_not : (b : Bool) → b ≡ not (not b)
-    not_not true = refl
-    not_not false = refl
+    not_not b = grind (arith)

@@ -6,7 +6,6 @@ use Rattle.thes_base.specs.declared.data.LinkKind.{LinkKind}
 use Rattle.thes_base.specs.Links.{IsHierarchical, Links}
 use Rattle.thes_base.specs.Listing.{IsListing}
 use Rattle.thes_display.specs.declared.entry_terms.Side.{Side}
-use Rattle.thes_display.specs.declared.entry_terms.Side.TheVariants.{Broader, Narrower}
 use Rattle.thes_display.specs.EntryTerms.{IsOnSide, IsLinkedOnSide}
 use Rattle.thes_display.proofs.ListingLemmas.{chosen_none, chosen_more, chosen_skip, chosen_whole}
 use Rattle.thes_display.proofs.entry_terms.linked_concepts.Goals as goal
@@ -15,8 +14,7 @@ use Rattle.thes_display.proofs.entry_terms.linked_concepts.Goals.{then-is_linked
 -- A concept linked by a hierarchical kind is on the side of that link.
 beside_linked : (links : Links) (side : Side) (kind : LinkKind) (n m : ℕ) → IsHierarchical kind
     → IsLinkedOnSide links side kind n m → IsOnSide links side n m
-beside_linked links Broader kind n m is l = (kind, is, l)
-beside_linked links Narrower kind n m is l = (kind, is, l)
+beside_linked links side kind n m is l = grind (arith)
 
 pub loop-m-init : goal.loop-m-init
 loop-m-init c = chosen_none nat_cmp _ (subst (IsStrictlySortedBy nat_cmp) (sym c.deref-m-items.ensures.value)

@@ -21,8 +21,8 @@ use Rattle.thes_display.proofs.gather.children_of.Goals as goal
 
 -- The ranks found are those of the narrower concepts.
 module _ (links : Links) (terms : List Term) (rank : ℕ) (ranks : ℕ → Option ℕ) (are : AreRanks terms ranks)
-    (n : ℕ) (t : Term) (same : n ≡ t.concept) (within : rank < length terms) (is : t ≡ get_or terms rank t)
-    (xs ys ks found : List ℕ) (listed : IsListing nat_cmp (λ a. HasBroader links a n) xs)
+    {n : ℕ} {t : Term} (same : n ≡ t.concept) (within : rank < length terms) (is : t ≡ get_or terms rank t)
+    {xs ys ks found : List ℕ} (listed : IsListing nat_cmp (λ a. HasBroader links a n) xs)
     (read : ks ≡ found) (slice : ys ≡ xs) (all : found ≡ filter_map ranks ys) where
   here : HasRank terms n rank
   here = subst (λ m. HasRank terms m rank) (sym same) (rank_of_term terms rank t within is)
@@ -44,9 +44,7 @@ loop-child-init c = children_none c.args.core.now.links c.args.terms.now c.args.
 pub is_home-at_home-requires : goal.is_home-at_home-requires
 is_home-at_home-requires c =
     let r = narrower_at c.args.core.now.links c.args.terms.now c.args.rank (get nat_cmp c.args.ranks.now)
-    c.requires.ranks
-    c.concept.result c.index-terms-rank.result c.concept.ensures c.requires.within c.index-terms-rank.is
-    c.in_ok-narrower.narrower.items _ c.deref-child-items.result.now _ c.in_ok-narrower.ensures
+    c.requires.ranks c.concept.ensures c.requires.within c.index-terms-rank.is c.in_ok-narrower.ensures
     c.deref-child-items.ensures.value c.as_slice.ensures.value c.in_ok-found.ensures c.loop-child.child-index
     (omega arith) in
     known_home c.args.core.now.links c.args.terms.now c.args.rank c.args.homes.now c.requires.homes _ r
@@ -54,9 +52,7 @@ is_home-at_home-requires c =
 pub types_at-types-requires-clause-within : goal.types_at-types-requires-clause-within
 types_at-types-requires-clause-within c =
     let r = narrower_at c.args.core.now.links c.args.terms.now c.args.rank (get nat_cmp c.args.ranks.now)
-    c.requires.ranks
-    c.concept.result c.index-terms-rank.result c.concept.ensures c.requires.within c.index-terms-rank.is
-    c.in_ok-narrower.narrower.items _ c.deref-child-items.result.now _ c.in_ok-narrower.ensures
+    c.requires.ranks c.concept.ensures c.requires.within c.index-terms-rank.is c.in_ok-narrower.ensures
     c.deref-child-items.ensures.value c.as_slice.ensures.value c.in_ok-found.ensures c.loop-child.child-index
     (omega arith) in
     (rank_within c.args.terms.now r.lower _ r.lower_rank, c.requires.within)
@@ -66,9 +62,7 @@ loop-child-preserved c =
     let ks : List ℕ = c.deref-child-items.result.now in
     let i = c.loop-child.child-index in
     let r = narrower_at c.args.core.now.links c.args.terms.now c.args.rank (get nat_cmp c.args.ranks.now)
-    c.requires.ranks
-    c.concept.result c.index-terms-rank.result c.concept.ensures c.requires.within c.index-terms-rank.is
-    c.in_ok-narrower.narrower.items _ c.deref-child-items.result.now _ c.in_ok-narrower.ensures
+    c.requires.ranks c.concept.ensures c.requires.within c.index-terms-rank.is c.in_ok-narrower.ensures
     c.deref-child-items.ensures.value c.as_slice.ensures.value c.in_ok-found.ensures i (omega arith) in
     children_more c.args.core.now.links c.args.terms.now c.args.rank c.args.homes.now c.requires.homes (take i ks)
     (take (i + 1) ks) _ _ _ c.types_at-types.result c.is_home-at_home.result c.loop-child.invariant r
@@ -80,8 +74,7 @@ pub returns : goal.returns
 returns c =
     let ks : List ℕ = c.deref-child-items.result.now in
     children_are c.args.core.now.links c.args.terms.now c.args.rank (get nat_cmp c.args.ranks.now) c.requires.ranks
-    c.concept.result c.index-terms-rank.result c.concept.ensures c.requires.within c.index-terms-rank.is
-    c.in_ok-narrower.narrower.items _ c.deref-child-items.result.now _ c.in_ok-narrower.ensures
+    c.concept.ensures c.requires.within c.index-terms-rank.is c.in_ok-narrower.ensures
     c.deref-child-items.ensures.value c.as_slice.ensures.value c.in_ok-found.ensures c.loop-child.children.items _
     (subst (λ (xs : List ℕ). AreChildren c.args.core.now.links c.args.terms.now c.args.rank xs
     c.loop-child.children.items) (take_all c.loop-child.child-index ks (omega arith)) c.loop-child.invariant)

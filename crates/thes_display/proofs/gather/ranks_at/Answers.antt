@@ -12,9 +12,7 @@ use Rattle.thes_display.proofs.gather.ranks_at.Goals.{in-Some+in_ok-push, in_def
 one_more : (f : ℕ → Option ℕ) (found new : List ℕ) (concepts more : List ℕ) (n : ℕ) (o : Option ℕ) → found
     ≡ filter_map f concepts → more ≡ concepts ++ n ∷ [] → f n ≡ o → new ≡ found ++ cons_option o [] → new
     ≡ filter_map f more
-one_more f found new concepts more n o e h s g =
-    g ∙ ap (λ t. t ++ cons_option o []) e ∙ ap (λ p. filter_map f concepts ++ cons_option p []) (sym s)
-    ∙ sym (filter_map-append f concepts (n ∷ [])) ∙ ap (filter_map f) (sym h)
+one_more f found new concepts more n o e h s g = grind (arith, filter_map-append)
 
 -- The rank of one more concept, if it has one, is appended to those found.
 pub loop-concept-preserved : goal.loop-concept-preserved

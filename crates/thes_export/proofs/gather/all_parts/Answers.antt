@@ -7,8 +7,7 @@ pub loop-i-init : goal.loop-i-init
 loop-i-init c = subst (AreParts c.args.core.now 0) (sym c.new-parts.ensures.items) (parts_first c.args.core.now)
 
 pub loop-i-preserved : goal.loop-i-preserved
-loop-i-preserved c = parts_next c.args.core.now c.loop-i.i c.in_ok-part.part c.loop-i.parts.items _
-    c.in_ok-part.ensures c.in_ok-push.ensures.items c.loop-i.invariant
+loop-i-preserved c = grind (arith, parts_next)
 
 pub returns : goal.returns
 returns c =

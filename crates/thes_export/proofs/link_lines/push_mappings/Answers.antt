@@ -1,4 +1,5 @@
-use Rattle.std.proofs.Common.{◌∙◌, sym}
+use Rattle.std.proofs.lemmas.Grind.{common_steps}
+use Rattle.std.proofs.Common.{◌∙◌, sym, arith}
 use Rattle.thes_export.specs.Topics.{MapsOne}
 use Rattle.thes_export.proofs.LineAppendLemmas.{added_next, added_no_element}
 use Rattle.thes_export.proofs.TopicLemmas.{mapping_lines}
@@ -8,9 +9,7 @@ pub loop-kind-init : goal.loop-kind-init
 loop-kind-init c = added_no_element (MapsOne c.args.about.now.core.now c.args.about.now.n) _
 
 pub loop-kind-preserved : goal.loop-kind-preserved
-loop-kind-preserved c = added_next (MapsOne c.args.about.now.core.now c.args.about.now.n)
-    c.deref-kind-items.result.now c.loop-kind.kind-index c.loop-kind-item.result _ _ _ c.loop-kind-test.true
-    c.loop-kind-item.is c.loop-kind.invariant c.in_ok-push_mapping.ensures
+loop-kind-preserved c = grind (arith, common_steps, added_next, c.loop-kind-item.is, c.loop-kind.invariant, c.in_ok-push_mapping.ensures)
 
 pub returns : goal.returns
 returns c =

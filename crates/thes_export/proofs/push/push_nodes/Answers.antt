@@ -5,8 +5,7 @@ use Rattle.thes_export.proofs.LineAppendLemmas.{OfSome, added_each, added_no_ele
 use Rattle.thes_export.proofs.push.push_nodes.Goals as goal
 
 pub loop-object-init : goal.loop-object-init
-loop-object-init c = added_no_element (λ (m : ℕ). IsNode c.args.about.now.core.now c.args.about.now.n c.args.property
-    m) _
+loop-object-init c = grind (arith, added_no_element)
 
 pub loop-object-preserved : goal.loop-object-preserved
 loop-object-preserved c =

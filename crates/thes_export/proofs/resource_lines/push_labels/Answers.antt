@@ -1,4 +1,4 @@
-use Rattle.std.proofs.Common.{◌≡◌, refl}
+use Rattle.std.proofs.Common.{◌≡◌, refl, arith}
 use Rattle.thes_base.specs.Data.{LabelData}
 use Rattle.thes_base.specs.Triples.{Triple}
 use Rattle.thes_export.specs.Topics.{label_triple}
@@ -7,8 +7,7 @@ use Rattle.thes_export.proofs.TopicLemmas.{label_lines}
 use Rattle.thes_export.proofs.resource_lines.push_labels.Goals as goal
 
 pub loop-label-init : goal.loop-label-init
-loop-label-init c = added_no_element (λ (d : LabelData) (t : Triple). t ≡ label_triple c.args.about.now.core.now
-    c.args.about.now.n d) _
+loop-label-init c = grind (arith, added_no_element)
 
 pub loop-label-preserved : goal.loop-label-preserved
 loop-label-preserved c =

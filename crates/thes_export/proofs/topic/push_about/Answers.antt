@@ -7,8 +7,7 @@ use Rattle.thes_export.proofs.TopicLemmas.{all_topics}
 use Rattle.thes_export.proofs.topic.push_about.Goals as goal
 
 pub loop-topic-init : goal.loop-topic-init
-loop-topic-init c = added_no_element (λ (topic : Topic). IsTopicTriple c.args.about.now.core.now topic
-    c.args.about.now.n) _
+loop-topic-init c = grind (arith, added_no_element)
 
 pub loop-topic-preserved : goal.loop-topic-preserved
 loop-topic-preserved c =

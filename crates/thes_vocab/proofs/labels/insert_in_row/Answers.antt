@@ -1,5 +1,5 @@
-use Rattle.std.proofs.Common.{rules, ◌≡◌, ◌∙◌, ◌<◌, Bool, ap, sym, subst, length, not, ◌||◌}
-use Rattle.std.specs.Prelude.{IfOk}
+use Rattle.std.proofs.lemmas.Grind.{common_steps}
+use Rattle.std.proofs.Common.{rules, ◌∙◌, ◌<◌, ap, sym, length, ◌||◌, arith}
 use Rattle.std.proofs.lemmas.Result.{on_ok_weaker, on_err_weaker}
 use Rattle.std.specs.Ordering.{eq_by_cmp}
 use Rattle.thes_vocab.specs.OwnLabels.{has_own, data_cmp}
@@ -7,11 +7,7 @@ use Rattle.thes_vocab.proofs.LabelTableLemmas.{row_set, row_at, row_put, row_kep
 use Rattle.thes_vocab.proofs.labels.insert_in_row.Goals as goal
 
 pub returns-in-Some-clause-added : goal.returns-in-Some-clause-added
-returns-in-Some-clause-added c =
-    let within : c.get.result < length c.args.rows.now.items = search rules in
-    subst (λ row. IfOk c.insert.result (λ (added : Bool). added ≡ not (has_own row c.args.label)))
-    (sym (row_at c.args.rows.now.items c.args.owner c.get.result c.in-Some.row.now c.get.ensures.value within
-    c.in-Some.ensures.value)) c.insert.ensures.added
+returns-in-Some-clause-added c = grind (arith, row_at)
 
 pub returns-in-Some-clause-ok : goal.returns-in-Some-clause-ok
 returns-in-Some-clause-ok c =
@@ -27,11 +23,4 @@ returns-in-Some-clause-ok c =
     c.insert.ensures.ok
 
 pub returns-in-Some-clause-err : goal.returns-in-Some-clause-err
-returns-in-Some-clause-err c =
-    let rows = c.args.rows.now.items in
-    let now = c.insert.new.self in
-    let within : c.get.result < length rows = search rules in
-    let was = row_at rows c.args.owner c.get.result c.in-Some.row.now c.get.ensures.value within
-    c.in-Some.ensures.value in
-    on_err_weaker c.insert.result (λ same. row_kept rows _ c.args.owner now (row_set rows c.args.owner c.get.result now
-    c.get.ensures.value within) (same ∙ sym was)) c.insert.ensures.err
+returns-in-Some-clause-err c = grind (arith, common_steps, on_err_weaker, row_at, row_kept, row_set, c.get.ensures.value, c.in-Some.ensures.value, c.insert.ensures.err)

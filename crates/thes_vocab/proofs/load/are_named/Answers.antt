@@ -1,4 +1,4 @@
-use Rattle.std.proofs.Common.{◌∙◌, ℕ, sym, refl, subst, true≢false, arith}
+use Rattle.std.proofs.Common.{◌∙◌, ℕ, sym, subst, true≢false, arith}
 use Rattle.thes_base.specs.Resources.{CanOwn}
 use Rattle.thes_base.specs.Labels.{HasPreferred}
 use Rattle.thes_base.proofs.NumberedLemmas.{numbered_bound}
@@ -17,8 +17,4 @@ loop-i-preserved c =
     ]))
 
 pub returns : goal.returns
-returns c = (
-  λ t n can. let at = owner_exists c.args.resources.now n can in let b = numbered_bound c.args.resources.now n at.0
-      at.1 in let e = c.loop-i-test.false in c.loop-i.invariant n (omega (arith, b, e)) can,
-  λ h. refl,
-)
+returns c = grind (arith, numbered_bound, owner_exists)

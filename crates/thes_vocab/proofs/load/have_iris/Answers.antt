@@ -1,4 +1,4 @@
-use Rattle.std.proofs.Common.{◌≡◌, ◌∙◌, ℕ, sym, ap, refl, subst, true≢false, arith, IsTrue, false}
+use Rattle.std.proofs.Common.{◌≡◌, ◌∙◌, ℕ, sym, ap, subst, true≢false, arith, IsTrue, false}
 use Rattle.std.specs.Prelude.{Some, None}
 use Rattle.std.specs.Option.{option_copied}
 use Rattle.thes_base.specs.Resources.{IsOutside}
@@ -27,8 +27,4 @@ loop-i-preserved c =
     ]))
 
 pub returns : goal.returns
-returns c = (
-  λ t n can. let b = numbered_bound c.args.resources.now n can.0 can.1 in let e = c.loop-i-test.false in
-      c.loop-i.invariant n (omega (arith, b, e)) can,
-  λ h. refl,
-)
+returns c = grind (arith, numbered_bound)

@@ -1,6 +1,5 @@
 use Rattle.std.proofs.Common.{◌≡◌, ◌∙◌, ◌+◌, ◌++◌, ◌∷◌, ◌≤◌, [], List, take, length, sym, ap, subst, arith}
 use Rattle.std.specs.Ordering.{nat_cmp}
-use Rattle.std.specs.List.Sorted.{IsStrictlySortedBy}
 use Rattle.std.proofs.lemmas.List.{take_more, take_all, length-take-le}
 use Rattle.thes_base.specs.declared.data.Resource.{Resource}
 use Rattle.thes_base.specs.Listing.{IsListing}
@@ -14,8 +13,7 @@ use Rattle.thes_vocab.proofs.LoadingLemmas.{concept_in}
 use Rattle.thes_vocab.proofs.load.list_all.Goals as goal
 
 pub insert-requires-clause-rise : goal.insert-requires-clause-rise
-insert-requires-clause-rise c = λ n. subst (IsStrictlySortedBy nat_cmp) (sym (c.in_ok-make_room.ensures.same n))
-    (c.loop-i.invariant n).rises
+insert-requires-clause-rise c = grind (arith)
 
 pub loop-i-init : goal.loop-i-init
 loop-i-init c = λ n. subst (IsListing nat_cmp (IsConceptOf [] n)) (sym (c.requires.none n))
@@ -39,7 +37,4 @@ loop-i-preserved c =
     (concept_in r) added was)
 
 pub returns : goal.returns
-returns c =
-    let rs = c.args.resources.now in
-    subst (λ (xs : List Resource). AreListings nat_cmp (IsConceptOf xs) c.loop-i.concepts)
-    (take_all c.loop-i.i rs c.loop-i-test.false) c.loop-i.invariant
+returns c = grind (arith, take_all)

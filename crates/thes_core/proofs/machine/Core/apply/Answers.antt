@@ -1,11 +1,10 @@
-use Rattle.std.proofs.Common.{ap, ◌∙◌}
+use Rattle.std.proofs.Common.{ap, ◌∙◌, arith}
 use Rattle.thes_core.specs.CoreView.{CoreView}
 use Rattle.thes_core.proofs.ApplyLemmas.{held_meant, parts_may_change, fit_new, makes_new}
 use Rattle.thes_core.proofs.machine.Core.apply.Goals as goal
 
 pub change-requires : goal.change-requires
-change-requires c = parts_may_change c.self.inside.thesaurus c.self.inside.spent c.args.self.now c.args.command.now
-    c.self.view_is c.requires.unspent c.self.invariant c.requires.may
+change-requires c = grind (arith, parts_may_change)
 
 pub invariant_of-self-2 : goal.invariant_of-self-2
 invariant_of-self-2 c = λ _.

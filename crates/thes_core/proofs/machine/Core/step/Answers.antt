@@ -1,14 +1,13 @@
-use Rattle.std.proofs.Common.{subst, sym, refl}
+use Rattle.std.proofs.Common.{subst, sym, refl, arith}
 use Rattle.thes_base.specs.declared.request.Answer.{Answer}
 use Rattle.thes_base.specs.Machine.{Step, next_state}
-use Rattle.thes_core.specs.CoreDecisions.{AcceptedVerdict, IsVerdict, VerdictMayApply}
+use Rattle.thes_core.specs.CoreDecisions.{AcceptedVerdict, IsVerdict}
 use Rattle.thes_core.proofs.ApplyLemmas.{held_in_order}
 use Rattle.thes_core.proofs.NextStateLemmas.{step_of_accepted}
 use Rattle.thes_core.proofs.machine.Core.step.Goals as goal
 
 pub apply-requires-clause-may : goal.apply-requires-clause-may
-apply-requires-clause-may c = subst (VerdictMayApply c.args.self.now c.args.command.now) c.in-Accepted.is
-    c.in_ok-answer.ensures.may
+apply-requires-clause-may c = grind (arith)
 
 pub returns-in-Settled-clause-performs : goal.returns-in-Settled-clause-performs
 returns-in-Settled-clause-performs c = λ s holds told. (

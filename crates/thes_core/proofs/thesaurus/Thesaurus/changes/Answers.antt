@@ -1,8 +1,7 @@
-use Rattle.std.proofs.Common.{◌∷◌, [], ap, sym, ◌∙◌}
+use Rattle.std.proofs.Common.{◌∷◌, [], ap, ◌∙◌, arith}
 use Rattle.std.proofs.lemmas.Result.{IfOk-weaker}
 use Rattle.thes_base.specs.declared.data.Resource.{Resource}
 use Rattle.thes_base.specs.Data.{LabelData}
-use Rattle.thes_base.specs.declared.request.Command.TheVariants as request
 use Rattle.thes_base.specs.Machine.{owned_label}
 use Rattle.thes_tables.specs.declared.change.Change.TheVariants as change
 use Rattle.thes_tables.specs.Changes.{add_link, drop_link, changes_of_new_resource}
@@ -45,13 +44,10 @@ returns-in_ok-try_clone-in-DropLabel c = by_law_at c.args.self.now c.args.facts.
     c.one-in-DropLabel.ensures)
 
 pub returns-in-Deprecate : goal.returns-in-Deprecate
-returns-in-Deprecate c = leads_at c.args.self.now c.args.facts.now c.in-Deprecate.is c.changes_of_deprecate.result
-    (IfOk-weaker c.changes_of_deprecate.result _ _ (λ delta lead hs meant. lead hs meant.allows)
-    c.changes_of_deprecate.ensures)
+returns-in-Deprecate c = grind (arith, IfOk-weaker, leads_at)
 
 pub returns-in-Merge : goal.returns-in-Merge
-returns-in-Merge c = leads_at c.args.self.now c.args.facts.now c.in-Merge.is c.changes_of_merge.result
-    c.changes_of_merge.ensures
+returns-in-Merge c = grind (arith, leads_at)
 
 pub returns-in-Relabel : goal.returns-in-Relabel
 returns-in-Relabel c = by_law_at c.args.self.now c.args.facts.now c.in-Relabel.is c.changes_of_relabel.result
@@ -68,9 +64,7 @@ returns-in-Unlink c = by_law_at c.args.self.now c.args.facts.now c.in-Unlink.is 
     (c.link_removal.ensures ∙ ap drop_link c.normal-in-Unlink.ensures) i ∷ [])) c.one-in-Unlink.ensures)
 
 pub returns-in-Split : goal.returns-in-Split
-returns-in-Split c = by_law_at c.args.self.now c.args.facts.now (c.in-Split.is ∙ ap
-    (request.Split c.in-Split.source c.in-Split.tag c.in-Split.text) (sym c.as_slice.ensures)) c.changes_of_split.result
-    c.changes_of_split.ensures
+returns-in-Split c = grind (arith, by_law_at)
 
 pub returns-in-Post : goal.returns-in-Post
 returns-in-Post c = by_law_at c.args.self.now c.args.facts.now c.in-Post.is c.changes_of_post.result

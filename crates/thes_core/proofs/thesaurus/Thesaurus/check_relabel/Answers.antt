@@ -1,4 +1,4 @@
-use Rattle.std.proofs.Common.{◌≡◌, refl, rules, ◌∙◌, Bool, true, false}
+use Rattle.std.proofs.Common.{◌≡◌, refl, rules, ◌∙◌, Bool, arith}
 use mir.Val.{bool_byte}
 use Rattle.thes_base.proofs.RefusalRuleLemmas.{passed_unless}
 use Rattle.thes_base.specs.Changes.{state_after_relabel}
@@ -14,8 +14,7 @@ returns-in-Some-check_relabel c = λ hs kept. search rules depth 14
 
 -- The flag `keep` as a number, 1 or 0, is the number of labels that a relabelling adds.
 byte_is : (b : Bool) → bool_byte b ≡ keep_growth b
-byte_is true = refl
-byte_is false = refl
+byte_is b = grind (arith)
 
 pub returns : goal.returns
 returns c = λ hs kept.

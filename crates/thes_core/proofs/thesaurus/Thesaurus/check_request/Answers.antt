@@ -1,12 +1,11 @@
-use Rattle.std.proofs.Common.{[], ap, sym, ◌∙◌}
+use Rattle.std.proofs.Common.{[], ap, sym, ◌∙◌, arith}
 use Rattle.std.proofs.lemmas.Result.{IfOk-weaker}
 use Rattle.thes_base.specs.declared.request.Command.TheVariants as request
 use Rattle.thes_core.proofs.RequestCheckLemmas.{judged_by, may_by, accepts_of_row, if_kept, may_always}
 use Rattle.thes_core.proofs.thesaurus.Thesaurus.check_request.Goals as goal
 
 pub returns-in-Scheme-clause-row : goal.returns-in-Scheme-clause-row
-returns-in-Scheme-clause-row c = judged_by c.in-Scheme.is _ (λ hs kept are told. c.check_scheme.ensures hs kept
-    c.in-Scheme.field-0 c.in-Scheme.field-1)
+returns-in-Scheme-clause-row c = grind (arith, judged_by)
 
 pub returns-in-Scheme-clause-may : goal.returns-in-Scheme-clause-may
 returns-in-Scheme-clause-may c = may_by c.args.self.now c.in-Scheme.is _ (accepts_of_row c.args.self.now _ _ tt
@@ -31,8 +30,7 @@ pub returns-in-Outside-clause-row : goal.returns-in-Outside-clause-row
 returns-in-Outside-clause-row c = judged_by c.in-Outside.is _ (λ hs kept are told. c.check_outside.ensures hs kept)
 
 pub returns-in-Outside-clause-may : goal.returns-in-Outside-clause-may
-returns-in-Outside-clause-may c = may_by c.args.self.now c.in-Outside.is _ (accepts_of_row c.args.self.now _ _ tt
-    (c.check_outside.ensures [] c.requires))
+returns-in-Outside-clause-may c = grind (arith, accepts_of_row, may_by)
 
 pub returns-in-AddLabel-clause-row : goal.returns-in-AddLabel-clause-row
 returns-in-AddLabel-clause-row c = judged_by c.in-AddLabel.is _ (λ hs kept are told. c.check_add_label.ensures hs kept)
@@ -60,32 +58,27 @@ pub returns-in-Unlink-clause-row : goal.returns-in-Unlink-clause-row
 returns-in-Unlink-clause-row c = judged_by c.in-Unlink.is _ (λ hs kept are told. c.check_unlink.ensures hs kept)
 
 pub returns-in-Unlink-clause-may : goal.returns-in-Unlink-clause-may
-returns-in-Unlink-clause-may c = may_by c.args.self.now c.in-Unlink.is _ (accepts_of_row c.args.self.now _ _ tt
-    (c.check_unlink.ensures [] c.requires))
+returns-in-Unlink-clause-may c = grind (arith, accepts_of_row, may_by)
 
 pub returns-in-Link-clause-row : goal.returns-in-Link-clause-row
 returns-in-Link-clause-row c = IfOk-weaker c.check_link.result _ _ (λ r says. judged_by c.in-Link.is r
     (λ hs kept are told. says hs kept)) c.check_link.ensures
 
 pub returns-in-Link-clause-may : goal.returns-in-Link-clause-may
-returns-in-Link-clause-may c = IfOk-weaker c.check_link.result _ _ (λ r says. may_by c.args.self.now c.in-Link.is r
-    (accepts_of_row c.args.self.now _ r tt (says [] c.requires))) c.check_link.ensures
+returns-in-Link-clause-may c = grind (arith, IfOk-weaker, accepts_of_row, may_by)
 
 pub returns-in-Deprecate-clause-row : goal.returns-in-Deprecate-clause-row
-returns-in-Deprecate-clause-row c = judged_by c.in-Deprecate.is _ (λ hs kept are told. c.check_deprecate.ensures.row hs
-    kept are)
+returns-in-Deprecate-clause-row c = grind (arith, judged_by)
 
 pub returns-in-Deprecate-clause-may : goal.returns-in-Deprecate-clause-may
-returns-in-Deprecate-clause-may c = may_by c.args.self.now c.in-Deprecate.is _
-    (if_kept _ _ c.check_deprecate.ensures.may c.requires)
+returns-in-Deprecate-clause-may c = grind (arith, if_kept, may_by)
 
 pub returns-in-Merge-clause-row : goal.returns-in-Merge-clause-row
 returns-in-Merge-clause-row c = IfOk-weaker c.check_merge.result _ _ (λ r says. judged_by c.in-Merge.is r
     (λ hs kept are told. says hs kept are)) c.check_merge.ensures.row
 
 pub returns-in-Merge-clause-may : goal.returns-in-Merge-clause-may
-returns-in-Merge-clause-may c = IfOk-weaker c.check_merge.result _ _ (λ r may. may_by c.args.self.now c.in-Merge.is r
-    may) c.check_merge.ensures.may
+returns-in-Merge-clause-may c = grind (arith, IfOk-weaker, may_by)
 
 pub returns-in-Split-clause-row : goal.returns-in-Split-clause-row
 returns-in-Split-clause-row c =
@@ -95,8 +88,7 @@ returns-in-Split-clause-row c =
     r (λ hs kept are told. says hs kept are told.named_postings)) c.check_split.ensures.row
 
 pub returns-in-Split-clause-may : goal.returns-in-Split-clause-may
-returns-in-Split-clause-may c = IfOk-weaker c.check_split.result _ _ (λ r may. may_by c.args.self.now c.in-Split.is r
-    may) c.check_split.ensures.may
+returns-in-Split-clause-may c = grind (arith, IfOk-weaker, may_by)
 
 pub returns-in-Post-clause-row : goal.returns-in-Post-clause-row
 returns-in-Post-clause-row c = judged_by c.in-Post.is _ (λ hs kept are told. c.check_post.ensures hs kept are
@@ -106,8 +98,7 @@ pub returns-in-Post-clause-may : goal.returns-in-Post-clause-may
 returns-in-Post-clause-may c = may_by c.args.self.now c.in-Post.is _ (may_always _)
 
 pub returns-in-Withdraw-clause-row : goal.returns-in-Withdraw-clause-row
-returns-in-Withdraw-clause-row c = judged_by c.in-Withdraw.is _ (λ hs kept are told. c.check_withdraw.ensures hs
-    told.named_postings)
+returns-in-Withdraw-clause-row c = grind (arith, judged_by)
 
 pub returns-in-Withdraw-clause-may : goal.returns-in-Withdraw-clause-may
 returns-in-Withdraw-clause-may c = may_by c.args.self.now c.in-Withdraw.is _ (may_always _)

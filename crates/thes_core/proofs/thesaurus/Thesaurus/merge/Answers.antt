@@ -40,7 +40,6 @@ returns c = record {
       (record {
         standing = omega arith;
         there = omega (arith, there, at_source, at_target);
-        moves =
-            omega (arith, fits, at_source, moves);
+        moves = omega (arith, fits, at_source, moves);
       }));
 }

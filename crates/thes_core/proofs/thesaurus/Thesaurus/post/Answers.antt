@@ -26,8 +26,7 @@ returns c = λ key rec. record {
       record {
         here = omega (arith, more, here, most);
         accepted = omega (arith, more, all);
-        moves =
-            omega (arith, fits, steps, moves);
+        moves = omega (arith, fits, steps, moves);
       } in
       let one = subst (λ (p : ℕ × ℕ). CountsAfterPost p.0 p.1 t.book c.post.new.self)
       (λ i. (c.forwarding-way.ensures.place i, steps i)) (c.in_ok-post.ensures.ok takes) in

@@ -1,4 +1,4 @@
-use Rattle.std.proofs.Common.{◌≡◌, ◌≢◌, ◌∙◌, ap, sym, subst, ℕ, List}
+use Rattle.std.proofs.Common.{◌≡◌, ◌≢◌, ◌∙◌, ap, sym, subst, ℕ, List, arith}
 use Rattle.std.specs.Prelude.{Some, None}
 use Rattle.std.specs.FinMap as dict
 use Rattle.thes_base.specs.Resources.{Iris}
@@ -22,9 +22,7 @@ invariant_of-self-in-Ok c =
     (inverse_after_insert iris old c.insert.new.self c.args.n c.args.iri c.self.invariant set free none)
 
 pub returns-in-Ok-clause-ok : goal.returns-in-Ok-clause-ok
-returns-in-Ok-clause-ok c =
-    iris_after_insert c.self.inside.iris c.insert-2.new.self c.args.n c.args.iri c.in-Ok.ensures.updates
-    ∙ ap (λ (iris : Iris). dict.insert iris c.args.n c.args.iri) c.self.view_is
+returns-in-Ok-clause-ok c = grind (arith, iris_after_insert)
 
 pub invariant_of-self-in-Err : goal.invariant_of-self-in-Err
 invariant_of-self-in-Err c =

@@ -1,17 +1,13 @@
-use Rattle.std.proofs.Common.{rules, ◌≡◌, ◌∙◌, ◌+◌, ap, sym, cond, Bool}
-use Rattle.std.specs.FinSet as set
-use Rattle.thes_base.specs.Machine.{owned_label}
+use Rattle.std.proofs.Common.{rules, ◌≡◌, ◌∙◌, ◌+◌, ap, sym, cond, Bool, arith}
 use Rattle.thes_vocab.proofs.AnswerLemmas.{on_any_err}
 use Rattle.thes_vocab.proofs.LabelTableLemmas.{rows_put, same_labels, put_labels}
 use Rattle.thes_vocab.proofs.labels.LabelTable.insert.Goals as goal
 
 pub invariant_of-self : goal.invariant_of-self
-invariant_of-self c = c.self.invariant ∙ ap set.len
-    (sym (same_labels c.self.inside.rows.items c.put.new.rows.items c.in_err-put.ensures.err))
+invariant_of-self c = grind (arith, same_labels)
 
 pub returns-in_err-put-clause-err : goal.returns-in_err-put-clause-err
-returns-in_err-put-clause-err c = on_any_err _ c.from_residual-in_err-put.result
-    (same_labels c.self.inside.rows.items c.put.new.rows.items c.in_err-put.ensures.err ∙ c.self.view_is)
+returns-in_err-put-clause-err c = grind (arith, on_any_err, same_labels)
 
 pub invariant_of-self-then-branch : goal.invariant_of-self-then-branch
 invariant_of-self-then-branch c =
@@ -27,11 +23,7 @@ invariant_of-self-else-branch c =
     sym (ap (λ (b : Bool). cond b (c.self.inside.count + 1) c.self.inside.count) c.if-branch.false) ∙ counted
 
 pub returns-then-branch-clause-ok : goal.returns-then-branch-clause-ok
-returns-then-branch-clause-ok c =
-    put_labels c.self.inside.rows.items c.put.new.rows.items c.args.owner c.args.label c.in_ok-put.ensures.ok
-    ∙ ap (λ labels. set.insert labels (owned_label c.args.owner c.args.label)) c.self.view_is
+returns-then-branch-clause-ok c = grind (arith, put_labels)
 
 pub returns-else-branch-clause-ok : goal.returns-else-branch-clause-ok
-returns-else-branch-clause-ok c =
-    put_labels c.self.inside.rows.items c.put.new.rows.items c.args.owner c.args.label c.in_ok-put.ensures.ok
-    ∙ ap (λ labels. set.insert labels (owned_label c.args.owner c.args.label)) c.self.view_is
+returns-else-branch-clause-ok c = grind (arith, put_labels)

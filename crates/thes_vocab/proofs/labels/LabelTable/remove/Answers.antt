@@ -1,4 +1,4 @@
-use Rattle.std.proofs.Common.{◌∙◌, ◌-◌, ap, sym, cond, Bool}
+use Rattle.std.proofs.Common.{◌∙◌, ◌-◌, ap, sym, cond, Bool, arith}
 use Rattle.std.specs.FinSet as set
 use Rattle.thes_base.specs.Machine.{owned_label}
 use Rattle.thes_vocab.specs.OwnLabels.{own_label}
@@ -6,8 +6,7 @@ use Rattle.thes_vocab.proofs.LabelTableLemmas.{rows_taken, take_labels, counted_
 use Rattle.thes_vocab.proofs.labels.LabelTable.remove.Goals as goal
 
 pub overflow_sub-self : goal.overflow_sub-self
-overflow_sub-self c = counted_one c.self.inside.rows.items c.self.inside.rows.items c.self.inside.count c.args.owner
-    (own_label c.args.kind c.args.tag.now c.args.text.now) c.self.invariant (sym c.if-take.ensures.taken)
+overflow_sub-self c = grind (arith, counted_one)
 
 pub invariant_of-self : goal.invariant_of-self
 invariant_of-self c =

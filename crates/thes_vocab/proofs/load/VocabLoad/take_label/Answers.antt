@@ -1,4 +1,4 @@
-use Rattle.std.proofs.Common.{◌∙◌, List, ℕ, sym, ap, subst, true≢false}
+use Rattle.std.proofs.Common.{◌∙◌, List, ℕ, sym, ap, subst, arith}
 use Rattle.std.specs.FinSet as set
 use Rattle.thes_base.specs.declared.data.Resource.{Resource}
 use Rattle.thes_base.specs.Labels.{Labels}
@@ -14,12 +14,7 @@ abbrev seen : List ℕ → List Resource → Iris → Labels → Vocabulary
 seen base rs iris labels = record { base = base; resources = rs; iris = iris; labels = labels }
 
 pub invariant_of-self-in_err-insert : goal.invariant_of-self-in_err-insert
-invariant_of-self-in_err-insert c =
-    let inside = c.self.inside in
-    subst (λ (ls : Labels). IsLoading inside.base inside.resources.items inside.iris ls c.put_label.new.self
-    inside.concepts) (sym c.in_err-insert.ensures.err)
-    (loading_more inside.base inside.resources.items inside.iris inside.labels inside.names c.put_label.new.self
-    inside.concepts c.self.invariant c.put_label.ensures.keeps)
+invariant_of-self-in_err-insert c = grind (arith, loading_more)
 
 pub invariant_of-self-then-is_free_label : goal.invariant_of-self-then-is_free_label
 invariant_of-self-then-is_free_label c =
@@ -51,13 +46,4 @@ returns-in_ok-insert c =
     )
 
 pub returns-else-is_free_label : goal.returns-else-is_free_label
-returns-else-is_free_label c = (
-  λ fits.
-      let inside = c.self.inside in
-      let l = owned_label c.args.owner c.args.label in
-      let free = free_fits c.args.self.now l fits in
-      let here = subst (λ (v : Vocabulary). IsFreeLabel v.resources v.labels l) (sym c.self.view_is) free in
-      let at = subst (λ (rs : List Resource). IsFreeLabel rs inside.labels l) (sym c.as_slice.ensures.value) here in
-      true≢false (sym (c.is_free_label.ensures.1 at) ∙ c.if-is_free_label.false),
-  λ i. c.args.self.now,
-)
+returns-else-is_free_label c = grind (arith, free_fits)

@@ -1,4 +1,4 @@
-use Rattle.std.proofs.Common.{◌≡◌, ◌∙◌, rules, ap, sym, subst, arith, inl, inr, ℕ, true}
+use Rattle.std.proofs.Common.{◌≡◌, ◌∙◌, rules, ap, sym, subst, arith, true}
 use Rattle.std.specs.List.{list_any}
 use Rattle.std.specs.BTreeMap.{is_at}
 use Rattle.std.specs.Map.Iter.{deref}
@@ -13,15 +13,7 @@ use Rattle.thes_vocab.proofs.NameLemmas.{same_entry, last_entry}
 use Rattle.thes_vocab.proofs.names.Names.holder.Goals as goal
 
 pub loop-entry-preserved : goal.loop-entry-preserved
-loop-entry-preserved c n any holds =
-    let e = c.in-Some.entry in
-    elim (last_entry (is_at (entry_cmp (c.name_digest-digest.result, n))) c.loop-entry.yielded e any) [
-      | inl was ↦ c.loop-entry.invariant n was holds
-      | inr here ↦
-          let is = ap (λ (f : ℕ × ℕ). f.1) (same_entry _ e.now here) in
-          both_ways c.is_held.result c.if-is_held.false (c.is_held.ensures.1
-          (subst (IsHolder c.args.resources.now c.args.labels.now c.args.scheme c.args.tag.now c.args.text.now) is holds))
-    ]
+loop-entry-preserved c n any holds = grind (arith, both_ways, last_entry, same_entry)
 
 pub returns : goal.returns
 returns c taken =

@@ -1,5 +1,5 @@
-use Rattle.std.proofs.Common.{◌≡◌, ◌∙◌, ap, subst, not, ◌||◌}
-use Rattle.std.specs.Prelude.{Ok, Err}
+use Rattle.std.proofs.Common.{◌≡◌, subst, ◌||◌, arith}
+use Rattle.std.specs.Prelude.{Ok}
 use Rattle.std.specs.Ordering.{eq_by_cmp}
 use Rattle.thes_vocab.specs.OwnLabels.{has_own, data_cmp}
 use Rattle.thes_vocab.specs.LabelPositions.{IsLabelPosition}
@@ -7,17 +7,10 @@ use Rattle.thes_vocab.proofs.OwnLabelLemmas.{found_is, sorted_insert, has_insert
 use Rattle.thes_vocab.proofs.row.OwnerRow.insert.Goals as goal
 
 pub invariant_of-self-in-Err : goal.invariant_of-self-in-Err
-invariant_of-self-in-Err c =
-    let at = subst (λ own. IsLabelPosition own c.args.label (Err c.in-Err.place)) c.as_slice.ensures.value
-    c.in-Err.ensures in
-    rw c.in_ok-insert_at-in-Err.ensures.ok (sorted_insert c.self.inside.labels.items c.args.label c.in-Err.place
-    at c.self.invariant)
+invariant_of-self-in-Err c = grind (arith, sorted_insert)
 
 pub returns-in-Ok-clause-added : goal.returns-in-Ok-clause-added
-returns-in-Ok-clause-added c =
-    let at = subst (λ own. IsLabelPosition own c.args.label (Ok c.in-Ok.field-0)) (c.as_slice.ensures.value
-    ∙ c.self.view_is) c.in-Ok.ensures in
-    ap not (found_is c.args.self.now c.args.label (Ok c.in-Ok.field-0) at)
+returns-in-Ok-clause-added c = grind (arith, found_is)
 
 pub returns-in-Ok-clause-ok : goal.returns-in-Ok-clause-ok
 returns-in-Ok-clause-ok c q =
@@ -27,15 +20,7 @@ returns-in-Ok-clause-ok c q =
     (has_again c.self.inside.labels.items c.args.label c.in-Ok.field-0 c.self.invariant at q)
 
 pub returns-in_ok-insert_at-in-Err-clause-added : goal.returns-in_ok-insert_at-in-Err-clause-added
-returns-in_ok-insert_at-in-Err-clause-added c =
-    let at = subst (λ own. IsLabelPosition own c.args.label (Err c.in-Err.place)) (c.as_slice.ensures.value
-    ∙ c.self.view_is) c.in-Err.ensures in
-    ap not (found_is c.args.self.now c.args.label (Err c.in-Err.place) at)
+returns-in_ok-insert_at-in-Err-clause-added c = grind (arith, found_is)
 
 pub returns-in_ok-insert_at-in-Err-clause-ok : goal.returns-in_ok-insert_at-in-Err-clause-ok
-returns-in_ok-insert_at-in-Err-clause-ok c q =
-    let at = subst (λ own. IsLabelPosition own c.args.label (Err c.in-Err.place)) c.as_slice.ensures.value
-    c.in-Err.ensures in
-    ap (λ own. has_own own q) c.in_ok-insert_at-in-Err.ensures.ok
-    ∙ has_inserted c.self.inside.labels.items c.args.label c.in-Err.place at q
-    ∙ ap (λ own. eq_by_cmp data_cmp q c.args.label || has_own own q) c.self.view_is
+returns-in_ok-insert_at-in-Err-clause-ok c q = grind (arith, has_inserted)

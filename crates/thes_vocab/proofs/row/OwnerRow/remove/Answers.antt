@@ -1,4 +1,4 @@
-use Rattle.std.proofs.Common.{◌≡◌, ◌∙◌, ap, subst, not, ◌&&◌}
+use Rattle.std.proofs.Common.{◌≡◌, ◌∙◌, ap, subst, not, ◌&&◌, arith}
 use Rattle.std.specs.Prelude.{Ok, Err}
 use Rattle.std.specs.Ordering.{eq_by_cmp}
 use Rattle.thes_vocab.specs.OwnLabels.{own_label, has_own, data_cmp}
@@ -13,10 +13,7 @@ invariant_of-self c =
     rw c.remove.ensures.items (sorted_remove c.self.inside.labels.items l c.in-Ok.place at c.self.invariant)
 
 pub returns-in-Ok-clause-removed : goal.returns-in-Ok-clause-removed
-returns-in-Ok-clause-removed c =
-    let l = own_label c.args.kind c.args.tag.now c.args.text.now in
-    found_is c.args.self.now l (Ok c.in-Ok.place) (subst (λ own. IsLabelPosition own l (Ok c.in-Ok.place))
-    (c.as_slice.ensures.value ∙ c.self.view_is) c.in-Ok.ensures)
+returns-in-Ok-clause-removed c = grind (arith, found_is)
 
 pub returns-in-Ok-clause-after : goal.returns-in-Ok-clause-after
 returns-in-Ok-clause-after c q =
@@ -27,10 +24,7 @@ returns-in-Ok-clause-after c q =
     ∙ ap (λ own. not (eq_by_cmp data_cmp q l) && has_own own q) c.self.view_is
 
 pub returns-in-Err-clause-removed : goal.returns-in-Err-clause-removed
-returns-in-Err-clause-removed c =
-    let l = own_label c.args.kind c.args.tag.now c.args.text.now in
-    found_is c.args.self.now l (Err c.in-Err.field-0) (subst (λ own. IsLabelPosition own l (Err c.in-Err.field-0))
-    (c.as_slice.ensures.value ∙ c.self.view_is) c.in-Err.ensures)
+returns-in-Err-clause-removed c = grind (arith, found_is)
 
 pub returns-in-Err-clause-after : goal.returns-in-Err-clause-after
 returns-in-Err-clause-after c q =

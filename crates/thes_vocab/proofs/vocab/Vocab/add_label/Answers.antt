@@ -1,4 +1,4 @@
-use Rattle.std.proofs.Common.{◌∙◌, sym, ap, subst}
+use Rattle.std.proofs.Common.{◌∙◌, sym, ap, subst, arith}
 use Rattle.std.specs.FinSet as set
 use Rattle.thes_base.specs.Data.{LabelData}
 use Rattle.thes_base.specs.Labels.{Labels}
@@ -8,12 +8,7 @@ use Rattle.thes_vocab.proofs.ConsistencyLemmas.{kept_more, seen_added}
 use Rattle.thes_vocab.proofs.vocab.Vocab.add_label.Goals as goal
 
 pub invariant_of-self-in_err-insert : goal.invariant_of-self-in_err-insert
-invariant_of-self-in_err-insert c =
-    let inside = c.self.inside in
-    subst (λ (labels : Labels). IsConsistentVocabulary inside.base inside.resources.items inside.iris labels
-    c.put_label.new.self inside.concepts) (sym c.in_err-insert.ensures.err)
-    (kept_more inside.base inside.resources.items inside.iris inside.labels inside.names c.put_label.new.self
-    inside.concepts c.self.invariant c.put_label.ensures.keeps)
+invariant_of-self-in_err-insert c = grind (arith, kept_more)
 
 pub invariant_of-self-2 : goal.invariant_of-self-2
 invariant_of-self-2 c =

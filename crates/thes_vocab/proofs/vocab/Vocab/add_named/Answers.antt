@@ -1,4 +1,4 @@
-use Rattle.std.proofs.Common.{rules, ◌≡◌, ◌+◌, ◌++◌, ◌∷◌, [], length, sym, subst, List, ℕ}
+use Rattle.std.proofs.Common.{rules, ◌≡◌, ◌+◌, ◌++◌, ◌∷◌, [], length, sym, subst, List, ℕ, arith}
 use Rattle.std.specs.Prelude.{Option}
 use Rattle.thes_base.specs.declared.data.Resource.{Resource}
 use Rattle.thes_base.specs.Labels.{Labels}
@@ -8,14 +8,7 @@ use Rattle.thes_vocab.proofs.ConsistencyLemmas.{seen_new_noted, seen_new}
 use Rattle.thes_vocab.proofs.vocab.Vocab.add_named.Goals as goal
 
 pub invariant_of-self-in_err-insert : goal.invariant_of-self-in_err-insert
-invariant_of-self-in_err-insert c =
-    let inside = c.self.inside in
-    let next : c.new-n.result ≡ length inside.resources.items + 1 = search rules in
-    let kept = seen_new_noted inside.base inside.resources.items inside.iris inside.labels inside.names c.put.new.self
-    inside.concepts c.self.invariant _ c.self.view_is c.put.ensures.keeps
-    c.args.resource c.args.tag c.args.text _ next c.make_room.new.concepts c.make_room.ensures.same in
-    subst (λ (p : List Resource × Labels). IsConsistentVocabulary inside.base p.0 inside.iris p.1 c.put.new.self
-    c.make_room.new.concepts) (λ i. (sym c.try_reserve.ensures.items i, sym c.in_err-insert.ensures.err i)) kept
+invariant_of-self-in_err-insert c = grind (arith, seen_new_noted)
 
 pub invariant_of-self-2 : goal.invariant_of-self-2
 invariant_of-self-2 c =

@@ -1,3 +1,4 @@
+use Rattle.std.proofs.Common.{arith}
 use Rattle.std.proofs.Common.{rules, ◌≡◌, ◌≢◌, ◌∙◌, ◌+◌, ◌<◌, ◌^◌, ◌++◌, ◌∷◌, [], length, sym, ap, subst, List, ℕ}
 use Rattle.std.specs.Prelude.{Some}
 use Rattle.std.specs.FinMap as dict
@@ -10,10 +11,7 @@ use Rattle.thes_vocab.proofs.ConsistencyLemmas.{kept_outside, no_iri}
 use Rattle.thes_vocab.proofs.vocab.Vocab.add_outside.Goals as goal
 
 pub insert-requires-clause-number : goal.insert-requires-clause-number
-insert-requires-clause-number c =
-    let inside = c.self.inside in
-    let n : c.new-n.result ≡ length inside.resources.items + 1 = search rules in
-    rw n (no_iri inside.base inside.resources.items inside.iris c.self.invariant.legal)
+insert-requires-clause-number c = grind (arith, no_iri)
 
 pub invariant_of-self-2 : goal.invariant_of-self-2
 invariant_of-self-2 c =

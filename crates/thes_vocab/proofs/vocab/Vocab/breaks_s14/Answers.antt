@@ -1,4 +1,4 @@
-use Rattle.std.proofs.Common.{rules, ◌≡◌, ◌≢◌, ap, subst, inl, List, ℕ}
+use Rattle.std.proofs.Common.{rules, ◌≡◌, ap, subst, List, ℕ, arith}
 use Rattle.std.specs.Option.{MatchOption}
 use Rattle.thes_base.specs.declared.data.LabelKind.TheVariants.{Pref}
 use Rattle.thes_base.specs.Data.{LabelData}
@@ -24,10 +24,4 @@ returns-then-eq c =
     answers_s14 v.labels l c.requires is s14 c.preferred.result found c.is_some.result c.is_some.ensures
 
 pub returns-else-eq : goal.returns-else-eq
-returns-else-eq c =
-    let v = c.args.self.now in
-    let l = owned_label c.args.owner c.args.label.now in
-    let apart : c.args.label.now.kind ≢ Pref = search rules in
-    let s14 = subst (λ (v : Vocabulary). S14 v.labels) c.self.view_is c.self.invariant.named.one_preferred in
-    let good = keeps_s14 v.labels l s14 (inl apart) in
-    match_bool_cases c.eq.result _ _ (λ yes. absurd (search rules)) (λ _. good)
+returns-else-eq c = grind (arith, keeps_s14, match_bool_cases)

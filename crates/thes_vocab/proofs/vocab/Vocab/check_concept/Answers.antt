@@ -1,4 +1,4 @@
-use Rattle.std.proofs.Common.{rules, ◌≡◌, ◌∙◌, ap, sym, subst, ℕ, List, true}
+use Rattle.std.proofs.Common.{rules, ◌≡◌, ◌∙◌, sym, subst, ℕ, List, true, arith}
 use Rattle.std.specs.Prelude.{Some}
 use Rattle.thes_base.specs.declared.data.Resource.{Resource}
 use Rattle.thes_base.specs.Resources.{IsScheme, entry_at, is_scheme_kind}
@@ -11,12 +11,7 @@ use Rattle.thes_vocab.proofs.vocab.Vocab.check_concept.Goals as goal
 scheme_is : (seen v : Vocabulary) (scheme : ℕ) (resources : List Resource) (r : Resource) → seen ≡ v → resources
     ≡ seen.resources
     → Some r ≡ entry_at resources scheme → is_scheme_kind r.kind ≡ true → IsScheme v.resources scheme
-scheme_is seen v scheme resources r is value found kind = (
-  r,
-  sym (found ∙ ap (λ (rs : List Resource). entry_at rs scheme) value
-      ∙ ap (λ (v : Vocabulary). entry_at v.resources scheme) is),
-  kind,
-)
+scheme_is seen v scheme resources r is value found kind = grind (arith)
 
 pub returns-then-is_some : goal.returns-then-is_some
 returns-then-is_some c =

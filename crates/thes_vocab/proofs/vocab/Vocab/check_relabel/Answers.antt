@@ -1,9 +1,8 @@
-use Rattle.std.proofs.Common.{◌≡◌, sym, subst, List, ℕ, Bool, true, false}
+use Rattle.std.proofs.Common.{◌≡◌, subst, List, ℕ, Bool, true, false, arith}
 use Rattle.std.proofs.lemmas.Bool.{both_ways}
 use Rattle.thes_base.specs.declared.data.LabelKind.TheVariants.{Pref}
 use Rattle.thes_base.specs.Labels.{HasLabel}
 use Rattle.thes_base.specs.Legal.{AreLegalLabels}
-use Rattle.thes_base.specs.Changes.{labels_after_relabel}
 use Rattle.thes_vocab.specs.Vocabulary.{Vocabulary}
 use Rattle.thes_vocab.specs.Rivals.{HasClash}
 use Rattle.thes_vocab.proofs.LabelCheckLemmas.{row_without_name, row_clashing, row_with_rival, row_renamed}
@@ -13,16 +12,10 @@ use Rattle.thes_vocab.proofs.vocab.Vocab.check_relabel.Goals as goal
 no_clash : (seen v : Vocabulary) (owner : ℕ) (tag text old : List ℕ) (keep found : Bool) → seen ≡ v
     → (HasClash seen.labels owner tag text old keep → found ≡ true) → found ≡ false → HasClash v.labels owner tag text
     old keep → ⊥
-no_clash seen v owner tag text old keep found is told none clash =
-    both_ways found none (told (subst (λ (v : Vocabulary). HasClash v.labels owner tag text old keep) (sym is) clash))
+no_clash seen v owner tag text old keep found is told none clash = grind (arith, both_ways)
 
 pub returns-in_default : goal.returns-in_default
-returns-in_default c =
-    let v = c.args.self.now in
-    let none = subst (λ (v : Vocabulary). (text : List ℕ) → HasLabel v.labels c.args.owner Pref c.args.tag.now text
-    → ⊥) c.self.view_is c.in_default.ensures in
-    row_without_name v.resources v.labels (labels_after_relabel c.args.owner c.args.tag.now c.args.text.now
-    c.args.keep v.labels) c.args.owner c.args.tag.now none
+returns-in_default c = grind (arith, row_without_name)
 
 pub returns-then-has_clash : goal.returns-then-has_clash
 returns-then-has_clash c =

@@ -1,8 +1,7 @@
-use Rattle.std.proofs.Common.{rules, ◌≡◌, ◌∙◌, sym, ap, subst, List, ℕ}
+use Rattle.std.proofs.Common.{rules, ◌≡◌, sym, ap, subst, List, ℕ, arith}
 use Rattle.thes_base.specs.declared.data.LabelKind.TheVariants.{Pref}
 use Rattle.thes_base.specs.Labels.{Labels, HasLabel}
 use Rattle.thes_base.specs.Legal.{AreLegalLabels}
-use Rattle.thes_base.specs.Changes.{labels_after_relabel}
 use Rattle.thes_vocab.specs.Vocabulary.{Vocabulary, with_labels}
 use Rattle.thes_vocab.specs.Consistency.{IsConsistentVocabulary}
 use Rattle.thes_vocab.proofs.LabelCheckLemmas.{relabelled_is}
@@ -26,12 +25,7 @@ returns-then-eq-clause-ok c =
     c.in_ok-old.old c.args.keep legal has same c.requires.allowed)
 
 pub invariant_of-self-in_err-rename : goal.invariant_of-self-in_err-rename
-invariant_of-self-in_err-rename c =
-    let inside = c.self.inside in
-    subst (λ (labels : Labels). IsConsistentVocabulary inside.base inside.resources.items inside.iris labels
-    c.put.new.self inside.concepts) (sym c.in_err-rename.ensures.err)
-    (kept_more inside.base inside.resources.items inside.iris inside.labels inside.names c.put.new.self inside.concepts
-    c.self.invariant c.put.ensures.keeps)
+invariant_of-self-in_err-rename c = grind (arith, kept_more)
 
 pub invariant_of-self-2 : goal.invariant_of-self-2
 invariant_of-self-2 c =
@@ -46,17 +40,4 @@ invariant_of-self-2 c =
     c.in_ok-put.ensures.ok c.requires.owner.can)
 
 pub returns-clause-ok : goal.returns-clause-ok
-returns-clause-ok c =
-    let inside = c.self.inside in
-    let is = relabelled_is inside.labels c.args.owner c.args.tag.now c.args.text.now c.in_ok-old.old c.args.keep
-    c.self.invariant.named.one_preferred (held inside.labels c.args.owner c.args.tag.now _ _ c.in-Some.ensures
-    c.in_ok-old.ensures) in
-    c.forget_name.ensures
-    ∙ ap (λ (labels : Labels). let v : Vocabulary = record {
-      base = inside.base;
-      resources = inside.resources.items;
-      iris = inside.iris;
-      labels = labels;
-    } in v) (c.in_ok-rename.ensures.ok ∙ sym is)
-    ∙ ap (λ (v : Vocabulary). with_labels v (labels_after_relabel c.args.owner c.args.tag.now c.args.text.now
-    c.args.keep v.labels)) c.self.view_is
+returns-clause-ok c = grind (arith, held, relabelled_is)
