@@ -2,7 +2,7 @@
 """Tries the wrong bodies crates/NAME/wrong/*.edit, each of which the prover must refuse.
 
 A function's proof rests on its own body and on the contracts of what it calls, never on another function's body. So each
-wrong body is tried in a copy of its function, beside it under another name, with a copy of its proof files: two dozen in
+wrong body is tried in a copy of its function, in the same file under another name, with a copy of its proof files: two dozen in
 one check of just these copies, in a copy of the repository. What a copy doesn't show to be refused is tried in place, and so
 are bodies of a trait's methods and of functions that have one proof file: in rounds, of one body for each function. A body
 is refused when the check names an open goal of the very function that the edit changes: one that search does not prove,

@@ -15,7 +15,7 @@ SPLIT = (
 # What gives a function its shape: branches, loops and exits.
 SHAPE = re.compile(r"\b(?:if|else|match|for|while|return|continue|break)\b|\?|&&|\|\|")
 
-# How many edits are tried in one check. With many more the prover begins with copies of itself, whose failed proofs it makes once more.
+# How many edits are tried in one check: so many that what they share costs little, and so few that one which spoils a check spoils little.
 AT_A_TIME = 24
 
 
