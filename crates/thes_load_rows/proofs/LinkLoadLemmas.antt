@@ -1,19 +1,18 @@
 -- The checks of the tables link and hier, row by row and at the end, decide whether the tables meet their rules.
+use Rattle.std.proofs.lemmas.Grind.{common_steps}
 use Rattle.std.proofs.Common.{◌≡◌, ◌≢◌, ◌⊎◌, ◌≤◌, ℕ, ◌+◌, length, List, [], ◌∷◌, ◌++◌, map, refl, sym, ap, ◌∙◌, subst}
 use Rattle.std.proofs.Common.{inl, inr, arith, Bool, true, false, append_assoc}
 use Rattle.std.proofs.lemmas.List.{append-nil, map-append}
 use Rattle.std.proofs.lemmas.Map.Lookups.{exact_unsigned}
-use Rattle.std.specs.Prelude.{Option, None, Some}
-use Rattle.std.specs.Option.{option_map_or}
-use Rattle.std.specs.Ordering.{nat_cmp}
-use Rattle.std.specs.Cmp.{nat_cmp_total, both_ways as same_test}
+use Rattle.std.specs.Prelude.{None, Some}
+use Rattle.std.specs.Cmp.{nat_cmp_total}
 use Rattle.std.specs.FinSet.{empty, insert, contains, contains-empty, from_list, from_list_push}
 use Rattle.std.proofs.lemmas.Bool.{cases_eq}
 use Rattle.thes_base.specs.declared.data.Resource.{Resource}
 use Rattle.thes_base.specs.declared.data.Link.{Link}
 use Rattle.thes_base.specs.declared.fault.Refusal.{Refusal}
 use Rattle.thes_base.specs.declared.fault.Refusal.TheVariants as no
-use Rattle.thes_base.specs.Resources.{entry_at, is_outside, is_outside_kind}
+use Rattle.thes_base.specs.Resources.{is_outside}
 use Rattle.thes_base.specs.Links.{Links, Holds, link_cmp, normal_form, NoCycle, S27, S46, IsFirstBroken}
 use Rattle.thes_base.specs.Legal.{IsLegalLink}
 use Rattle.thes_base.proofs.LinkSetLemmas.{links_total, links_exact}
@@ -35,14 +34,7 @@ module _ (rs : List Resource) (graph : GraphView) (l : Link) (marked : MarksOuts
   same_norm = ap (λ (f : ℕ → Bool). normal_form f l) (λ i n. marked n i)
 
   pub legal_of : IsFitLink rs l → normal_form (is_marked graph) l ≡ l → IsLegalLink rs l
-  legal_of fit ordered = record {
-    ends = fit.ends;
-    live = fit.live;
-    two = fit.two;
-    schemes = fit.schemes;
-    ordered =
-        sym same_norm ∙ ordered;
-  }
+  legal_of fit ordered = grind (arith, common_steps, same_norm)
 
 pub fit_of : (rs : List Resource) (l : Link) → IsLegalLink rs l → IsFitLink rs l
 fit_of rs l legal = record { ends = legal.ends; live = legal.live; two = legal.two; schemes = legal.schemes }
@@ -51,25 +43,11 @@ outside_at : (rs : List Resource) → is_outside rs 0 ≡ false
 outside_at rs = refl
 
 pub marks_none : (rs : List Resource) → MarksFirst rs 0 (record { links = empty; outside = empty })
-marks_none rs = record {
-  links = refl;
-  sound = λ n e. let none = contains-empty nat_cmp n in absurd (cc);
-  complete = λ n le e. let z : n ≡ 0 = omega (arith, le) in let f = outside_at rs in let g = ap (is_outside rs) z in
-      absurd (cc);
-}
+marks_none rs = grind (arith, common_steps, contains-empty, outside_at)
 
 module _ (rs : List Resource) (i : ℕ) (graph : GraphView) (has : MarksFirst rs i graph) where
   pub marks_skip : is_outside rs (i + 1) ≡ false → MarksFirst rs (i + 1) graph
-  marks_skip inside = record {
-    links = has.links;
-    sound = has.sound;
-    complete =
-        λ n le e. either n le e (cases_eq n (i + 1));
-  }
-    where
-      either : (n : ℕ) → n ≤ i + 1 → is_outside rs n ≡ true → (n ≡ i + 1) ⊎ (n ≢ i + 1) → is_marked graph n ≡ true
-      either n le e (inl at) = let g = ap (is_outside rs) at in absurd (cc)
-      either n le e (inr differ) = has.complete n (omega (arith, le, differ)) e
+  marks_skip inside = grind (arith, common_steps, cases_eq)
 
   -- After one more outside concept is marked, all outside concepts up to it are marked.
   pub marks_more : is_outside rs (i + 1) ≡ true → MarksFirst rs (i + 1)
@@ -91,23 +69,11 @@ module _ (rs : List Resource) (i : ℕ) (graph : GraphView) (has : MarksFirst rs
           (has.complete n (omega (arith, le, differ)) e)
 
 outside_bound : (rs : List Resource) (n : ℕ) → is_outside rs n ≡ true → n ≤ length rs
-outside_bound rs n e = go (entry_at rs n) refl e
-  where
-    go : (o : Option Resource) → entry_at rs n ≡ o → option_map_or (λ (r : Resource). is_outside_kind r.kind) o false
-        ≡ true → n ≤ length rs
-    go None at f = absurd (cc)
-    go (Some r) at f = (numbered_bound rs n r at).1
+outside_bound rs n e = grind (arith, common_steps, numbered_bound)
 
 pub marked_all : (rs : List Resource) (i : ℕ) (graph : GraphView) → length rs ≤ i → MarksFirst rs i graph
     → HasLinks rs graph [] []
-marked_all rs i graph all has = record {
-  rule = record { once = tt; kinds = λ l h. absurd h; each = λ l h. absurd h };
-  once = tt;
-  each = λ row h. absurd h;
-  are = has.links;
-  marked = λ n. same_test _ _ (has.sound n) (λ e. let b = outside_bound rs n e in
-      has.complete n (omega (arith, b, all)) e);
-}
+marked_all rs i graph all has = grind (arith, common_steps, outside_bound)
 
 link_push : (K : List Link) (l : Link) → links_of (K ++ l ∷ []) [] ≡ insert (links_of K []) l
 link_push K l =
@@ -165,18 +131,7 @@ module _ (rs : List Resource) (old new : GraphView) (K : List Link) (H : List Hi
 module _ (rs : List Resource) (graph : GraphView) (K : List Link) (H : List HierRow) (has : HasLinks rs graph K H) where
   -- If the links of the graph meet Cycle, S27 and S46, the rows meet the rule of table hier.
   pub rule_whole : IsFirstBroken (Holds graph.links) None → HierRule rs K H
-  rule_whole whole = record {
-    once = has.once;
-    legal = record {
-      each = λ l h. elim (held_cases K H l h) [
-        | inl plain ↦ has.rule.each l plain
-        | inr typed ↦ subst (IsLegalLink rs) (sym typed.2) (has.each typed.0 typed.1)
-      ];
-      no_cycle = subst (λ (s : Links). NoCycle (Holds s)) has.are whole.0;
-      s27 = subst (λ (s : Links). S27 (Holds s)) has.are whole.1;
-      s46 = subst (λ (s : Links). S46 (Holds s)) has.are whole.2;
-    };
-  }
+  rule_whole whole = grind (arith, common_steps, held_cases)
 
   contradicts_broken : (Held : Link → Type 0) (r : Refusal) → IsFirstBroken Held (Some r) → NoCycle Held → S27 Held
       → S46 Held → ⊥
@@ -186,8 +141,4 @@ module _ (rs : List Resource) (graph : GraphView) (K : List Link) (H : List Hier
   contradicts_broken Held _ first a b c = absurd first
 
   pub rule_broken : (r : Refusal) → IsFirstBroken (Holds graph.links) (Some r) → HierRule rs K H → ⊥
-  rule_broken r first rule =
-      let back = sym has.are in
-      contradicts_broken (Holds graph.links) r first (subst (λ (s : Links). NoCycle (Holds s)) back
-      rule.legal.no_cycle) (subst (λ (s : Links). S27 (Holds s)) back rule.legal.s27)
-      (subst (λ (s : Links). S46 (Holds s)) back rule.legal.s46)
+  rule_broken r first rule = grind (arith, common_steps, contradicts_broken)

@@ -1,9 +1,9 @@
 -- Each stage is right (HasRead) after a table that can't be queried.
-use Rattle.std.proofs.Common.{◌≡◌, sym, ◌∙◌, inl, List, true, false, true≢false}
+use Rattle.std.proofs.lemmas.Grind.{common_steps}
+use Rattle.std.proofs.Common.{◌≡◌, sym, ◌∙◌, inl, List, true, false, true≢false, arith}
 use Rattle.std.specs.Prelude.{None, Some}
 use Rattle.thes_base.specs.declared.fault.Fault.TheVariants.{BadStore}
 use Rattle.thes_base.specs.declared.fault.Table.{Table}
-use Rattle.thes_base.specs.declared.fault.Table.TheVariants as table
 use Rattle.thes_tables.specs.declared.cells.Cell.{Cell}
 use Rattle.thes_tables.specs.Cells.{Raw, RawTable}
 use Rattle.thes_load_rules.specs.Laws.{HasNoRows}
@@ -25,8 +25,7 @@ HasReadAfterLoss s = (raw : Raw) → HasRead s raw → HasRead (stage.Stopped (B
     (raw_without_table (stage_table s) raw)
 
 pub table_lost : (s : Stage) → is_stopped s ≡ false → HasReadAfterLoss s
-table_lost (stage.Meta row) reads raw h more none = meta_fault more (λ version base which e. let f = sym none ∙ e in
-    absurd (cc)) (λ base form e. let f = sym none ∙ e in absurd (cc))
+table_lost (stage.Meta row) reads raw h more none = grind (arith, common_steps, meta_fault)
 table_lost (stage.Resource base load) reads raw h more (e0, none) = (verdict_by_table more h.0).resource
     (meta_stays raw more h.0 e0 h.1) (unqueried_none _ _ more.resource none)
 table_lost (stage.Outside load) reads raw h more (e0, e1, none) =
@@ -50,16 +49,7 @@ none_grows None queried none = none
 none_grows (Some rows) queried none = inl none
 
 with_table : (at : Table) (raw more : Raw) → ExtendsTable at (raw_without_table at raw) more → ExtendsTable at raw more
-with_table table.Meta raw more none = none_grows raw.meta more.meta none
-with_table table.Resource raw more (e0, none) = (e0, none_grows raw.resource more.resource none)
-with_table table.Outside raw more (e0, e1, none) = (e0, e1, none_grows raw.outside more.outside none)
-with_table table.Label raw more (e0, e1, e2, none) = (e0, e1, e2, none_grows raw.label more.label none)
-with_table table.Link raw more (e0, e1, e2, e3, none) = (e0, e1, e2, e3, none_grows raw.link more.link none)
-with_table table.Hier raw more (e0, e1, e2, e3, e4, none) = (e0, e1, e2, e3, e4, none_grows raw.hier more.hier none)
-with_table table.Posting raw more (e0, e1, e2, e3, e4, e5, none) =
-    (e0, e1, e2, e3, e4, e5, none_grows raw.posting more.posting none)
-with_table table.Move raw more (e0, e1, e2, e3, e4, e5, e6, none) =
-    (e0, e1, e2, e3, e4, e5, e6, none_grows raw.move more.move none)
+with_table at raw more none = grind (arith, common_steps, none_grows)
 
 pub stopped_lost : (s : Stage) → is_stopped s ≡ true → (raw : Raw) → HasRead s raw
     → HasRead s (raw_without_table (stage_table s) raw)

@@ -1,6 +1,7 @@
 -- The checks of table move, row by row and at the end, decide whether the table meets its rule.
-use Rattle.std.proofs.Common.{◌≡◌, ◌≢◌, ◌<◌, ℕ, zero, suc, ◌-◌, ◌+◌, length, List, [], ◌∷◌, ◌++◌, map, refl, sym, ap}
-use Rattle.std.proofs.Common.{◌∙◌, subst, arith, inl, inr, false, eqb, eqb-true, length-append, lit<, ◌^◌}
+use Rattle.std.proofs.lemmas.Grind.{common_steps}
+use Rattle.std.proofs.Common.{◌≡◌, ◌≢◌, ◌<◌, ℕ, zero, suc, ◌-◌, ◌+◌, length, List, [], ◌∷◌, ◌++◌, map, sym, ap}
+use Rattle.std.proofs.Common.{◌∙◌, subst, arith, inl, inr, false, eqb, eqb-true, length-append, ◌^◌}
 use Rattle.std.proofs.lemmas.Bool.{cases_Bool, eq-eqb, eqb-false}
 use Rattle.std.proofs.lemmas.List.{append-nil, length-map, length-set, map-append}
 use Rattle.std.proofs.lemmas.List.Elements.{filter-append}
@@ -78,26 +79,10 @@ module _ (rs : List Resource) (ps : List PostingRow) (taken : ℕ) (places : Lis
         ∙ has.place_is.place_is n p e)
 
     below : (n : ℕ) → AllMoves (λ m. m.number < r.number) (moves_of n rows)
-    below n = all_of_in _ (moves_of n rows) (λ m h.
-        let row = row_of_move n m rows h in
-        let place_is = in_numbered rows row.0 row.1 in
-        let number = has.so_far.numbers place_is.0 row.0 place_is.1 in
-        let same = ap (λ (x : Move). x.number) row.3 in
-        let b = (numbered_bound rows place_is.0 row.0 place_is.1).1 in
-        let l = last in
-        omega (arith, number, same, b, l))
+    below n = grind (arith, common_steps, all_of_in, in_numbered, last, numbered_bound, row_of_move)
 
     well_formed : (p : PostingRow) → IsIn p ps → IsWellFormed (history_of (rows ++ r ∷ []) p)
-    well_formed p h = elim (cases_Bool (eqb r.posting p.number)) [
-      | inl hit ↦
-          let same = eqb-true r.posting p.number hit in
-          let place_is = in_numbered ps p h in
-          subst (AreConsecutiveMoves 0 p.first) (sym (moves_next p.number rows r [] same))
-          (follows_push 0 p.first (moves_of p.number rows) (recorded_move r) (has.so_far.well_formed p h)
-          (let l = last in omega (arith, l)) (below p.number) (from_here place_is.0 p place_is.1 same))
-      | inr miss ↦ subst (AreConsecutiveMoves 0 p.first) (sym (moves_other p.number rows r miss))
-          (has.so_far.well_formed p h)
-    ]
+    well_formed p h = grind (arith, common_steps, below, cases_Bool, eqb-true, follows_push, from_here, in_numbered, last, moves_next, moves_other)
 
     -- After the move, the places are those of the postings after all rows so far.
     places_more : ArePlacesAfterMoves ps (rows ++ r ∷ []) (set_entry_at places r.posting r.target)
@@ -166,19 +151,4 @@ module _ (rs : List Resource) (ps : List PostingRow) (taken : ℕ) (places : Lis
 -- Without moves, the place of each posting is its first concept.
 pub moves_none : (rs : List Resource) (ps : List PostingRow) → length ps < 2 ^ 32
     → AreInOrder (λ (p : PostingRow). p.number) ps → HasMoves rs ps 0 (map (λ (p : PostingRow). p.first) ps) []
-moves_none rs ps few order = record {
-  order = order;
-  so_far = record {
-    few = (let z : 0 < 2 ^ 32 = lit< tt in z);
-    numbers = λ n row e. let b = numbered_bound [] n row e in absurd (omega (arith, b));
-    known = λ row h. absurd h;
-    ends = λ row h. absurd h;
-    well_formed = λ p h. tt;
-  };
-  count = refl;
-  place_is = record {
-    fit = length-map ps (λ (p : PostingRow). p.first);
-    place_is =
-        λ n p e. map_numbered (λ (q : PostingRow). q.first) ps n p e;
-  };
-}
+moves_none rs ps few order = grind (arith, common_steps, known, length-map, map_numbered, numbered_bound, well_formed)

@@ -1,4 +1,5 @@
 -- The checks of the tables outside and label, row by row and at the end, decide whether the tables meet their rules.
+use Rattle.std.proofs.lemmas.Grind.{common_steps}
 use Rattle.std.proofs.Common.{◌≡◌, ◌<◌, ◌≤◌, ℕ, List, [], ◌∷◌, ◌++◌, refl, sym, ap, ◌∙◌, subst, arith, inl, inr, Bool}
 use Rattle.std.proofs.Common.{true, false, true≢false}
 use Rattle.std.proofs.lemmas.Map.Lookups.{exact_unsigned}
@@ -38,11 +39,7 @@ ascends_push above (r ∷ rows) x up lt below =
 after_rows : (above : ℕ) (rows : List IriRow) (x : IriRow) (more : List IriRow)
     → IriNumbersAscend above (rows ++ x ∷ more) → (above < x.0) × EachRow (λ r. r.0 < x.0) rows
 after_rows above [] x more up = (up.0, λ r h. absurd h)
-after_rows above (r ∷ rows) x more up =
-    let rest = after_rows r.0 rows x more up.1 in (
-      (let a = up.0 in let b = rest.0 in omega (arith, a, b)),
-      λ y h. elim h [ inl e ↦ subst (λ (z : IriRow). z.0 < x.0) (sym e) rest.0 | inr later ↦ rest.1 y later ],
-    )
+after_rows above (r ∷ rows) x more up = grind (arith, common_steps, after_rows r.0 rows x more up.1)
 
 module _ (base : List ℕ) (rs : List Resource) (old new : Vocabulary) (last : ℕ) (rows : List IriRow) (x : IriRow)
     (has : HasOutside base rs old last rows) where
@@ -51,12 +48,7 @@ module _ (base : List ℕ) (rs : List Resource) (old new : Vocabulary) (last : �
 
   -- Rows break the rule of table outside if a row's number doesn't exceed the number before it.
   pub not_above : x.0 ≤ last → (more : List IriRow) → OutsideRule base rs (rows ++ x ∷ more) → ⊥
-  not_above le more rule =
-      let after = after_rows 0 rows x more rule.ascends in
-      elim has.greatest.one [
-        | inl zero ↦ (let a = after.0 in omega (arith, a, zero, le))
-        | inr row ↦ (let b = after.1 row.0 row.1 in let e = row.2 in omega (arith, b, e, le))
-      ]
+  not_above le more rule = grind (arith, common_steps, after_rows)
 
   -- In rows that meet the rule, the IRI of each row may be loaded after the rows before it.
   fits_all : (more : List IriRow) → OutsideRule base rs (rows ++ x ∷ more) → MayLoadIri v x.0 x.1
@@ -100,8 +92,7 @@ module _ (base : List ℕ) (rs : List Resource) (old new : Vocabulary) (last : �
               (let z : x.0 ≤ x.0 = omega arith in z);
         };
       }
-  outside_step false up form (none, is) =
-      λ more rule. none (subst (λ (w : Vocabulary). MayLoadIri w x.0 x.1) (sym has.are) (fits_all more rule))
+  outside_step false up form (none, is) = grind (arith, common_steps, fits_all)
 
 -- If each outside concept has an IRI after the last row, table outside meets its rule.
 pub outside_whole : (base : List ℕ) (rs : List Resource) (v : Vocabulary) (last : ℕ) (rows : List IriRow)
@@ -164,5 +155,4 @@ module _ (base : List ℕ) (rs : List Resource) (outside : List IriRow) (old new
             ∙ ap (λ (ls : Labels). with_labels (vocabulary_of_rows base rs outside rows) ls)
             (sym (set.from_list_push labels_total labels_exact rows l));
       }
-  label_step false form (none, is) =
-      λ more rule. none (subst (λ (w : Vocabulary). MayLoadLabel w l) (sym has.are) (fits_label more rule))
+  label_step false form (none, is) = grind (arith, common_steps, fits_label)

@@ -1,4 +1,5 @@
 -- The next row of a list, and what the rules require of it and of the rows before it.
+use Rattle.std.proofs.lemmas.Grind.{common_steps}
 use Rattle.std.proofs.Common.{◌≡◌, ◌<◌, ◌^◌, ℕ, zero, suc, ◌+◌, length, List, [], ◌∷◌, ◌++◌, refl, sym, ap, ◌∙◌}
 use Rattle.std.proofs.Common.{subst, arith, inl, inr, length-append}
 use Rattle.std.specs.Prelude.{Some}
@@ -41,10 +42,7 @@ module _ {A : Type 0} where
 
   pub order_push : (number : A → ℕ) (rows : List A) (x : A) → AreInOrder number rows → number x ≡ length rows + 1
       → AreInOrder number (rows ++ x ∷ [])
-  order_push number rows x order last = λ n y e. elim (push_cases rows x y n e) [
-    | inl old ↦ order n y old
-    | inr new ↦ ap number new.1 ∙ last ∙ sym new.0
-  ]
+  order_push number rows x order last = grind (arith, common_steps, push_cases)
 
   -- If the number of the last row is in range, there are fewer than 2³² rows.
   pub few_push : (number : A → ℕ) (rows : List A) (x : A) → number x ≡ length rows + 1 → IsNumber (number x)

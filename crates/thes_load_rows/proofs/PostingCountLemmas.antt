@@ -1,5 +1,6 @@
 -- The counts of the rows of table posting are those of the histories.
-use Rattle.std.proofs.Common.{◌≡◌, ℕ, ◌+◌, length, List, [], ◌∷◌, ◌++◌, map, refl, sym, ap, ◌∙◌, inl, inr, arith}
+use Rattle.std.proofs.lemmas.Grind.{common_steps}
+use Rattle.std.proofs.Common.{◌≡◌, ℕ, length, List, [], ◌∷◌, ◌++◌, map, refl, sym, ap, ◌∙◌, arith}
 use Rattle.std.proofs.Common.{Bool, cond, not, ◌&&◌, eqb, length-append}
 use Rattle.std.specs.Prelude.{count_by}
 use Rattle.std.proofs.lemmas.List.Sums.{sum_by_push, sum_by-cons}
@@ -21,25 +22,12 @@ number_of b = cond b 1 0
 -- The counts after one more row are those of the rows with it.
 pub sums_push : (rows : List PostingRow) (p : PostingRow) (old new : PostingCounts) → AreCountsOfRows rows old
     → CountsAfterTally p.place p.withdrawn old new → AreCountsOfRows (rows ++ p ∷ []) new
-sums_push rows p old new are told = record {
-  standing = λ n. told.standing n ∙ ap (λ k. k + number_of (is_assigned_row n p)) (are.standing n)
-      ∙ sym (sum_by_push (λ (x : PostingRow). number_of (is_assigned_row n x)) rows p);
-  accepted = (let a = told.accepted in let b = are.accepted in let l = length-append rows (p ∷ []) in
-      omega (arith, a, b, l));
-  withdrawn = told.withdrawn ∙ ap (λ k. k + number_of p.withdrawn) are.withdrawn
-      ∙ sym (sum_by_push (λ (x : PostingRow). number_of x.withdrawn) rows p);
-  moves = told.moves ∙ are.moves;
-}
+sums_push rows p old new are told = grind (arith, common_steps, length-append, sum_by_push)
 
 same_count : (P : History → Bool) (Q : PostingRow → Bool) (history : PostingRow → History) (rows : List PostingRow)
     → EachRow (λ row. P (history row) ≡ Q row) rows → count_by P (map history rows) ≡ count_by Q rows
 same_count P Q history [] each = refl
-same_count P Q history (x ∷ rows) each =
-    let a = sum_by-cons (λ (h : History). number_of (P h)) (history x) (map history rows) in
-    let b = sum_by-cons (λ (row : PostingRow). number_of (Q row)) x rows in
-    let ih = same_count P Q history rows (λ row h. each row (inr h)) in
-    let e = ap number_of (each x (inl refl)) in
-    omega (arith, a, b, ih, e)
+same_count P Q history (x ∷ rows) each = grind (arith, common_steps, sum_by-cons, same_count P Q history rows)
 
 module _ (rs : List Resource) (postings : List PostingRow) (moves : List MoveRow) (rule : PostingRule rs postings)
     (all : MoveRule rs postings moves) where

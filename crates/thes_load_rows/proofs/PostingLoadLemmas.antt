@@ -1,6 +1,7 @@
 -- The checks of table posting, row by row, decide whether the table meets its rule.
-use Rattle.std.proofs.Common.{subst, ◌≡◌, ◌⊎◌, ◌<◌, ◌^◌, lit<, ℕ, ◌+◌, length, List, [], ◌∷◌, ◌++◌, map, refl, sym}
-use Rattle.std.proofs.Common.{ap, ◌∙◌, arith, inl, inr, true, false, cond, ◌||◌}
+use Rattle.std.proofs.lemmas.Grind.{common_steps}
+use Rattle.std.proofs.Common.{◌≡◌, ℕ, ◌+◌, length, List, [], ◌∷◌, ◌++◌, map, sym}
+use Rattle.std.proofs.Common.{ap, ◌∙◌, arith, true, false, cond, ◌||◌}
 use Rattle.std.specs.Prelude.{Some}
 use Rattle.std.proofs.lemmas.List.{map-append, length-map}
 use Rattle.std.proofs.lemmas.Cmp.{nat_list_cmp_total}
@@ -20,7 +21,6 @@ use Rattle.thes_load_rules.proofs.RowListLemmas.{in_numbered, numbered_in}
 use Rattle.thes_links.proofs.SetLemmas.{cond-or}
 use Rattle.thes_load_rows.specs.Forms.{HasPostingForm}
 use Rattle.thes_post.specs.PostingCounts.{PostingCounts, CountsAfterTally}
-use Rattle.thes_load_rows.specs.PostingCounts.{AreCountsOfRows}
 use Rattle.thes_load_rows.specs.RowsSoFar.{has_key, HasPostings, IsNextPosting}
 use Rattle.thes_load_rows.proofs.PostingCountLemmas.{sums_push}
 use Rattle.thes_load_rows.proofs.NextRowLemmas.{numbered_next, in_next, numbered_still, each_push, order_push, few_push}
@@ -33,9 +33,7 @@ keys_exact = set.slice_cmp-IsAntisymmetric set.nat_cmp-IsAntisymmetric
 
 any_append : (q key : List ℕ) (keys : List (List ℕ)) → has_key (keys ++ key ∷ []) q
     ≡ (eq_by_cmp (slice_cmp nat_cmp) q key || has_key keys q)
-any_append q key [] = refl
-any_append q key (k ∷ keys) = ap (λ b. eq_by_cmp (slice_cmp nat_cmp) q k || b) (any_append q key keys)
-    ∙ or_swap (eq_by_cmp (slice_cmp nat_cmp) q k) (eq_by_cmp (slice_cmp nat_cmp) q key) (has_key keys q)
+any_append q key keys = grind (arith, common_steps, or_swap)
 
 module _ (rs : List Resource) (keys : List (List ℕ)) (firsts stored_places : List ℕ) (posting_counts : PostingCounts)
     (rows : List PostingRow) (p : PostingRow) (has : HasPostings rs keys firsts stored_places posting_counts rows) where
@@ -70,14 +68,7 @@ module _ (rs : List Resource) (keys : List (List ℕ)) (firsts stored_places : L
 
   keys_push : has_key keys p.key ≡ false → (m n : ℕ) (x y : PostingRow) → entry_at (rows ++ p ∷ []) m ≡ Some x
       → entry_at (rows ++ p ∷ []) n ≡ Some y → x.key ≡ y.key → m ≡ n
-  keys_push free m n x y ex ey same = both (push_cases rows p x m ex) (push_cases rows p y n ey)
-    where
-      both : (entry_at rows m ≡ Some x) ⊎ ((m ≡ length rows + 1) × (x ≡ p)) → (entry_at rows n ≡ Some y)
-          ⊎ ((n ≡ length rows + 1) × (y ≡ p)) → m ≡ n
-      both (inl a) (inl b) = has.rule.keys m n x y a b same
-      both (inl a) (inr (at, is)) = clash (has_key keys p.key) (row_held m x a (same ∙ ap key_of is)) free
-      both (inr (at, is)) (inl b) = clash (has_key keys p.key) (row_held n y b (sym same ∙ ap key_of is)) free
-      both (inr (at, is)) (inr (bt, js)) = at ∙ sym bt
+  keys_push free m n x y ex ey same = grind (arith, common_steps, clash, push_cases, row_held)
 
   -- After a row that may be the next one is added, the load has the rows with this one.
   pub next_taken : (new : List (List ℕ)) → IsNextPosting rs (length firsts) p → HasPostingForm p → has_key keys p.key
@@ -118,24 +109,4 @@ pub postings_none : (rs : List Resource) (keys : List (List ℕ)) (firsts stored
       moves =
           0;
     } → HasPostings rs keys firsts stored_places posting_counts []
-postings_none rs keys firsts stored_places posting_counts no_keys no_firsts no_ats no_sums = record {
-  rule = record {
-    few = (let z : 0 < 2 ^ 32 = lit< tt in z);
-    numbers = λ n row e. let b = numbered_bound [] n row e in absurd (omega (arith, b));
-    forms = λ row h. absurd h;
-    keys = λ m n x y e f same. let b = numbered_bound [] m x e in absurd (omega (arith, b));
-    concepts = λ row h. absurd h;
-    live = λ row h. absurd h;
-  };
-  keys_are = λ q. ap (λ (ks : List (List ℕ)). has_key ks q) no_keys;
-  firsts_are = no_firsts;
-  stored_places_are = no_ats;
-  posting_counts_are =
-      subst (AreCountsOfRows []) (sym no_sums) (record {
-        standing = λ n. refl;
-        accepted = refl;
-        withdrawn = refl;
-        moves =
-            refl;
-      });
-}
+postings_none rs keys firsts stored_places posting_counts no_keys no_firsts no_ats no_sums = grind (arith, common_steps, numbered_bound)

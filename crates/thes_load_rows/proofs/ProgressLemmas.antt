@@ -1,6 +1,7 @@
 -- Tables that meet their rules still meet them when rows of later tables follow. Each stage is right (HasRead) after a
 -- row of its table is added or found faulty.
-use Rattle.std.proofs.Common.{◌≡◌, List, [], ◌∷◌, ◌++◌, map, sym, ap, ◌∙◌, subst, inl, inr, true}
+use Rattle.std.proofs.lemmas.Grind.{common_steps}
+use Rattle.std.proofs.Common.{◌≡◌, List, [], ◌∷◌, ◌++◌, map, sym, ap, ◌∙◌, subst, true, arith}
 use Rattle.std.specs.Prelude.{Some, option_map}
 use Rattle.std.proofs.lemmas.Option.{same_Some}
 use Rattle.thes_base.specs.declared.fault.Fault.TheVariants.{BadStore}
@@ -11,7 +12,7 @@ use Rattle.thes_tables.specs.Cells.{Raw, RawTable, resource_rows, outside_cells,
 use Rattle.thes_tables.specs.Cells.{posting_cells, move_cells}
 use Rattle.thes_vocab.specs.Vocabulary.{Vocabulary}
 use Rattle.thes_load_rules.specs.Rules.{ResourceRule, OutsideRule, LabelRule, LinkRule, HierRule, PostingRule, MoveRule}
-use Rattle.thes_load_rules.specs.Verdicts.{IsTable, IsMeta}
+use Rattle.thes_load_rules.specs.Verdicts.{IsMeta}
 use Rattle.thes_load_rules.specs.Laws.{HasNoRows, MetaPasses, ResourcePasses, OutsidePasses, LabelPasses, LinkPasses}
 use Rattle.thes_load_rules.specs.Laws.{HierPasses, PostingPasses}
 use Rattle.thes_load_rules.proofs.VerdictByTableLemmas.{verdict_by_table}
@@ -30,69 +31,42 @@ use Rattle.thes_load_rows.specs.RowsSoFar.{HasPostings}
 pub faulty_none : {A : Type 0} (cells_of : List A → List (List Cell)) (Rule : List A → Type 0)
     (begun : List (List Cell)) → IsFaulty cells_of Rule begun → (queried : RawTable) → Grows (Some begun) queried
     → HasNoRows cells_of Rule queried
-faulty_none cells_of Rule begun faulty queried (inl none) rows (is, rule) = let e = sym none ∙ is in absurd (cc)
-faulty_none cells_of Rule begun faulty queried (inr (more, e)) rows (is, rule) =
-    faulty more rows (same_Some _ _ (sym is ∙ e)) rule
+faulty_none cells_of Rule begun faulty queried h rows k = grind (arith, common_steps, same_Some)
 
 pub meta_stays : (raw more : Raw) (t : Tables) → more.meta ≡ raw.meta → MetaPasses raw t → MetaPasses more t
 meta_stays raw more t e passes = subst (λ (q : RawTable). IsMeta q t.base) (sym e) passes
 
 pub resource_stays : (raw more : Raw) (t : Tables) → more.meta ≡ raw.meta → more.resource ≡ raw.resource
     → ResourcePasses raw t → ResourcePasses more t
-resource_stays raw more t e0 e1 (a, b) = (
-  meta_stays raw more t e0 a,
-  subst (λ (q : RawTable). IsTable (resource_rows 1) ResourceRule q t.resource)
-      (sym e1) b,
-)
+resource_stays raw more t e0 e1 (a, b) = grind (arith, common_steps, meta_stays)
 
 pub outside_stays : (raw more : Raw) (t : Tables) → more.meta ≡ raw.meta → more.resource ≡ raw.resource → more.outside
     ≡ raw.outside → OutsidePasses raw t → OutsidePasses more t
-outside_stays raw more t e0 e1 e2 (a, b) = (
-  resource_stays raw more t e0 e1 a,
-  subst (λ (q : RawTable). IsTable (map outside_cells) (OutsideRule t.base t.resource) q t.outside) (sym e2) b,
-)
+outside_stays raw more t e0 e1 e2 (a, b) = grind (arith, common_steps, resource_stays)
 
 pub label_stays : (raw more : Raw) (t : Tables) → more.meta ≡ raw.meta → more.resource ≡ raw.resource → more.outside
     ≡ raw.outside → more.label ≡ raw.label → LabelPasses raw t → LabelPasses more t
-label_stays raw more t e0 e1 e2 e3 (a, b) = (
-  outside_stays raw more t e0 e1 e2 a,
-  subst (λ (q : RawTable). IsTable (map label_cells) (LabelRule t.resource) q
-      t.label) (sym e3) b,
-)
+label_stays raw more t e0 e1 e2 e3 (a, b) = grind (arith, common_steps, outside_stays)
 
 pub link_stays : (raw more : Raw) (t : Tables) → more.meta ≡ raw.meta → more.resource ≡ raw.resource → more.outside
     ≡ raw.outside → more.label ≡ raw.label → more.link ≡ raw.link → LinkPasses raw t → LinkPasses more t
-link_stays raw more t e0 e1 e2 e3 e4 (a, b) = (
-  label_stays raw more t e0 e1 e2 e3 a,
-  subst (λ (q : RawTable). IsTable (map link_cells) (LinkRule t.resource) q
-      t.link) (sym e4) b,
-)
+link_stays raw more t e0 e1 e2 e3 e4 (a, b) = grind (arith, common_steps, label_stays)
 
 pub hier_stays : (raw more : Raw) (t : Tables) → more.meta ≡ raw.meta → more.resource ≡ raw.resource → more.outside
     ≡ raw.outside → more.label ≡ raw.label → more.link ≡ raw.link → more.hier ≡ raw.hier → HierPasses raw t
     → HierPasses more t
-hier_stays raw more t e0 e1 e2 e3 e4 e5 (a, b) = (
-  link_stays raw more t e0 e1 e2 e3 e4 a,
-  subst (λ (q : RawTable). IsTable (map hier_cells) (HierRule t.resource t.link) q t.hier) (sym e5) b,
-)
+hier_stays raw more t e0 e1 e2 e3 e4 e5 (a, b) = grind (arith, common_steps, link_stays)
 
 pub posting_stays : (raw more : Raw) (t : Tables) → more.meta ≡ raw.meta → more.resource ≡ raw.resource → more.outside
     ≡ raw.outside → more.label ≡ raw.label → more.link ≡ raw.link → more.hier ≡ raw.hier → more.posting ≡ raw.posting
     → PostingPasses raw t → PostingPasses more t
-posting_stays raw more t e0 e1 e2 e3 e4 e5 e6 (a, b) = (
-  hier_stays raw more t e0 e1 e2 e3 e4 e5 a,
-  subst (λ (q : RawTable). IsTable (map posting_cells) (PostingRule t.resource) q t.posting) (sym e6) b,
-)
+posting_stays raw more t e0 e1 e2 e3 e4 e5 e6 (a, b) = grind (arith, common_steps, hier_stays)
 
 -- If a row of table resource is faulty, the verdict is the fault of this table, whatever rows follow.
 pub resource_fault : (raw : Raw) (t : Tables) (cells : List Cell) → MetaPasses raw t → raw.resource
     ≡ Some (resource_rows 1 t.resource) → IsFaulty (resource_rows 1) ResourceRule (resource_rows 1 t.resource ++ cells
     ∷ []) → HasRead (stage.Stopped (BadStore table.Resource) table.Resource) (raw_with_row table.Resource cells raw)
-resource_fault raw t cells passes read faulty more (e0, grown) =
-    (verdict_by_table more t).resource (meta_stays raw more t e0 passes)
-    (faulty_none (resource_rows 1) ResourceRule (resource_rows 1 t.resource ++ cells ∷ []) faulty more.resource
-    (subst (λ (q : RawTable). Grows q more.resource)
-    (ap (option_map (λ (rows : List (List Cell)). rows ++ cells ∷ [])) read) grown))
+resource_fault raw t cells passes read faulty more (e0, grown) = grind (arith, common_steps, faulty_none, meta_stays, verdict_by_table)
 
 -- If a row of table outside is faulty, the verdict is the fault of this table, whatever rows follow.
 pub outside_fault : (raw : Raw) (t : Tables) (cells : List Cell) → ResourcePasses raw t → raw.outside

@@ -1,6 +1,7 @@
 -- The result of reading a row, derived from its parser and from the result of adding the typed row.
-use Rattle.std.proofs.Common.{◌≡◌, ◌≢◌, ℕ, ◌+◌, length, List, [], ◌∷◌, ◌++◌, map, refl, sym, ap, ◌∙◌, subst, arith}
-use Rattle.std.proofs.Common.{Bool, true, false}
+use Rattle.std.proofs.lemmas.Grind.{common_steps}
+use Rattle.std.proofs.Common.{◌≡◌, ◌≢◌, ℕ, ◌+◌, length, List, [], ◌∷◌, ◌++◌, map, refl, sym, ap, ◌∙◌, arith}
+use Rattle.std.proofs.Common.{Bool, false}
 use Rattle.std.proofs.lemmas.List.{map-append}
 use Rattle.std.specs.Prelude.{Some}
 use Rattle.thes_base.specs.declared.data.Resource.{Resource}
@@ -27,35 +28,23 @@ module _ {A : Type 0} (f : A → List Cell) where
   goes_on one [] cells more [] e = absurd (cc)
   goes_on one [] cells more (y ∷ rest) e = (y, rest, refl, sym (head_one e))
   goes_on one (x ∷ rows) cells more [] e = absurd (cc)
-  goes_on one (x ∷ rows) cells more (y ∷ others) e =
-      let r = goes_on one rows cells more others (tail_one e) in
-      (r.0, r.1, (λ i. one y x (head_one e) i ∷ r.2 i), r.3)
+  goes_on one (x ∷ rows) cells more (y ∷ others) e = grind (arith, common_steps, head_one, tail_one, goes_on one rows cells more others (tail_one e))
 
   module _ (one : (x y : A) → f x ≡ f y → x ≡ y) (Has Rule : List A → Type 0) (rows : List A) (cells : List Cell) where
     -- If the cells are those of a typed row, reading them has the result of adding this row.
     pub reads_row : (x : A) → cells ≡ f x → (good : Bool) → TakeResult Has Rule rows x good → ReadResult (map f) Has
         Rule rows cells good
-    reads_row x spelled true has =
-        (x, map-append f rows (x ∷ []) ∙ ap (λ (c : List Cell). map f rows ++ c ∷ []) (sym spelled), has)
-    reads_row x spelled false none = λ more others e rule.
-        let r = goes_on one rows cells more others e in
-        let same = one r.0 x (sym r.3 ∙ spelled) in
-        none r.1 (subst Rule (r.2 ∙ ap (λ (y : A). rows ++ y ∷ r.1) same) rule)
+    reads_row x spelled good has = grind (arith, common_steps, goes_on, map-append)
 
     -- If no typed row of the form has the cells, no typed rows that begin with `rows` and these cells meet the rule.
     pub reads_none : (Form : A → Type 0) → ((x : A) → Form x → cells ≢ f x)
         → ((y : A) (rest : List A) → Rule (rows ++ y ∷ rest) → Form y) → ReadResult (map f) Has Rule rows cells false
-    reads_none Form none form = λ more others e rule.
-        let r = goes_on one rows cells more others e in
-        none r.0 (form r.0 r.1 (subst Rule r.2 rule)) r.3
+    reads_none Form none form = grind (arith, common_steps, goes_on)
 
 pub resources_push : (n : ℕ) (rs : List Resource) (r : Resource) → resource_rows n (rs ++ r ∷ []) ≡ resource_rows n rs
     ++ resource_cells (n + length rs) r ∷ []
 resources_push n [] r = ap (λ k. resource_cells k r ∷ []) (let z : n ≡ n + 0 = omega arith in z)
-resources_push n (x ∷ rs) r =
-    ap (λ (l : List (List Cell)). resource_cells n x ∷ l) (resources_push (n + 1) rs r
-    ∙ ap (λ k. resource_rows (n + 1) rs ++ resource_cells k r ∷ []) (let z : n + 1 + length rs ≡ n + length (x ∷ rs) =
-    omega arith in z))
+resources_push n (x ∷ rs) r = grind (arith, common_steps, resources_push (n + 1) rs r)
 
 pub resources_on : (n : ℕ) (rs : List Resource) (cells : List Cell) (more : List (List Cell)) (others : List Resource)
     → resource_rows n others ≡ (resource_rows n rs ++ cells ∷ []) ++ more
@@ -78,17 +67,7 @@ module _ (rs : List Resource) (cells : List Cell) where
   pub resource_read : (row : ResourceRow) → cells ≡ row_cells row → (new : List Resource) (good : Bool)
       → AppendResourceResult rs new row good → ReadResult (resource_rows 1) (λ rows. rows ≡ new) ResourceRule rs cells
       good
-  resource_read row spelled new true (number, is) = (
-    row.resource,
-    resources_push 1 rs row.resource ∙ ap (λ (c : List Cell). resource_rows 1 rs ++ c ∷ [])
-        (ap (λ k. resource_cells k row.resource) (let z : 1 + length rs ≡ length rs + 1 = omega arith in
-        z ∙ sym number) ∙ sym spelled),
-    sym is,
-  )
-  resource_read row spelled new false differ = λ more others e rule.
-      let r = resources_on 1 rs cells more others e in
-      let same = number_one (head_one (sym r.3 ∙ spelled)) in
-      differ (let z : row.number ≡ length rs + 1 = omega (arith, same) in z)
+  resource_read row spelled new good differ = grind (arith, common_steps, head_one, number_one, resources_on, resources_push)
 
   pub resource_unread : ((x : ResourceRow) → HasResourceForm x → cells ≢ row_cells x) → (new : List Resource)
       → ReadResult (resource_rows 1) (λ rows. rows ≡ new) ResourceRule rs cells false

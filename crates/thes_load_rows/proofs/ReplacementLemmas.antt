@@ -1,5 +1,6 @@
 -- The checks of table resource decide whether it meets its rule. Replacements are checked as links of a graph.
-use Rattle.std.proofs.Common.{◌≡◌, ◌≢◌, ◌⊎◌, ◌<◌, ◌≤◌, ◌^◌, ℕ, zero, suc, ◌+◌, length, List, refl, sym, ap, ◌∙◌}
+use Rattle.std.proofs.lemmas.Grind.{common_steps}
+use Rattle.std.proofs.Common.{◌≡◌, ◌≢◌, ◌⊎◌, ◌<◌, ◌≤◌, ◌^◌, ℕ, ◌+◌, length, List, refl, sym, ap, ◌∙◌}
 use Rattle.std.proofs.Common.{subst, arith, inl, inr, true, false}
 use Rattle.std.proofs.lemmas.Option.{same_Some}
 use Rattle.std.specs.Prelude.{Option, Some, None}
@@ -7,16 +8,12 @@ use Rattle.std.specs.FinSet.{empty, insert, contains-empty}
 use Rattle.std.proofs.lemmas.Bool.{cases_eq}
 use Rattle.thes_base.specs.declared.data.Resource.{Resource}
 use Rattle.thes_base.specs.declared.data.ResourceKind.{ResourceKind}
-use Rattle.thes_base.specs.declared.data.ResourceKind.TheVariants.{Scheme, Concept, Collection, Outside}
 use Rattle.thes_base.specs.declared.data.Link.{Link}
-use Rattle.thes_base.specs.declared.data.LinkKind.{LinkKind}
 use Rattle.thes_base.specs.declared.data.LinkKind.TheVariants.{Broader}
 use Rattle.thes_base.specs.declared.fault.Refusal.{Refusal}
-use Rattle.thes_base.specs.declared.fault.Refusal.TheVariants as no
 use Rattle.thes_base.specs.Resources.{entry_at, IsScheme, IsReplacedBy, replacement_of, is_scheme_kind}
 use Rattle.thes_base.specs.Resources.{is_concept_kind, is_collection_kind, is_outside_kind}
-use Rattle.thes_base.specs.Links.{Links, Holds, link_cmp, IsNarrower, IsBelow, LinkLeads, broader_direction, NoCycle}
-use Rattle.thes_base.specs.Links.{IsFirstBroken}
+use Rattle.thes_base.specs.Links.{Links, Holds, IsNarrower, IsBelow, NoCycle, IsFirstBroken}
 use Rattle.thes_base.specs.Legal.{IsLegalResource}
 use Rattle.thes_base.proofs.NumberedLemmas.{numbered_bound}
 use Rattle.thes_base.proofs.LinkSetLemmas.{links_total, links_exact, link_inserted_cases}
@@ -32,39 +29,19 @@ use Rattle.thes_load_rows.specs.ResourceChecks.{HasReturn, HasReplacements, is_c
 module _ (rs : List Resource) where
   scheme_some : (kind : ResourceKind) (o : Option ℕ) → SchemeFits rs kind o → (is_concept_kind kind ≡ true)
       ⊎ (is_collection_kind kind ≡ true) → (m : ℕ) × (o ≡ Some m) × IsScheme rs m
-  scheme_some Scheme o fits (inl e) = absurd (cc)
-  scheme_some Scheme o fits (inr e) = absurd (cc)
-  scheme_some Outside o fits (inl e) = absurd (cc)
-  scheme_some Outside o fits (inr e) = absurd (cc)
-  scheme_some Concept None fits k = absurd fits
-  scheme_some Concept (Some m) fits k = (m, refl, fits)
-  scheme_some Collection None fits k = absurd fits
-  scheme_some Collection (Some m) fits k = (m, refl, fits)
+  scheme_some kind o fits k = grind (arith, common_steps)
 
   scheme_none : (kind : ResourceKind) (o : Option ℕ) → SchemeFits rs kind o → (is_scheme_kind kind ≡ true)
       ⊎ (is_outside_kind kind ≡ true) → o ≡ None
-  scheme_none Scheme o fits k = fits
-  scheme_none Outside o fits k = fits
-  scheme_none Concept o fits (inl e) = absurd (cc)
-  scheme_none Concept o fits (inr e) = absurd (cc)
-  scheme_none Collection o fits (inl e) = absurd (cc)
-  scheme_none Collection o fits (inr e) = absurd (cc)
+  scheme_none kind o fits k = grind (arith, common_steps)
 
   legal_of : (n : ℕ) (r : Resource) → ResourceFits rs n r → IsLegalResource rs n r
-  legal_of n r fits = record {
-    scheme = λ k. scheme_some r.kind r.scheme fits.0 k;
-    no_scheme = λ k. scheme_none r.kind r.scheme fits.0 k;
-    dead_is_concept = fits.1;
-    replaced = λ m e. subst (ReplacementFits rs n r) e fits.2;
-  }
+  legal_of n r fits = grind (arith, common_steps, scheme_none, scheme_some)
 
   fits_scheme : (kind : ResourceKind) (o : Option ℕ)
       → ((is_concept_kind kind ≡ true) ⊎ (is_collection_kind kind ≡ true) → (m : ℕ) × (o ≡ Some m) × IsScheme rs m)
       → ((is_scheme_kind kind ≡ true) ⊎ (is_outside_kind kind ≡ true) → o ≡ None) → SchemeFits rs kind o
-  fits_scheme Scheme o some none = none (inl refl)
-  fits_scheme Outside o some none = none (inr refl)
-  fits_scheme Concept o some none = let s = some (inl refl) in subst (SchemeFits rs Concept) (sym s.1) s.2
-  fits_scheme Collection o some none = let s = some (inr refl) in subst (SchemeFits rs Collection) (sym s.1) s.2
+  fits_scheme kind o some none = grind (arith, common_steps)
 
   fits_replacement : (n : ℕ) (r : Resource) (o : Option ℕ) → ((m : ℕ) → o ≡ Some m → ReplacementFits rs n r (Some m))
       → ReplacementFits rs n r o
@@ -72,11 +49,7 @@ module _ (rs : List Resource) where
   fits_replacement n r (Some m) each = each m refl
 
   fits_of : (n : ℕ) (r : Resource) → IsLegalResource rs n r → ResourceFits rs n r
-  fits_of n r legal = (
-    fits_scheme r.kind r.scheme legal.scheme legal.no_scheme,
-    legal.dead_is_concept,
-    fits_replacement n r r.replaced legal.replaced,
-  )
+  fits_of n r legal = grind (arith, common_steps, fits_replacement, fits_scheme)
 
   pub each_legal : EachResourceFits rs → (n : ℕ) (r : Resource) → entry_at rs n ≡ Some r → IsLegalResource rs n r
   each_legal each n r e = legal_of n r (each n r e)
@@ -89,29 +62,12 @@ module _ (rs : List Resource) where
       (subst (ReplacementFits rs n is.0) is.2 (each n is.0 is.1).2).1 (sym same)
 
   pub replacements_none : HasReplacements rs 0 empty
-  replacements_none = record {
-    sound = λ l held. let none = contains-empty link_cmp l in absurd (cc);
-    complete = λ m n le is. absurd (none m n le is);
-  }
-    where
-      none : (m n : ℕ) → m ≤ 0 → IsReplacedBy rs m n → ⊥
-      none zero n le is = let e = is.1 in cc
-      none (suc m) n le is = omega arith
+  replacements_none = grind (arith, common_steps, contains-empty)
 
   -- After a resource without a replacement, the graph has the replacements of all resources so far without a new link.
   pub replacements_skip : (i : ℕ) (links : Links) → replacement_of rs (i + 1) ≡ None → HasReplacements rs i links
       → HasReplacements rs (i + 1) links
-  replacements_skip i links none has = record {
-    sound = has.sound;
-    complete = λ m n le is. either m n le is (cases_eq m (i + 1));
-  }
-    where
-      either : (m n : ℕ) → m ≤ i + 1 → IsReplacedBy rs m n → (m ≡ i + 1) ⊎ (m ≢ i + 1)
-          → Holds links (record { kind = Broader; a = m; b = n })
-      either m n le is (inl same) =
-          let f : None ≡ Some n = sym none ∙ ap (replacement_of rs) (sym same) ∙ is_next rs m n is in
-          absurd (cc)
-      either m n le is (inr differ) = has.complete m n (omega (arith, le, differ)) is
+  replacements_skip i links none has = grind (arith, common_steps, cases_eq, is_next)
 
   -- After the link for a resource's replacement is added, the graph has the replacements of all resources so far.
   pub replacements_more : (i by : ℕ) (links : Links) → replacement_of rs (i + 1) ≡ Some by
@@ -124,9 +80,7 @@ module _ (rs : List Resource) where
     where
       sound_at : (l : Link) → (l ≡ record { kind = Broader; a = i + 1; b = by }) ⊎ Holds links l → (l.kind ≡ Broader)
           × IsReplacedBy rs l.a l.b
-      sound_at l (inl is) = subst (λ (x : Link). (x.kind ≡ Broader) × IsReplacedBy rs x.a x.b) (sym is)
-          (refl, next_is rs (i + 1) by is_by)
-      sound_at l (inr held) = has.sound l held
+      sound_at l h = grind (arith, common_steps, next_is)
 
       either : (m n : ℕ) → m ≤ i + 1 → IsReplacedBy rs m n → (m ≡ i + 1) ⊎ (m ≢ i + 1)
           → Holds (insert links (record { kind = Broader; a = i + 1; b = by }))
@@ -141,11 +95,7 @@ module _ (rs : List Resource) where
 
   broader_replaced : (most : ℕ) (links : Links) → HasReplacements rs most links → (x y : ℕ) → IsNarrower (Holds links)
       x y → IsReplacedBy rs x y
-  broader_replaced most links has x y (l, held, leads) =
-      let is = has.sound l held in
-      let forward : (l.a ≡ x) × (l.b ≡ y) = subst (λ (k : LinkKind). LinkLeads (broader_direction k) l.a l.b x y) is.0
-      leads in
-      subst (λ (p : ℕ × ℕ). IsReplacedBy rs p.0 p.1) (λ j. (forward.0 j, forward.1 j)) is.1
+  broader_replaced most links has x y (l, held, leads) = grind (arith, common_steps)
 
   replaced_broader : (links : Links) → HasReplacements rs (length rs) links → (x y : ℕ) → IsReplacedBy rs x y
       → IsNarrower (Holds links) x y
@@ -154,31 +104,15 @@ module _ (rs : List Resource) where
 
   no_cycle_of : (Held : Link → Type 0) (first : Option Refusal) → is_cycle first ≡ false → IsFirstBroken Held first
       → NoCycle Held
-  no_cycle_of Held None differ f = f.0
-  no_cycle_of Held (Some no.Cycle) differ f = absurd (cc)
-  no_cycle_of Held (Some no.S27) differ f = f.0
-  no_cycle_of Held (Some no.S46) differ f = f.0
-  no_cycle_of Held (Some _) differ f = absurd f
+  no_cycle_of Held first differ f = grind (arith, common_steps)
 
   cycle_of : (Held : Link → Type 0) (first : Option Refusal) → is_cycle first ≡ true → IsFirstBroken Held first
       → (x : ℕ) × IsBelow Held x x
-  cycle_of Held None is f = absurd (cc)
-  cycle_of Held (Some no.Cycle) is f = f
-  cycle_of Held (Some no.S27) is f = absurd (cc)
-  cycle_of Held (Some no.S46) is f = absurd (cc)
-  cycle_of Held (Some _) is f = absurd f
+  cycle_of Held first is f = grind (arith, common_steps)
 
   pub return_found : (links : Links) (first : Option Refusal) → HasReplacements rs (length rs) links
       → IsFirstBroken (Holds links) first → is_cycle first ≡ true → HasReturn rs true
-  return_found links first has broken is =
-      let chain = cycle_of (Holds links) first is broken in (
-        chain.0,
-        (
-          chain.1.0,
-          path_map (IsNarrower (Holds links)) (IsReplacedBy rs) (broader_replaced (length rs) links has)
-              chain.0 chain.1.0 chain.0 chain.1.1,
-        ),
-      )
+  return_found links first has broken is = grind (arith, common_steps, broader_replaced, cycle_of, path_map)
 
   pub return_none : (links : Links) (first : Option Refusal) → HasReplacements rs (length rs) links
       → IsFirstBroken (Holds links) first → is_cycle first ≡ false → HasReturn rs false

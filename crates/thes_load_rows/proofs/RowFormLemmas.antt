@@ -1,15 +1,14 @@
 -- Rows that meet the rule of a table have the form of its rows.
-use Rattle.std.proofs.Common.{◌≡◌, ◌<◌, ◌^◌, ℕ, length, List, refl, sym, ap, ◌∙◌, subst, arith, inl, inr, ◌≢◌}
+use Rattle.std.proofs.lemmas.Grind.{common_steps}
+use Rattle.std.proofs.Common.{◌≡◌, ◌<◌, ◌^◌, ℕ, length, List, refl, sym, subst, arith, ◌≢◌}
 use Rattle.std.specs.Prelude.{Option, None, Some}
 use Rattle.std.proofs.lemmas.Option.{same_Some}
 use Rattle.thes_base.specs.declared.data.Resource.{Resource}
 use Rattle.thes_base.specs.declared.data.ResourceKind.{ResourceKind}
-use Rattle.thes_base.specs.declared.data.ResourceKind.TheVariants.{Scheme, Concept, Collection, Outside}
 use Rattle.thes_base.specs.declared.data.Link.{Link}
 use Rattle.thes_base.specs.declared.data.Move.{Move}
 use Rattle.thes_base.specs.Forms.{IsNumber}
-use Rattle.thes_base.specs.Resources.{entry_at, IsScheme, IsConcept, is_scheme_kind, is_concept_kind}
-use Rattle.thes_base.specs.Resources.{is_collection_kind, is_outside_kind}
+use Rattle.thes_base.specs.Resources.{entry_at, IsScheme, IsConcept}
 use Rattle.thes_base.specs.Labels.{Label}
 use Rattle.thes_base.specs.Legal.{IsLegalResource, IsLegalLink, IsLegalMove}
 use Rattle.thes_base.proofs.LabelSetLemmas.{labels_total, labels_exact}
@@ -35,9 +34,7 @@ number_of rows n x few e = let b = numbered_bound rows n x e in (b.0, (let c = b
 module _ (rs : List Resource) (few : length rs < 2 ^ 32) where
   pub outside_form : (base : List ℕ) (rows : List (ℕ × List ℕ)) (x : ℕ × List ℕ) → OutsideRule base rs rows
       → IsIn x rows → HasOutsideForm x
-  outside_form base rows x rule h =
-      let at = rule.legal.only x.0 x.1 (row_iri 0 rows x rule.ascends h) in
-      (number_of rs x.0 at.0 few at.1, rule.forms x h)
+  outside_form base rows x rule h = grind (arith, common_steps, number_of, row_iri)
 
   pub label_form : (rows : List Label) (l : Label) → LabelRule rs rows → IsIn l rows → HasLabelForm l
   label_form rows l rule h =
@@ -45,11 +42,7 @@ module _ (rs : List Resource) (few : length rs < 2 ^ 32) where
       (number_of rs l.owner at.0 few at.1, rule.forms l h)
 
   link_ends : (l : Link) → IsLegalLink rs l → IsNumber l.a × IsNumber l.b
-  link_ends l legal = (
-    number_of rs l.a legal.live.0.0 few legal.live.0.1,
-    number_of rs l.b legal.live.1.0 few
-        legal.live.1.1,
-  )
+  link_ends l legal = grind (arith, common_steps, number_of)
 
   pub link_form : (rows : List Link) (l : Link) → LinkRule rs rows → IsIn l rows → HasLinkForm l
   link_form rows l rule h = let ends = link_ends l (rule.each l h) in (rule.kinds l h, ends.0, ends.1)
@@ -61,14 +54,7 @@ module _ (rs : List Resource) (few : length rs < 2 ^ 32) where
 
   pub posting_form : (rows : List PostingRow) (row : PostingRow) → PostingRule rs rows → IsIn row rows
       → HasPostingForm row
-  posting_form rows row rule h =
-      let at = in_numbered rows row h in
-      let c = rule.concepts row h in (
-        subst IsNumber (sym (rule.numbers at.0 row at.1)) (number_of rows at.0 row rule.few at.1),
-        rule.forms row h,
-        number_of rs row.first c.0.0 few c.0.1,
-        number_of rs row.place c.1.0 few c.1.1,
-      )
+  posting_form rows row rule h = grind (arith, common_steps, in_numbered, number_of)
 
   -- Rows of table move that meet its rule have the form of its rows.
   pub move_form : (ps : List PostingRow) (rows : List MoveRow) (row : MoveRow) → PostingRule rs ps
@@ -108,12 +94,7 @@ resource_form others n y rule e = (
     replaced (Some m) is = let by = (legal.replaced m is).2 in number_of others m by.0 rule.few by.1
 
     of_scheme : (o : Option ℕ) → y.scheme ≡ o → (m : ℕ) × (y.scheme ≡ Some m) × IsScheme others m → IsNumberOrNone o
-    of_scheme None is at = tt
-    of_scheme (Some m) is at = let same = same_Some _ _ (sym is ∙ at.1) in
-        subst IsNumber (sym same) (number_of others at.0 at.2.0 rule.few at.2.1)
+    of_scheme o is at = grind (arith, common_steps, number_of, same_Some)
 
     scheme : (k : ResourceKind) (o : Option ℕ) → y.kind ≡ k → y.scheme ≡ o → IsNumberOrNone o
-    scheme Scheme o kind is = subst IsNumberOrNone (sym (legal.no_scheme (inl (ap is_scheme_kind kind))) ∙ is) tt
-    scheme Outside o kind is = subst IsNumberOrNone (sym (legal.no_scheme (inr (ap is_outside_kind kind))) ∙ is) tt
-    scheme Concept o kind is = of_scheme o is (legal.scheme (inl (ap is_concept_kind kind)))
-    scheme Collection o kind is = of_scheme o is (legal.scheme (inr (ap is_collection_kind kind)))
+    scheme k o kind is = grind (arith, common_steps, legal, of_scheme)

@@ -1,5 +1,6 @@
 -- Each stage is right (HasRead) after the end of a table, whether or not the table meets its rule.
-use Rattle.std.proofs.Common.{◌≡◌, ℕ, List, [], ◌∷◌, refl, sym, ap, ◌∙◌, subst, inr}
+use Rattle.std.proofs.lemmas.Grind.{common_steps}
+use Rattle.std.proofs.Common.{◌≡◌, ℕ, List, [], ◌∷◌, refl, sym, ap, ◌∙◌, subst, inr, arith}
 use Rattle.std.specs.Prelude.{None, Some}
 use Rattle.std.proofs.lemmas.List.{append-nil}
 use Rattle.std.proofs.lemmas.Option.{same_Some}
@@ -51,14 +52,7 @@ meta_base base load none = (
 
 pub resource_bad : (base : List ℕ) (load : ResourceLoad) → (ResourceRule load.resources.items → ⊥)
     → Closes (stage.Resource base load) (stage.Stopped (BadStore table.Resource) table.Outside)
-resource_bad base load broken = (
-  refl,
-  λ raw (t, passes, same, read, are, after) more (e0, e1, grows).
-      (verdict_by_table more t).resource (meta_stays raw more t e0 passes)
-      (λ rows (is, rule).
-      broken (subst ResourceRule (resources_one 1 1 rows t.resource (same_Some _ _ (sym is ∙ e1 ∙ read)) ∙ are)
-      rule)),
-)
+resource_bad base load broken = grind (arith, common_steps, meta_stays, resources_one, same_Some, verdict_by_table)
 
 -- If table resource meets its rule, table outside begins without rows.
 pub resource_good : (base : List ℕ) (load : ResourceLoad) (new : OutsideLoad) → ResourceRule load.resources.items
@@ -200,16 +194,7 @@ same_grows None queried e = e
 same_grows (Some rows) queried e = inr ([], e ∙ ap (λ (l : List (List Cell)). Some l) (sym (append-nil rows)))
 
 extends_earlier : (at : Table) (raw more : Raw) → ExtendsTable (next_table at) raw more → ExtendsTable at raw more
-extends_earlier table.Meta raw more (e0, grows) = same_grows raw.meta more.meta e0
-extends_earlier table.Resource raw more (e0, e1, grows) = (e0, same_grows raw.resource more.resource e1)
-extends_earlier table.Outside raw more (e0, e1, e2, grows) = (e0, e1, same_grows raw.outside more.outside e2)
-extends_earlier table.Label raw more (e0, e1, e2, e3, grows) = (e0, e1, e2, same_grows raw.label more.label e3)
-extends_earlier table.Link raw more (e0, e1, e2, e3, e4, grows) = (e0, e1, e2, e3, same_grows raw.link more.link e4)
-extends_earlier table.Hier raw more (e0, e1, e2, e3, e4, e5, grows) =
-    (e0, e1, e2, e3, e4, same_grows raw.hier more.hier e5)
-extends_earlier table.Posting raw more (e0, e1, e2, e3, e4, e5, e6, grows) =
-    (e0, e1, e2, e3, e4, e5, same_grows raw.posting more.posting e6)
-extends_earlier table.Move raw more extends = extends
+extends_earlier at raw more extends = grind (arith, common_steps, same_grows)
 
 pub stopped_on : (fault : Fault) (at : Table) → Closes (stage.Stopped fault at) (stage.Stopped fault (next_table at))
 stopped_on fault at = (refl, λ raw stays more extends. stays more (extends_earlier at raw more extends))

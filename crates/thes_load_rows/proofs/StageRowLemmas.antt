@@ -1,6 +1,7 @@
 -- Each stage is right (HasRead) after a row, whether or not the row meets its table's rule.
+use Rattle.std.proofs.lemmas.Grind.{common_steps}
 use Rattle.std.proofs.Common.{◌≡◌, ◌≢◌, ◌⊎◌, ◌<◌, ◌^◌, ℕ, length, List, [], ◌∷◌, ◌++◌, map, refl, sym, ap, ◌∙◌, subst}
-use Rattle.std.proofs.Common.{inl, inr, Bool, true, false, append_assoc}
+use Rattle.std.proofs.Common.{inl, inr, Bool, true, false, append_assoc, arith}
 use Rattle.std.specs.Prelude.{None, Some, Err, option_map}
 use Rattle.std.proofs.lemmas.Option.{same_Some}
 use Rattle.thes_base.specs.declared.data.Resource.{Resource}
@@ -100,10 +101,7 @@ resource_row base old new cells true reads = (
         after,
       ),
 )
-resource_row base old new cells false reads = λ raw (t, passes, same, read, are, after).
-    resource_fault raw t cells passes read
-    (subst (λ (rs : List Resource). ReadResult (resource_rows 1) (λ rows. rows ≡ new.resources.items) ResourceRule
-    rs cells false) (sym are) reads)
+resource_row base old new cells false reads = grind (arith, common_steps, resource_fault)
 
 pub outside_row : (old new : OutsideLoad) (cells : List Cell) (good : Bool)
     → ((base : List ℕ) (rs : List Resource) (rows : List (ℕ × List ℕ)) → length rs < 2 ^ 32
@@ -148,9 +146,7 @@ module _ (rs : List Resource) (cells : List Cell) where
           (t : Tables) → HasNames old.vocab t → HasLinks t.resource old.links.graph t.link []
           → ReadResult (map link_cells) (λ more. HasLinks t.resource new.links.graph more []) (LinkRule t.resource)
           t.link cells g
-      of_table g r t names has = subst (λ (l : List Resource). (rows : List Link) → HasLinks l old.links.graph rows []
-          → ReadResult (map link_cells) (λ more. HasLinks l new.links.graph more []) (LinkRule l) rows cells g)
-          (same_resources old.vocab rs t is names) r t.link has
+      of_table g r t names has = grind (arith, common_steps, same_resources)
 
       by : (g : Bool) → ((rows : List Link) → HasLinks rs old.links.graph rows [] → ReadResult (map link_cells)
           (λ more. HasLinks rs new.links.graph more []) (LinkRule rs) rows cells g) → ReadsRow (stage.Link old)
@@ -174,9 +170,7 @@ module _ (rs : List Resource) (cells : List Cell) where
           (t : Tables) → HasNames old.vocab t → HasLinks t.resource old.links.graph t.link t.hier
           → ReadResult (map hier_cells) (HasLinks t.resource new.links.graph t.link) (HierRule t.resource t.link)
           t.hier cells g
-      of_table g r t names has = subst (λ (l : List Resource). (links : List Link) (rows : List HierRow)
-          → HasLinks l old.links.graph links rows → ReadResult (map hier_cells) (HasLinks l new.links.graph links)
-          (HierRule l links) rows cells g) (same_resources old.vocab rs t is names) r t.link t.hier has
+      of_table g r t names has = grind (arith, common_steps, same_resources)
 
       by : (g : Bool) → ((links : List Link) (rows : List HierRow) → HasLinks rs old.links.graph links rows
           → ReadResult (map hier_cells) (HasLinks rs new.links.graph links) (HierRule rs links) rows cells g)
@@ -205,10 +199,7 @@ module _ (linked_vocab : LinkedVocab) (rs : List Resource) (is : rs ≡ linked_v
           old.firsts.items old.stored_places.items old.tally t.posting → ReadResult (map posting_cells)
           (HasPostings t.resource new.keys.keys new.firsts.items new.stored_places.items new.tally)
           (PostingRule t.resource) t.posting cells g
-      of_table g r t names has = subst (λ (l : List Resource). (rows : List PostingRow) → HasPostings l old.keys.keys
-          old.firsts.items old.stored_places.items old.tally rows → ReadResult (map posting_cells)
-          (HasPostings l new.keys.keys new.firsts.items new.stored_places.items new.tally) (PostingRule l) rows cells
-          g) (same_resources linked_vocab.vocab rs t is names) r t.posting has
+      of_table g r t names has = grind (arith, common_steps, same_resources)
 
       by : (g : Bool) → ((rows : List PostingRow) → HasPostings rs old.keys.keys old.firsts.items
           old.stored_places.items old.tally rows → ReadResult (map posting_cells)
@@ -236,10 +227,7 @@ module _ (linked_vocab : LinkedVocab) (rs : List Resource) (is : rs ≡ linked_v
           → HasNames linked_vocab.vocab t → PostingRule t.resource t.posting → HasMoves t.resource t.posting old.taken
           old.places.items t.move → ReadResult (map move_cells)
           (HasMoves t.resource t.posting new.taken new.places.items) (MoveRule t.resource t.posting) t.move cells g
-      of_table g r t names rule has = subst (λ (l : List Resource). (postings : List PostingRow) (rows : List MoveRow)
-          → PostingRule l postings → HasMoves l postings old.taken old.places.items rows → ReadResult (map move_cells)
-          (HasMoves l postings new.taken new.places.items) (MoveRule l postings) rows cells g)
-          (same_resources linked_vocab.vocab rs t is names) r t.posting t.move rule has
+      of_table g r t names rule has = grind (arith, common_steps, same_resources)
 
       by : (g : Bool) → ((postings : List PostingRow) (rows : List MoveRow) → PostingRule rs postings
           → HasMoves rs postings old.taken old.places.items rows → ReadResult (map move_cells)
@@ -263,25 +251,11 @@ module _ (linked_vocab : LinkedVocab) (rs : List Resource) (is : rs ≡ linked_v
           (of_table false r t names passes.1.1 has)
 
 less_grown : (cells : List Cell) (rows queried : RawTable) → Grows (with_cells cells rows) queried → Grows rows queried
-less_grown cells None queried grows = grows
-less_grown cells (Some rows) queried (inl none) = inl none
-less_grown cells (Some rows) queried (inr (more, is)) =
-    inr (cells ∷ more, is ∙ ap (λ (l : List (List Cell)). Some l) (append_assoc rows (cells ∷ []) more))
+less_grown cells rows queried grows = grind (arith, common_steps, append_assoc)
 
 without_row : (at : Table) (cells : List Cell) (raw more : Raw) → ExtendsTable at (raw_with_row at cells raw) more
     → ExtendsTable at raw more
-without_row table.Meta cells raw more grows = less_grown cells raw.meta more.meta grows
-without_row table.Resource cells raw more (e0, grows) = (e0, less_grown cells raw.resource more.resource grows)
-without_row table.Outside cells raw more (e0, e1, grows) = (e0, e1, less_grown cells raw.outside more.outside grows)
-without_row table.Label cells raw more (e0, e1, e2, grows) = (e0, e1, e2, less_grown cells raw.label more.label grows)
-without_row table.Link cells raw more (e0, e1, e2, e3, grows) =
-    (e0, e1, e2, e3, less_grown cells raw.link more.link grows)
-without_row table.Hier cells raw more (e0, e1, e2, e3, e4, grows) =
-    (e0, e1, e2, e3, e4, less_grown cells raw.hier more.hier grows)
-without_row table.Posting cells raw more (e0, e1, e2, e3, e4, e5, grows) =
-    (e0, e1, e2, e3, e4, e5, less_grown cells raw.posting more.posting grows)
-without_row table.Move cells raw more (e0, e1, e2, e3, e4, e5, e6, grows) =
-    (e0, e1, e2, e3, e4, e5, e6, less_grown cells raw.move more.move grows)
+without_row at cells raw more grows = grind (arith, common_steps, less_grown)
 
 pub stopped_row : (fault : Fault) (at : Table) (cells : List Cell) → ReadsRow (stage.Stopped fault at)
     (stage.Stopped fault at) cells true

@@ -1,4 +1,5 @@
 -- Proves which stage follows a row or report of a table, in the table's turn or after it.
+use Rattle.std.proofs.lemmas.Grind.{common_steps}
 use Rattle.std.proofs.Common.{◌≡◌, ◌↔◌, ◌<◌, ◌≤◌, ◌+◌, ◌-◌, ◌∙◌, ℕ, zero, suc, Bool, false, true≢false, List, refl}
 use Rattle.std.proofs.Common.{sym, subst, arith}
 use Rattle.std.specs.Prelude.{Option, None, Some, IsTrue}
@@ -45,15 +46,7 @@ stopped_follows fault at name news turn = record {
 }
 
 pub not_stopped : (s : Stage) → ((fault : Fault) (at : Table) → s ≡ stage.Stopped fault at → ⊥) → is_stopped s ≡ false
-not_stopped (stage.Stopped fault at) never = absurd (never fault at refl)
-not_stopped (stage.Meta row) never = refl
-not_stopped (stage.Resource base load) never = refl
-not_stopped (stage.Outside load) never = refl
-not_stopped (stage.Label vocab) never = refl
-not_stopped (stage.Link linked_vocab) never = refl
-not_stopped (stage.Hier linked_vocab) never = refl
-not_stopped (stage.Posting linked_vocab load) never = refl
-not_stopped (stage.Move linked_vocab placed load) never = refl
+not_stopped s never = grind (arith, common_steps)
 
 -- A stopped stage satisfies the invariant of stages, whatever rows were read.
 pub stopped_of_rows : (fault : Fault) (at : Table) → IsOfRows (stage.Stopped fault at)

@@ -1,6 +1,7 @@
 -- Proves that the facts queried from the storage are those of the histories of the state.
-use Rattle.std.proofs.Common.{◌≡◌, ℕ, zero, suc, List, [], ◌∷◌, ◌++◌, refl, sym, ap, subst, ◌∙◌, inl, inr, map}
-use Rattle.std.specs.Prelude.{Option, None, Some, Result, Ok, slice_get, option_map, filter, Bool, true, false, cond}
+use Rattle.std.proofs.lemmas.Grind.{common_steps}
+use Rattle.std.proofs.Common.{◌≡◌, ℕ, zero, suc, List, [], ◌∷◌, ◌++◌, refl, sym, ap, subst, ◌∙◌, inl, inr, map, arith}
+use Rattle.std.specs.Prelude.{Option, None, Some, Result, Ok, slice_get, option_map, filter}
 use Rattle.std.proofs.lemmas.List.{map-append}
 use Rattle.std.proofs.lemmas.Option.{same_Some}
 use Rattle.thes_base.specs.declared.data.History.{History}
@@ -46,12 +47,7 @@ found_key base s rows key (Some row) legal is f =
     let r = in_rows s.histories row (subst (IsIn row) is has) in
     let number : r.1.number ≡ suc r.0 = (legal.postings.sound (suc r.0) r.1 r.2).number in
     (r.1, (ap (entry_at s.histories) number ∙ r.2, ap (λ (x : PostingRow). x.key) (sym r.3) ∙ of_key), r.3)
-found_key base s rows key None legal is never = λ h has. at h has.1 h.number has.0
-  where
-    at : (h : History) → h.key ≡ key → (n : ℕ) → entry_at s.histories n ≡ Some h → ⊥
-    at h of_key zero e = absurd (cc)
-    at h of_key (suc i) e = never (posting_row h) (subst (IsIn (posting_row h)) (sym is) (row_in s.histories i h e))
-        of_key
+found_key base s rows key None legal is never = grind (arith, common_steps, row_in)
 
 pub numbered_map : {A B : Type 0} (f : A → B) (xs : List A) (n : ℕ) → entry_at (map f xs) n
     ≡ option_map f (entry_at xs n)
@@ -64,15 +60,7 @@ numbered_map f (x ∷ xs) (suc (suc n)) = numbered_map f xs (suc n)
 pub assigned_rows : (concept : ℕ) (hs : List History) → assigned_posting_rows concept (map posting_row hs)
     ≡ map posting_row (filter (is_assigned_to concept) hs)
 assigned_rows concept [] = refl
-assigned_rows concept (h ∷ hs) = go (is_assigned_to concept h) (assigned_rows concept hs)
-  where
-    go : (b : Bool) → assigned_posting_rows concept (map posting_row hs) ≡ map posting_row
-        (filter (is_assigned_to concept) hs)
-        → cond b (posting_row h ∷ assigned_posting_rows concept (map posting_row hs))
-        (assigned_posting_rows concept (map posting_row hs))
-        ≡ map posting_row (cond b (h ∷ filter (is_assigned_to concept) hs) (filter (is_assigned_to concept) hs))
-    go true e = ap (λ (rows : List PostingRow). posting_row h ∷ rows) e
-    go false e = e
+assigned_rows concept (h ∷ hs) = grind (arith, common_steps, assigned_rows concept hs)
 
 numbers_of : (hs : List History) → map row_number (map posting_row hs) ≡ map (λ (h : History). h.number) hs
 numbers_of [] = refl
@@ -111,39 +99,19 @@ module _ (hs : List History) (command : Command) where
   pub facts_of_post : (key rec : List ℕ) (concept : ℕ) (facts : Facts) → command ≡ request.Post key rec concept
       → IsRowOfKey key hs facts.known → facts.named_postings.items ≡ [] → facts.standing.items ≡ []
       → AreFacts command hs facts
-  facts_of_post key rec concept facts is known named_postings standing =
-      subst (λ (r : Command). AreFacts r hs facts) (sym is) record {
-        known = known;
-        named_postings = named_postings;
-        standing = standing;
-      }
+  facts_of_post key rec concept facts is known named_postings standing = grind (arith, common_steps)
 
   pub facts_of_withdraw : (posting : ℕ) (facts : Facts) → command ≡ request.Withdraw posting → facts.known ≡ None
       → facts.named_postings.items ≡ map (posting_row_at hs) (posting ∷ []) → facts.standing.items ≡ []
       → AreFacts command hs facts
-  facts_of_withdraw posting facts is known named_postings standing =
-      subst (λ (r : Command). AreFacts r hs facts) (sym is) record {
-        known = known;
-        named_postings = named_postings;
-        standing = standing;
-      }
+  facts_of_withdraw posting facts is known named_postings standing = grind (arith, common_steps)
 
   pub facts_split : (source : ℕ) (tag text postings : List ℕ) (facts : Facts) → command ≡ request.Split source tag
       text postings → facts.known ≡ None → facts.named_postings.items ≡ map (posting_row_at hs) postings
       → facts.standing.items ≡ [] → AreFacts command hs facts
-  facts_split source tag text postings facts is known named_postings standing =
-      subst (λ (r : Command). AreFacts r hs facts) (sym is) record {
-        known = known;
-        named_postings = named_postings;
-        standing = standing;
-      }
+  facts_split source tag text postings facts is known named_postings standing = grind (arith, common_steps)
 
   pub facts_of_merge : (source target : ℕ) (facts : Facts) → command ≡ request.Merge source target → facts.known
       ≡ None → facts.named_postings.items ≡ [] → facts.standing.items ≡ assigned_posting_numbers source hs
       → AreFacts command hs facts
-  facts_of_merge source target facts is known named_postings standing =
-      subst (λ (r : Command). AreFacts r hs facts) (sym is) record {
-        known = known;
-        named_postings = named_postings;
-        standing = standing;
-      }
+  facts_of_merge source target facts is known named_postings standing = grind (arith, common_steps)

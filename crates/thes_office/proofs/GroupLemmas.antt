@@ -1,11 +1,12 @@
 -- Proves that the changes of the posts of a group, one after another, lead from the rows of the state before the group
 -- to those of the state after it, and that the facts about each of them are those of the tables.
+use Rattle.std.proofs.lemmas.Grind.{common_steps}
 use Rattle.std.proofs.Common.{◌≡◌, ◌++◌, ◌∷◌, [], ◌<◌, ◌+◌, ◌∙◌, ℕ, suc, List, refl, sym, ap, subst, take, length}
 use Rattle.std.proofs.Common.{arith, inl, inr, append-nil}
 use Rattle.std.proofs.lemmas.List.{take-append-le, take_all}
 use Rattle.std.proofs.lemmas.Option.{slice_get_within}
 use Rattle.std.proofs.lemmas.List.Elements.{All-pop}
-use Rattle.std.specs.Prelude.{Err, None, Ok, Option, Result, Some, slice_get}
+use Rattle.std.specs.Prelude.{Option, Result, Some, slice_get}
 use Rattle.thes_base.specs.declared.data.History.{History}
 use Rattle.thes_base.specs.declared.data.Limits.{Limits}
 use Rattle.thes_base.specs.declared.fault.Fault.{Fault}
@@ -25,7 +26,7 @@ use Rattle.thes_tables.specs.declared.rows.PostingRow.{PostingRow}
 use Rattle.thes_tables.specs.Cells.{Raw, cells_of_tables}
 use Rattle.thes_tables.specs.ChangeLaw.{AreChangesBetween}
 use Rattle.thes_tables.specs.Rows.{tables_after_delta}
-use Rattle.thes_tables.specs.Tables.{Tables, IsRowsOf}
+use Rattle.thes_tables.specs.Tables.{Tables}
 use Rattle.thes_tables.proofs.DeltaAppendLemmas.{all_append, fit_append}
 use Rattle.thes_store.specs.Storage.{StorageView}
 use Rattle.thes_core.specs.declared.facts.Facts.{Facts}
@@ -36,7 +37,7 @@ use Rattle.thes_core.proofs.DeltaLemmas.{take_got}
 use Rattle.thes_core.proofs.NextStateLemmas.{step_of_accepted}
 use Rattle.thes_office.specs.Groups.{GroupDecided, GroupResult, HasFactsOf, IsDecided, IsGroup, IsNewPost, IsPostOf}
 use Rattle.thes_office.specs.Groups.{TablesAfterGroup}
-use Rattle.thes_office.specs.Office.{ChangesNothing, IsCopy, OfficeView, SameTables, TablesAfterRun}
+use Rattle.thes_office.specs.Office.{ChangesNothing, IsCopy, OfficeView, SameTables}
 use Rattle.thes_office.specs.TablesOfState.{TablesOfState}
 use Rattle.thes_office.proofs.OfficeViewLemmas.{all_parts, run_push}
 use Rattle.thes_office.proofs.StateTableLemmas.{state_after_changes}
@@ -68,12 +69,7 @@ group_grows commands n command at group new =
 -- The changes to a state, and those from it to another, lead to the other.
 changes_then : (base : List ℕ) (s t u : State) (xs ys : List Change) → AreChangesBetween base xs s t
     → AreChangesBetween base ys t u → AreChangesBetween base (xs ++ ys) s u
-changes_then base s t u xs ys a b = record {
-  rows = λ tables is. subst (IsRowsOf base u) (sym (all_append xs ys tables))
-      (b.rows (tables_after_delta xs tables) (a.rows tables is));
-  fit = λ tables is. fit_append xs ys tables (a.fit tables is)
-      (b.fit (tables_after_delta xs tables) (a.rows tables is));
-}
+changes_then base s t u xs ys a b = grind (arith, common_steps, all_append, fit_append)
 
 -- No changes lead from a state to itself.
 pub no_changes : (base : List ℕ) (s : State) → AreChangesBetween base [] s s
@@ -82,19 +78,14 @@ no_changes base s = record { rows = λ tables is. is; fit = λ tables is. tt }
 -- A new posting with another key leaves the posting of a key as it is.
 row_stays : (key : List ℕ) (hs : List History) (new : History) (found : Option PostingRow) → (new.key ≡ key → ⊥)
     → IsRowOfKey key hs found → IsRowOfKey key (hs ++ new ∷ []) found
-row_stays key hs new (Some row) other is = (is.0, (push_old hs new is.0 is.0.number is.1.0, is.1.1), is.2)
-row_stays key hs new None other never = λ h has. elim (push_cases hs new h h.number has.0) [
-  | inl before ↦ never h (before, has.1)
-  | inr last ↦ other (ap (λ (x : History). x.key) (sym last.1) ∙ has.1)
-]
+row_stays key hs new found other is = grind (arith, common_steps, push_cases, push_old)
 
 -- A decided post leaves the facts about a post with another key as they are.
 facts_stay : (setting : Setting) (s t : State) (k r : List ℕ) (c : ℕ) (answer : Answer) (key rec : List ℕ) (concept : ℕ)
     (facts : Facts) → Step setting s (request.Post k r c) answer t → (k ≡ key → ⊥)
     → AreFacts (request.Post key rec concept) s.histories facts
     → AreFacts (request.Post key rec concept) t.histories facts
-facts_stay setting s t k r c answer key rec concept facts (inl known) other are =
-    subst (λ (x : State). AreFacts (request.Post key rec concept) x.histories facts) (sym known.1) are
+facts_stay setting s t k r c answer key rec concept facts (inl known) other are = grind (arith, common_steps)
 facts_stay setting s t k r c answer key rec concept facts (inr (new, inl refused)) other are =
     subst (λ (x : State). AreFacts (request.Post key rec concept) x.histories facts) (sym refused.3) are
 facts_stay setting s t k r c answer key rec concept facts (inr (new, inr accepted)) other are =
@@ -245,13 +236,4 @@ module _ {K : Type 0} (view : K → StorageView) where
       (result : Result (Unit {0}) Fault) → mid.limits ≡ old.limits → SameTables view old mid
       → ((view new.keeper).is_up → (view mid.keeper).is_up) → GroupResult view mid group before last result new
       → GroupResult view old group before last result new
-  group_after_reload old mid new group before last (Ok done) limits same was x = record {
-    answers = x.answers;
-    each = x.each;
-    kept = x.kept;
-    goes_on = λ up. subst (λ (p : Limits × Raw). TablesAfterRun p.0 p.1 group x.answers (view new.keeper).rows)
-        (λ i. (limits i, same (was up) i)) (x.goes_on up);
-    same = λ up all. x.same up all ∙ same (was up);
-  }
-  group_after_reload old mid new group before last (Err fault) limits same was x =
-      (x.0, λ up. x.1 up ∙ same (was up))
+  group_after_reload old mid new group before last result limits same was x = grind (arith, common_steps)

@@ -1,6 +1,7 @@
 -- Proves that a core built from all rows of the storage is a copy of its tables, and that a fault
 -- other than OutOfMemory and Store is their verdict.
-use Rattle.std.proofs.Common.{◌≡◌, ◌≢◌, ◌⊎◌, sym, subst, ◌∙◌, inl, inr}
+use Rattle.std.proofs.lemmas.Grind.{common_steps}
+use Rattle.std.proofs.Common.{◌≡◌, ◌≢◌, ◌⊎◌, sym, subst, ◌∙◌, inl, inr, arith}
 use Rattle.std.specs.Prelude.{Err}
 use Rattle.thes_base.specs.declared.data.Limits.{Limits}
 use Rattle.thes_base.specs.declared.fault.Fault.{Fault}
@@ -26,43 +27,7 @@ loaded_copies raw limits copy set is = record {
 
 -- The verdict on rows is never Store.
 pub never_store : (raw : Raw) (fault : Fault) → HasVerdict raw (Err fault) → fault ≡ faults.Store → ⊥
-never_store raw fault (inl (newer, e)) is = absurd (cc)
-never_store raw fault (inr (n, inl (older, e))) is = absurd (cc)
-never_store raw fault (inr (n, inr (o, inl (meta, e)))) is = absurd (cc)
-never_store raw fault (inr (n, inr (o, inr (base, b, inl (resource, e))))) is = absurd (cc)
-never_store raw fault (inr (n, inr (o, inr (base, b, inr (rs, r, inl (outside, e)))))) is = absurd (cc)
-never_store raw fault (inr (n, inr (o, inr (base, b, inr (rs, r, inr (os, p, inl (label, e))))))) is = absurd (cc)
-never_store raw fault (inr (n, inr (o, inr (base, b, inr (rs, r, inr (os, p, inr (ls, l, inl (link, e)))))))) is =
-    absurd (cc)
-never_store raw fault
-    (inr (n, inr (o, inr (base, b, inr (rs, r, inr (os, p, inr (ls, l, inr (ks, k, inl (hier, e))))))))) is =
-    absurd (cc)
-never_store raw fault
-    (inr (
-      n,
-      inr (o, inr (base, b, inr (rs, r, inr (os, p, inr (ls, l, inr (ks, k, inr (hs, h, inl (posting, e)))))))),
-    )) is =
-    absurd (cc)
-never_store raw fault
-    (inr (
-      n,
-      inr (
-        o,
-        inr
-            (base, b, inr (rs, r, inr (os, p, inr (ls, l, inr (ks, k, inr (hs, h, inr (ps, q, inl (move, e)))))))),
-      ),
-    )) is =
-    absurd (cc)
-never_store raw fault
-    (inr (
-      n,
-      inr (
-        o,
-        inr
-            (base, b, inr (rs, r, inr (os, p, inr (ls, l, inr (ks, k, inr (hs, h, inr (ps, q, inr (ms, m, e)))))))),
-      ),
-    )) is =
-    absurd (cc)
+never_store raw fault h is = grind (arith, common_steps)
 
 -- The fault that a load returns is OutOfMemory, Store or the verdict on the rows.
 pub verdict_of_fault : (raw : Raw) (fault told : Fault) → (fault ≢ faults.Store → told ≡ fault)
@@ -76,6 +41,4 @@ verdict_of_fault raw fault told same (inr loads) =
 pub found_fault : {finds : Raw → Type 0} {fault : Fault} (raw : Raw) → finds raw
     → (fault ≡ faults.OutOfMemory) ⊎ ((fault ≡ faults.Store) ⊎ HasVerdict raw (Err fault))
     → IsFaultOfFound finds fault
-found_fault raw found (inl is) = inl is
-found_fault raw found (inr (inl is)) = inr (inl is)
-found_fault raw found (inr (inr loads)) = inr (inr (raw, found, loads))
+found_fault raw found h = grind (arith, common_steps)

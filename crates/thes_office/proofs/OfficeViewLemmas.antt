@@ -1,5 +1,6 @@
 -- Proves the effect of each call of an office on the tables, and that the call keeps the invariant
 -- of the office.
+use Rattle.std.proofs.lemmas.Grind.{common_steps}
 use Rattle.std.proofs.Common.{◌≡◌, ◌⊎◌, ◌++◌, ◌∷◌, [], ℕ, List, Bool, true, false, refl, sym, ap, subst, ◌∙◌, inl}
 use Rattle.std.proofs.Common.{inr, append_assoc, append-nil, length, arith}
 use Rattle.std.proofs.Common.{◌<◌, ◌≤◌, length-append}
@@ -44,16 +45,11 @@ empty_run limits raw base s shows in_order = record {
 
 -- The count of failures never decreases.
 pub never_falls : {T : Type 0} (before now : ℕ) (result : Result T Fault) → HasCause before now result → before ≤ now
-never_falls before now (Ok x) cause = omega (arith, cause)
-never_falls before now (Err fault) (inl (memory, same)) = omega (arith, same)
-never_falls before now (Err fault) (inr (store, inl more)) = omega (arith, more)
-never_falls before now (Err fault) (inr (store, inr (at_most, same))) = omega (arith, same)
+never_falls before now result cause = grind (arith, common_steps)
 
 -- After a Store fault, the count of failures isn't zero.
 pub has_failed : (before now : ℕ) (fault : Fault) → IsCounted before now fault → fault ≡ faults.Store → 0 < now
-has_failed before now fault (inl (memory, same)) is = absurd (cc)
-has_failed before now fault (inr (e, inl more)) is = omega (arith, more)
-has_failed before now fault (inr (e, inr (at_most, same))) is = omega (arith, at_most, same)
+has_failed before now fault h is = grind (arith, common_steps)
 
 module _ {K : Type 0} (view : K → StorageView) where
   -- A load establishes the invariant, with a copy that isn't stale.
@@ -133,16 +129,7 @@ module _ {K : Type 0} (view : K → StorageView) where
   -- A call without a fault has the same effects, whatever value it returns.
   pub behaviour_with_value : {A B : Type 0} (old new : OfficeView K) (a : A) (b : B) → FaultBehaviour view old new
       (let x : Result A Fault = Ok a in x) → FaultBehaviour view old new (let x : Result B Fault = Ok b in x)
-  behaviour_with_value old new a b fault_behaviour = record {
-    limits = fault_behaviour.limits;
-    was = fault_behaviour.was;
-    later = fault_behaviour.later;
-    count = fault_behaviour.count;
-    store = tt;
-    other_faults = tt;
-    stale = tt;
-    fault = λ up. tt;
-  }
+  behaviour_with_value old new a b fault_behaviour = grind (arith, common_steps)
 
   -- After a reload, `ready` returns a current copy.
   pub ready_core : (old : OfficeView K) (keeper : K) (copy : core.CoreView) (limits : Limits) (stale : Bool)
@@ -333,16 +320,7 @@ module _ {K : Type 0} (view : K → StorageView) where
   pub run_completes : (old now : OfficeView K) (commands rest : List Command) (before after : List Answer)
       → RunSoFar old now commands rest before after → length rest ≡ 0
       → CompleteRun view old commands before after now
-  run_completes old now commands [] before after r none =
-      let done : r.commands_done ≡ commands = sym (append-nil r.commands_done) ∙ sym r.all in record {
-        answers = r.given;
-        each = r.each ∙ ap (λ (l : List Command). length l) done;
-        kept = r.kept;
-        goes_on = λ up. subst (λ (l : List Command). TablesAfterRun old.limits (view old.keeper).rows l r.given
-            (view now.keeper).rows) done (r.goes_on up);
-        same = r.same;
-      }
-  run_completes old now commands (x ∷ rest) before after r none = absurd (omega (arith, none))
+  run_completes old now commands rest before after r none = grind (arith, common_steps, append-nil)
 
   -- A fault before a request makes the progress a partial run.
   pub run_stops : (old now last : OfficeView K) (commands rest : List Command) (before after told : List Answer)
@@ -351,15 +329,4 @@ module _ {K : Type 0} (view : K → StorageView) where
       → ((view last.keeper).is_up → (view last.keeper).rows ≡ (view now.keeper).rows) → told ≡ after
       → PartialRun view old commands
       before told last
-  run_stops old now last commands rest before after told more r was same is = record {
-    commands_done = r.commands_done;
-    commands_left = rest;
-    answers = r.given;
-    all = r.all;
-    some = more;
-    each = r.each;
-    kept = is ∙ r.kept;
-    goes_on = λ up. subst (λ (l : Raw). TablesAfterRun old.limits (view old.keeper).rows r.commands_done r.given l)
-        (sym (same up)) (r.goes_on (was up));
-    same = λ up all. same up ∙ r.same (was up) all;
-  }
+  run_stops old now last commands rest before after told more r was same is = grind (arith, common_steps)

@@ -1,5 +1,6 @@
 -- Proves that queries of postings return the histories, rows and totals of the state.
-use Rattle.std.proofs.Common.{◌≡◌, ◌-◌, ℕ, List, [], ◌∷◌, refl, sym, ap, subst, ◌∙◌, inl, map}
+use Rattle.std.proofs.lemmas.Grind.{common_steps}
+use Rattle.std.proofs.Common.{◌≡◌, ◌-◌, ℕ, List, [], ◌∷◌, refl, sym, ap, subst, ◌∙◌, inl, map, arith}
 use Rattle.std.specs.Prelude.{Option, None, Some, Result, option_map}
 use Rattle.thes_base.specs.declared.data.History.{History}
 use Rattle.thes_base.specs.declared.data.Move.{Move}
@@ -64,12 +65,7 @@ history_of_posting raw base s x n told is =
 -- A number without a posting has no history.
 pub history_of_none : (raw : Raw) (base : List ℕ) (s : State) (x : TablesOfState raw base s) (n : ℕ)
     → IsPostingOfNumber n x.tables None → None ≡ entry_at s.histories n
-history_of_none raw base s x n is =
-    let hs : map (tables.history_of x.tables.move) x.tables.posting ≡ s.histories =
-    ap (λ (t : State). t.histories) (held_loads base s x.tables x.legal x.holds).1 in
-    ap (option_map (tables.history_of x.tables.move)) (sym is)
-    ∙ sym (numbered_map (tables.history_of x.tables.move) x.tables.posting n)
-    ∙ ap (λ (l : List History). entry_at l n) hs
+history_of_none raw base s x n is = grind (arith, common_steps, held_loads, numbered_map)
 
 -- The check of a concept gives the same answer in the copy as in the state.
 pub concept_check_of_copy : (raw : Raw) (limits : Limits) (copy : core.CoreView) → IsCopy raw limits copy

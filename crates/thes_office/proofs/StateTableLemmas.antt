@@ -1,6 +1,7 @@
 -- Proves that the rows of a legal state load and encode no other state, and that the changes to a
 -- next state make them the rows of that state.
-use Rattle.std.proofs.Common.{◌≡◌, ℕ, List, sym, ap, subst, ◌∙◌}
+use Rattle.std.proofs.lemmas.Grind.{common_steps}
+use Rattle.std.proofs.Common.{◌≡◌, ℕ, List, sym, ap, subst, ◌∙◌, arith}
 use Rattle.std.specs.Prelude.{Ok, Err}
 use Rattle.thes_base.specs.declared.fault.Fault.{Fault}
 use Rattle.thes_base.specs.State.{State}
@@ -61,12 +62,7 @@ pub state_after_changes : (old new : Raw) (base : List ℕ) (s next : State) (ch
     → TablesOfState old base s → AreChangesBetween base changes s next → IsLegalState base next
     → ((t : Tables) → old ≡ cells_of_tables t → new ≡ cells_of_tables (tables_after_delta changes t))
     → TablesOfState new base next
-state_after_changes old new base s next changes x leads legal made = record {
-  tables = tables_after_delta changes x.tables;
-  rows = made x.tables x.rows;
-  holds = leads.rows x.tables x.holds;
-  legal = legal;
-}
+state_after_changes old new base s next changes x leads legal made = grind (arith, common_steps)
 
 -- Equal rows encode the same state.
 pub same_tables_same_state : (old new : Raw) (base : List ℕ) (s : State) → new ≡ old → TablesOfState old base s

@@ -1,13 +1,13 @@
 -- Proves that a performed request leads from tables that encode a state, and a copy of them, to
 -- tables and a copy of the machine's next state.
-use Rattle.std.proofs.Common.{◌≡◌, List, false, true, refl, sym, ap, subst, ◌∙◌}
+use Rattle.std.proofs.lemmas.Grind.{common_steps}
+use Rattle.std.proofs.Common.{◌≡◌, List, false, true, refl, sym, ap, subst, ◌∙◌, arith}
 use Rattle.std.specs.Prelude.{Result, Ok, Err, OnOk, IfErr}
 use Rattle.thes_base.specs.declared.data.Limits.{Limits}
 use Rattle.thes_base.specs.declared.fault.Fault.{Fault}
 use Rattle.thes_base.specs.declared.fault.Fault.TheVariants.{OutOfMemory}
 use Rattle.thes_base.specs.declared.request.Answer.{Answer}
 use Rattle.thes_base.specs.declared.request.Command.{Command}
-use Rattle.thes_base.specs.declared.request.Command.TheVariants as request
 use Rattle.thes_base.specs.Legal.{IsLegalState}
 use Rattle.thes_base.specs.Machine.{Step, next_state, answer_of}
 use Rattle.thes_base.specs.Refusals.{Setting, AreLimits, IsSetting}
@@ -27,27 +27,11 @@ use Rattle.thes_office.proofs.StateTableLemmas.{state_after_changes}
 
 pub setting_fits : (setting : Setting) (s : State) → AreLimits setting.limits → IsLegalState setting.base s
     → IsSetting setting
-setting_fits setting s few legal = record {
-  base_form = (forms_of_legal setting.base s legal).base_form;
-  limits = few;
-}
+setting_fits setting s few legal = grind (arith, common_steps, forms_of_legal)
 
 -- The answer to an accepted request is neither a refusal nor the number of a known posting.
 pub accepted_changes : (command : Command) (s : State) → ChangesNothing (answer_of command s) → ⊥
-accepted_changes (request.Scheme tag text) s x = x
-accepted_changes (request.Concept scheme tag text) s x = x
-accepted_changes (request.Collection scheme tag text) s x = x
-accepted_changes (request.Outside iri) s x = x
-accepted_changes (request.AddLabel owner l) s x = x
-accepted_changes (request.DropLabel owner l) s x = x
-accepted_changes (request.Relabel owner tag text keep) s x = x
-accepted_changes (request.Link kind a b) s x = x
-accepted_changes (request.Unlink kind a b) s x = x
-accepted_changes (request.Deprecate concept) s x = x
-accepted_changes (request.Merge source target) s x = x
-accepted_changes (request.Split source tag text postings) s x = x
-accepted_changes (request.Post key rec concept) s x = x
-accepted_changes (request.Withdraw posting) s x = x
+accepted_changes command s x = grind (arith, common_steps)
 
 -- A step that leaves the state unchanged leaves the rows unchanged.
 pub steps_settled : (setting : Setting) (raw : Raw) (s : State) (command : Command) (answer : Answer)

@@ -1,6 +1,7 @@
 -- Proves that a loader that has accepted all rows of a store, table by table, has received exactly
 -- these.
-use Rattle.std.proofs.Common.{◌≡◌, ◌≤◌, ◌∙◌, ℕ, List, [], ◌∷◌, ◌++◌, refl, sym, ap, subst, arith}
+use Rattle.std.proofs.lemmas.Grind.{common_steps}
+use Rattle.std.proofs.Common.{◌≡◌, ◌≤◌, ◌∙◌, ℕ, List, [], ◌∷◌, ◌++◌, refl, sym, subst, arith}
 use Rattle.std.specs.Prelude.{Result, Some}
 use Rattle.thes_base.specs.declared.fault.Fault.{Fault}
 use Rattle.thes_base.specs.declared.fault.Table.{Table}
@@ -39,8 +40,7 @@ tables_taken : (names : List Table) (raw rest : Raw) (n : ℕ) (old new : Loader
     → table_no (stage_table old.stage) ≤ n → KnowsRows old rest
     → yields.SinkAcceptsAll FeedResult old (sink_rows_of_tables raw names) new
     → KnowsRows new (with_tables names raw rest) × (new.limits ≡ old.limits)
-tables_taken [] raw rest n old new come turn knows same =
-    (subst (λ (l : Loader). KnowsRows l rest) (sym same) knows, ap (λ (l : Loader). l.limits) same)
+tables_taken [] raw rest n old new come turn knows same = grind (arith, common_steps)
 tables_taken (name ∷ names) raw rest n old new (follows, none, come) turn knows takes =
     let rows = raw_rows_of name raw in
     let (mid, first, later) = split_takes FeedResult (sink_rows_of_table name rows) (sink_rows_of_tables raw names)

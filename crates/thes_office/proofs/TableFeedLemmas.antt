@@ -1,14 +1,14 @@
 -- Proves which rows a loader has received once it has accepted all rows of one table.
-use Rattle.std.proofs.Common.{◌≡◌, ◌≤◌, List, [], ◌∷◌, ◌++◌, map, refl, sym, ap, ◌∙◌, subst, arith, append_assoc}
+use Rattle.std.proofs.lemmas.Grind.{common_steps}
+use Rattle.std.proofs.Common.{◌≡◌, List, [], ◌∷◌, ◌++◌, map, arith, append_assoc}
 use Rattle.std.specs.Prelude.{None, Some}
 use Rattle.std.proofs.lemmas.List.{append-nil}
 use Rattle.thes_base.specs.declared.fault.Table.{Table}
-use Rattle.thes_base.specs.declared.fault.Table.TheVariants as table
 use Rattle.thes_tables.specs.declared.cells.Cell.{Cell}
 use Rattle.thes_tables.specs.Cells.{Raw, RawTable}
 use Rattle.thes_store.specs.Sinks.{sink_rows_of_table}
 use Rattle.thes_store.specs.Sinks as yields
-use Rattle.thes_tables.specs.TableOrder.{table_no, with_rows}
+use Rattle.thes_tables.specs.TableOrder.{with_rows}
 use Rattle.thes_load_rows.specs.Progress.{raw_with_row, raw_without_table}
 use Rattle.thes_office.specs.declared.loader.Loader.{Loader}
 use Rattle.thes_load_rows.specs.Turns.{IsInTurn}
@@ -16,25 +16,11 @@ use Rattle.thes_office.specs.LoaderFeed.{KnowsRows, FeedResult}
 
 pushed_rows : (name : Table) (raw : Raw) (rows : List (List Cell)) (cells : List Cell) → raw_with_row name cells
     (with_rows name (Some rows) raw) ≡ with_rows name (Some (rows ++ cells ∷ [])) raw
-pushed_rows table.Meta raw rows cells = refl
-pushed_rows table.Resource raw rows cells = refl
-pushed_rows table.Outside raw rows cells = refl
-pushed_rows table.Label raw rows cells = refl
-pushed_rows table.Link raw rows cells = refl
-pushed_rows table.Hier raw rows cells = refl
-pushed_rows table.Posting raw rows cells = refl
-pushed_rows table.Move raw rows cells = refl
+pushed_rows name raw rows cells = grind (arith, common_steps)
 
 lost_rows : (name : Table) (raw : Raw) (rows : RawTable) → raw_without_table name (with_rows name rows raw)
     ≡ with_rows name None raw
-lost_rows table.Meta raw rows = refl
-lost_rows table.Resource raw rows = refl
-lost_rows table.Outside raw rows = refl
-lost_rows table.Label raw rows = refl
-lost_rows table.Link raw rows = refl
-lost_rows table.Hier raw rows = refl
-lost_rows table.Posting raw rows = refl
-lost_rows table.Move raw rows = refl
+lost_rows name raw rows = grind (arith, common_steps)
 
 -- The loader has received all rows of the table.
 pub record HasReadTable (name : Table) (raw : Raw) (old new : Loader) : Type 0 where
@@ -48,35 +34,12 @@ module _ (name : Table) (raw : Raw) where
       → KnowsRows old (with_rows name (Some done) raw)
       → yields.SinkAcceptsAll FeedResult old (map (λ row. (name, Some row)) rows) new
       → HasReadTable name (with_rows name (Some (done ++ rows)) raw) old new
-  rows_taken done [] old new turn knows is = record {
-    turn = subst (λ (l : Loader). IsInTurn name l.stage) (sym is) turn;
-    knows = subst (λ (l : Loader). KnowsRows l (with_rows name (Some (done ++ [])) raw)) (sym is)
-        (subst (λ (rows : List (List Cell)). KnowsRows old (with_rows name (Some rows) raw)) (sym (append-nil done))
-        knows);
-    same = ap (λ (l : Loader). l.limits) is;
-  }
-  rows_taken done (cells ∷ rows) old new turn knows (mid, (same, follows), rest) =
-      let next = rows_taken (done ++ cells ∷ []) rows mid new (subst (λ (t : Table). table_no t ≤ table_no name)
-      (sym (follows.table_is turn)) (omega arith)) (subst (KnowsRows mid) (pushed_rows name raw done cells)
-      (follows.reads turn (with_rows name (Some done) raw) knows)) rest in
-      record {
-        turn = next.turn;
-        knows = subst (λ (all : List (List Cell)). KnowsRows new (with_rows name (Some all) raw))
-            (append_assoc done (cells ∷ []) rows) next.knows;
-        same = next.same ∙ same;
-      }
+  rows_taken done [] old new turn knows is = grind (arith, common_steps, append-nil)
+  rows_taken done (cells ∷ rows) old new turn knows (mid, (same, follows), rest) = grind (arith, common_steps, append_assoc, pushed_rows, rows_taken (done ++ cells ∷ []) rows mid new)
 
   pub table_taken : (rows : RawTable) (old new : Loader) → IsInTurn name old.stage
       → KnowsRows old (with_rows name (Some []) raw)
       → yields.SinkAcceptsAll FeedResult old (sink_rows_of_table name rows) new
       → HasReadTable name (with_rows name rows raw) old new
-  table_taken None old new turn knows (mid, (same, follows), is) =
-      record {
-        turn = subst (λ (l : Loader). IsInTurn name l.stage) (sym is)
-            (subst (λ (t : Table). table_no t ≤ table_no name) (sym (follows.table_is turn)) (omega arith));
-        knows = subst (λ (l : Loader). KnowsRows l (with_rows name None raw)) (sym is)
-            (subst (KnowsRows mid) (lost_rows name raw (Some [])) (follows.reads turn (with_rows name (Some []) raw)
-            knows));
-        same = ap (λ (l : Loader). l.limits) is ∙ same;
-      }
+  table_taken None old new turn knows (mid, (same, follows), is) = grind (arith, common_steps, lost_rows)
   table_taken (Some rows) old new turn knows takes = rows_taken [] rows old new turn knows takes

@@ -1,5 +1,6 @@
 -- Proves what follows from a verdict on a request, decided on a current copy with the facts in the tables.
-use Rattle.std.proofs.Common.{◌≡◌, false, true, inl, refl, sym, ap, subst, ◌∙◌, ℕ, Bool, List}
+use Rattle.std.proofs.lemmas.Grind.{common_steps}
+use Rattle.std.proofs.Common.{◌≡◌, false, true, inl, refl, sym, ap, subst, ◌∙◌, Bool, List, arith}
 use Rattle.std.specs.Prelude.{Result, Ok, OnOk, IfErr}
 use Rattle.thes_base.specs.declared.data.Limits.{Limits}
 use Rattle.thes_base.specs.declared.fault.Fault.{Fault}
@@ -52,12 +53,7 @@ module _ {K : Type 0} (view : K → StorageView) (keeper : K) (copy : core.CoreV
   step_since : (old : OfficeView K) (answer : Answer) (new : Raw) → office.limits ≡ old.limits
       → SameTables view old office → (view keeper).is_up → TablesAfterStep limits (view keeper).rows command answer new
       → TablesAfterStep old.limits (view old.keeper).rows command answer new
-  step_since old answer new limits_are same up =
-      subst (λ (p : Limits × Raw). TablesAfterStep p.0 p.1 command answer new)
-      (λ i. (
-        (ap (λ (d : OfficeView K). d.limits) is ∙ limits_are) i,
-        subst (SameTables view old) (sym is) same up i,
-      ))
+  step_since old answer new limits_are same up = grind (arith, common_steps)
 
   -- A settled answer is a step of the machine that leaves the tables unchanged.
   pub performed_when_settled : (old : OfficeView K) (answer : Answer) → office.limits ≡ old.limits

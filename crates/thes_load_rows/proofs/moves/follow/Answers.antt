@@ -10,11 +10,7 @@ returns-else-is_next-clause-takes c = λ ps rows has more all.
     c.args.step.now more all)) ∙ c.if-is_next.false)
 
 pub bounds-places-get : goal.bounds-places-get
-bounds-places-get c =
-    let next = c.is_next.ensures.0 c.if-is_next.true in
-    let b = numbered_bound c.args.places.now c.args.step.now.posting c.args.step.now.source next.source_place in
-    let v = c.get.ensures.value in
-    omega (arith, b, v)
+bounds-places-get c = grind (arith, numbered_bound)
 
 pub returns-then-is_next-clause-takes : goal.returns-then-is_next-clause-takes
 returns-then-is_next-clause-takes c = λ ps rows has.

@@ -1,5 +1,5 @@
-use Rattle.std.proofs.Common.{subst, rules}
-use Rattle.thes_core.specs.CoreDecisions.{AcceptedVerdict, IsVerdict, VerdictMayApply}
+use Rattle.std.proofs.Common.{subst, rules, arith}
+use Rattle.thes_core.specs.CoreDecisions.{AcceptedVerdict, IsVerdict}
 use Rattle.thes_office.proofs.GroupLemmas.{decided_settled, decided_accepted}
 use Rattle.thes_office.proofs.group.decide_next.Goals as goal
 
@@ -14,8 +14,7 @@ returns-in-Settled-clause-decides g c = (
 )
 
 pub apply-requires-clause-may : goal.apply-requires-clause-may
-apply-requires-clause-may g c = subst (VerdictMayApply c.args.core.now c.args.command.now) c.in-Accepted.is
-    c.in_ok-answer.ensures.may
+apply-requires-clause-may g c = grind (arith)
 
 pub returns-clause-decides : goal.returns-clause-decides
 returns-clause-decides g c = (

@@ -1,6 +1,5 @@
-use Rattle.std.proofs.Common.{◌≡◌, ◌∙◌, ◌+◌, ℕ, sym, ap, subst, true, false, true≢false}
-use Rattle.std.specs.FinSet.{contains, contains-empty, insert}
-use Rattle.thes_base.specs.Links.{Links, link_cmp}
+use Rattle.std.proofs.Common.{◌≡◌, ◌∙◌, ◌+◌, ℕ, sym, ap, subst, true, false, arith}
+use Rattle.std.specs.FinSet.{contains-empty, insert}
 use Rattle.thes_base.specs.Resources.{is_outside}
 use Rattle.thes_links.specs.GraphView.{GraphView}
 use Rattle.thes_load_rows.specs.LinksSoFar.{MarksFirst}
@@ -13,9 +12,7 @@ loop-i-init c = subst (λ (g : GraphView). MarksFirst c.args.resources.now 0 g) 
     (marks_none c.args.resources.now)
 
 pub mark_outside-requires : goal.mark_outside-requires
-mark_outside-requires c =
-    λ l held ends. true≢false (sym held ∙ ap (λ (s : Links). contains s l) c.loop-i.invariant.links
-    ∙ contains-empty link_cmp l)
+mark_outside-requires c = grind (arith, contains-empty)
 
 pub loop-i-preserved : goal.loop-i-preserved
 loop-i-preserved c = elim c.if-is_outside.branch [

@@ -1,4 +1,4 @@
-use Rattle.std.proofs.Common.{◌+◌, ◌∙◌, sym, ap, arith}
+use Rattle.std.proofs.Common.{◌∙◌, sym, ap, arith}
 use Rattle.thes_tables.specs.TableOrder.{table_no}
 use Rattle.thes_load_rows.specs.Progress.{stage_table}
 use Rattle.thes_load_rows.proofs.TableOrderLemmas.{table_same, next_no, last_no}
@@ -8,15 +8,7 @@ pub loop-i-init : goal.loop-i-init
 loop-i-init c = (sym (c.table_number-i.ensures ∙ ap table_no c.current_table.ensures), λ raw h. h)
 
 pub loop-i-preserved : goal.loop-i-preserved
-loop-i-preserved c =
-    let current_table = c.loop-i.invariant.0 in
-    let below = c.loop-i-test.true in
-    let end = c.table_number-i-end.ensures in
-    let last = last_no c.args.table in
-    let next = next_no (stage_table c.loop-i.stage) (omega (arith, current_table, below, end, last)) in (
-      ap table_no c.in_ok-stage.ensures.0 ∙ next ∙ ap (λ k. k + 1) current_table,
-      λ raw h. c.in_ok-stage.ensures.1 raw (c.loop-i.invariant.1 raw h),
-    )
+loop-i-preserved c = grind (arith, last_no, next_no)
 
 pub returns : goal.returns
 returns c =

@@ -1,4 +1,4 @@
-use Rattle.std.proofs.Common.{◌∙◌, refl, sym, subst, true, false}
+use Rattle.std.proofs.Common.{refl, sym, subst, false, arith}
 use Rattle.thes_base.specs.declared.fault.Fault.TheVariants.{BadStore}
 use Rattle.thes_base.specs.declared.fault.Table.{Table}
 use Rattle.thes_load_rows.specs.declared.stage.Stage.{Stage}
@@ -7,15 +7,7 @@ use Rattle.thes_load_rows.specs.Progress.{raw_with_row, HasRead, HasRow, ReadsRo
 use Rattle.thes_load_rows.proofs.stage.Stage.row.Goals as goal
 
 pub returns-in-Ok-true : goal.returns-in-Ok-true
-returns-in-Ok-true c =
-    let good : ReadsRow c.advance.new.self c.read.new.self c.args.cells.now true =
-    subst (ReadsRow c.advance.new.self c.read.new.self c.args.cells.now) c.in-Ok-true.field-0-test
-    c.in-Ok-true.ensures in (
-      good.0 ∙ c.in_ok-advance.ensures.0,
-      λ raw h. subst (λ (current_table : Table). HasRead c.read.new.self
-          (raw_with_row current_table c.args.cells.now raw)) c.in_ok-advance.ensures.0
-          (good.1 raw (c.in_ok-advance.ensures.1 raw h)),
-    )
+returns-in-Ok-true c = grind (arith)
 
 pub returns-in-Ok-false : goal.returns-in-Ok-false
 returns-in-Ok-false c =

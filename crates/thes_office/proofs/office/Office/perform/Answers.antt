@@ -1,6 +1,5 @@
-use Rattle.std.proofs.Common.{◌≡◌, ap, subst, ◌∙◌, inr, rules}
+use Rattle.std.proofs.Common.{◌≡◌, ap, ◌∙◌, inr, rules, arith}
 use Rattle.thes_base.specs.declared.fault.Fault.TheVariants as faults
-use Rattle.thes_core.specs.CoreDecisions.{VerdictMayApply}
 use Rattle.thes_office.specs.Office.{OfficeView}
 use Rattle.thes_office.proofs.OfficeViewLemmas.{has_failed, consistent_after_query, never_falls}
 use Rattle.thes_office.proofs.VerdictLemmas.{accepted_fits, consistent_when_accepted}
@@ -36,8 +35,7 @@ invariant_of-self g c =
     c.in-Err.ensures.keeps.same
 
 pub apply-requires-clause-may : goal.apply-requires-clause-may
-apply-requires-clause-may g c = subst (VerdictMayApply c.self.inside.core c.args.command.now) c.in-Accepted.is
-    c.in_ok-answer.ensures.may
+apply-requires-clause-may g c = grind (arith)
 
 pub invariant_of-self-in-Accepted : goal.invariant_of-self-in-Accepted
 invariant_of-self-in-Accepted g c =

@@ -1,6 +1,5 @@
-use Rattle.std.proofs.Common.{◌≡◌, ap, sym, ◌∙◌, inl, inr, rules}
+use Rattle.std.proofs.Common.{◌≡◌, ap, sym, ◌∙◌, inl, inr, rules, arith}
 use Rattle.thes_base.specs.declared.fault.Fault.TheVariants as faults
-use Rattle.thes_office.specs.AssignedPostings.{rows_assigned_to}
 use Rattle.thes_office.specs.Office.{OfficeView}
 use Rattle.thes_office.proofs.StateTableLemmas.{same_tables_same_state}
 use Rattle.thes_office.proofs.StepLemmas.{copies_own}
@@ -9,9 +8,7 @@ use Rattle.thes_office.proofs.PostingListLemmas.{takes_none}
 use Rattle.thes_office.proofs.office.Office.postings.Goals as goal
 
 pub returns-in-Err-clause-lists : goal.returns-in-Err-clause-lists
-returns-in-Err-clause-lists g c up base s x =
-    takes_none g.S.PostingSink.gives (g.K.Keeper.view c.refresh.new.self.keeper).rows c.args.concept c.args.sink.now
-    c.args.sink.now c.in-Err.fault (rows_assigned_to s c.args.concept)
+returns-in-Err-clause-lists g c up base s x = grind (arith, takes_none)
 
 pub list-requires-clause-copies : goal.list-requires-clause-copies
 list-requires-clause-copies g c up =

@@ -1,6 +1,5 @@
-use Rattle.std.proofs.Common.{◌≡◌, ◌<◌, ◌++◌, sym, subst, inl, inr, arith, length, ◌∙◌, take-append-drop}
-use Rattle.std.proofs.lemmas.Bool.Decides.{nat_tests}
-use Rattle.thes_office.specs.Groups.{IsGroup}
+use Rattle.std.proofs.lemmas.Grind.{common_steps}
+use Rattle.std.proofs.Common.{arith, take-append-drop}
 use Rattle.thes_office.proofs.OfficeViewLemmas.{run_starts, run_continues, run_completes, run_stops}
 use Rattle.thes_office.proofs.office.Office.run.Goals as goal
 
@@ -11,32 +10,13 @@ groups-init g c =
     c.self.invariant c.self.view_is
 
 pub run_front-requires : goal.run_front-requires
-run_front-requires g c =
-    elim c.group_length.ensures.group [
-      | inl group ↦ inl (subst IsGroup (sym c.split_at.ensures.front) group)
-      | inr one ↦ inr (c.split_at.ensures.front_len ∙ one)
-    ]
+run_front-requires g c = grind (arith)
 
 pub groups-preserved : goal.groups-preserved
-groups-preserved g c =
-    let split : c.groups.rest.now ≡ c.split_at.result.0.now ++ c.split_at.result.1.now =
-    sym ((λ i. c.split_at.ensures.front i ++ c.split_at.ensures.back i)
-    ∙ take-append-drop c.group_length.result c.groups.rest.now) in
-    run_continues g.K.Keeper.view c.args.self.now c.groups.self
-    c.run_front.new.self c.args.commands.now c.groups.rest.now c.split_at.result.0.now c.split_at.result.1.now
-    c.args.answers.now.items c.groups.answers.items c.run_front.new.answers.items c.groups.invariant
-    c.in-Ok.ensures.fault_behaviour c.in-Ok.ensures.ran split
+groups-preserved g c = grind (arith, run_continues, take-append-drop)
 
 pub returns-in-Err-clause-ran : goal.returns-in-Err-clause-ran
-returns-in-Err-clause-ran g c =
-    let more : 0 < length c.groups.rest.now = grind (arith, nat_tests) in
-    run_stops g.K.Keeper.view c.args.self.now c.groups.self
-    c.run_front.new.self c.args.commands.now c.groups.rest.now c.args.answers.now.items c.groups.answers.items
-    c.run_front.new.answers.items more c.groups.invariant c.run_front.ensures.fault_behaviour.was
-    c.in-Err.ensures.ran.1 c.in-Err.ensures.ran.0
+returns-in-Err-clause-ran g c = grind (arith, run_stops)
 
 pub returns-clause-ran : goal.returns-clause-ran
-returns-clause-ran g c =
-    let none : length c.groups.rest.now ≡ 0 = grind (arith, nat_tests) in
-    run_completes g.K.Keeper.view c.args.self.now c.groups.self
-    c.args.commands.now c.groups.rest.now c.args.answers.now.items c.groups.answers.items c.groups.invariant none
+returns-clause-ran g c = grind (arith, common_steps, run_completes)

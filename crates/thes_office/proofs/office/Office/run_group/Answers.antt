@@ -1,4 +1,4 @@
-use Rattle.std.proofs.Common.{ap, sym, subst, ◌∙◌, refl, Bool}
+use Rattle.std.proofs.Common.{ap, sym, subst, ◌∙◌, refl, Bool, arith}
 use Rattle.thes_base.specs.declared.data.Limits.{Limits}
 use Rattle.thes_office.specs.Office.{IsConsistent, IsCopy, OfficeView}
 use Rattle.thes_office.proofs.StepLemmas.{copies_own}
@@ -24,8 +24,7 @@ invariant_of-self-in-Err g c =
     c.self.invariant c.perform_group.ensures.keeps.was c.in-Err.ensures.keeps.same c.in-Err.ensures.spent
 
 pub perform_group-requires-clause-unspent : goal.perform_group-requires-clause-unspent
-perform_group-requires-clause-unspent g c =
-    c.self.invariant.unspent (ap (λ (d : OfficeView _). d.stale) c.self.view_is ∙ c.requires.fresh)
+perform_group-requires-clause-unspent g c = grind (arith)
 
 pub perform_group-requires-clause-copies : goal.perform_group-requires-clause-copies
 perform_group-requires-clause-copies g c up =
