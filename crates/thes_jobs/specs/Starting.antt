@@ -83,7 +83,8 @@ module _ {S : Type 0} (store : Ghosts S) where
       (job.task ≡ Migrate) × (job.file ≡ Some file) × IsPreparedFor job.task job.setting.base conn
   IsOpenJob job Version = (job.task ≡ Migrate) × (job.file ≡ None)
 
-  -- The trouble and the fault of a store that couldn't be opened, or not prepared, for a task.
+  -- The trouble and the fault of a store that couldn't be opened, or not prepared, for a task, or whose file's full path
+  -- wasn't found.
   pub data IsUnpreparedStore (task : Task) (base : List ℕ) (reported : StoreTrouble × Fault) : Type 0 where
     unopened : IsUnopenedStore task reported → IsUnpreparedStore task base reported
     unprepared : (opened : StoreDatabase S) → IsOpenedFor task opened → (is_check : Bool) → (left : Held S)

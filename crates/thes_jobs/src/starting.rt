@@ -186,8 +186,8 @@ fn prepare_store<S: Alter>(
     base: &Base,
 ) -> Result<(), (StoreTrouble, Fault)>
     requires { store.old.conn.in_transaction ≡ false }
-    ensures prepares { PreparesStore S.Store store.old.opening is_check base.now store.old.conn result
-        store.new.conn }
+    ensures prepares { PreparesStore S.Store store.old.opening is_check base.now store.old.conn
+        result store.new.conn }
     ensures idle { store.new.conn.in_transaction ≡ false }
 {
     match preparation_of(store.opening, is_blank(&store.conn), is_check) {
