@@ -106,8 +106,7 @@ outside_whole base rs v last rows has so_far all =
         each = subst HaveIris has.are all;
         only = so.only;
         distinct = so.distinct;
-        foreign =
-            so.foreign;
+        foreign = so.foreign;
       };
     }
 

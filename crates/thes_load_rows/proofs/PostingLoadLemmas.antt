@@ -106,7 +106,7 @@ pub postings_none : (rs : List Resource) (keys : List (List ℕ)) (firsts stored
       counts = [];
       accepted = 0;
       withdrawn = 0;
-      moves =
-          0;
+      moves = 0;
     } → HasPostings rs keys firsts stored_places posting_counts []
-postings_none rs keys firsts stored_places posting_counts no_keys no_firsts no_ats no_sums = grind (arith, common_steps, numbered_bound)
+postings_none rs keys firsts stored_places posting_counts no_keys no_firsts no_ats no_sums =
+    grind (arith, common_steps, numbered_bound)

@@ -28,7 +28,8 @@ module _ {A : Type 0} (f : A → List Cell) where
   goes_on one [] cells more [] e = absurd (cc)
   goes_on one [] cells more (y ∷ rest) e = (y, rest, refl, sym (head_one e))
   goes_on one (x ∷ rows) cells more [] e = absurd (cc)
-  goes_on one (x ∷ rows) cells more (y ∷ others) e = grind (arith, common_steps, head_one, tail_one, goes_on one rows cells more others (tail_one e))
+  goes_on one (x ∷ rows) cells more (y ∷ others) e =
+      grind (arith, common_steps, head_one, tail_one, goes_on one rows cells more others (tail_one e))
 
   module _ (one : (x y : A) → f x ≡ f y → x ≡ y) (Has Rule : List A → Type 0) (rows : List A) (cells : List Cell) where
     -- If the cells are those of a typed row, reading them has the result of adding this row.
@@ -67,7 +68,8 @@ module _ (rs : List Resource) (cells : List Cell) where
   pub resource_read : (row : ResourceRow) → cells ≡ row_cells row → (new : List Resource) (good : Bool)
       → AppendResourceResult rs new row good → ReadResult (resource_rows 1) (λ rows. rows ≡ new) ResourceRule rs cells
       good
-  resource_read row spelled new good differ = grind (arith, common_steps, head_one, number_one, resources_on, resources_push)
+  resource_read row spelled new good differ =
+      grind (arith, common_steps, head_one, number_one, resources_on, resources_push)
 
   pub resource_unread : ((x : ResourceRow) → HasResourceForm x → cells ≢ row_cells x) → (new : List Resource)
       → ReadResult (resource_rows 1) (λ rows. rows ≡ new) ResourceRule rs cells false

@@ -22,8 +22,7 @@ use Rattle.thes_base.proofs.LegalResourceLemmas.{path_map}
 use Rattle.thes_base.proofs.ForwardingLemmas.{next_is, is_next}
 use Rattle.thes_load_rules.specs.Rules.{ResourceRule}
 use Rattle.thes_load_rows.specs.ResourceChecks.{SchemeFits, ReplacementFits, ResourceFits, EachResourceFits}
-use Rattle.thes_load_rows.specs.ResourceChecks.{NoneReplacesItself}
-use Rattle.thes_load_rows.specs.ResourceChecks.{HasReturn, HasReplacements, is_cycle}
+use Rattle.thes_load_rows.specs.ResourceChecks.{NoneReplacesItself, HasReturn, HasReplacements, is_cycle}
 
 -- The check of each resource accepts exactly legal resources.
 module _ (rs : List Resource) where

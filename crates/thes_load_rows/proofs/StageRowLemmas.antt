@@ -50,8 +50,7 @@ tables_with_base base = record {
   label = [];
   link = [];
   hier = [];
-  posting =
-      [];
+  posting = [];
   move = [];
 }
 
@@ -95,8 +94,7 @@ resource_row base old new cells true reads = (
         record t { resource = t.resource ++ x ∷ [] },
         passes,
         same,
-        ap (with_cells cells) read
-            ∙ ap (λ (rows : List (List Cell)). Some rows) (sym e),
+        ap (with_cells cells) read ∙ ap (λ (rows : List (List Cell)). Some rows) (sym e),
         has,
         after,
       ),
@@ -242,8 +240,7 @@ module _ (linked_vocab : LinkedVocab) (rs : List Resource) (is : rs ≡ linked_v
               names,
               links,
               are,
-              ap (with_cells cells) read
-                  ∙ ap (λ (rows : List (List Cell)). Some rows) (sym e),
+              ap (with_cells cells) read ∙ ap (λ (rows : List (List Cell)). Some rows) (sym e),
               next,
             ),
       )

@@ -61,6 +61,7 @@ impl LinkLoad {
 
     /// Adds the link of the next row of table hier; returns false if the link is a duplicate or
     /// isn't legal.
+    #[tactic(auto, using(crate::proofs::LinkLoadLemmas::hier_step))]
     pub fn take_hier(&mut self, resources: &[Resource], row: &HierRow) -> Result<bool, AllocError>
         ensures same { self.new.graph.outside ≡ self.old.graph.outside }
         ensures takes { IfOk result (λ good. (links : List Link) (rows : List HierRow)
@@ -126,6 +127,7 @@ impl LinkLoad {
 }
 
 // Adds a link if it is legal and new; otherwise returns false.
+#[tactic(auto, using(crate::proofs::LinkLoadLemmas::fit_of))]
 fn add_legal(graph: &mut Graph, resources: &[Resource], link: &Link) -> Result<bool, AllocError>
     ensures same { graph.new.outside ≡ graph.old.outside }
     ensures adds { IfOk result (λ good. MarksOutside resources.now graph.old

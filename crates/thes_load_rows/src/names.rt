@@ -90,6 +90,7 @@ impl OutsideLoad {
 
 /// Adds the label of the next row of table label; returns false if `VocabLoad::take_label` doesn't
 /// allow it, for example a duplicate.
+#[tactic(auto, using(crate::proofs::NameLoadLemmas::label_step))]
 pub fn take_label(vocab: &mut VocabLoad, row: LabelRow) -> Result<bool, AllocError>
     requires { HasLabelForm row }
     ensures { IfOk result (λ good.

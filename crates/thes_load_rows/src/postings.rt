@@ -63,6 +63,7 @@ fn add_key(keys: &mut BTreeSet<Key>, key: Key) -> Result<bool, AllocError>
 
 impl PostingLoad {
     /// Creates a load without rows.
+    #[tactic(auto, using(crate::proofs::PostingLoadLemmas::postings_none))]
     pub fn new(alloc: Global) -> PostingLoad
         ensures { (resources : List Resource)
             → HasPostings resources result.keys.keys result.firsts.items

@@ -127,6 +127,7 @@ pub fn hier_in(cells: &[Cell]) -> Option<HierRow>
 
 /// Parses the six cells of a row of table posting: number, key, record, first concept, place and
 /// withdrawn flag.
+#[tactic(auto, using(crate::proofs::SixLemmas::six))]
 pub fn posting_in(alloc: Global, cells: &[Cell]) -> Result<Option<PostingRow>, AllocError>
     ensures { IfOk result (Spells posting_cells HasPostingForm cells.now) }
 {

@@ -37,8 +37,7 @@ pub history_of_posting : (raw : Raw) (base : List ℕ) (s : State) (x : TablesOf
       key = told.row.key;
       rec = told.row.rec;
       first = told.row.first;
-      moves =
-          told.moves;
+      moves = told.moves;
       withdrawn = told.row.withdrawn;
     }) ≡ entry_at s.histories n
 history_of_posting raw base s x n told is =
@@ -56,8 +55,7 @@ history_of_posting raw base s x n told is =
       number = told.row.number;
       key = told.row.key;
       rec = told.row.rec;
-      first =
-          told.row.first;
+      first = told.row.first;
       moves = ms;
       withdrawn = told.row.withdrawn;
     })) moves ∙ at
@@ -87,8 +85,7 @@ totals_of_copy raw limits copy totals is accepted withdrawn standing base s x =
     (λ i. record {
       accepted = (accepted ∙ posting_counts.accepted) i;
       withdrawn = (withdrawn ∙ posting_counts.withdrawn) i;
-      standing =
-          (standing ∙ (λ j. posting_counts.accepted j - posting_counts.withdrawn j)) i;
+      standing = (standing ∙ (λ j. posting_counts.accepted j - posting_counts.withdrawn j)) i;
     })
     ∙ ap (λ (t : State). totals_of t.histories) (state_is_unique raw copy.setting.base base is.state s is.shows x).1
 

@@ -62,11 +62,7 @@ loader_reads_all limits raw old new begun takes =
         (
           omega arith,
           refl,
-          (
-            omega arith,
-            refl,
-            (omega arith, refl, (omega arith, refl, (omega arith, refl, (omega arith, refl, tt)))),
-          ),
+          (omega arith, refl, (omega arith, refl, (omega arith, refl, (omega arith, refl, (omega arith, refl, tt))))),
         ),
       ),
     ) in

@@ -35,7 +35,8 @@ module _ (name : Table) (raw : Raw) where
       → yields.SinkAcceptsAll FeedResult old (map (λ row. (name, Some row)) rows) new
       → HasReadTable name (with_rows name (Some (done ++ rows)) raw) old new
   rows_taken done [] old new turn knows is = grind (arith, common_steps, append-nil)
-  rows_taken done (cells ∷ rows) old new turn knows (mid, (same, follows), rest) = grind (arith, common_steps, append_assoc, pushed_rows, rows_taken (done ++ cells ∷ []) rows mid new)
+  rows_taken done (cells ∷ rows) old new turn knows (mid, (same, follows), rest) =
+      grind (arith, common_steps, append_assoc, pushed_rows, rows_taken (done ++ cells ∷ []) rows mid new)
 
   pub table_taken : (rows : RawTable) (old new : Loader) → IsInTurn name old.stage
       → KnowsRows old (with_rows name (Some []) raw)

@@ -50,6 +50,7 @@ fn is_new_post(earlier: &[Command], command: &Command) -> bool
 }
 
 // Checks whether the first `count` requests, which are a group, and the next one are a group.
+#[tactic(auto, using(crate::proofs::GroupLemmas::group_grows, std::proofs::lemmas::Option::slice_get_read))]
 fn may_grow(commands: &[Command], count: usize) -> bool
     requires { count ≤ length commands.now }
     ensures { IsTrue result → (count < length commands.now) × (IsGroup (take count commands.now)
@@ -63,6 +64,7 @@ fn may_grow(commands: &[Command], count: usize) -> bool
 
 /// Returns the number of requests at the front of the list that make a group: at most 128 posts
 /// with different keys, or 1 if the first request isn't a Post.
+#[tactic(auto, using(crate::proofs::GroupLemmas::group_empty))]
 pub fn group_length(commands: &[Command]) -> usize
     requires { 0 < length commands.now }
     ensures some { 0 < result }
@@ -80,6 +82,7 @@ pub fn group_length(commands: &[Command]) -> usize
 }
 
 // Appends changes to others.
+#[tactic(auto, using(std::proofs::Common::append_assoc))]
 fn append_changes(delta: &mut Delta, more: Delta) -> Result<(), AllocError>
     ensures { OnOk result (delta.new ≡ delta.old ++ more) }
 {

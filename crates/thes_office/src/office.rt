@@ -176,6 +176,7 @@ impl<K: Keeper> Office<K> {
     }
 
     // Performs one request, and appends its answer.
+    #[tactic(auto, using(crate::proofs::OfficeViewLemmas::one_completes))]
     fn run_one(&mut self, command: &Command, answers: &mut Vec<Answer>) -> Result<(), Fault>
         ensures fault_behaviour { FaultBehaviour K.view self.old self.new result }
         ensures ran { GroupResult K.view self.old (command.now ∷ [])
@@ -217,6 +218,7 @@ impl<K: Keeper> Office<K> {
 
     // Performs a single request, or the requests of a group in one transaction, and appends their
     // answers.
+    #[tactic(auto, using(crate::proofs::GroupLemmas::group_after_reload))]
     fn run_front(&mut self, front: &[Command], answers: &mut Vec<Answer>) -> Result<(), Fault>
         requires { IsGroup front.now ⊎ (length front.now ≡ 1) }
         ensures fault_behaviour { FaultBehaviour K.view self.old self.new result }

@@ -3,10 +3,7 @@ use Rattle.thes_office.specs.Groups.{IsGroup}
 use Rattle.thes_office.proofs.group.group_length.Given as goal
 
 abbrev pub invariant-growing : goal.invariant-growing
-invariant-growing l = record {
-  within : l.count ≤ length l.commands;
-  group : IsGroup (take l.count l.commands);
-}
+invariant-growing l = record { within : l.count ≤ length l.commands; group : IsGroup (take l.count l.commands) }
 
 abbrev pub decreases-growing : goal.decreases-growing
 decreases-growing l = length l.commands - l.count

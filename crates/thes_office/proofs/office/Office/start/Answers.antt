@@ -12,8 +12,7 @@ invariant_of-result g c =
       labels = omega arith;
       links = omega arith;
       postings = omega arith;
-      moves =
-          omega arith;
+      moves = omega arith;
     }
     c.in-Ok.ensures.unspent c.in-Ok.ensures.copies c.in-Ok.ensures.reads.same
 
