@@ -1,14 +1,12 @@
 #!/usr/bin/env python3
 """Tries the wrong bodies crates/NAME/wrong/*.edit, each of which the prover must refuse.
 
-A function's proof rests on its own body and on the contracts of what it calls, never on another function's body. So each
-wrong body is tried in a copy of its function, in the same file under another name, with a copy of its proof files: two dozen in
-one check of just these copies, in a copy of the repository. What a copy doesn't show to be refused is tried in place, and so
-are bodies of a trait's methods and of functions that have one proof file: in rounds, of one body for each function. A body
-is refused when the check names an open goal of the very function that the edit changes: one that search does not prove,
-or one that the function's proof file does not answer. All else is a fault of the edit, which is reported, and fails the
-run: that the function is still proved, that it does not compile, that a proof file names what the edit took away, or that
-the check names no open goal.
+A function's proof rests on its own body and on the contracts of what it calls, never on another function's body. So
+the wrong bodies of a crate are tried in rounds: one body for each function, all in one check of just these functions,
+in a copy of the repository. A body is refused when the check names an open goal of the very function that the edit
+changes: one that search does not prove, or one that the function's proof file does not answer. All else is a fault of
+the edit, which is reported, and fails the run: that the function is still proved, that it does not compile, that a
+proof file names what the edit took away, or that the check names no open goal.
 
 An edit has the form of a must-fail edit: comment lines, a line 'file: src/PATH', and pairs of lines 'old: TEXT' and
 'new: TEXT'. Each TEXT is one line, and the old one is once in the file, as the earlier pairs left it. It must
@@ -18,8 +16,7 @@ the crates are known to be proved, as `rt ci` leaves them, with their libraries 
 the functions that edited ones call.
 With --control a neutral edit takes the place of the wrong bodies of each function: one value becomes two cases with the same
 result. Where that is refused, too, the proof rests on the function's shape, and the refusals of wrong bodies that change the shape,
-by a branch or an exit, tell little. Run it once in a while: these are printed, and the record stays as it is. It fails if an edit
-is refused in a copy of its function and not in place: then copies aren't to be trusted.
+by a branch or an exit, tell little. Run it once in a while: these are printed, and the record stays as it is.
 If all wrong bodies of a crate are refused, its line in the record tests/refused.txt gets a sum of what that rests on: the
 toolchain, the sources of the crate and of those below it, and the bodies. As long as the sum stays, they aren't tried
 again but with --all. Commit the record with the change.
@@ -48,8 +45,8 @@ import tempfile
 import time
 from concurrent.futures import ThreadPoolExecutor
 from pathlib import Path
-from wrong_bodies import BadEdit, Copy, copy_of, function_around, neutral_edits, read_edits
 
+FUNCTION = re.compile(r"( *)(?:pub(?:\([^)]*\))? )?(?:const )?fn (\w+)")
 NOT_PROVED = re.compile(r"fn (\S+?): (?:not proved|no proof)(?:[:;] (.*))?")
 # That a function is not proved because of another one, or of a copy that is not made yet.
 RESTS = re.compile(
@@ -63,11 +60,204 @@ ERROR = re.compile(r"(?:\./)?(\S+?):(\d+):\d+: error\S*: (.*)")
 # What a run fails by that is lenient: a body that is proved, and one that was not tried.
 PROVED = ("NOT REFUSED", "cannot be applied", "does not check as it is", "cannot be read")
 GONE = re.compile(r"has no field|is not in scope|has no `|was not admitted")
+# What a neutral edit makes of a line: an arm of a match, a value that is named, assigned or returned, or the last value of a block.
+SPLIT = (
+    (re.compile(r"(\s*[^\s].*? => )((?!return\b|break\b|continue\b|\{).+)(,)"), "{0}if 1 < 2 {{ {1} }} else {{ {1} }}{2}"),
+    (re.compile(r"(\s*(?:let [^=]+?|[\w.*\[\]]+(?: [-+*/|&^])?) ?= )(.+)(;)"), "{0}if 1 < 2 {{ {1} }} else {{ {1} }}{2}"),
+    (re.compile(r"(\s*return )(.+)(;)"), "{0}if 1 < 2 {{ {1} }} else {{ {1} }}{2}"),
+    (re.compile(r"(\s*)(?!let\b|return\b|break\b|continue\b|prove!|use\b)(\w[^{}]*;)()"), "{0}if 1 < 2 {{ {1} }} else {{ {1} }}{2}"),
+    (re.compile(r"(\s*)(?!let\b|return\b|break\b|continue\b|&&)([\w&*!(\[].*[^;{,])()"), "{0}if 1 < 2 {{ {1} }} else {{ {1} }}{2}"),
+)
+# What gives a function its shape: branches, loops and exits.
+SHAPE = re.compile(r"\b(?:if|else|match|for|while|return|continue|break)\b|\?|&&|\|\|")
 # The memory of one check, in KiB.
 CHECK_NEEDS = 3_000_000
 # Crates with the sums over which all their wrong bodies were refused.
 RECORD = "tests/refused.txt"
 RECORD_HEAD = "# Written by tools/refuse_bodies.py: crates whose wrong bodies were all refused, and a sum of what that rests on.\n"
+
+
+class BadEdit(Exception):
+    """Why an edit cannot be applied."""
+
+
+class Function:
+    """A function as a file of sources has it, and as a check names it."""
+
+    def __init__(self, crate, path, lines, at):
+        match = FUNCTION.match(lines[at])
+        module = re.sub(r"^src/|\.rt$|/mod\.rt$", "", path).replace("/", "::")
+        prefix = crate if module in ("lib", "main") else f"{crate}::{module}"
+        self.place = (path, at)
+        if match[1]:
+            of = owner("".join(lines[impl_above(lines, at) : at]))
+            self.name, pattern = f"{of}::{match[2]}", rf"{crate}::(.*::)?{of}::{match[2]}"
+        else:
+            self.name, pattern = f"{prefix}::{match[2]}", rf"{prefix}::(fn::)?{match[2]}"
+        self.pattern = re.compile(rf"{pattern}(::.*)?")
+
+    def is_named(self, name):
+        """Whether a check means this function, or a closure of it, by the name."""
+        return self.pattern.fullmatch(name) is not None
+
+
+def impl_above(lines, at):
+    """Returns the first line of the block around a method."""
+    heads = (it for it in range(at, -1, -1) if re.match(r"(impl|(pub )?trait)\b", lines[it]))
+    return next(heads, at)
+
+
+def owner(block):
+    """Returns what a check calls the block of a method: the type, and behind it the trait with its arguments."""
+    head = re.split(r"\{|\bwhere\b", block)[0]
+    parameters = []
+    match = re.match(r"impl<((?:[^<>]|<(?:[^<>]|<[^<>]*>)*>)*)>", head)
+    if match:
+        parameters = [re.sub(r"[^\w'].*", "", it.strip()) for it in match[1].split(",")]
+        head = head[match.end() :]
+    of, _, type_name = re.sub(r"^\s*(impl|(pub )?trait)\s+", "", head).rpartition(" for ")
+    names = lambda text: [it for it in re.findall(r"'?\w+(?!\w*::)", text) if it not in parameters]
+    return "".join(names(type_name)[:1] + names(of))
+
+
+class Edit:
+    """A wrong body: the lines that it changes, the functions around them, and the outcome."""
+
+    def __init__(self, crate_folder, file):
+        self.name = f"{crate_folder.name}/{file.name}"
+        self.hunks, self.functions = [], []
+        self.fault, self.is_refused, self.goals = None, False, []
+        # How many may be tried in one round with it.
+        self.room = sys.maxsize
+        for path, text in texts_after(crate_folder, file).items():
+            was = (crate_folder / path).read_text(encoding="utf-8").split("\n")
+            for first, last, lines in hunks_between(was, text.split("\n")):
+                self.hunks.append((path, first, last, lines))
+                self.functions.append(function_around(crate_folder.name, path, was, first))
+        if not self.hunks:
+            raise BadEdit("it changes nothing")
+
+    def places(self):
+        return {it.place for it in self.functions}
+
+    def own(self, names):
+        """Returns those of the names that mean a function which this edit changes."""
+        return [it for it in names if any(function.is_named(it) for function in self.functions)]
+
+
+class NeutralEdit(Edit):
+    """An edit that makes two cases of a value in a function, with the same result: in a line that a wrong body changes, or else in the
+    first one in which there is a value."""
+
+    def __init__(self, crate_folder, edits):
+        function = edits[0].functions[0]
+        path, at = function.place
+        lines = (crate_folder / path).read_text(encoding="utf-8").split("\n")
+        body = body_of(lines, at)
+        changed = [first for edit in edits for it, first, *_ in edit.hunks if it == path and first in body]
+        self.name, self.functions = f"{crate_folder.name}/{function.name}", [function]
+        # The wrong bodies that have another shape.
+        self.bodies = [it.name for it in edits if any(changes_shape(crate_folder, *hunk) for hunk in it.hunks)]
+        self.hunks = next(([(path, i, i + 1, [new])] for i in [*changed, *body] if (new := split_in_two(lines, i))), [])
+        self.fault, self.is_refused, self.goals, self.room = None, False, [], sys.maxsize
+        if not self.hunks:
+            raise BadEdit("no line of it has a value by itself")
+
+
+def changes_shape(crate_folder, path, first, last, new):
+    """Whether an edit adds or removes a branch, a loop or an exit."""
+    was = (crate_folder / path).read_text(encoding="utf-8").split("\n")[first:last]
+    return sorted(SHAPE.findall("\n".join(was))) != sorted(SHAPE.findall("\n".join(new)))
+
+
+def body_of(lines, at):
+    """Returns the numbers of the lines of a function's body."""
+    indent = FUNCTION.match(lines[at])[1]
+    is_start = lambda it: it == f"{indent}{{" or re.fullmatch(r"(?! *(?:ensures|requires|decreases)\b).* \{", it)
+    start = next((i for i in range(at, len(lines)) if is_start(lines[i])), at)
+    end = next((i for i in range(start, len(lines)) if lines[i] == f"{indent}}}"), start)
+    return range(start + 1, end)
+
+
+def split_in_two(lines, at):
+    """Returns a line with its value as two cases, or None if it has none by itself."""
+    for place, (pattern, new) in enumerate(SPLIT):
+        match = pattern.fullmatch(lines[at])
+        is_last = lines[at + 1].strip().startswith("}") and re.search(r"[;{}]$", lines[at - 1])
+        if match and is_whole(match[2]) and (is_last or place < len(SPLIT) - 1):
+            return new.format(*match.groups())
+    return None
+
+
+def is_whole(text):
+    """Whether the brackets of a text are closed in it, and none that isn't opened in it."""
+    opened = []
+    for it in re.sub(r'"(?:[^"\\]|\\.)*"|\'(?:[^\'\\]|\\.)\'', "", text):
+        if it in "([{":
+            opened.append(")]}"["([{".index(it)])
+        elif it in ")]}" and (not opened or opened.pop() != it):
+            return False
+    return not opened
+
+
+def neutral_edits(root, edits):
+    """Returns a neutral edit for each function with wrong bodies, by crate, and the functions for which there is none."""
+    found, without = {}, []
+    for name, of_crate in edits.items():
+        by_place = {}
+        for edit in of_crate:
+            by_place.setdefault(edit.functions[0].place, []).append(edit)
+        for same in by_place.values():
+            try:
+                found.setdefault(name, []).append(NeutralEdit(root / "crates" / name, same))
+            except BadEdit as why:
+                without.append(f"{name}/{same[0].functions[0].name}: {why}")
+    return found, without
+
+
+def texts_after(folder, file):
+    """Returns the text of each file that the edit changes, as it is after the edit."""
+    path, old, texts = "", None, {}
+    for line in file.read_text(encoding="utf-8").split("\n"):
+        if line.startswith("file: "):
+            path = line[len("file: ") :].strip()
+            if not path.startswith("src/") or not (folder / path).is_file():
+                raise BadEdit(f"there is no file {path} of sources")
+            texts.setdefault(path, (folder / path).read_text(encoding="utf-8"))
+        elif line.startswith("old: "):
+            old = line[len("old: ") :]
+        elif line.startswith("new:"):
+            if not path or not old:
+                raise BadEdit("a 'new:' line comes before any 'file:' or 'old:' line")
+            if texts[path].count(old) != 1:
+                raise BadEdit(f"an 'old:' text is in {path} {texts[path].count(old)} times, and not once")
+            texts[path], old = texts[path].replace(old, line[len("new:") :].removeprefix(" ")), None
+    if not texts:
+        raise BadEdit("it has no line 'file: src/PATH'")
+    return texts
+
+
+def hunks_between(was, now):
+    """Yields the differences as (first line, line after the last, new lines).
+
+    An edit keeps the number of lines, or changes one place.
+    """
+    if len(was) == len(now):
+        yield from ((i, i + 1, [now[i]]) for i in range(len(was)) if was[i] != now[i])
+        return
+    first = next(i for i, (a, b) in enumerate(zip(was, now)) if a != b)
+    behind = next(i for i, (a, b) in enumerate(zip(reversed(was), reversed(now))) if a != b)
+    yield first, len(was) - behind, now[first : len(now) - behind]
+
+
+def function_around(crate, path, lines, at):
+    """Returns the function around a line."""
+    for i in range(at, -1, -1):
+        if FUNCTION.match(lines[i]):
+            return Function(crate, path, lines, i)
+        if i < at and lines[i] == "}":
+            break
+    raise BadEdit(f"line {at + 1} of {path} is outside every function: such an edit belongs in must-fail/")
 
 
 class Said:
@@ -116,7 +306,8 @@ class Said:
 
     def broken_by(self, edit):
         """Returns why an edit does not compile, where the check stopped within its functions."""
-        return next((why for function, why in self.broken if function and function.key in edit.keys()), None)
+        places = edit.places()
+        return next((why for function, why in self.broken if function and function.place in places), None)
 
     def open_goals(self, edit):
         """Returns the open goals of an edit's functions, and what their proof files answer wrongly."""
@@ -130,7 +321,7 @@ class Crate:
     def __init__(self, tree, name, edits, as_is, given):
         self.folder, self.name, self.edits = tree / "crates" / name, name, edits
         self.as_is, self.verbose, self.said_to = as_is, given.verbose, given.said
-        self.end, self.last, self.is_control = given.end, given.last, given.control
+        self.end, self.last = given.end, given.last
         self.cpu, self.rounds, self.calls = 0.0, 0, {}
         self.kept, self.pristine = self.folder / "out" / "incremental", tree / "pristine" if as_is else None
 
@@ -143,7 +334,7 @@ class Crate:
         if self.pristine:
             link_tree(self.kept, self.pristine)
         while (waiting := self.waiting()) and time.monotonic() < self.end:
-            self.try_round(self.next_round([it.copy or it for it in waiting]))
+            self.try_round(self.next_round(waiting))
         return self
 
     def waiting(self):
@@ -151,17 +342,16 @@ class Crate:
         return [it for it in self.edits if not it.is_refused and not it.fault]
 
     def next_round(self, waiting):
-        """Returns edits of different functions, none of which is known to call another one of them: first those in place, which need most
-        rounds."""
+        """Returns edits of different functions, none of which is known to call another one of them."""
         batch = []
-        for edit in sorted(waiting, key=lambda it: (it.room, isinstance(it, Copy))):
+        for edit in sorted(waiting, key=lambda it: it.room):
             room = min([edit.room, *[it.room for it in batch]])
             if len(batch) < room and not any(self.disturb(edit, it) for it in batch):
                 batch.append(edit)
         return batch
 
     def disturb(self, edit, other):
-        return bool(edit.keys() & other.keys()) or self.reaches(edit, other) or self.reaches(other, edit)
+        return bool(edit.places() & other.places()) or self.reaches(edit, other) or self.reaches(other, edit)
 
     def reaches(self, edit, other):
         """Whether a function of the edit is known to call one of the other's, through others or not."""
@@ -177,8 +367,6 @@ class Crate:
         was = self.cpu
         for path in {path for edit in batch for path, *_ in edit.hunks}:
             self.write(path, [hunk for edit in batch for hunk in edit.hunks if hunk[0] == path])
-        for it in (it for it in batch if isinstance(it, Copy)):
-            it.write_proofs(self.folder)
         said = self.check(batch)
         if said is None:
             print(f"{self.name}: round {self.rounds}: ended, since the time was over; CPU {self.cpu - was:.0f} s", flush=True)
@@ -188,27 +376,14 @@ class Crate:
         for function, called in said.rests.items():
             self.calls.setdefault(function, set()).update(called)
         judge(batch, said)
-        self.take_over(batch)
-        refused = sum(it.edit.is_refused for it in batch)
-        again = sum(not it.edit.is_refused and not it.edit.fault for it in batch)
-        copied = sum(isinstance(it, Copy) for it in batch)
-        counts = f"{len(batch)} tried, {copied} of them in copies, {refused} refused, {again} to be tried again"
+        refused = sum(it.is_refused for it in batch)
+        again = sum(not it.is_refused and not it.fault for it in batch)
+        counts = f"{len(batch)} tried, {refused} refused, {again} to be tried again"
         print(f"{self.name}: round {self.rounds}: {counts}; CPU {self.cpu - was:.0f} s", flush=True)
         for it in batch if self.verbose else []:
-            goals = "; ".join(goal[:160] for goal in it.goals) if it.edit.is_refused else "to be tried again"
+            goals = "; ".join(goal[:160] for goal in said.open_goals(it)) if it.is_refused else "to be tried again"
             print(f"  {it.name}: {it.fault or goals}", flush=True)
-        self.restore(batch)
-
-    def take_over(self, batch):
-        """Takes over what the copies of a round showed: that an edit is refused, or, if it is neutral, that it is not. An edit of which a
-        copy shows something else is tried in place."""
-        for it in (it for it in batch if isinstance(it, Copy)):
-            is_shown = (it.fault or "").startswith(PROVED[0]) if self.is_control else it.is_refused
-            if is_shown:
-                it.edit.is_refused, it.edit.goals, it.edit.fault = it.is_refused, it.goals, it.fault
-            elif it.is_refused or it.fault:
-                it.edit.copy, it.edit.shown = None, it.fault or "; ".join(it.goals)
-                it.fault = f"to be tried in place, since its copy shows: {it.edit.shown}"
+        self.restore()
 
     def write(self, path, hunks):
         """Writes a file of sources with the hunks in it, and leaves its hard links as they were."""
@@ -219,10 +394,8 @@ class Crate:
         (self.folder / f"{path}.new").write_text("\n".join(lines), encoding="utf-8")
         (self.folder / f"{path}.new").replace(self.folder / path)
 
-    def restore(self, batch):
+    def restore(self):
         """Restores the sources, and what a check of the crate as it is has kept, if there was one."""
-        for it in (it for it in batch if isinstance(it, Copy)):
-            it.remove_proofs(self.folder)
         for it in self.folder.glob("src/**/*.was"):
             it.replace(it.with_suffix(""))
         if self.pristine:
@@ -237,8 +410,7 @@ class Crate:
 
     def names_in(self, edit):
         """Returns the functions of an edit by the names that a check knows, or by the ends of these."""
-        known = edit.own(self.as_is.proved) if self.as_is else []
-        return known or [it.name for it in edit.functions]
+        return edit.own(self.as_is.proved) if self.as_is else [it.name for it in edit.functions]
 
     def function_at(self, path, line):
         """Returns the function around a line, as the sources are in this round."""
@@ -397,6 +569,18 @@ def prove_as_is(copy, names, lanes):
     return {it: Said(int(it not in passed), told.get(it) or text) for it in names}, cpu
 
 
+def read_edits(root, names, word):
+    """Returns the edits of each crate whose names have a word, and those that cannot be applied with the reason."""
+    edits, faults = {}, []
+    for name in names:
+        for file in sorted(it for it in (root / "crates" / name / "wrong").glob("*.edit") if word in it.name):
+            try:
+                edits.setdefault(name, []).append(Edit(root / "crates" / name, file))
+            except (BadEdit, OSError, UnicodeDecodeError) as why:
+                faults.append(f"{name}/{file.name}: cannot be applied: {why}")
+    return edits, faults
+
+
 def lanes():
     """Returns the number of checks that fit at a time, by processors and free memory."""
     free = re.search(r"MemAvailable:\s+(\d+)", Path("/proc/meminfo").read_text())
@@ -423,9 +607,6 @@ def report_control(edits, without, untried, cpu):
     for it in (it for it in tried if it.is_refused):
         print(f"refuse-bodies: {it.name}: a neutral edit is refused, too: {'; '.join(goal[:160] for goal in it.goals)}")
         print(f"    these refusals tell little: {', '.join(it.bodies) or 'none, since all wrong bodies keep the shape'}")
-    unlike = [it for it in held if it.shown]
-    for it in unlike:
-        print(f"refuse-bodies: {it.name}: still proved, and its copy is not: {it.shown}")
     for it in (it for it in tried if it.fault and it not in held):
         print(f"refuse-bodies: {it.name}: {it.hunks[0][3][0].strip()}: {it.fault}")
     for it in without:
@@ -434,7 +615,7 @@ def report_control(edits, without, untried, cpu):
     others = len(tried) - len(held) - refused - len(untried)
     counts = f"{len(held)} still proved, {refused} refused, {others} with another outcome, {len(untried)} not tried"
     print(f"refuse-bodies: {len(tried)} neutral edits, {counts}; {len(without)} functions without one; CPU {cpu:.0f} s")
-    return 1 if unlike else 0 if tried else 2
+    return 0 if tried else 2
 
 
 def words_given():
@@ -484,9 +665,6 @@ def try_crates(edits, given):
     """Tries the wrong bodies of crates. Returns the faults, what was not tried, and the CPU seconds."""
     if given.said:
         given.said.mkdir(parents=True, exist_ok=True)
-    for name in edits:
-        for number, edit in enumerate(edits[name], 1):
-            edit.copy = copy_of(given.root / "crates" / name, edit, number)
     with tempfile.TemporaryDirectory(prefix="refuse-bodies-") as room:
         copy = Path(room) / "copy"
         sums = {it: sum_of(given.root, it) for it in edits}
