@@ -552,7 +552,10 @@ def take_libraries(copy):
         rtlib.Crate.stamp = lambda crate: stamp(crate)
         for it in rtlib.crates_below(str(copy)):
             if Path(it.rlib).is_dir():
-                (Path(it.rlib).parent / "stamp").write_text(it.stamp(), encoding="utf-8")
+                stamp_file = Path(it.rlib).parent / "stamp"
+                # (a file of its own, since that of the copy may be linked to other trees')
+                stamp_file.unlink(missing_ok=True)
+                stamp_file.write_text(it.stamp(), encoding="utf-8")
     except (ImportError, AttributeError) as why:
         print(f"refuse-bodies: the libraries are built once more: {why}", flush=True)
 
