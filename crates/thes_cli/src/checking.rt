@@ -1,8 +1,8 @@
 //! The command `check`: prints the sizes of a store.
 ghost use Rattle.std.specs.Prelude.{◌≡◌, false};
-ghost use Rattle.thes_base.specs.Pipe.{IsFresh};
 ghost use Rattle.thes_base.specs.State.{State};
 ghost use Rattle.thes_core.specs.CoreView.{IsViewOf};
+ghost use Rattle.thes_command_line.specs.Printing.{AreFreshOutputs};
 ghost use Rattle.thes_cli.specs.Checking.{sizes_of, ChecksStore, FindsSizes, ReportsSizes};
 
 use crate::ending::sizes_line;
@@ -40,8 +40,7 @@ fn report_sizes<W: Write, E: Write>(
     output: &mut Pipe<W>,
     errors: &mut Pipe<E>,
 ) -> u8
-    requires output { IsFresh output.old }
-    requires errors { IsFresh errors.old }
+    requires { AreFreshOutputs output.old errors.old }
     ensures { ReportsSizes W.contents E.contents output.old output.new errors.old errors.new sizes
         result }
 {
@@ -63,8 +62,7 @@ pub fn check_store<K: Keeper, W: Write, E: Write>(
     output: &mut Pipe<W>,
     errors: &mut Pipe<E>,
 ) -> u8
-    requires output { IsFresh output.old }
-    requires errors { IsFresh errors.old }
+    requires { AreFreshOutputs output.old errors.old }
     ensures { ChecksStore K.view W.contents E.contents office.old output.old
         output.new errors.old errors.new result office.new }
 {

@@ -5,6 +5,7 @@ ghost use Rattle.thes_base.specs.State.{State};
 ghost use Rattle.thes_core.specs.CoreView.{IsViewOf};
 ghost use Rattle.thes_display.specs.DisplayWrites.{IsDisplayWritten, IsDisplayStopped};
 ghost use Rattle.thes_service.specs.Service.{IsDisplay};
+ghost use Rattle.thes_command_line.specs.Printing.{AreFreshOutputs};
 ghost use Rattle.thes_cli.specs.Displaying.{DisplaysStore, EndsDisplay, WritesDisplay};
 
 use std::alloc::Global;
@@ -99,8 +100,7 @@ pub fn display_store<K: Keeper, W: Write, E: Write>(
     output: &mut Pipe<W>,
     errors: &mut Pipe<E>,
 ) -> u8
-    requires output { IsFresh output.old }
-    requires errors { IsFresh errors.old }
+    requires { AreFreshOutputs output.old errors.old }
     ensures { DisplaysStore K.view W.contents display scheme tag.now E.contents
         office.old output.old output.new errors.old errors.new result office.new }
 {

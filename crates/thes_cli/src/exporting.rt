@@ -1,5 +1,6 @@
 //! The command `export`: writes the triples of a store as N-Triples.
 ghost use Rattle.thes_base.specs.Pipe.{IsFresh};
+ghost use Rattle.thes_command_line.specs.Printing.{AreFreshOutputs};
 ghost use Rattle.thes_cli.specs.Exporting.{ExportsStore, WritesExport};
 
 use std::alloc::Global;
@@ -33,8 +34,7 @@ pub fn export_store<K: Keeper, W: Write, E: Write>(
     output: &mut Pipe<W>,
     errors: &mut Pipe<E>,
 ) -> u8
-    requires output { IsFresh output.old }
-    requires errors { IsFresh errors.old }
+    requires { AreFreshOutputs output.old errors.old }
     ensures { ExportsStore K.view W.contents E.contents office.old output.old
         output.new errors.old errors.new result office.new }
 {

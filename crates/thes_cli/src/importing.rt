@@ -1,6 +1,7 @@
 //! The command `import`: imports a posting file into a store.
 ghost use Rattle.std.specs.Prelude.{Ok};
 ghost use Rattle.thes_base.specs.Pipe.{IsFresh, KeepsSharedCallLimit};
+ghost use Rattle.thes_command_line.specs.Printing.{AreFreshOutputs};
 ghost use Rattle.thes_cli.specs.Importing.{EndsImport, ImportsPipe, ImportsStore, PrintsCounts};
 
 use crate::ending::counts_line;
@@ -85,8 +86,7 @@ pub fn import_file<K: Keeper, F: Read + Drop, W: Write, E: Write>(
     output: &mut Pipe<W>,
     errors: &mut Pipe<E>,
 ) -> u8
-    requires output { IsFresh output.old }
-    requires errors { IsFresh errors.old }
+    requires { AreFreshOutputs output.old errors.old }
     ensures { ImportsStore K.view F.remaining W.contents E.contents prints_it file
         office.old output.old output.new errors.old errors.new result office.new }
 {

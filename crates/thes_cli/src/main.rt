@@ -4,6 +4,7 @@
 
 ghost use Rattle.std.specs.Prelude.{◌≡◌, false};
 ghost use Rattle.thes_cli.specs.Streams.{AreFresh};
+ghost use Rattle.thes_jobs.specs.Starting.{OpensIdle};
 
 mod checking;
 mod displaying;
@@ -17,7 +18,7 @@ mod work;
 
 use sqlite::{Alter, Connection, File, FileStore};
 use std::alloc::Global;
-use std::io::{IsTerminal, Write};
+use std::io::{IsTerminal, Read, Write};
 use std::process::ExitCode;
 use std::rt::Env;
 use stores::{work_in_database, work_in_memory};
@@ -32,7 +33,7 @@ use thes_jobs::databases::{Databases, FileDatabases};
 use thes_jobs::migrating::{migrate_in_database, print_version};
 use thes_jobs::starting::{OpenJob, open_job};
 use thes_jobs::store_files::StoreFiles;
-use thes_sqlite::reopening::Leaving;
+use thes_sqlite::reopening::{Leaving, Reopen};
 
 // Parses the arguments of the process.
 fn plan_command_line<R: Env + Alloc<A = Global>>(rt: &R) -> Result<Job, EarlyExit> {
@@ -83,6 +84,37 @@ fn migrate<S: Alter, O, D: Databases<Connection<S>, O>, R, W: Write, E: Write>(
     status
 }
 
+// Opens the job of a command line, performs it, and returns the exit status. It is generic over the
+// databases, since a proof that sees those in files goes through all parts of a connection.
+fn run_job<
+    S: Alter + Drop,
+    O: Reopen<Connection<S>> + Drop,
+    D: Databases<Connection<S>, O>,
+    R: Read,
+    W: Write,
+    E: Write,
+>(
+    rt: &HostRuntime,
+    databases: &D,
+    planned: Result<Job, EarlyExit>,
+    streams: &mut Streams<R, W, E>,
+) -> u8
+    requires idle { OpensIdle D.opens }
+    requires streams { AreFresh streams.old }
+{
+    match open_job(rt, databases, planned) {
+        Ok(OpenJob::InFile(job)) => {
+            let (status, leaving) = work_in_database(rt.alloc(), rt, job, streams);
+            close(rt, databases, leaving);
+            status
+        }
+        Ok(OpenJob::InMemory(job)) => work_in_memory(rt.alloc(), rt, job, streams),
+        Ok(OpenJob::Migration(file, conn)) => migrate(rt, databases, file, conn, streams),
+        Ok(OpenJob::Version) => print_version(&mut streams.output, &mut streams.errors),
+        Err(failure) => report_start_failure(&mut streams.output, &mut streams.errors, &failure),
+    }
+}
+
 fn main(rt: HostRuntime) -> ExitCode {
     let planned = plan_command_line(&rt);
     let escapes = escapes_output(&rt, &planned);
@@ -93,16 +125,10 @@ fn main(rt: HostRuntime) -> ExitCode {
         connections: ConnectionCount::new(),
     };
     let databases = FileDatabases { rt: &rt };
-    let status = match open_job::<FileStore<File>, StoreFiles<'_>, _>(&rt, &databases, planned) {
-        Ok(OpenJob::InFile(job)) => {
-            let (status, leaving) = work_in_database(rt.alloc(), &rt, job, &mut streams);
-            close(&rt, &databases, leaving);
-            status
-        }
-        Ok(OpenJob::InMemory(job)) => work_in_memory(rt.alloc(), &rt, job, &mut streams),
-        Ok(OpenJob::Migration(file, conn)) => migrate(&rt, &databases, file, conn, &mut streams),
-        Ok(OpenJob::Version) => print_version(&mut streams.output, &mut streams.errors),
-        Err(failure) => { report_start_failure(&mut streams.output, &mut streams.errors, &failure) }
-    };
-    ExitCode::from(status)
+    ExitCode::from(run_job::<FileStore<File>, StoreFiles<'_>, _, _, _, _>(
+        &rt,
+        &databases,
+        planned,
+        &mut streams,
+    ))
 }

@@ -1,6 +1,7 @@
 //! The command `serve`: serves HTTP connections over a store.
 ghost use Rattle.std.specs.Prelude.{◌≡◌, IfOk, OnErr};
 ghost use Rattle.thes_base.specs.Pipe.{IsFresh};
+ghost use Rattle.thes_command_line.specs.Printing.{AreFreshOutputs};
 ghost use Rattle.thes_cli.specs.Serving as serving;
 ghost use Rattle.thes_cli.specs.Serving.{EndsUnserved, EndsWell, ServesAll, ServesStore};
 
@@ -77,8 +78,7 @@ pub fn serve_store<N: Net + Clock, K: Keeper, W: Write, E: Write>(
     errors: &mut Pipe<E>,
     connections: &mut ConnectionCount,
 ) -> u8
-    requires output { IsFresh output.old }
-    requires errors { IsFresh errors.old }
+    requires { AreFreshOutputs output.old errors.old }
     ensures { ServesStore K.view E.contents W.contents listening.now.port listening.now.count
         handler.old output.old output.new errors.old errors.new connections.new result handler.new }
 {

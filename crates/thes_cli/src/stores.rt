@@ -4,14 +4,13 @@ ghost use Rattle.thes_cli.specs.Stores.{WorksInDatabase, WorksInMemory};
 ghost use Rattle.thes_cli.specs.Streams.{AreFresh};
 
 use crate::streams::Streams;
-use crate::work::work_over_keeper;
+use crate::work::work_with_progress;
 use sqlite::{Alter, Connection};
 use std::alloc::Global;
 use std::io::{Read, Write};
 use std::net::Net;
 use std::rt::Clock;
 use thes_jobs::progress::Progress;
-use thes_jobs::progress::reporting_keeper::ReportingKeeper;
 use thes_jobs::work::{DatabaseWork, MemoryWork};
 use thes_sqlite::reopening::{Leaving, Reopen, ReopeningKeeper};
 use thes_store::mem::MemKeeper;
@@ -47,16 +46,18 @@ pub fn work_in_database<
         opener,
         progress,
     } = job;
-    let keeper = ReportingKeeper::new(ReopeningKeeper::new(alloc, conn, opener), progress);
-    let (status, keeper) = work_over_keeper::<
-        N,
-        ReportingKeeper<ReopeningKeeper<S, O>, P>,
-        F,
-        R,
-        W,
-        E,
-    >(alloc, clock, work, keeper, limits, Some(file), streams);
-    (status, keeper.into_keeper().leave())
+    let keeper = ReopeningKeeper::new(alloc, conn, opener);
+    let (status, keeper) = work_with_progress::<N, ReopeningKeeper<S, O>, P, F, R, W, E>(
+        alloc,
+        clock,
+        work,
+        keeper,
+        progress,
+        limits,
+        Some(file),
+        streams,
+    );
+    (status, keeper.leave())
 }
 
 /// Works over a new store in memory with this base and these limits, and returns the exit status.
@@ -85,9 +86,9 @@ pub fn work_in_memory<
     } = job;
     // No effect; states for the proof that the base has its form.
     let _ = base.as_str();
-    let keeper = ReportingKeeper::new(MemKeeper::new(alloc, base), progress);
-    let (status, keeper) = work_over_keeper::<N, ReportingKeeper<MemKeeper, P>, F, R, W, E>(
-        alloc, clock, work, keeper, limits, None, streams,
+    let keeper = MemKeeper::new(alloc, base);
+    let (status, keeper) = work_with_progress::<N, MemKeeper, P, F, R, W, E>(
+        alloc, clock, work, keeper, progress, limits, None, streams,
     );
     drop(keeper);
     status

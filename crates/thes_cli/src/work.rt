@@ -1,6 +1,6 @@
 //! The tasks of the program, performed over the store of a job.
 ghost use Rattle.std.specs.Prelude.{option_map, string_bytes};
-ghost use Rattle.thes_base.specs.Pipe.{IsFresh};
+ghost use Rattle.thes_command_line.specs.Printing.{AreFreshOutputs};
 ghost use Rattle.thes_cli.specs.Streams.{AreFresh};
 ghost use Rattle.thes_cli.specs.Work.{DoesOutputWork, WorksOverKeeper};
 
@@ -19,6 +19,8 @@ use thes_base::data::Limits;
 use thes_base::pipe::Pipe;
 use thes_command_line::arguments::DisplayOptions;
 use thes_http::connection_count::ConnectionCount;
+use thes_jobs::progress::Progress;
+use thes_jobs::progress::reporting_keeper::ReportingKeeper;
 use thes_jobs::trouble::report_unopened_store;
 use thes_jobs::work::{OutputWork, Work};
 use thes_office::Office;
@@ -35,8 +37,7 @@ fn do_output_work<N: Net + Clock, K: Keeper, F: Read + Drop, W: Write, E: Write>
     errors: &mut Pipe<E>,
     connections: &mut ConnectionCount,
 ) -> u8
-    requires output { IsFresh output.old }
-    requires errors { IsFresh errors.old }
+    requires { AreFreshOutputs output.old errors.old }
     ensures { DoesOutputWork K.view F.remaining W.contents E.contents connections.new work
         handler.old output.old output.new errors.old errors.new result handler.new }
 {
@@ -107,4 +108,36 @@ pub fn work_over_keeper<N: Net + Clock, K: Keeper, F: Read + Drop, R: Read, W: W
         ),
     };
     (status, handler.into_office().into_keeper())
+}
+
+/// Works over a storage as `work_over_keeper` does, and reports its progress to a listener. It is
+/// generic over the storage, since the proof of a call sees all calls of the storage.
+pub fn work_with_progress<
+    N: Net + Clock,
+    K: Keeper,
+    P: Progress + Copy,
+    F: Read + Drop,
+    R: Read,
+    W: Write,
+    E: Write,
+>(
+    alloc: Global,
+    clock: &N,
+    work: Work<F, N::Listener>,
+    keeper: K,
+    progress: P,
+    limits: Limits,
+    file: Option<String>,
+    streams: &mut Streams<R, W, E>,
+) -> (u8, K)
+    requires { AreFresh streams.old }
+    ensures { WorksOverKeeper K.view K.is_open K.finds F.remaining R.remaining W.contents E.contents
+        work (option_map string_bytes file) limits keeper streams.old result.0 result.1
+        streams.new }
+{
+    let keeper = ReportingKeeper::new(keeper, progress);
+    let (status, keeper) = work_over_keeper::<N, ReportingKeeper<K, P>, F, R, W, E>(
+        alloc, clock, work, keeper, limits, file, streams,
+    );
+    (status, keeper.into_keeper())
 }

@@ -60,6 +60,11 @@ open_failure_line File = fault_line Read
 open_failure_line Socket = net_line
 open_failure_line Connection = few_files_lines
 
+-- Neither standard output nor standard error has failed, and neither was denied a call.
+pub record AreFreshOutputs {W E : Type 0} (out : Pipe W) (err : Pipe E) : Type 0 where
+  pub output : IsFresh out
+  pub errors : IsFresh err
+
 -- Only a prefix of the text was written, since the writer failed or a write was denied.
 abbrev pub PrintsPrefix : {W : Type 0} → (W → Option Bytes) → Pipe W → Pipe W → Bytes → Type 0
 PrintsPrefix contents old new text =

@@ -1,6 +1,6 @@
 //! The options, commands and help of the program.
 ghost use Rattle.std.specs.Prelude.{◌≡◌, false, IfOk};
-ghost use Rattle.clap.specs.Words.{app_of, rule_of};
+ghost use Rattle.clap.specs.Words.{App, Rule, app_of, rule_of, with_rule, with_subcommand};
 ghost use Rattle.clap.specs.declared.builder.command.Command.TheViews.{out-Command as fields_of};
 ghost use Rattle.thes_command_line.specs.Commands as line;
 
@@ -277,55 +277,91 @@ fn serve<'a>(alloc: Global) -> Result<Command<'a>, AllocError>
 
 // Returns the program with the options `--db` and `--base`, before any other option or command is
 // added.
-fn file_options<'a>(alloc: Global) -> Result<Command<'a>, AllocError>
+fn file_options<'a>(
+    alloc: Global,
+    about: &'a str,
+    example: &'a str,
+) -> Result<Command<'a>, AllocError>
     ensures { IfOk result (λ c. app_of c ≡ line.file_options) }
 {
     Command::new(alloc, "thesaurus")
         .bin_name("thesaurus")?
         .version(VERSION)
-        .about(ABOUT)
-        .after_help(EXAMPLE)
+        .about(about)
+        .after_help(example)
         .disable_help_subcommand(true)
         .subcommand_required(true)
         .arg(option(alloc, "db", "FILE", DB))?
         .arg(option(alloc, "base", "IRI", BASE_HELP))
 }
 
+// Adds an option to a program, or returns the error of making it. A caller without early exits has
+// a shorter proof.
+fn with_option<'a>(
+    program: Result<Command<'a>, AllocError>,
+    option: Arg<'a>,
+) -> Result<Command<'a>, AllocError>
+    requires { option.global ≡ false }
+    ensures { (app : App) (rule : Rule) → IfOk program.entry (λ p. app_of p ≡ app)
+        → rule_of option.entry ≡ rule → IfOk result (λ r. app_of r ≡ with_rule app rule) }
+{
+    program?.arg(option)
+}
+
 // Returns the program with all its options, before any command is added.
 fn program_options<'a>(alloc: Global) -> Result<Command<'a>, AllocError>
     ensures { IfOk result (λ c. app_of c ≡ line.program_options) }
 {
-    file_options(alloc)?
-        .arg(limit(alloc, "max-resources", MAX_RESOURCES))?
-        .arg(limit(alloc, "max-labels", MAX_LABELS))?
-        .arg(limit(alloc, "max-links", MAX_LINKS))?
-        .arg(limit(alloc, "max-postings", MAX_POSTINGS))?
-        .arg(limit(alloc, "max-moves", MAX_MOVES))
+    let program = file_options(alloc, ABOUT, EXAMPLE);
+    let program = with_option(program, limit(alloc, "max-resources", MAX_RESOURCES));
+    let program = with_option(program, limit(alloc, "max-labels", MAX_LABELS));
+    let program = with_option(program, limit(alloc, "max-links", MAX_LINKS));
+    let program = with_option(program, limit(alloc, "max-postings", MAX_POSTINGS));
+    with_option(program, limit(alloc, "max-moves", MAX_MOVES))
+}
+
+// Adds a command to a program, if both were made, or returns the first error.
+fn with_command<'a>(
+    program: Result<Command<'a>, AllocError>,
+    command: Result<Command<'a>, AllocError>,
+) -> Result<Command<'a>, AllocError>
+    requires { IfOk command (λ c. (fields_of c).has_globals ≡ false) }
+    ensures { (app added : App) → IfOk program.entry (λ p. app_of p ≡ app)
+        → IfOk command.entry (λ c. app_of c ≡ added)
+        → IfOk result (λ r. app_of r ≡ with_subcommand app added.top) }
+{
+    program?.subcommand(command?)
 }
 
 /// Returns the program with its options and its eight commands.
 pub fn program<'a>(alloc: Global) -> Result<Command<'a>, AllocError>
     ensures { IfOk result (λ program. app_of program ≡ line.program) }
 {
-    program_options(alloc)?
-        .subcommand(command(alloc, "script", SCRIPT, SCRIPT_USAGE, SCRIPT_EXAMPLE))?
-        .subcommand(import(alloc)?)?
-        .subcommand(command(alloc, "export", EXPORT, EXPORT_USAGE, EXPORT_EXAMPLE))?
-        .subcommand(display(
-            alloc,
-            "alphabetical",
-            ALPHABETICAL,
-            ALPHABETICAL_USAGE,
-            ALPHABETICAL_EXAMPLE,
-        )?)?
-        .subcommand(display(
-            alloc,
-            "hierarchical",
-            HIERARCHICAL,
-            HIERARCHICAL_USAGE,
-            HIERARCHICAL_EXAMPLE,
-        )?)?
-        .subcommand(serve(alloc)?)?
-        .subcommand(command(alloc, "check", CHECK, CHECK_USAGE, CHECK_EXAMPLE))?
-        .subcommand(command(alloc, "migrate", MIGRATE, MIGRATE_USAGE, MIGRATE_EXAMPLE))
+    let program = program_options(alloc);
+    let script = command(alloc, "script", SCRIPT, SCRIPT_USAGE, SCRIPT_EXAMPLE);
+    let program = with_command(program, Ok(script));
+    let program = with_command(program, import(alloc));
+    let export = command(alloc, "export", EXPORT, EXPORT_USAGE, EXPORT_EXAMPLE);
+    let program = with_command(program, Ok(export));
+    let alphabetical = display(
+        alloc,
+        "alphabetical",
+        ALPHABETICAL,
+        ALPHABETICAL_USAGE,
+        ALPHABETICAL_EXAMPLE,
+    );
+    let program = with_command(program, alphabetical);
+    let hierarchical = display(
+        alloc,
+        "hierarchical",
+        HIERARCHICAL,
+        HIERARCHICAL_USAGE,
+        HIERARCHICAL_EXAMPLE,
+    );
+    let program = with_command(program, hierarchical);
+    let program = with_command(program, serve(alloc));
+    let check = command(alloc, "check", CHECK, CHECK_USAGE, CHECK_EXAMPLE);
+    let program = with_command(program, Ok(check));
+    let migrate = command(alloc, "migrate", MIGRATE, MIGRATE_USAGE, MIGRATE_EXAMPLE);
+    with_command(program, Ok(migrate))
 }

@@ -1,6 +1,6 @@
 //! Early exits: help, the version, and faults of the command line.
-ghost use Rattle.thes_base.specs.Pipe.{IsFresh};
 ghost use Rattle.thes_command_line.specs.EarlyExit.{ExitsEarly};
+ghost use Rattle.thes_command_line.specs.Printing.{AreFreshOutputs};
 
 use crate::arguments::EarlyExit;
 use crate::printing::{print_error, print_out, report_fault, report_form_fault};
@@ -17,8 +17,7 @@ pub fn exit_early<W: Write, E: Write>(
     errors: &mut Pipe<E>,
     early_exit: &EarlyExit,
 ) -> u8
-    requires output { IsFresh output.old }
-    requires errors { IsFresh errors.old }
+    requires { AreFreshOutputs output.old errors.old }
     ensures { ExitsEarly W.contents E.contents output.old output.new errors.old errors.new
         early_exit.now result }
 {

@@ -3,7 +3,7 @@ ghost use Rattle.std.specs.Prelude.{◌≡◌, ◌++◌};
 ghost use Rattle.thes_base.specs.Pipe.{IsFresh};
 ghost use Rattle.thes_command_line.specs.Opening as opening;
 ghost use Rattle.thes_command_line.specs.Printing as lines;
-ghost use Rattle.thes_command_line.specs.Printing.{HasPrinted, Prints, PrintsText};
+ghost use Rattle.thes_command_line.specs.Printing.{AreFreshOutputs, HasPrinted, Prints, PrintsText};
 
 use crate::trouble::StoreTrouble;
 use arrayvec::ArrayString;
@@ -67,8 +67,7 @@ fn print_both<W: Write>(writer: &mut Pipe<W>, first: &[u8], second: &[u8]) -> bo
 /// Prints a text to standard output, and returns the exit status 0; if that fails, prints the fault
 /// to standard error and returns 3.
 pub fn print_out<W: Write, E: Write>(output: &mut Pipe<W>, errors: &mut Pipe<E>, text: &[u8]) -> u8
-    requires output { IsFresh output.old }
-    requires errors { IsFresh errors.old }
+    requires { AreFreshOutputs output.old errors.old }
     ensures { PrintsText W.contents E.contents output.old output.new errors.old errors.new text.now
         result }
 {

@@ -1,5 +1,5 @@
 //! The reasons why the work of a job doesn't begin, and their reports.
-ghost use Rattle.thes_base.specs.Pipe.{IsFresh};
+ghost use Rattle.thes_command_line.specs.Printing.{AreFreshOutputs};
 ghost use Rattle.thes_command_line.specs.StartFailure.{ReportsStartFailure};
 
 use crate::arguments::EarlyExit;
@@ -27,8 +27,7 @@ pub fn report_start_failure<W: Write, E: Write>(
     errors: &mut Pipe<E>,
     failure: &StartFailure,
 ) -> u8
-    requires output { IsFresh output.old }
-    requires errors { IsFresh errors.old }
+    requires { AreFreshOutputs output.old errors.old }
     ensures { ReportsStartFailure W.contents E.contents output.old output.new errors.old errors.new
         failure.now result }
 {

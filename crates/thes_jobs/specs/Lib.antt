@@ -3,4 +3,5 @@ pub mod PlannedWork
 pub mod NewStore
 pub mod Passing
 pub mod Migrating
+pub mod OpenStore
 pub mod Starting

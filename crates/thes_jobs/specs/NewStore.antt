@@ -1,5 +1,5 @@
--- The making of a store's tables.
-use Rattle.std.specs.Prelude.{◌≡◌, List, ℕ, Result, Ok, Err}
+-- The making of a store's tables, if its database was opened for a new store and has none.
+use Rattle.std.specs.Prelude.{◌≡◌, ◌↔◌, IsTrue, Bool, List, ℕ, Result, Ok, Err}
 use Rattle.sqlite.specs.Held.{Held, state}
 use Rattle.sqlite.specs.State.{HasCleanDisk}
 use Rattle.sqlite.specs.declared.error.Error.{Error}
@@ -12,6 +12,10 @@ use Rattle.thes_sql.specs.StoredRows.{Keeps}
 use Rattle.thes_sqlite.specs.Faults.{error_fault}
 use Rattle.thes_sqlite.specs.KeeperView.{IsUp}
 use Rattle.thes_sqlite.specs.MigrationEffects.{IsUnwritten}
+use Rattle.thes_command_line.specs.Opening.{preparation_of}
+use Rattle.thes_command_line.specs.declared.opening.Opening.{Opening}
+use Rattle.thes_command_line.specs.declared.opening.Preparation.{Preparation}
+use Rattle.thes_command_line.specs.declared.opening.Preparation.TheVariants.{MakeTables, RemoveMark, Nothing}
 use Rattle.thes_command_line.specs.declared.trouble.StoreTrouble.{StoreTrouble}
 use Rattle.thes_command_line.specs.declared.trouble.StoreTrouble.TheVariants.{Unwritable}
 use Rattle.thes_jobs.specs.Trouble.{trouble_of}
@@ -30,3 +34,16 @@ module _ {S : Type 0} (store : Ghosts S) where
       HasCleanDisk (state store new) → IsEmpty empty_schema (state store old).now
       → Keeps (state store new).committed (empty_tables base) × Keeps (state store new).now (empty_tables base)
   MakesStore base old (Err reported) new = IsUnmade old reported.0 reported.1 new
+
+  -- The tables of a new store are made; every other preparation leaves the database as it is.
+  abbrev pub Prepares : Preparation → List ℕ → Held S → Result (Unit {0}) (StoreTrouble × Fault) → Held S → Type 0
+  Prepares MakeTables base old result new = MakesStore base old result new
+  Prepares RemoveMark base old result new = (result ≡ Ok tt) × (new ≡ old)
+  Prepares Nothing base old result new = (result ≡ Ok tt) × (new ≡ old)
+
+  -- The preparation of a database is that for how it was opened, and for whether it has tables.
+  pub record PreparesStore (opening : Opening) (is_check : Bool) (base : List ℕ) (old : Held S)
+      (result : Result (Unit {0}) (StoreTrouble × Fault)) (new : Held S) : Type 0 where
+    pub is_blank : Bool
+    pub blank : IsTrue is_blank ↔ ((state store old).now.schema ≡ empty_schema)
+    pub prepares : Prepares (preparation_of opening is_blank is_check) base old result new

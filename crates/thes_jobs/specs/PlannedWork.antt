@@ -1,12 +1,13 @@
 -- The work of each task, and the report of a file or socket that can't be opened.
-use Rattle.std.specs.Prelude.{Bool, Result, Ok, Err}
+use Rattle.std.specs.Prelude.{◌≡◌, ◌⊎◌, Bool, IfErr, Option, Some, None, Result, Ok, Err}
+use Rattle.std.specs.Result.{result_map_both}
 use Rattle.std.specs.declared.io.Error.{Error}
 use Rattle.thes_command_line.specs.declared.arguments.DisplayOptions.{DisplayOptions}
 use Rattle.thes_command_line.specs.declared.arguments.ServeOptions.{ServeOptions}
 use Rattle.thes_command_line.specs.declared.arguments.Task.{Task}
 use Rattle.thes_command_line.specs.declared.arguments.Task.TheVariants as tasks
 use Rattle.thes_command_line.specs.declared.printing.OpenFailure.{OpenFailure}
-use Rattle.thes_command_line.specs.declared.printing.OpenFailure.TheVariants.{File}
+use Rattle.thes_command_line.specs.declared.printing.OpenFailure.TheVariants.{File, Socket, Connection}
 use Rattle.thes_http.specs.declared.service.Display.{Display}
 use Rattle.thes_http.specs.declared.service.Display.TheVariants as displays
 use Rattle.thes_jobs.specs.declared.work.PlannedWork.{PlannedWork}
@@ -41,3 +42,18 @@ abbrev pub serve_work : {F L : Type 0} → Result L OpenFailure → ServeOptions
 serve_work (Ok listener) options =
     Ok (Output (output.Serve (record { listener = listener; port = options.port; count = options.count })))
 serve_work (Err unopened) options = Err unopened
+
+-- The failure is one of opening a socket.
+abbrev pub IsSocketFailure : OpenFailure → Type 0
+IsSocketFailure failure = (failure ≡ Socket) ⊎ (failure ≡ Connection)
+
+-- The planned work, with its posting file or socket opened if it has one, or that this couldn't be opened; None for a
+-- migration. The Boolean says whether an import prints the counts of its rows.
+abbrev pub OpensPlanned : {F L : Type 0} → PlannedWork F L → Bool → Result (Option (Work F L)) OpenFailure → Type 0
+OpensPlanned {F} {L} (planned.Ready work) prints_it result = result ≡ Ok (Some work)
+OpensPlanned {F} {L} (planned.Import file) prints_it result =
+    (opened : Result F Error) × (result ≡ result_map_both Some (λ failure. failure) (import_work opened prints_it))
+OpensPlanned {F} {L} (planned.Serve options) prints_it result =
+    (opened : Result L OpenFailure) × IfErr opened IsSocketFailure
+    × (result ≡ result_map_both Some (λ failure. failure) (serve_work opened options))
+OpensPlanned {F} {L} planned.Migrate prints_it result = result ≡ Ok None

@@ -1,8 +1,31 @@
 -- The jobs that the program opens.
-use Rattle.std.specs.Prelude.{◌≡◌, false}
+use Rattle.std.specs.Prelude.{◌≡◌, ◌↔◌, IsTrue, Bool, false, List, ℕ, IfSome, is_some, Option, Some, None, Result, Ok, Err}
+use Rattle.std.specs.Global.{Global}
+use Rattle.std.specs.declared.fs.File.{File}
+use Rattle.std.specs.declared.net.tcp.TcpListener.{TcpListener}
+use Rattle.std.specs.declared.string.String.{String}
 use Rattle.sqlite.specs.Held.{Held}
+use Rattle.sqlite_trees.specs.declared.store.Store.{Ghosts}
+use Rattle.thes_base.specs.declared.fault.Fault.{Fault}
+use Rattle.thes_command_line.specs.Opening.{is_import}
+use Rattle.thes_command_line.specs.declared.arguments.EarlyExit.{EarlyExit}
+use Rattle.thes_command_line.specs.declared.arguments.Job.{Job}
+use Rattle.thes_command_line.specs.declared.arguments.Task.{Task}
+use Rattle.thes_command_line.specs.declared.arguments.Task.TheVariants.{Check, Migrate}
+use Rattle.thes_command_line.specs.declared.arguments.StoreSetting.{StoreSetting}
+use Rattle.thes_command_line.specs.declared.start_failure.StartFailure.{StartFailure}
+use Rattle.thes_command_line.specs.declared.start_failure.StartFailure.TheVariants as failures
+use Rattle.thes_command_line.specs.declared.trouble.StoreTrouble.{StoreTrouble}
+use Rattle.thes_command_line.specs.declared.trouble.StoreTrouble.TheVariants.{Unreadable}
+use Rattle.thes_jobs.specs.NewStore.{PreparesStore}
+use Rattle.thes_jobs.specs.OpenStore.{IsOpenedFor, IsUnopenedStore}
+use Rattle.thes_jobs.specs.PlannedWork.{OpensPlanned, planned_work}
+use Rattle.thes_jobs.specs.declared.screen.Screen.{Screen}
 use Rattle.thes_jobs.specs.declared.starting.OpenJob.{OpenJob}
 use Rattle.thes_jobs.specs.declared.starting.OpenJob.TheVariants.{InFile, InMemory, Migration, Version}
+use Rattle.thes_jobs.specs.declared.starting.StoreDatabase.{StoreDatabase}
+use Rattle.thes_jobs.specs.declared.work.DatabaseWork.{DatabaseWork}
+use Rattle.thes_jobs.specs.declared.work.MemoryWork.{MemoryWork}
 
 -- Each connection that is opened is in no transaction.
 abbrev pub OpensIdle : {S : Type 0} → (Held S → Type 0) → Type 0
@@ -14,3 +37,75 @@ IsIdle (InFile work) = work.conn.in_transaction ≡ false
 IsIdle (InMemory work) = Unit {0}
 IsIdle (Migration file conn) = conn.in_transaction ≡ false
 IsIdle Version = Unit {0}
+
+-- A listener for progress, if there is one, reports the rows of an import exactly when the task is one.
+abbrev pub ListensTo : {R : Type 0} → Task → Option (Screen R) → Type 0
+ListensTo task progress = IfSome progress (λ screen. screen.is_import ≡ is_import task)
+
+-- The job of a task over the store in a file, and over a new store in memory.
+abbrev pub job_in_file : Task → String Global → StoreSetting → Job
+job_in_file task file setting = record { task = task; file = Some file; setting = setting }
+
+abbrev pub job_in_memory : Task → StoreSetting → Job
+job_in_memory task setting = record { task = task; file = None; setting = setting }
+
+module _ {S : Type 0} (store : Ghosts S) where
+  -- The connection is that of a database that was opened for the task, and in which the tables of a new store were made,
+  -- with this base, if it was to have them.
+  pub record IsPreparedFor (task : Task) (base : List ℕ) (conn : Held S) : Type 0 where
+    pub database : StoreDatabase S
+    pub opens_it : IsOpenedFor task database
+    pub is_check : Bool
+    pub checks : IsTrue is_check ↔ (task ≡ Check)
+    pub prepares : PreparesStore store database.opening is_check base database.conn (Ok tt) conn
+
+  -- The work over the store in the file of a job.
+  pub record IsDatabaseWork {O R F L : Type 0} (job : Job) (work : DatabaseWork S O (Option (Screen R)) F L) : Type 0 where
+    pub does : OpensPlanned (planned_work job.task) (is_some work.progress) (Ok (Some work.work))
+    pub file : job.file ≡ Some work.file
+    pub limits : work.limits ≡ job.setting.limits
+    pub connects : IsPreparedFor job.task job.setting.base work.conn
+    pub listens : ListensTo job.task work.progress
+
+  -- The work of a job over a new store in memory.
+  pub record IsMemoryWork {R F L : Type 0} (job : Job) (work : MemoryWork (Option (Screen R)) F L) : Type 0 where
+    pub does : OpensPlanned (planned_work job.task) (is_some work.progress) (Ok (Some work.work))
+    pub file : job.file ≡ None
+    pub base : work.base ≡ job.setting.base
+    pub limits : work.limits ≡ job.setting.limits
+    pub listens : ListensTo job.task work.progress
+
+  -- The job that was planned is the one that is open.
+  abbrev pub IsOpenJob : {O : Type 0} → Job → OpenJob S O → Type 0
+  IsOpenJob job (InFile work) = IsDatabaseWork job work
+  IsOpenJob job (InMemory work) = IsMemoryWork job work
+  IsOpenJob job (Migration file conn) =
+      (job.task ≡ Migrate) × (job.file ≡ Some file) × IsPreparedFor job.task job.setting.base conn
+  IsOpenJob job Version = (job.task ≡ Migrate) × (job.file ≡ None)
+
+  -- The trouble and the fault of a store that couldn't be opened, or not prepared, for a task, or whose file's full path
+  -- wasn't found.
+  pub data IsUnpreparedStore (task : Task) (base : List ℕ) (reported : StoreTrouble × Fault) : Type 0 where
+    unopened : IsUnopenedStore task reported → IsUnpreparedStore task base reported
+    unprepared : (opened : StoreDatabase S) → IsOpenedFor task opened → (is_check : Bool) → (left : Held S)
+        → PreparesStore store opened.opening is_check base opened.conn (Err reported) left
+        → IsUnpreparedStore task base reported
+    lost : reported.0 ≡ Unreadable → IsUnpreparedStore task base reported
+
+  -- The reason why a job couldn't be opened: its posting file or socket, or its store.
+  abbrev pub IsOpenFailure : Job → StartFailure → Type 0
+  IsOpenFailure job (failures.EarlyExit early_exit) = ⊥
+  IsOpenFailure job (failures.Unopened failure) =
+      (prints_it : Bool) × OpensPlanned {F = File} {L = TcpListener} (planned_work job.task) prints_it (Err failure)
+  IsOpenFailure job (failures.InStore file trouble fault) =
+      (job.file ≡ Some file) × IsUnpreparedStore job.task job.setting.base (trouble, fault)
+
+  -- The job is opened, or the reason says why not.
+  abbrev pub OpensJob : {O : Type 0} → Job → Result (OpenJob S O) StartFailure → Type 0
+  OpensJob job (Ok it) = IsOpenJob job it
+  OpensJob job (Err failure) = IsOpenFailure job failure
+
+  -- The job of a command line is opened, if it has one.
+  abbrev pub OpensPlan : {O : Type 0} → Result Job EarlyExit → Result (OpenJob S O) StartFailure → Type 0
+  OpensPlan (Ok job) opened = OpensJob job opened
+  OpensPlan (Err early_exit) opened = opened ≡ Err (failures.EarlyExit early_exit)

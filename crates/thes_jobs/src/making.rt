@@ -1,5 +1,7 @@
 //! The mark of a store that is being made: an empty file, made before the database and removed once
 //! the database has its tables. It shows a later run that making the store was cut short.
+ghost use Rattle.std.specs.Prelude.{◌≡◌, IfErr};
+
 use std::fs;
 use std::fs::File;
 use thes_base::fault::Fault;
@@ -15,7 +17,9 @@ pub struct MakingMark<'r> {
 impl<'r> MakingMark<'r> {
     /// Returns the mark of the store in a file, without making it. The name of the mark is that of
     /// the file, with links followed, and `-making`.
-    pub fn new(rt: &'r HostRuntime, file: &str) -> Result<MakingMark<'r>, Fault> {
+    pub fn new(rt: &'r HostRuntime, file: &str) -> Result<MakingMark<'r>, Fault>
+        ensures { IfErr result (λ fault. fault ≡ Fault.OutOfMemory) }
+    {
         let path = match fs::canonicalize(rt, file) {
             Ok(path) => format!(in rt.alloc(); "{}-making", path.as_str())?,
             Err(_) => format!(in rt.alloc(); "{file}-making")?,

@@ -1,8 +1,7 @@
 //! The command `migrate`: migrates a store, and prints its version.
 ghost use Rattle.std.specs.Prelude.{◌≡◌, false};
-ghost use Rattle.thes_base.specs.Pipe.{IsFresh};
 ghost use Rattle.thes_jobs.specs.Migrating.{MigratesDatabase, version_line};
-ghost use Rattle.thes_command_line.specs.Printing.{PrintsText};
+ghost use Rattle.thes_command_line.specs.Printing.{AreFreshOutputs, PrintsText};
 
 use sqlite::{Alter, Connection};
 use std::alloc::Global;
@@ -14,8 +13,7 @@ use thes_sqlite::keeper::SqlKeeper;
 
 /// Prints the line of version 2, and returns the exit status: 0, or 3 if it can't be written.
 pub fn print_version<W: Write, E: Write>(output: &mut Pipe<W>, errors: &mut Pipe<E>) -> u8
-    requires output { IsFresh output.old }
-    requires errors { IsFresh errors.old }
+    requires { AreFreshOutputs output.old errors.old }
     ensures { PrintsText W.contents E.contents output.old output.new errors.old errors.new
         version_line result }
 {
@@ -32,8 +30,7 @@ pub fn migrate_in_database<S: Alter, W: Write, E: Write>(
     errors: &mut Pipe<E>,
 ) -> (u8, Connection<S>)
     requires idle { conn.in_transaction ≡ false }
-    requires output { IsFresh output.old }
-    requires errors { IsFresh errors.old }
+    requires outputs { AreFreshOutputs output.old errors.old }
     ensures { MigratesDatabase W.contents E.contents output.old output.new errors.old errors.new
         S.Store file.now conn result.0 result.1 }
 {

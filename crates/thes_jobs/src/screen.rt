@@ -1,5 +1,5 @@
 //! Progress of loads and imports, printed on a terminal.
-ghost use Rattle.std.specs.Prelude.{◌↔◌, ◌≤◌, ◌-◌, IsTrue};
+ghost use Rattle.std.specs.Prelude.{◌≡◌, ◌↔◌, ◌≤◌, ◌-◌, IfSome, IsTrue};
 ghost use Rattle.std.specs.Time.{instant_nanos};
 
 use crate::progress::Progress;
@@ -31,7 +31,9 @@ fn is_due(last: Instant, now: Instant) -> bool
 
 impl<'a, R: Clock + Eprint> Screen<'a, R> {
     /// Returns a listener for work that begins now, or `None` if the clock fails.
-    pub fn new(rt: &'a R, is_import: bool) -> Option<Screen<'a, R>> {
+    pub fn new(rt: &'a R, is_import: bool) -> Option<Screen<'a, R>>
+        ensures { IfSome result (λ screen. screen.is_import ≡ is_import) }
+    {
         match Instant::now(rt) {
             Ok(last) => Some(Screen {
                 rt,

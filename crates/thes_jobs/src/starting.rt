@@ -1,6 +1,11 @@
 //! Opens what the job of a command line names: its store, and its file or socket.
-ghost use Rattle.std.specs.Prelude.{◌≡◌, false, IfOk};
-ghost use Rattle.thes_jobs.specs.Starting.{IsIdle, OpensIdle};
+ghost use Rattle.std.specs.Prelude.{◌≡◌, false, IfErr, IfOk, Some, is_some};
+ghost use Rattle.std.specs.Result.{result_map_both};
+ghost use Rattle.thes_jobs.specs.NewStore.{MakesStore, PreparesStore};
+ghost use Rattle.thes_jobs.specs.OpenStore.{ChoosesOpening, IsOpenedFor, IsTroubleOf, IsUnopenedDatabase, OpensStore};
+ghost use Rattle.thes_jobs.specs.PlannedWork as work;
+ghost use Rattle.thes_jobs.specs.PlannedWork.{IsSocketFailure, OpensPlanned};
+ghost use Rattle.thes_jobs.specs.Starting.{IsIdle, ListensTo, OpensIdle, OpensJob, OpensPlan, job_in_file, job_in_memory};
 
 use crate::databases::Databases;
 use crate::making::MakingMark;
@@ -61,7 +66,9 @@ fn open_trouble(
     found: FileState,
     file: &str,
     error: &Error,
-) -> StoreTrouble {
+) -> StoreTrouble
+    ensures { IsTroubleOf opening found error.now result }
+{
     let access = access_error(rt, opening, file);
     trouble_of(
         error,
@@ -80,7 +87,8 @@ fn open_database<S: Alter + Drop, O, D: Databases<Connection<S>, O>>(
     file: &str,
 ) -> Result<Connection<S>, (StoreTrouble, Fault)>
     requires { OpensIdle D.opens }
-    ensures { IfOk result (λ conn. conn.in_transaction ≡ false) }
+    ensures idle { IfOk result (λ conn. conn.in_transaction ≡ false) }
+    ensures err { IfErr result (IsUnopenedDatabase opening found) }
 {
     if opening == Opening::New {
         mark.make();
@@ -104,7 +112,9 @@ fn opening_for(
     found: FileState,
     mark: &MakingMark<'_>,
     file: &str,
-) -> Result<Opening, (StoreTrouble, Fault)> {
+) -> Result<Opening, (StoreTrouble, Fault)>
+    ensures { ChoosesOpening task.now found result }
+{
     if let Some(reported) = name_trouble(has_long_name(rt, file)) {
         return Err(reported);
     }
@@ -130,7 +140,7 @@ fn open_store<'r, S: Alter + Drop, O, D: Databases<Connection<S>, O>>(
     file: &str,
 ) -> Result<StoreDatabase<'r, S>, (StoreTrouble, Fault)>
     requires { OpensIdle D.opens }
-    ensures { IfOk result (λ store. store.conn.in_transaction ≡ false) }
+    ensures { OpensStore task.now result }
 {
     let mark = match MakingMark::new(rt, file) {
         Ok(mark) => mark,
@@ -155,7 +165,8 @@ fn make_marked_store<S: Alter>(
     base: &Base,
 ) -> Result<(), (StoreTrouble, Fault)>
     requires { store.old.conn.in_transaction ≡ false }
-    ensures { store.new.conn.in_transaction ≡ false }
+    ensures makes { MakesStore S.Store base.now store.old.conn result store.new.conn }
+    ensures idle { store.new.conn.in_transaction ≡ false }
 {
     make_store(&mut store.conn, base)?;
     store.mark.remove();
@@ -175,7 +186,9 @@ fn prepare_store<S: Alter>(
     base: &Base,
 ) -> Result<(), (StoreTrouble, Fault)>
     requires { store.old.conn.in_transaction ≡ false }
-    ensures { store.new.conn.in_transaction ≡ false }
+    ensures prepares { PreparesStore S.Store store.old.opening is_check base.now store.old.conn
+        result store.new.conn }
+    ensures idle { store.new.conn.in_transaction ≡ false }
 {
     match preparation_of(store.opening, is_blank(&store.conn), is_check) {
         Preparation::MakeTables => make_marked_store(store, screen, file, base),
@@ -188,7 +201,9 @@ fn prepare_store<S: Alter>(
 }
 
 // Returns a listener for progress, if standard error is a terminal and the clock works.
-fn screen_of<'a>(rt: &'a HostRuntime, task: &Task) -> Option<Screen<'a, HostRuntime>> {
+fn screen_of<'a>(rt: &'a HostRuntime, task: &Task) -> Option<Screen<'a, HostRuntime>>
+    ensures { ListensTo task.now result }
+{
     if rt.stderr().is_terminal() {
         Screen::new(rt, is_import(task))
     } else {
@@ -199,7 +214,9 @@ fn screen_of<'a>(rt: &'a HostRuntime, task: &Task) -> Option<Screen<'a, HostRunt
 // Opens a socket on this machine's loopback address, if the system also lets the program open three
 // more files. A connection needs its stream and a copy of it, and one more file while the store is
 // opened again.
-fn open_socket(rt: &HostRuntime, port: u16) -> Result<TcpListener, OpenFailure> {
+fn open_socket(rt: &HostRuntime, port: u16) -> Result<TcpListener, OpenFailure>
+    ensures { IfErr result IsSocketFailure }
+{
     let Ok(listener) = TcpListener::bind(rt, (Ipv4Addr::LOCALHOST, port)) else {
         return Err(OpenFailure::Socket);
     };
@@ -214,20 +231,32 @@ fn open_socket(rt: &HostRuntime, port: u16) -> Result<TcpListener, OpenFailure> 
     }
 }
 
+// Returns the value as an option that has one, or the error.
+fn with_some<T, E>(given: Result<T, E>) -> Result<Option<T>, E>
+    ensures { result ≡ result_map_both Some (λ error. error) given }
+{
+    match given {
+        Ok(value) => Ok(Some(value)),
+        Err(error) => Err(error),
+    }
+}
+
 // Opens the posting file of an import, or a socket on the loopback address for a server. Returns
 // `None` for a migration, which loads no store.
 fn open_work(
     rt: &HostRuntime,
     task: Task,
     screen: &Option<Screen<'_, HostRuntime>>,
-) -> Result<Option<Work<File, TcpListener>>, OpenFailure> {
+) -> Result<Option<Work<File, TcpListener>>, OpenFailure>
+    ensures { OpensPlanned (work.planned_work task) (is_some screen.now) result }
+{
     match planned_work(task) {
         PlannedWork::Ready(work) => Ok(Some(work)),
         PlannedWork::Import(file) => {
-            Ok(Some(import_work(File::open(rt, file.as_str()), screen)?))
+            with_some(import_work(File::open(rt, file.as_str()), screen))
         }
         PlannedWork::Serve(options) => {
-            Ok(Some(serve_work(open_socket(rt, options.port), options)?))
+            with_some(serve_work(open_socket(rt, options.port), options))
         }
         PlannedWork::Migrate => Ok(None),
     }
@@ -243,8 +272,9 @@ fn open_over<'r, S: Alter + Drop, O: Drop, D: Databases<Connection<S>, O>>(
     file: String,
     setting: StoreSetting,
 ) -> Result<OpenJob<'r, S, O>, StartFailure>
-    requires { store.conn.in_transaction ≡ false }
-    ensures { IfOk result IsIdle }
+    requires { IsOpenedFor task store }
+    ensures opens { OpensJob S.Store (job_in_file task file setting) result }
+    ensures idle { IfOk result IsIdle }
 {
     let StoreSetting { base, limits } = setting;
     let progress = screen_of(rt, &task);
@@ -253,14 +283,9 @@ fn open_over<'r, S: Alter + Drop, O: Drop, D: Databases<Connection<S>, O>>(
         Ok(work) => work,
         Err(unopened) => return Err(StartFailure::Unopened(unopened)),
     };
-    if let Err((trouble, fault)) = prepare_store(
-        &mut store,
-        is_check,
-        progress,
-        file.as_str(),
-        &base,
-    ) {
-        return Err(StartFailure::InStore(file, trouble, fault));
+    match prepare_store(&mut store, is_check, progress, file.as_str(), &base) {
+        Ok(()) => {}
+        Err((trouble, fault)) => return Err(StartFailure::InStore(file, trouble, fault)),
     }
     let opener = match databases.reopener(file.as_str()) {
         Ok(opener) => opener,
@@ -296,7 +321,8 @@ fn open_in_file<'r, S: Alter + Drop, O: Drop, D: Databases<Connection<S>, O>>(
     setting: StoreSetting,
 ) -> Result<OpenJob<'r, S, O>, StartFailure>
     requires { OpensIdle D.opens }
-    ensures { IfOk result IsIdle }
+    ensures opens { OpensJob S.Store (job_in_file task file setting) result }
+    ensures idle { IfOk result IsIdle }
 {
     match open_store(rt, databases, &task, file.as_str()) {
         Ok(store) => open_over(rt, databases, task, store, file, setting),
@@ -310,7 +336,8 @@ fn open_in_memory<S: Alter, O>(
     task: Task,
     setting: StoreSetting,
 ) -> Result<OpenJob<'_, S, O>, StartFailure>
-    ensures { IfOk result IsIdle }
+    ensures opens { OpensJob S.Store (job_in_memory task setting) result }
+    ensures idle { IfOk result IsIdle }
 {
     let StoreSetting { base, limits } = setting;
     let progress = screen_of(rt, &task);
@@ -333,7 +360,8 @@ pub fn open_job<'r, S: Alter + Drop, O: Drop, D: Databases<Connection<S>, O>>(
     planned: Result<Job, EarlyExit>,
 ) -> Result<OpenJob<'r, S, O>, StartFailure>
     requires { OpensIdle D.opens }
-    ensures { IfOk result IsIdle }
+    ensures opens { OpensPlan S.Store planned result }
+    ensures idle { IfOk result IsIdle }
 {
     match planned {
         Ok(

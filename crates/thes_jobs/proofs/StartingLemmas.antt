@@ -1,0 +1,29 @@
+-- Facts about the job that is opened.
+use Rattle.std.proofs.Common.{◌≡◌, Bool, Ok, Err, None, Some, refl}
+use Rattle.std.specs.Global.{Global}
+use Rattle.std.specs.declared.string.String.{String}
+use Rattle.thes_command_line.specs.declared.arguments.Job.{Job}
+use Rattle.thes_command_line.specs.declared.arguments.StoreSetting.{StoreSetting}
+use Rattle.thes_command_line.specs.declared.arguments.Task.{Task}
+use Rattle.thes_command_line.specs.declared.arguments.Task.TheVariants as tasks
+use Rattle.thes_jobs.specs.PlannedWork.{OpensPlanned, planned_work}
+use Rattle.thes_jobs.specs.Starting.{job_in_file}
+
+-- A task without work is a migration.
+pub migrates : (F L : Type 0) (task : Task) (prints_it : Bool)
+    → OpensPlanned {F = F} {L = L} (planned_work task) prints_it (Ok None) → task ≡ tasks.Migrate
+migrates F L tasks.Script prints_it h = absurd cc
+migrates F L tasks.Check prints_it h = absurd cc
+migrates F L tasks.Export prints_it h = absurd cc
+migrates F L (tasks.Alphabetical options) prints_it h = absurd cc
+migrates F L (tasks.Hierarchical options) prints_it h = absurd cc
+migrates F L (tasks.Import file) prints_it (Ok opened, h) = absurd cc
+migrates F L (tasks.Import file) prints_it (Err error, h) = absurd cc
+migrates F L (tasks.Serve options) prints_it (Ok listener, fails, h) = absurd cc
+migrates F L (tasks.Serve options) prints_it (Err failure, fails, h) = absurd cc
+migrates F L tasks.Migrate prints_it h = refl
+
+-- A job with this task, this file and this setting.
+pub same_job : (job : Job) (task : Task) (file : String Global) (setting : StoreSetting) → task ≡ job.task
+    → Some file ≡ job.file → setting ≡ job.setting → job_in_file task file setting ≡ job
+same_job job task file setting a b c = rw (a, b, c) refl

@@ -1,0 +1,8 @@
+use Rattle.thes_jobs.proofs.starting.open_database.Goals as goal
+
+pub returns-after-is_mark_void-clause-err : goal.returns-after-is_mark_void-clause-err
+returns-after-is_mark_void-clause-err g c = record {
+  error = c.in-Err.error;
+  trouble = c.open_trouble-trouble.ensures;
+  fault = c.fault_of.ensures.is;
+}

@@ -1,0 +1,39 @@
+use Rattle.std.proofs.Common.{is_some, refl}
+use Rattle.thes_jobs.specs.Starting.{unprepared}
+use Rattle.thes_jobs.proofs.StartingLemmas.{migrates}
+use Rattle.thes_jobs.proofs.starting.open_over.Goals as goal
+
+pub returns-in-Err-prepare_store-clause-opens : goal.returns-in-Err-prepare_store-clause-opens
+returns-in-Err-prepare_store-clause-opens g c = (
+  refl,
+  unprepared c.args.store c.requires c.is_check-is_check.result c.prepare_store.new.store.conn
+      c.in-Err-prepare_store.ensures.prepares,
+)
+
+pub returns-in-Some-clause-opens : goal.returns-in-Some-clause-opens
+returns-in-Some-clause-opens g c = record {
+  does = rw c.in-Some.is at c.in-Ok.ensures;
+  file = refl;
+  limits = refl;
+  connects = record {
+    database = c.args.store;
+    opens_it = c.requires;
+    is_check = c.is_check-is_check.result;
+    checks = c.is_check-is_check.ensures;
+    prepares = c.in-Ok-prepare_store.ensures.prepares;
+  };
+  listens = c.screen_of-progress.ensures;
+}
+
+pub returns-clause-opens : goal.returns-clause-opens
+returns-clause-opens g c = (
+  migrates _ _ c.args.task (is_some c.screen_of-progress.result) (rw c.in-None.is at c.in-Ok.ensures),
+  refl,
+  record {
+    database = c.args.store;
+    opens_it = c.requires;
+    is_check = c.is_check-is_check.result;
+    checks = c.is_check-is_check.ensures;
+    prepares = c.in-Ok-prepare_store.ensures.prepares;
+  },
+)

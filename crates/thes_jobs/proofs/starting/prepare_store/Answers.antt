@@ -1,0 +1,23 @@
+use Rattle.std.proofs.Common.{refl}
+use Rattle.thes_jobs.proofs.starting.prepare_store.Goals as goal
+
+pub returns-in-MakeTables-clause-prepares : goal.returns-in-MakeTables-clause-prepares
+returns-in-MakeTables-clause-prepares g c = record {
+  is_blank = c.is_blank.result;
+  blank = c.is_blank.ensures;
+  prepares = rw (← c.preparation_of.ensures, c.in-MakeTables.is) c.make_marked_store.ensures.makes;
+}
+
+pub returns-in-RemoveMark-clause-prepares : goal.returns-in-RemoveMark-clause-prepares
+returns-in-RemoveMark-clause-prepares g c = record {
+  is_blank = c.is_blank.result;
+  blank = c.is_blank.ensures;
+  prepares = rw (← c.preparation_of.ensures, c.in-RemoveMark.is) (refl, refl);
+}
+
+pub returns-in-Nothing-clause-prepares : goal.returns-in-Nothing-clause-prepares
+returns-in-Nothing-clause-prepares g c = record {
+  is_blank = c.is_blank.result;
+  blank = c.is_blank.ensures;
+  prepares = rw (← c.preparation_of.ensures, c.in-Nothing.is) (refl, refl);
+}
