@@ -1,1 +1,2 @@
+pub mod DatabaseLemmas
 pub mod PassingLemmas

@@ -35,9 +35,6 @@ use thes_tables::rows::PostingRow;
 
 /// A way to open a database again, with a connection of the type `C`.
 pub trait Reopen<C> {
-    // The files of the database held a store with these tables before they were opened.
-    ghost held: { Tables → Type 0 };
-
     /// Checks whether the name of the database still leads to the file that is open.
     fn is_in_place(&mut self) -> bool;
 
@@ -46,9 +43,15 @@ pub trait Reopen<C> {
     fn reopen(&mut self, lost: Option<C>) -> Result<C, Error>;
 }
 
+/// What the files of a database held before they were opened, which only contracts use.
+pub trait HeldTables {
+    // The files held a store with these tables.
+    ghost held: { Tables → Type 0 };
+}
+
 /// Storage that keeps its tables in a database, and opens the database again after a failure has
 /// shut it. Contracts state its rows up to the first such failure, and after it only its faults.
-pub struct ReopeningKeeper<S: Alter, O: Reopen<Connection<S>>> {
+pub struct ReopeningKeeper<S: Alter, O: Reopen<Connection<S>> + HeldTables> {
     // The storage over the first connection, until a failure shuts it.
     first: Option<SqlKeeper<S>>,
     // The connection since then; None before, and while the database can't be opened.
@@ -60,7 +63,7 @@ pub struct ReopeningKeeper<S: Alter, O: Reopen<Connection<S>>> {
     alloc: Global,
 }
 
-impl<S: Alter, O: Reopen<Connection<S>>> Model for ReopeningKeeper<S, O> {
+impl<S: Alter, O: Reopen<Connection<S>> + HeldTables> Model for ReopeningKeeper<S, O> {
     ghost use Rattle.thes_sqlite.specs.Reopening.{IsOfFiles, ReopeningView, reopening_view_code};
 
     ghost Value = { ReopeningView S };
@@ -184,7 +187,7 @@ fn has_changes<S: Alter>(conn: &mut Connection<S>, changes: &[Change]) -> Option
     }
 }
 
-impl<S: Alter + Drop, O: Reopen<Connection<S>>> ReopeningKeeper<S, O> {
+impl<S: Alter + Drop, O: Reopen<Connection<S>> + HeldTables> ReopeningKeeper<S, O> {
     /// Takes over a connection without reading from it.
     pub fn new(alloc: Global, conn: Connection<S>, opener: O) -> ReopeningKeeper<S, O>
         requires idle { conn.in_transaction ≡ false }
@@ -440,7 +443,7 @@ impl<S: Alter + Drop, O: Reopen<Connection<S>>> ReopeningKeeper<S, O> {
     }
 }
 
-impl<S: Alter + Drop, O: Reopen<Connection<S>>> Keeper for ReopeningKeeper<S, O> {
+impl<S: Alter + Drop, O: Reopen<Connection<S>> + HeldTables> Keeper for ReopeningKeeper<S, O> {
     ghost use Rattle.thes_sqlite.specs.Reopening.{storage_still, IsStillOpen, FindsStill};
 
     ghost view = { λ k. storage_still S.Store k };
