@@ -1,26 +1,16 @@
 -- Proves that opening a database and closing it keep the store in its files.
-use Rattle.std.proofs.Common.{◌≡◌, ◌∙◌, refl, sym, ap, subst, arith, length}
-use Rattle.std.specs.Prelude.{Bool, true, false, Result, Ok, Err, Some, IfOk, IsTrue}
+use Rattle.std.proofs.Common.{◌≡◌, subst}
+use Rattle.std.specs.Prelude.{Result, Ok, Err, Some, IfOk}
 use Rattle.sqlite.specs.Files.{file_state}
-use Rattle.sqlite.specs.Held.{Held, state}
-use Rattle.sqlite.specs.Schema.{Schema}
-use Rattle.sqlite.specs.State.{State, HasCleanDisk, Survives}
-use Rattle.sqlite.specs.Tree.{Trees}
+use Rattle.sqlite.specs.Held.{Held}
+use Rattle.sqlite.specs.State.{State, HasCleanDisk}
 use Rattle.sqlite_disk.specs.declared.Disk as disk
 use Rattle.sqlite_disk.specs.declared.Files.{Files}
 use Rattle.sqlite_store.specs.declared.store.FileStore.{FileStore}
-use Rattle.sqlite_trees.specs.declared.store.Store.{Ghosts}
 use Rattle.sqlite_wal.specs.Recovery.{Image}
 use Rattle.thes_tables.specs.Tables.{Tables}
-use Rattle.thes_sql.specs.Schema.{empty_schema, store_schema}
-use Rattle.thes_sql.specs.TransactionEffects.{IsEmpty, IsOwnTransaction}
-use Rattle.thes_sqlite.proofs.KeeperLemmas.{up_before}
 use Rattle.thes_sqlite.specs.DatabaseFiles.{ClosesFiles, HoldsStore, OpensFiles}
 use Rattle.thes_sqlite.specs.KeeperView.{ServesTables}
-use Rattle.thes_command_line.specs.Opening.{preparation_of}
-use Rattle.thes_command_line.specs.declared.opening.Opening.{Opening}
-use Rattle.thes_command_line.specs.declared.opening.Opening.TheVariants.{New, Existing}
-use Rattle.thes_command_line.specs.declared.opening.Preparation.TheVariants.{MakeTables}
 use Rattle.thes_jobs.specs.Databases.{ClosesStore, HoldTables, KeepsTables}
 
 -- A database that was opened serves the store that its files held.
@@ -42,34 +32,10 @@ closed_holds conn files closes = record {
   leaves = λ settled t keeps. (closes.holds settled t keeps, closes.crash settled t keeps);
 }
 
-not_blank : empty_schema ≡ store_schema → ⊥
-not_blank same = let counts = ap (λ (s : Schema). length s.tables) same in absurd (omega (arith, counts))
-
--- A database without tables was no store, so making tables in it leaves those of a store.
-pub blank_keeps : {S E : Type 0} (g : Ghosts S) (old new : Held S) (r : Result Bool E) {C : Trees → Type 0}
-    → (IsEmpty empty_schema (state g old).now → Survives (state g old) (state g new) C)
-    → IsOwnTransaction g old new r → (state g old).now.schema ≡ empty_schema
-    → KeepsTables (state g old) (state g new)
-blank_keeps g old new r survives own blank up t before =
-    let was = before (up_before (state g old) (state g new) (survives (blank, tt)) own.was up) in
-    absurd (not_blank (sym blank ∙ was.1.schema))
-
 -- A database that serves the store of its files still does so after a call that keeps its tables.
 pub serves_after : (held : Tables → Type 0) (old new : State) → ServesTables held old → KeepsTables old new
     → ServesTables held new
 serves_after held old new serves keeps = λ up t was_held. keeps up t (λ was_up. serves was_up t was_held)
-
-pub keeps_same : (s : State) → KeepsTables s s
-keeps_same s = λ up t before. before up
-
--- Tables are made only in a blank database.
-pub made_in_blank : (opening : Opening) (is_blank is_check : Bool)
-    → preparation_of opening is_blank is_check ≡ MakeTables → IsTrue is_blank
-made_in_blank New true is_check is = refl
-made_in_blank New false true is = absurd (cc)
-made_in_blank New false false is = absurd (cc)
-made_in_blank Existing is_blank true is = absurd (cc)
-made_in_blank Existing is_blank false is = absurd (cc)
 
 -- What two clauses say of a value.
 pub both_hold : {A E : Type 0} (r : Result A E) (P Q : A → Type 0) → IfOk r P → IfOk r Q → IfOk r (λ x. P x × Q x)

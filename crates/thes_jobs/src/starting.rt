@@ -31,7 +31,7 @@ use thes_command_line::printing::OpenFailure;
 use thes_command_line::start_failure::StartFailure;
 use thes_command_line::trouble::{StoreTrouble, name_trouble, refused_access};
 use thes_sqlite::faults::fault_of;
-use thes_sqlite::reopening::Reopen;
+use thes_sqlite::reopening::HeldTables;
 
 /// A job whose store, and whose file or socket if it has one, are open.
 pub enum OpenJob<'r, S: Alter, O> {
@@ -76,7 +76,7 @@ fn open_trouble(
 
 // Opens the database in a file, which it marks first if a store is to be made in it. An error is
 // the fault with its reason.
-fn open_database<S: Alter + Drop, O: Reopen<Connection<S>>, L, D: Databases<Connection<S>, O, L>>(
+fn open_database<S: Alter + Drop, O: HeldTables, L, D: Databases<Connection<S>, O, L>>(
     rt: &HostRuntime,
     databases: &D,
     opening: Opening,
@@ -129,7 +129,7 @@ struct StoreDatabase<'r, S: Alter> {
 }
 
 // Opens the database of the store in a file for a task. An error is the fault with its reason.
-fn open_store<'r, S: Alter + Drop, O: Reopen<Connection<S>>, L, D: Databases<Connection<S>, O, L>>(
+fn open_store<'r, S: Alter + Drop, O: HeldTables, L, D: Databases<Connection<S>, O, L>>(
     rt: &'r HostRuntime,
     databases: &D,
     task: &Task,
@@ -245,13 +245,7 @@ fn open_work(
 
 // Prepares the store in an open database for its task, and opens the task's file or socket. An
 // error is the fault of either.
-fn open_over<
-    'r,
-    S: Alter + Drop,
-    O: Reopen<Connection<S>> + Drop,
-    L,
-    D: Databases<Connection<S>, O, L>,
->(
+fn open_over<'r, S: Alter + Drop, O: HeldTables + Drop, L, D: Databases<Connection<S>, O, L>>(
     rt: &'r HostRuntime,
     databases: &D,
     task: Task,
@@ -306,13 +300,7 @@ fn open_over<
 
 // Opens the job of a task over the store in a file. If the file is absent or empty, or making its
 // store was cut short, every task but a check makes the store.
-fn open_in_file<
-    'r,
-    S: Alter + Drop,
-    O: Reopen<Connection<S>> + Drop,
-    L,
-    D: Databases<Connection<S>, O, L>,
->(
+fn open_in_file<'r, S: Alter + Drop, O: HeldTables + Drop, L, D: Databases<Connection<S>, O, L>>(
     rt: &'r HostRuntime,
     databases: &D,
     task: Task,
@@ -330,7 +318,7 @@ fn open_in_file<
 }
 
 // Opens the job of a task over a new store in memory.
-fn open_in_memory<S: Alter, O: Reopen<Connection<S>>>(
+fn open_in_memory<S: Alter, O: HeldTables>(
     rt: &HostRuntime,
     task: Task,
     setting: StoreSetting,
@@ -354,13 +342,7 @@ fn open_in_memory<S: Alter, O: Reopen<Connection<S>>>(
 
 /// Opens the store that a job names, and the file or socket of its task. If the files of a store to
 /// work over held tables, its database serves them.
-pub fn open_job<
-    'r,
-    S: Alter + Drop,
-    O: Reopen<Connection<S>> + Drop,
-    L,
-    D: Databases<Connection<S>, O, L>,
->(
+pub fn open_job<'r, S: Alter + Drop, O: HeldTables + Drop, L, D: Databases<Connection<S>, O, L>>(
     rt: &'r HostRuntime,
     databases: &D,
     planned: Result<Job, EarlyExit>,

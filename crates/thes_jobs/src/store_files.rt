@@ -14,7 +14,7 @@ use std::marker::PhantomData;
 use std::os::unix::fs::MetadataExt;
 use thes_base::fault::Fault;
 use thes_sqlite::files::{close_files, open_files};
-use thes_sqlite::reopening::Reopen;
+use thes_sqlite::reopening::{HeldTables, Reopen};
 
 // Returns what was opened, or the error without what came with it.
 fn without_rest<T, L: Drop>(opened: Result<T, (Error, L)>) -> Result<T, Error>
@@ -147,9 +147,11 @@ impl<'r, S> StoreFiles<'r, S> {
     }
 }
 
-impl<S: Start + Contents> Reopen<Connection<FileStore<FileFrom<S>>>> for StoreFiles<'_, S> {
+impl<S: Start> HeldTables for StoreFiles<'_, S> {
     ghost held = { λ t. HoldsStore (image_at S.Start) t };
+}
 
+impl<S: Start + Contents> Reopen<Connection<FileStore<FileFrom<S>>>> for StoreFiles<'_, S> {
     fn is_in_place(&mut self) -> bool {
         self.open.0.is_some() && self.open == self.named_files()
     }
