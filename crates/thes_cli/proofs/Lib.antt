@@ -2,3 +2,5 @@ pub mod ScriptLemmas
 pub mod ReadyLemmas
 pub mod NewStoreLemmas
 pub mod ServedLemmas
+pub mod StoreRunLemmas
+pub mod StoreFileLemmas

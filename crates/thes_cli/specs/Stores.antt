@@ -1,20 +1,32 @@
 -- Work over a store in a database, and over a new store in memory.
-use Rattle.std.specs.Prelude.{◌≡◌, ◌⊎◌, ℕ, List, Option, Some, IfSome, string_bytes}
-use Rattle.sqlite.specs.Held.{Held}
+use mathlib.Core.Logic.{inl, inr}
+use Rattle.std.specs.Prelude.{◌≡◌, ◌⊎◌, ℕ, List, Option, None, Some, false, IfSome, IsSomeAnd, MatchOption, string_bytes}
+use Rattle.sqlite.specs.Held.{Held, state}
 use Rattle.sqlite_trees.specs.declared.store.Store.{Ghosts}
 use Rattle.thes_base.specs.State.{empty_state}
+use Rattle.thes_base.specs.declared.data.Limits.{Limits}
+use Rattle.thes_base.specs.declared.fault.Fault.{Fault}
 use Rattle.thes_base.specs.declared.fault.Fault.TheVariants.{OutOfMemory}
 use Rattle.thes_base.specs.declared.fault.PipeFault.TheVariants as pipe
+use Rattle.thes_base.specs.declared.pipe.Pipe.{Pipe}
+use Rattle.thes_base.specs.declared.request.Answer.{Answer}
+use Rattle.thes_base.specs.declared.request.Command.{Command}
 use Rattle.thes_tables.specs.Cells.{cells_of_tables}
 use Rattle.thes_tables.specs.Tables.{Tables, empty_tables}
 use Rattle.thes_store.specs.Storage.{StorageView}
 use Rattle.thes_sqlite.specs.Reopening.{ReopeningView, keeper_of_connection, storage_still, IsStillOpen, FindsStill}
+use Rattle.thes_sqlite.specs.Reopening.{IsKeeperStillUp, ReturnsFirst, rows_still}
+use Rattle.thes_sqlite.specs.declared.reopening.Leaving.{Leaving}
+use Rattle.thes_office.specs.Office.{TablesAfterRun}
 use Rattle.thes_office.specs.TablesOfState.{TablesOfState}
-use Rattle.thes_command_line.specs.Printing.{Prints, fault_line}
+use Rattle.thes_command_line.specs.Printing.{Prints, fault_line, fault_lines}
+use Rattle.thes_command_line.specs.declared.trouble.StoreTrouble.TheVariants.{Unreadable}
+use Rattle.thes_jobs.specs.Databases.{ClosesStore}
 use Rattle.thes_jobs.specs.declared.work.DatabaseWork.{DatabaseWork}
 use Rattle.thes_jobs.specs.declared.work.MemoryWork.{MemoryWork}
 use Rattle.thes_cli.specs.Checking.{no_sizes, sizes_of}
 use Rattle.thes_cli.specs.Work.{WorksOpened, WorksOverKeeper}
+use Rattle.thes_cli.specs.declared.closing.Closed.{Closed}
 use Rattle.thes_cli.specs.declared.streams.Streams.{Streams}
 
 -- The storage over a new connection, before any call.
@@ -24,6 +36,59 @@ storage_of_connection conn = record { first = Some (keeper_of_connection conn); 
 -- Storage in memory as any storage is seen: it always works, and never fails.
 abbrev pub storage_in_memory : Tables → StorageView
 storage_in_memory t = record { rows = cells_of_tables t; is_up = Unit {0}; failures = 0 }
+
+-- A run of the machine leads from these tables to those.
+abbrev pub RunLeads : Limits → Tables → Tables → Type 0
+RunLeads limits t t' = (commands : List Command) × (answers : List Answer)
+    × TablesAfterRun limits (cells_of_tables t) commands answers (cells_of_tables t')
+
+-- If an office was opened, a run of the machine leads from these tables to those.
+abbrev pub RunsIfOpened : {A B : Type 0} → A ⊎ B → Limits → Tables → Tables → Type 0
+RunsIfOpened (inl opened) limits t t' = RunLeads limits t t'
+RunsIfOpened (inr unopened) limits t t' = Unit {0}
+
+-- A fault of opening a store is printed, and the status is 3.
+pub record PrintsUnopened {E : Type 0} (err : E → Option (List ℕ)) (old new : Pipe E) (status : ℕ) : Type 0 where
+  pub file : Option (List ℕ)
+  pub fault : Fault
+  pub prints_it : Prints err old new (fault_lines file Unreadable fault)
+  pub status_is : status ≡ 3
+
+-- The files, which held a store with the tables `t`, hold a store with tables to which a run of the machine leads from
+-- `t`; or a fault of opening the store is printed.
+pub record LeadsInFiles {E : Type 0} (err : E → Option (List ℕ)) (old new : Pipe E) (status : ℕ) (t : Tables)
+    (holds : Tables → Type 0) : Type 0 where
+  pub limits : Limits
+  pub tables_after : Tables
+  pub run : RunLeads limits t tables_after ⊎ PrintsUnopened err old new status
+  pub holds_after : holds tables_after
+
+-- If no failure has shut the database, the files held a store, and they are clean now, they hold the store after a run
+-- of the machine.
+abbrev pub LeadsIfClosed : {E C : Type 0} → (E → Option (List ℕ)) → (Tables → Type 0) → (C → Type 0)
+    → (C → Tables → Type 0) → Pipe E → Pipe E → ℕ → Closed C → Type 0
+LeadsIfClosed err held is_clean holds old new status closed =
+    closed.is_reopened ≡ false → IfSome closed.files (λ files. is_clean files → (t : Tables) → held t
+    → LeadsInFiles err old new status t (holds files))
+
+module _ {S : Type 0} (store : Ghosts S) where
+  -- The database was closed, if there is one.
+  pub record ClosesLeft {C : Type 0} (is_clean : C → Type 0) (holds : C → Tables → Type 0) (left : Leaving S)
+      (closed : Closed C) : Type 0 where
+    pub is_reopened : closed.is_reopened ≡ left.is_reopened
+    pub is_in_doubt : closed.is_in_doubt ≡ left.is_in_doubt
+    pub files : MatchOption left.conn (closed.files ≡ None) (λ conn. IsSomeAnd closed.files (λ files.
+        is_clean files → ClosesStore (holds files) (state store conn)))
+
+  -- The storage was up to the end of the work, so that all promises of the work hold. The files hold the tables that it
+  -- then had; if an office was opened, a run of the machine leads to these from the tables that the files held before.
+  pub record LeavesInFiles {A B : Type 0} (works : A ⊎ B) (limits : Limits) (t : Tables) (keeper : ReopeningView S)
+      (holds : Tables → Type 0) : Type 0 where
+    pub is_up : IsKeeperStillUp store keeper
+    pub tables_after : Tables
+    pub rows_after : rows_still store keeper ≡ cells_of_tables tables_after
+    pub run : RunsIfOpened works limits t tables_after
+    pub holds_after : holds tables_after
 
 module _ {F R W E : Type 0} (given : F → Option (List ℕ)) (remaining : R → Option (List ℕ))
     (out : W → Option (List ℕ)) (err : E → Option (List ℕ)) where
@@ -48,10 +113,22 @@ module _ {F R W E : Type 0} (given : F → Option (List ℕ)) (remaining : R →
 
   module _ {S : Type 0} (store : Ghosts S) where
     -- The work was done on the tables of the database, through the storage over this connection.
-    pub record WorksInDatabase {O P L : Type 0} (job : DatabaseWork S O P F L) (old : Streams R W E) (status : ℕ)
-        (back : Option (Held S)) (new : Streams R W E) : Type 0 where
+    pub record WorksInDatabase {O P L : Type 0} (held : Tables → Type 0) (job : DatabaseWork S O P F L)
+        (old : Streams R W E) (status : ℕ) (left : Leaving S) (new : Streams R W E) : Type 0 where
       pub keeper : ReopeningView S
       pub works : WorksOverKeeper (storage_still store) (IsStillOpen store) (FindsStill store) given remaining out err
           job.work (Some (string_bytes job.file)) job.limits (storage_of_connection job.conn) old status keeper new
       -- The first connection is returned, unless a failure has closed it.
-      pub back_is : IfSome keeper.first (λ k. back ≡ Some k.conn)
+      pub back_is : IfSome keeper.first (λ k. (left.conn ≡ Some k.conn) × (left.is_reopened ≡ false))
+      pub returns : left.is_reopened ≡ false → ReturnsFirst store held keeper left.conn
+
+    -- The work was done on the tables of the database, and the database was closed. If no failure has shut it, the files
+    -- held a store and the closed files are clean, they hold the store after the work.
+    pub record WorksToClosing {O P L C : Type 0} (held : Tables → Type 0) (is_clean : C → Type 0)
+        (holds : C → Tables → Type 0) (job : DatabaseWork S O P F L) (old : Streams R W E) (status : ℕ)
+        (closed : Closed C) (new : Streams R W E) : Type 0 where
+      pub leaving : Leaving S
+      pub works : WorksInDatabase held job old status leaving new
+      pub closes : ClosesLeft store is_clean holds leaving closed
+      pub leaves : closed.is_reopened ≡ false → IfSome closed.files (λ files. is_clean files → (t : Tables) → held t
+          → LeavesInFiles store works.works.0 job.limits t works.keeper (holds files))

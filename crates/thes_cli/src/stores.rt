@@ -1,8 +1,12 @@
 //! Work over the stores of the program: in a database, and in memory.
 ghost use Rattle.std.specs.Prelude.{◌≡◌, false};
-ghost use Rattle.thes_cli.specs.Stores.{WorksInDatabase, WorksInMemory};
+ghost use Rattle.sqlite.specs.Held.{state};
+ghost use Rattle.thes_sqlite.specs.KeeperView.{ServesTables};
+ghost use Rattle.thes_jobs.specs.Databases.{ClosesStores};
+ghost use Rattle.thes_cli.specs.Stores.{ClosesLeft, LeadsIfClosed, WorksInDatabase, WorksInMemory, WorksToClosing};
 ghost use Rattle.thes_cli.specs.Streams.{AreFresh};
 
+use crate::closing::Closed;
 use crate::streams::Streams;
 use crate::work::work_with_progress;
 use sqlite::{Alter, Connection};
@@ -10,18 +14,19 @@ use std::alloc::Global;
 use std::io::{Read, Write};
 use std::net::Net;
 use std::rt::Clock;
+use thes_jobs::databases::Databases;
 use thes_jobs::progress::Progress;
 use thes_jobs::work::{DatabaseWork, MemoryWork};
-use thes_sqlite::reopening::{Leaving, Reopen, ReopeningKeeper};
+use thes_sqlite::reopening::{HeldTables, Leaving, Reopen, ReopeningKeeper};
 use thes_store::mem::MemKeeper;
 
 /// Opens an office over the store in a database, and works over it. Returns the exit status with
-/// what the storage leaves: the last connection, and whether a request is in doubt. The fault of a
-/// store that can't be opened is printed after the name of its file.
+/// what the storage leaves: the last connection, whether it was opened again, and whether a request
+/// is in doubt. The fault of a store that can't be opened is printed after the name of its file.
 pub fn work_in_database<
     N: Net + Clock,
     S: Alter + Drop,
-    O: Reopen<Connection<S>> + Drop,
+    O: Reopen<Connection<S>> + HeldTables + Drop,
     P: Progress + Copy,
     F: Read + Drop,
     R: Read,
@@ -34,9 +39,10 @@ pub fn work_in_database<
     streams: &mut Streams<R, W, E>,
 ) -> (u8, Leaving<S>)
     requires idle { job.conn.in_transaction ≡ false }
+    requires serves { ServesTables O.held (state S.Store job.conn) }
     requires streams { AreFresh streams.old }
-    ensures { WorksInDatabase F.remaining R.remaining W.contents E.contents S.Store job streams.old
-        result.0 result.1.conn streams.new }
+    ensures { WorksInDatabase F.remaining R.remaining W.contents E.contents S.Store O.held job
+        streams.old result.0 result.1 streams.new }
 {
     let DatabaseWork {
         work,
@@ -58,6 +64,66 @@ pub fn work_in_database<
         streams,
     );
     (status, keeper.leave())
+}
+
+// Closes the database that work over a store leaves, if there is one.
+fn close_left<S: Alter, O, L, D: Databases<Connection<S>, O, L>>(
+    databases: &D,
+    left: Leaving<S>,
+) -> Closed<L>
+    requires { ClosesStores S.Store D.closes D.is_clean D.holds }
+    ensures { ClosesLeft S.Store D.is_clean D.holds left result }
+{
+    let Leaving {
+        conn,
+        is_in_doubt,
+        is_reopened,
+    } = left;
+    match conn {
+        Some(conn) => Closed {
+            files: Some(databases.close(conn)),
+            is_in_doubt,
+            is_reopened,
+        },
+        None => Closed {
+            files: None,
+            is_in_doubt,
+            is_reopened,
+        },
+    }
+}
+
+/// Works over the store in a database, closes the database, and returns the exit status with what is
+/// left of its files. They hold the store after the work, if they held a store before.
+pub fn work_and_close<
+    N: Net + Clock,
+    S: Alter + Drop,
+    O: Reopen<Connection<S>> + HeldTables + Drop,
+    L,
+    D: Databases<Connection<S>, O, L>,
+    P: Progress + Copy,
+    F: Read + Drop,
+    R: Read,
+    W: Write,
+    E: Write,
+>(
+    alloc: Global,
+    clock: &N,
+    databases: &D,
+    job: DatabaseWork<S, O, P, F, N::Listener>,
+    streams: &mut Streams<R, W, E>,
+) -> (u8, Closed<L>)
+    requires closes { ClosesStores S.Store D.closes D.is_clean D.holds }
+    requires idle { job.conn.in_transaction ≡ false }
+    requires serves { ServesTables O.held (state S.Store job.conn) }
+    requires streams { AreFresh streams.old }
+    ensures works { WorksToClosing F.remaining R.remaining W.contents E.contents S.Store O.held
+        D.is_clean D.holds job streams.old result.0 result.1 streams.new }
+    ensures leads { LeadsIfClosed E.contents O.held D.is_clean D.holds streams.old.errors
+        streams.new.errors result.0 result.1 }
+{
+    let (status, left) = work_in_database::<N, S, O, P, F, R, W, E>(alloc, clock, job, streams);
+    (status, close_left::<S, O, L, D>(databases, left))
 }
 
 /// Works over a new store in memory with this base and these limits, and returns the exit status.

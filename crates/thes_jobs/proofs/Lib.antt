@@ -1,2 +1,3 @@
+pub mod DatabaseLemmas
 pub mod PassingLemmas
 pub mod StartingLemmas

@@ -1,3 +1,4 @@
+pub mod Databases
 pub mod Trouble
 pub mod PlannedWork
 pub mod NewStore

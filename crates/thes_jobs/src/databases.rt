@@ -1,18 +1,32 @@
 //! How the databases of stores are opened and closed.
 ghost use Rattle.std.specs.Prelude.{IfOk};
+ghost use Rattle.thes_tables.specs.Tables.{Tables};
 
-use crate::store_files::{StoreFiles, close_database_files, open_database_files};
-use sqlite::{Connection, Error, FileStore};
+use crate::store_files::{Contents, StoreFiles, close_database_files, open_database_files};
+use sqlite::{Connection, Error, FileFrom, FileStore, Start};
+use sqlite_disk::{Disk, Files};
+use std::marker::PhantomData;
 use thes_base::fault::Fault;
 
 /// A way to open the databases of stores by the names of their files, with connections of the type
-/// `C`. A value of the type `O` opens a database again.
+/// `C`, and to close them. A value of the type `O` opens a database again, and one of the type `L`
+/// is what closing leaves.
 ///
 /// What opens a store and works over it is generic over this, since a proof about a connection to a
 /// file goes through all its parts.
-pub trait Databases<C, O> {
+pub trait Databases<C, O, L> {
     // What holds for a connection that was opened.
     ghost opens: { C → Type 0 };
+
+    // What holds for a connection and what closing it leaves.
+    ghost closes: { C → L → Type 0 };
+
+    // The files were closed, and the disk has returned what was written.
+    ghost is_clean: { L → Type 0 };
+
+    // The files hold a store with these tables, as they read now and whatever a crash leaves of
+    // them.
+    ghost holds: { L → Tables → Type 0 };
 
     /// Opens the database in a file; if there is no such file, makes it.
     fn open(&self, file: &str) -> Result<C, Error>
@@ -21,30 +35,59 @@ pub trait Databases<C, O> {
     /// Returns what opens the database in a file again. The file must be open.
     fn reopener(&self, file: &str) -> Result<O, Fault>;
 
-    /// Closes a connection.
-    fn close(&self, conn: C);
+    /// Closes a connection, and returns what is left of the files.
+    fn close(&self, conn: C) -> L
+        ensures { Self.closes conn result };
 }
 
-/// The databases in files of this system.
+/// The databases in files of this system, whose contents before they are opened are those of `S`.
 #[derive(Drop)]
-pub struct FileDatabases<'r> {
-    pub rt: &'r HostRuntime,
+pub struct FileDatabases<'r, S> {
+    rt: &'r HostRuntime,
+    contents: PhantomData<S>,
 }
 
-impl<'r> Databases<Connection<FileStore<sqlite::File>>, StoreFiles<'r>> for FileDatabases<'r> {
+impl<'r, S> FileDatabases<'r, S> {
+    /// Creates what opens the databases in files.
+    pub fn new(rt: &'r HostRuntime) -> FileDatabases<'r, S> {
+        FileDatabases {
+            rt,
+            contents: PhantomData,
+        }
+    }
+}
+
+impl<'r, S: Start + Contents> Databases<
+    Connection<FileStore<FileFrom<S>>>,
+    StoreFiles<'r, S>,
+    Option<Files<FileFrom<S>>>,
+> for FileDatabases<'r, S> {
     ghost use Rattle.std.specs.Prelude.{◌≡◌, false};
+    ghost use Rattle.sqlite.specs.Files.{file_state};
+    ghost use Rattle.sqlite_wal.specs.Files.{image_at};
+    ghost use Rattle.thes_sqlite.specs.DatabaseFiles.{HoldsStore};
+    ghost use Rattle.thes_sqlite.specs.KeeperView.{ServesTables};
+    ghost use Rattle.thes_jobs.specs.Databases.{AreCleanFiles, ClosesStore, HoldTables};
 
-    ghost opens = { λ conn. conn.in_transaction ≡ false };
+    ghost opens = { λ conn. (conn.in_transaction ≡ false)
+        × ServesTables (λ t. HoldsStore (image_at S.Start) t) (file_state conn) };
 
-    fn open(&self, file: &str) -> Result<Connection<FileStore<sqlite::File>>, Error> {
+    ghost closes = { λ conn files. AreCleanFiles ⟦<FileFrom<S> as Disk>⟧ files
+        → ClosesStore (HoldTables ⟦<FileFrom<S> as Disk>⟧ files) (file_state conn) };
+
+    ghost is_clean = { AreCleanFiles ⟦<FileFrom<S> as Disk>⟧ };
+
+    ghost holds = { HoldTables ⟦<FileFrom<S> as Disk>⟧ };
+
+    fn open(&self, file: &str) -> Result<Connection<FileStore<FileFrom<S>>>, Error> {
         open_database_files(self.rt, file)
     }
 
-    fn reopener(&self, file: &str) -> Result<StoreFiles<'r>, Fault> {
+    fn reopener(&self, file: &str) -> Result<StoreFiles<'r, S>, Fault> {
         StoreFiles::new(self.rt, file)
     }
 
-    fn close(&self, conn: Connection<FileStore<sqlite::File>>) {
-        close_database_files(conn);
+    fn close(&self, conn: Connection<FileStore<FileFrom<S>>>) -> Option<Files<FileFrom<S>>> {
+        close_database_files(conn)
     }
 }

@@ -2,6 +2,7 @@
 ghost use Rattle.std.specs.Prelude.{◌≡◌, ◌↔◌, false, IsTrue};
 ghost use Rattle.sqlite.specs.Held.{state};
 ghost use Rattle.thes_sql.specs.Schema.{empty_schema};
+ghost use Rattle.thes_jobs.specs.Databases.{KeepsTables};
 ghost use Rattle.thes_jobs.specs.NewStore.{MakesStore};
 
 use crate::trouble::trouble_of;
@@ -29,6 +30,8 @@ pub fn make_store<S: Alter>(
     requires idle { conn.old.in_transaction ≡ false }
     ensures made { MakesStore S.Store base.now conn.old result conn.new }
     ensures idle { conn.new.in_transaction ≡ false }
+    ensures keeps { (state S.Store conn.old).now.schema ≡ empty_schema
+        → KeepsTables (state S.Store conn.old) (state S.Store conn.new) }
 {
     match create_tables(conn, base) {
         Ok(_) => Ok(()),

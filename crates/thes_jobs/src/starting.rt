@@ -1,11 +1,15 @@
 //! Opens what the job of a command line names: its store, and its file or socket.
 ghost use Rattle.std.specs.Prelude.{◌≡◌, false, IfErr, IfOk, Some, is_some};
 ghost use Rattle.std.specs.Result.{result_map_both};
+ghost use Rattle.sqlite.specs.Held.{state};
+ghost use Rattle.thes_sql.specs.Schema.{empty_schema};
+ghost use Rattle.thes_sqlite.specs.KeeperView.{ServesTables};
+ghost use Rattle.thes_jobs.specs.Databases.{KeepsTables, OpensStores};
 ghost use Rattle.thes_jobs.specs.NewStore.{MakesStore, PreparesStore};
 ghost use Rattle.thes_jobs.specs.OpenStore.{ChoosesOpening, IsOpenedFor, IsTroubleOf, IsUnopenedDatabase, OpensStore};
 ghost use Rattle.thes_jobs.specs.PlannedWork as work;
 ghost use Rattle.thes_jobs.specs.PlannedWork.{IsSocketFailure, OpensPlanned};
-ghost use Rattle.thes_jobs.specs.Starting.{IsIdle, ListensTo, OpensIdle, OpensJob, OpensPlan, job_in_file, job_in_memory};
+ghost use Rattle.thes_jobs.specs.Starting.{IsIdle, ListensTo, OpensJob, OpensPlan, ServesInFile, job_in_file, job_in_memory};
 
 use crate::databases::Databases;
 use crate::making::MakingMark;
@@ -32,6 +36,7 @@ use thes_command_line::printing::OpenFailure;
 use thes_command_line::start_failure::StartFailure;
 use thes_command_line::trouble::{StoreTrouble, name_trouble, refused_access};
 use thes_sqlite::faults::fault_of;
+use thes_sqlite::reopening::HeldTables;
 
 /// A job whose store, and whose file or socket if it has one, are open.
 pub enum OpenJob<'r, S: Alter, O> {
@@ -78,7 +83,7 @@ fn open_trouble(
 
 // Opens the database in a file, which it marks first if a store is to be made in it. An error is
 // the fault with its reason.
-fn open_database<S: Alter + Drop, O, D: Databases<Connection<S>, O>>(
+fn open_database<S: Alter + Drop, O: HeldTables, L, D: Databases<Connection<S>, O, L>>(
     rt: &HostRuntime,
     databases: &D,
     opening: Opening,
@@ -86,8 +91,9 @@ fn open_database<S: Alter + Drop, O, D: Databases<Connection<S>, O>>(
     mark: &MakingMark<'_>,
     file: &str,
 ) -> Result<Connection<S>, (StoreTrouble, Fault)>
-    requires { OpensIdle D.opens }
+    requires { OpensStores S.Store O.held D.opens }
     ensures idle { IfOk result (λ conn. conn.in_transaction ≡ false) }
+    ensures serves { IfOk result (λ conn. ServesTables O.held (state S.Store conn)) }
     ensures err { IfErr result (IsUnopenedDatabase opening found) }
 {
     if opening == Opening::New {
@@ -133,14 +139,15 @@ struct StoreDatabase<'r, S: Alter> {
 }
 
 // Opens the database of the store in a file for a task. An error is the fault with its reason.
-fn open_store<'r, S: Alter + Drop, O, D: Databases<Connection<S>, O>>(
+fn open_store<'r, S: Alter + Drop, O: HeldTables, L, D: Databases<Connection<S>, O, L>>(
     rt: &'r HostRuntime,
     databases: &D,
     task: &Task,
     file: &str,
 ) -> Result<StoreDatabase<'r, S>, (StoreTrouble, Fault)>
-    requires { OpensIdle D.opens }
-    ensures { OpensStore task.now result }
+    requires { OpensStores S.Store O.held D.opens }
+    ensures opens { OpensStore task.now result }
+    ensures serves { IfOk result (λ store. ServesTables O.held (state S.Store store.conn)) }
 {
     let mark = match MakingMark::new(rt, file) {
         Ok(mark) => mark,
@@ -167,6 +174,8 @@ fn make_marked_store<S: Alter>(
     requires { store.old.conn.in_transaction ≡ false }
     ensures makes { MakesStore S.Store base.now store.old.conn result store.new.conn }
     ensures idle { store.new.conn.in_transaction ≡ false }
+    ensures keeps { (state S.Store store.old.conn).now.schema ≡ empty_schema
+        → KeepsTables (state S.Store store.old.conn) (state S.Store store.new.conn) }
 {
     make_store(&mut store.conn, base)?;
     store.mark.remove();
@@ -189,6 +198,7 @@ fn prepare_store<S: Alter>(
     ensures prepares { PreparesStore S.Store store.old.opening is_check base.now store.old.conn
         result store.new.conn }
     ensures idle { store.new.conn.in_transaction ≡ false }
+    ensures keeps { KeepsTables (state S.Store store.old.conn) (state S.Store store.new.conn) }
 {
     match preparation_of(store.opening, is_blank(&store.conn), is_check) {
         Preparation::MakeTables => make_marked_store(store, screen, file, base),
@@ -264,7 +274,7 @@ fn open_work(
 
 // Prepares the store in an open database for its task, and opens the task's file or socket. An
 // error is the fault of either.
-fn open_over<'r, S: Alter + Drop, O: Drop, D: Databases<Connection<S>, O>>(
+fn open_over<'r, S: Alter + Drop, O: HeldTables + Drop, L, D: Databases<Connection<S>, O, L>>(
     rt: &'r HostRuntime,
     databases: &D,
     task: Task,
@@ -272,9 +282,11 @@ fn open_over<'r, S: Alter + Drop, O: Drop, D: Databases<Connection<S>, O>>(
     file: String,
     setting: StoreSetting,
 ) -> Result<OpenJob<'r, S, O>, StartFailure>
-    requires { IsOpenedFor task store }
+    requires opens { IsOpenedFor task store }
+    requires serves { ServesTables O.held (state S.Store store.conn) }
     ensures opens { OpensJob S.Store (job_in_file task file setting) result }
     ensures idle { IfOk result IsIdle }
+    ensures serves { IfOk result (ServesInFile S.Store O.held) }
 {
     let StoreSetting { base, limits } = setting;
     let progress = screen_of(rt, &task);
@@ -313,16 +325,17 @@ fn open_over<'r, S: Alter + Drop, O: Drop, D: Databases<Connection<S>, O>>(
 
 // Opens the job of a task over the store in a file. If the file is absent or empty, or making its
 // store was cut short, every task but a check makes the store.
-fn open_in_file<'r, S: Alter + Drop, O: Drop, D: Databases<Connection<S>, O>>(
+fn open_in_file<'r, S: Alter + Drop, O: HeldTables + Drop, L, D: Databases<Connection<S>, O, L>>(
     rt: &'r HostRuntime,
     databases: &D,
     task: Task,
     file: String,
     setting: StoreSetting,
 ) -> Result<OpenJob<'r, S, O>, StartFailure>
-    requires { OpensIdle D.opens }
+    requires { OpensStores S.Store O.held D.opens }
     ensures opens { OpensJob S.Store (job_in_file task file setting) result }
     ensures idle { IfOk result IsIdle }
+    ensures serves { IfOk result (ServesInFile S.Store O.held) }
 {
     match open_store(rt, databases, &task, file.as_str()) {
         Ok(store) => open_over(rt, databases, task, store, file, setting),
@@ -331,13 +344,14 @@ fn open_in_file<'r, S: Alter + Drop, O: Drop, D: Databases<Connection<S>, O>>(
 }
 
 // Opens the job of a task over a new store in memory.
-fn open_in_memory<S: Alter, O>(
+fn open_in_memory<S: Alter, O: HeldTables>(
     rt: &HostRuntime,
     task: Task,
     setting: StoreSetting,
 ) -> Result<OpenJob<'_, S, O>, StartFailure>
     ensures opens { OpensJob S.Store (job_in_memory task setting) result }
     ensures idle { IfOk result IsIdle }
+    ensures serves { IfOk result (ServesInFile S.Store O.held) }
 {
     let StoreSetting { base, limits } = setting;
     let progress = screen_of(rt, &task);
@@ -353,15 +367,17 @@ fn open_in_memory<S: Alter, O>(
     }
 }
 
-/// Opens the store that a job names, and the file or socket of its task.
-pub fn open_job<'r, S: Alter + Drop, O: Drop, D: Databases<Connection<S>, O>>(
+/// Opens the store that a job names, and the file or socket of its task. If the files of a store to
+/// work over held tables, its database serves them.
+pub fn open_job<'r, S: Alter + Drop, O: HeldTables + Drop, L, D: Databases<Connection<S>, O, L>>(
     rt: &'r HostRuntime,
     databases: &D,
     planned: Result<Job, EarlyExit>,
 ) -> Result<OpenJob<'r, S, O>, StartFailure>
-    requires { OpensIdle D.opens }
+    requires { OpensStores S.Store O.held D.opens }
     ensures opens { OpensPlan S.Store planned result }
     ensures idle { IfOk result IsIdle }
+    ensures serves { IfOk result (ServesInFile S.Store O.held) }
 {
     match planned {
         Ok(

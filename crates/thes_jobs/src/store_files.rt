@@ -1,14 +1,20 @@
 //! The files of a store, which are opened and closed, and can be opened again by their names.
 ghost use Rattle.std.specs.Prelude.{◌≡◌, false, Ok, IfOk};
+ghost use Rattle.sqlite.specs.Files.{file_state};
+ghost use Rattle.sqlite_wal.specs.Files.{image_at};
+ghost use Rattle.thes_sqlite.specs.DatabaseFiles.{HoldsStore};
+ghost use Rattle.thes_sqlite.specs.KeeperView.{ServesTables};
+ghost use Rattle.thes_jobs.specs.Databases.{AreCleanFiles, ClosesStore, HoldTables};
 
 use sqlite::{Connection, Error, ErrorCode, FileFrom, FileStore, Start, Unknown};
-use sqlite_disk::Disk;
+use sqlite_disk::{Disk, Files};
 use std::fs;
 use std::io::ErrorKind;
+use std::marker::PhantomData;
 use std::os::unix::fs::MetadataExt;
 use thes_base::fault::Fault;
 use thes_sqlite::files::{close_files, open_files};
-use thes_sqlite::reopening::Reopen;
+use thes_sqlite::reopening::{HeldTables, Reopen};
 
 // Returns what was opened, or the error without what came with it.
 fn without_rest<T, L: Drop>(opened: Result<T, (Error, L)>) -> Result<T, Error>
@@ -20,37 +26,58 @@ fn without_rest<T, L: Drop>(opened: Result<T, (Error, L)>) -> Result<T, Error>
     }
 }
 
-// Opens the database in the files at a path. An error leaves the files closed.
+/// Values that stand for the contents of files before they are opened, which code can't read.
+pub trait Contents {
+    /// Creates a value.
+    fn new() -> Self;
+}
+
+impl Contents for Unknown {
+    fn new() -> Unknown {
+        Unknown
+    }
+}
+
+// Opens the database in the files at a path; if they hold a store, it is this store. An error leaves
+// the files closed.
 fn open_from<S: Start>(
     rt: &HostRuntime,
     file: &str,
     start: S,
 ) -> Result<Connection<FileStore<FileFrom<S>>>, Error>
-    ensures { IfOk result (λ conn. conn.in_transaction ≡ false) }
+    ensures idle { IfOk result (λ conn. conn.in_transaction ≡ false) }
+    ensures serves { IfOk result (λ conn. ServesTables (λ t. HoldsStore (image_at S.Start) t)
+        (file_state conn)) }
 {
     without_rest(open_files(rt, file, start))
 }
 
-// Closes a database and its files. An error is ignored.
-fn close_any<D: Disk + Drop>(conn: Connection<FileStore<D>>) {
-    drop(close_files(conn));
-}
-
 /// Opens the database in the files at a path, which may hold anything; if there are none, makes
-/// them.
-pub fn open_database_files(
+/// them. If they hold a store, the database is this store.
+pub fn open_database_files<S: Start + Contents>(
     rt: &HostRuntime,
     file: &str,
-) -> Result<Connection<FileStore<sqlite::File>>, Error>
-    ensures { IfOk result (λ conn. conn.in_transaction ≡ false) }
+) -> Result<Connection<FileStore<FileFrom<S>>>, Error>
+    ensures idle { IfOk result (λ conn. conn.in_transaction ≡ false) }
+    ensures serves { IfOk result (λ conn. ServesTables (λ t. HoldsStore (image_at S.Start) t)
+        (file_state conn)) }
 {
-    open_from(rt, file, Unknown)
+    open_from(rt, file, S::new())
 }
 
-/// Closes a database and its files. The log holds every change that was answered; if it can't be
-/// copied into the file now, the next run copies it.
-pub fn close_database_files(conn: Connection<FileStore<sqlite::File>>) {
-    close_any(conn);
+/// Closes a database and returns its files; None after an error. The log holds every change that was
+/// answered; if it can't be copied into the file now, the next run copies it.
+pub fn close_database_files<D: Disk + Drop>(conn: Connection<FileStore<D>>) -> Option<Files<D>>
+    ensures { AreCleanFiles D.Disk result
+        → ClosesStore (HoldTables D.Disk result) (file_state conn) }
+{
+    match close_files(conn) {
+        Ok(files) => Some(files),
+        Err(left) => {
+            drop(left);
+            None
+        }
+    }
 }
 
 // Returns the numbers of a file's device and inode, which identify the file whatever its name; None
@@ -83,17 +110,18 @@ pub fn has_long_name(rt: &HostRuntime, file: &str) -> Result<bool, Fault> {
 /// The names of a store's two files, the database and its log, with the identities of the files
 /// that are open.
 #[derive(Drop)]
-pub struct StoreFiles<'r> {
+pub struct StoreFiles<'r, S> {
     rt: &'r HostRuntime,
+    contents: PhantomData<S>,
     file: String,
     log: String,
     open: (Option<(u64, u64)>, Option<(u64, u64)>),
 }
 
-impl<'r> StoreFiles<'r> {
+impl<'r, S> StoreFiles<'r, S> {
     /// Records the identities of the store's files, which are those that the connection has opened.
     /// `Store` means that the file's full path isn't found.
-    pub fn new(rt: &'r HostRuntime, file: &str) -> Result<StoreFiles<'r>, Fault> {
+    pub fn new(rt: &'r HostRuntime, file: &str) -> Result<StoreFiles<'r, S>, Fault> {
         let Ok(path) = fs::canonicalize(rt, file) else {
             return Err(Fault::Store);
         };
@@ -101,6 +129,7 @@ impl<'r> StoreFiles<'r> {
         let file = String::from_str(rt.alloc(), file)?;
         let mut files = StoreFiles {
             rt,
+            contents: PhantomData,
             file,
             log,
             open: (None, None),
@@ -118,17 +147,21 @@ impl<'r> StoreFiles<'r> {
     }
 }
 
-impl Reopen<Connection<FileStore<sqlite::File>>> for StoreFiles<'_> {
+impl<S: Start> HeldTables for StoreFiles<'_, S> {
+    ghost held = { λ t. HoldsStore (image_at S.Start) t };
+}
+
+impl<S: Start + Contents> Reopen<Connection<FileStore<FileFrom<S>>>> for StoreFiles<'_, S> {
     fn is_in_place(&mut self) -> bool {
         self.open.0.is_some() && self.open == self.named_files()
     }
 
     fn reopen(
         &mut self,
-        lost: Option<Connection<FileStore<sqlite::File>>>,
-    ) -> Result<Connection<FileStore<sqlite::File>>, Error> {
+        lost: Option<Connection<FileStore<FileFrom<S>>>>,
+    ) -> Result<Connection<FileStore<FileFrom<S>>>, Error> {
         if let Some(conn) = lost {
-            close_database_files(conn);
+            drop(close_database_files(conn));
         }
         if !self.is_in_place() {
             return Err(Error::SqliteFailure(ErrorCode::CannotOpen));

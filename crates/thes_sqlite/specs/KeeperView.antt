@@ -38,6 +38,11 @@ pub record HasCommittedTables (s : State) : Type 0 where
 abbrev pub IsStore : State → Type 0
 IsStore s = IsUp s → HasCommittedTables s
 
+-- If the database was opened in files that held a store with some tables, `held`, the disk hasn't failed silently and the
+-- database is open, it is this store, and nothing in it is uncommitted.
+abbrev pub ServesTables : (Tables → Type 0) → State → Type 0
+ServesTables held s = IsUp s → (t : Tables) → held t → (s.now ≡ s.committed) × Keeps s.now t
+
 -- The invariant between calls: no transaction is open, and a database that was a store in the state
 -- `first` is one now.
 pub record IsKeeperState (first now : State) : Type 0 where

@@ -5,9 +5,11 @@ use Rattle.sqlite.specs.Effect.{Database}
 use Rattle.sqlite.specs.Held.{Held, state}
 use Rattle.sqlite_trees.specs.declared.store.Store.{Ghosts}
 use Rattle.thes_tables.specs.Cells.{Raw}
+use Rattle.thes_tables.specs.Tables.{Tables}
 use Rattle.thes_store.specs.Storage.{StorageView}
 use Rattle.thes_sqlite.specs.FoundRows.{FindsTables, IsKeeperOpen}
-use Rattle.thes_sqlite.specs.KeeperView.{KeeperView, keeper_view_code, raw_of_keeper, IsKeeperUp}
+use Rattle.thes_sqlite.specs.KeeperView.{KeeperView, keeper_view_code, raw_of_keeper, IsKeeperState, IsKeeperUp}
+use Rattle.thes_sqlite.specs.KeeperView.{ServesTables}
 
 -- The storage over a connection, before any call.
 abbrev pub keeper_of_connection : {S : Type 0} → Held S → KeeperView S
@@ -77,8 +79,27 @@ FindsIn None raw = ⊥
 FindsIn (Some db) raw = FindsTables db raw
 
 -- These are rows that a load finds in the database of the first connection.
+abbrev pub FindsOfFirst : {S : Type 0} → Ghosts S → ReopeningView S → Raw → Type 0
+FindsOfFirst g v raw = FindsIn (database_of_first g v.first) raw
+
+-- The first connection is open, and these are rows that a load finds in its database.
 abbrev pub FindsStill : {S : Type 0} → Ghosts S → ReopeningView S → Raw → Type 0
-FindsStill g v raw = FindsIn (database_of_first g v.first) raw
+FindsStill g v raw = IsStillOpen g v × FindsOfFirst g v raw
+
+-- The first connection, if there is one, was opened in files that held a store with tables that satisfy `held`.
+abbrev pub IsOfFiles : {S : Type 0} → Ghosts S → (Tables → Type 0) → Option (KeeperView S) → Type 0
+IsOfFiles g held None = Unit {0}
+IsOfFiles g held (Some k) = ServesTables held (state g k.first)
+
+-- The first connection is returned, which no failure is known to have shut. At the start it served the tables that its
+-- files held, and it has kept the invariant of storage since then.
+pub record ReturnsFirst {S : Type 0} (g : Ghosts S) (held : Tables → Type 0) (v : ReopeningView S)
+    (conn : Option (Held S)) : Type 0 where
+  pub keeper : KeeperView S
+  pub first_is : v.first ≡ Some keeper
+  pub conn_is : conn ≡ Some keeper.conn
+  pub of_files : ServesTables held (state g keeper.first)
+  pub kept : IsKeeperState (state g keeper.first) (state g keeper.conn)
 
 -- A call writes nothing through the first connection: if that is open afterwards, it was before, and its database is the
 -- same.

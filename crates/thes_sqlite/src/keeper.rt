@@ -10,7 +10,7 @@ ghost use Rattle.thes_store.specs.FoundLoads.{PassesFound};
 ghost use Rattle.thes_store.specs.Sinks.{SinkOutcome, sink_rows_of_table, sink_rows, sink_rows_of_tables};
 ghost use Rattle.thes_store.specs.Reading.{IsPostingOfKey, IsPostingOfNumber, assigned_posting_rows, assigned_row_numbers};
 ghost use Rattle.thes_store.specs.Storage.{CommitFrame, DeltaFitsStorage, KeepsStorage, QueryFrame, RawAfterChanges};
-ghost use Rattle.thes_sqlite.specs.KeeperView.{IsUp, IsStore, IsKeeperUp, LeavesEither, LeavesAfter};
+ghost use Rattle.thes_sqlite.specs.KeeperView.{IsUp, IsStore, IsKeeperState, IsKeeperUp, LeavesEither, LeavesAfter};
 ghost use Rattle.thes_sqlite.specs.KeeperView.{raw_table, raw_of_keeper, storage_view};
 ghost use Rattle.thes_sqlite.specs.MigrationEffects.{Migrates, HasCountedCause, ServesMigrated, LeavesUnwritten};
 ghost use Rattle.thes_sqlite.specs.Commits.{DatabaseFrame};
@@ -124,7 +124,8 @@ impl<S: Alter> SqlKeeper<S> {
 
     /// Returns the connection, and drops the rest.
     pub fn into_connection(self) -> Connection<S>
-        ensures { result ≡ self.conn }
+        ensures is { result ≡ self.conn }
+        ensures kept { IsKeeperState (state S.Store self.first) (state S.Store self.conn) }
     {
         let SqlKeeper {
             conn,

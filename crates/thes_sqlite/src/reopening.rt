@@ -1,5 +1,6 @@
 //! Storage in a database that is opened again after a failure of its disk has shut it.
 ghost use Rattle.std.specs.Prelude.{◌≡◌, false, None, Some, IfOk, IfErr, IfSome, OnOk, OnErr, IsTrue};
+ghost use Rattle.sqlite.specs.Held.{state};
 ghost use Rattle.thes_base.specs.Resources.{entry_at};
 ghost use Rattle.thes_tables.specs.Tables.{Tables};
 ghost use Rattle.thes_tables.specs.Cells.{cells_of_tables};
@@ -10,7 +11,8 @@ ghost use Rattle.thes_store.specs.Reading.{IsPostingOfKey, IsPostingOfNumber, as
 ghost use Rattle.thes_sqlite.specs.Faults.{IsKeeperFault};
 ghost use Rattle.thes_store.specs.Storage.{DeltaFitsStorage, KeepsStorage, RawAfterChanges};
 ghost use Rattle.thes_sqlite.specs.Reopening.{IsKeeperStillUp, rows_still, storage_still, keeper_of_connection};
-ghost use Rattle.thes_sqlite.specs.Reopening.{IsStillOpen, FindsStill, LeavesFirst};
+ghost use Rattle.thes_sqlite.specs.Reopening.{FindsOfFirst, IsStillOpen, LeavesFirst, ReturnsFirst};
+ghost use Rattle.thes_sqlite.specs.KeeperView.{ServesTables};
 
 use crate::faults::{count_fault, fault_of};
 use crate::finding::{find_posting, find_row, find_with_moves};
@@ -41,9 +43,15 @@ pub trait Reopen<C> {
     fn reopen(&mut self, lost: Option<C>) -> Result<C, Error>;
 }
 
+/// What the files of a database held before they were opened, which only contracts use.
+pub trait HeldTables {
+    // The files held a store with these tables.
+    ghost held: { Tables → Type 0 };
+}
+
 /// Storage that keeps its tables in a database, and opens the database again after a failure has
 /// shut it. Contracts state its rows up to the first such failure, and after it only its faults.
-pub struct ReopeningKeeper<S: Alter, O: Reopen<Connection<S>>> {
+pub struct ReopeningKeeper<S: Alter, O: Reopen<Connection<S>> + HeldTables> {
     // The storage over the first connection, until a failure shuts it.
     first: Option<SqlKeeper<S>>,
     // The connection since then; None before, and while the database can't be opened.
@@ -55,14 +63,16 @@ pub struct ReopeningKeeper<S: Alter, O: Reopen<Connection<S>>> {
     alloc: Global,
 }
 
-impl<S: Alter, O: Reopen<Connection<S>>> Model for ReopeningKeeper<S, O> {
-    ghost use Rattle.thes_sqlite.specs.Reopening.{ReopeningView, reopening_view_code};
+impl<S: Alter, O: Reopen<Connection<S>> + HeldTables> Model for ReopeningKeeper<S, O> {
+    ghost use Rattle.thes_sqlite.specs.Reopening.{IsOfFiles, ReopeningView, reopening_view_code};
 
     ghost Value = { ReopeningView S };
 
     ghost coded = { reopening_view_code S.code };
 
     ghost view = { λ k. record { first = k.first; failures = k.failures } };
+
+    ghost invariant = { λ k. IsOfFiles S.Store O.held k.first };
 }
 
 /// What a `ReopeningKeeper` leaves at its end: its connection, and whether a request is in doubt.
@@ -71,6 +81,8 @@ pub struct Leaving<S: Alter> {
     pub conn: Option<Connection<S>>,
     /// Whether a request whose answer was the fault `Store` may have been performed.
     pub is_in_doubt: bool,
+    /// Whether a failure has shut the first connection.
+    pub is_reopened: bool,
 }
 
 impl<S: Alter> Leaving<S> {
@@ -81,6 +93,7 @@ impl<S: Alter> Leaving<S> {
         Leaving {
             conn: Some(conn),
             is_in_doubt: false,
+            is_reopened: false,
         }
     }
 }
@@ -174,10 +187,11 @@ fn has_changes<S: Alter>(conn: &mut Connection<S>, changes: &[Change]) -> Option
     }
 }
 
-impl<S: Alter + Drop, O: Reopen<Connection<S>>> ReopeningKeeper<S, O> {
+impl<S: Alter + Drop, O: Reopen<Connection<S>> + HeldTables> ReopeningKeeper<S, O> {
     /// Takes over a connection without reading from it.
     pub fn new(alloc: Global, conn: Connection<S>, opener: O) -> ReopeningKeeper<S, O>
-        requires { conn.in_transaction ≡ false }
+        requires idle { conn.in_transaction ≡ false }
+        requires of_files { ServesTables O.held (state S.Store conn) }
         ensures { result ≡ record { first = Some (keeper_of_connection conn); failures = 0 } }
     {
         ReopeningKeeper {
@@ -190,11 +204,14 @@ impl<S: Alter + Drop, O: Reopen<Connection<S>>> ReopeningKeeper<S, O> {
         }
     }
 
-    /// Returns the connection, and whether a request is in doubt.
+    /// Returns the connection, whether it was opened again, and whether a request is in doubt.
     pub fn leave(self) -> Leaving<S>
     where
         O: Drop,
-        ensures { IfSome self.first (λ k. result.conn ≡ Some k.conn) }
+        ensures first { IfSome self.first (λ k. (result.conn ≡ Some k.conn)
+            × (result.is_reopened ≡ false)) }
+        ensures returns { result.is_reopened ≡ false
+            → ReturnsFirst S.Store O.held self result.conn }
     {
         let ReopeningKeeper {
             first,
@@ -204,11 +221,15 @@ impl<S: Alter + Drop, O: Reopen<Connection<S>>> ReopeningKeeper<S, O> {
             is_in_doubt,
             alloc: _,
         } = self;
-        let conn = match first {
-            Some(keeper) => Some(keeper.into_connection()),
-            None => later,
+        let (conn, is_reopened) = match first {
+            Some(keeper) => (Some(keeper.into_connection()), false),
+            None => (later, true),
         };
-        Leaving { conn, is_in_doubt }
+        Leaving {
+            conn,
+            is_in_doubt,
+            is_reopened,
+        }
     }
 
     // Counts a fault unless it is `OutOfMemory`, and returns it.
@@ -295,7 +316,7 @@ impl<S: Alter + Drop, O: Reopen<Connection<S>>> ReopeningKeeper<S, O> {
         ensures keeps { KeepsStorage (storage_still S.Store self.old)
             (storage_still S.Store self.new) }
         ensures kind { IfErr result IsKeeperFault }
-        ensures found { PassesFound (IsStillOpen S.Store) (FindsStill S.Store) R.gives
+        ensures found { PassesFound (IsStillOpen S.Store) (FindsOfFirst S.Store) R.gives
             self.old self.new sink.old result sink.new }
     {
         if let Some(keeper) = &mut self.first {
@@ -422,7 +443,7 @@ impl<S: Alter + Drop, O: Reopen<Connection<S>>> ReopeningKeeper<S, O> {
     }
 }
 
-impl<S: Alter + Drop, O: Reopen<Connection<S>>> Keeper for ReopeningKeeper<S, O> {
+impl<S: Alter + Drop, O: Reopen<Connection<S>> + HeldTables> Keeper for ReopeningKeeper<S, O> {
     ghost use Rattle.thes_sqlite.specs.Reopening.{storage_still, IsStillOpen, FindsStill};
 
     ghost view = { λ k. storage_still S.Store k };

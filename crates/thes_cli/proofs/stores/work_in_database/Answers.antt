@@ -12,5 +12,6 @@ returns g c = record {
       g.R.Read.remaining g.W.Write.contents g.E.Write.contents c.args.job.work (Some (string_bytes c.args.job.file))
       c.args.job.limits k c.args.streams.now c.work_with_progress-status.result.0 c.work_with_progress-status.result.1
       c.work_with_progress-status.new.streams) c.new-keeper.ensures c.work_with_progress-status.ensures;
-  back_is = c.leave.ensures;
+  back_is = c.leave.ensures.first;
+  returns = c.leave.ensures.returns;
 }

@@ -9,7 +9,7 @@ returns-in-Ok g c = record {
   migrates = subst (λ (k : KeeperView _). Migrates g.S.Store k.conn c.into_connection-conn.result (Ok c.in-Ok.field-0))
       c.adopt-keeper.ensures.is
       (subst (λ h. Migrates g.S.Store c.adopt-keeper.result.conn h (Ok c.in-Ok.field-0))
-      (sym c.into_connection-conn.ensures) c.in-Ok.ensures.migrates);
+      (sym c.into_connection-conn.ensures.is) c.in-Ok.ensures.migrates);
   reports = c.print_version.ensures;
 }
 
@@ -19,7 +19,7 @@ returns-in-Err g c = record {
   migrates = subst (λ (k : KeeperView _). Migrates g.S.Store k.conn c.into_connection-conn.result (Err c.in-Err.fault))
       c.adopt-keeper.ensures.is
       (subst (λ h. Migrates g.S.Store c.adopt-keeper.result.conn h (Err c.in-Err.fault))
-      (sym c.into_connection-conn.ensures) c.in-Err.ensures.migrates);
+      (sym c.into_connection-conn.ensures.is) c.in-Err.ensures.migrates);
   reports = record {
     silent = refl;
     prints_it = c.report_in_file.ensures.reports;

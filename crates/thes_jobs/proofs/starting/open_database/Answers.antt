@@ -1,5 +1,8 @@
 use Rattle.thes_jobs.proofs.starting.open_database.Goals as goal
 
+pub returns-in-Ok-clause-serves : goal.returns-in-Ok-clause-serves
+returns-in-Ok-clause-serves g c = c.requires.serves c.in-Ok.conn c.in-Ok.ensures
+
 pub returns-after-is_mark_void-clause-err : goal.returns-after-is_mark_void-clause-err
 returns-after-is_mark_void-clause-err g c = record {
   error = c.in-Err.error;

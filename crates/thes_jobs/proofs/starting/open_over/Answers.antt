@@ -1,12 +1,14 @@
 use Rattle.std.proofs.Common.{is_some, refl}
+use Rattle.sqlite.specs.Held.{state}
 use Rattle.thes_jobs.specs.Starting.{unprepared}
+use Rattle.thes_jobs.proofs.DatabaseLemmas.{serves_after}
 use Rattle.thes_jobs.proofs.StartingLemmas.{migrates}
 use Rattle.thes_jobs.proofs.starting.open_over.Goals as goal
 
 pub returns-in-Err-prepare_store-clause-opens : goal.returns-in-Err-prepare_store-clause-opens
 returns-in-Err-prepare_store-clause-opens g c = (
   refl,
-  unprepared c.args.store c.requires c.is_check-is_check.result c.prepare_store.new.store.conn
+  unprepared c.args.store c.requires.opens c.is_check-is_check.result c.prepare_store.new.store.conn
       c.in-Err-prepare_store.ensures.prepares,
 )
 
@@ -17,7 +19,7 @@ returns-in-Some-clause-opens g c = record {
   limits = refl;
   connects = record {
     database = c.args.store;
-    opens_it = c.requires;
+    opens_it = c.requires.opens;
     is_check = c.is_check-is_check.result;
     checks = c.is_check-is_check.ensures;
     prepares = c.in-Ok-prepare_store.ensures.prepares;
@@ -31,9 +33,14 @@ returns-clause-opens g c = (
   refl,
   record {
     database = c.args.store;
-    opens_it = c.requires;
+    opens_it = c.requires.opens;
     is_check = c.is_check-is_check.result;
     checks = c.is_check-is_check.ensures;
     prepares = c.in-Ok-prepare_store.ensures.prepares;
   },
 )
+
+pub returns-in-Some-clause-serves : goal.returns-in-Some-clause-serves
+returns-in-Some-clause-serves g c =
+    serves_after g.O.HeldTables.held (state g.S.Store c.args.store.conn) (state g.S.Store c.prepare_store.new.store.conn)
+    c.requires.serves c.prepare_store.ensures.keeps

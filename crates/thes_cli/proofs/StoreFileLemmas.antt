@@ -1,0 +1,176 @@
+-- Proves that files which held a store hold it after the work over it.
+use Rattle.std.proofs.Common.{◌≡◌, ◌∙◌, ◌⊎◌, inl, inr, refl, sym, ap, subst, ℕ, List, Option, Some, None, false}
+use Rattle.std.specs.Prelude.{IfSome, IsSomeAnd, MatchOption, string_bytes}
+use Rattle.sqlite.specs.Held.{Held, state}
+use Rattle.sqlite_trees.specs.declared.store.Store.{Ghosts}
+use Rattle.thes_base.specs.declared.data.Limits.{Limits}
+use Rattle.thes_tables.specs.Cells.{Raw, cells_of_tables}
+use Rattle.thes_tables.specs.Tables.{Tables}
+use Rattle.thes_sql.specs.StoredRows.{Keeps}
+use Rattle.thes_office.specs.Office.{TablesAfterRun}
+use Rattle.thes_sqlite.proofs.KeeperLemmas.{raw_of}
+use Rattle.thes_sqlite.specs.KeeperView.{KeeperView, IsStore, IsUp, ServesTables}
+use Rattle.thes_sqlite.specs.Reopening.{ReopeningView, FindsStill, IsKeeperStillUp, IsOpenFirst, IsServingFirst}
+use Rattle.thes_sqlite.specs.Reopening.{IsStillOpen, ReturnsFirst, rows_of_first, rows_still, storage_still}
+use Rattle.thes_sqlite.specs.declared.reopening.Leaving.{Leaving}
+use Rattle.thes_jobs.specs.Databases.{ClosesStore}
+use Rattle.thes_jobs.specs.declared.work.DatabaseWork.{DatabaseWork}
+use Rattle.thes_cli.specs.Stores.{storage_of_connection, ClosesLeft, LeadsIfClosed, LeadsInFiles, LeavesInFiles}
+use Rattle.thes_cli.specs.Stores.{RunsIfOpened, WorksInDatabase, WorksToClosing}
+use Rattle.thes_cli.specs.Work.{ReportsUnopened, WorksOpened, WorksOverKeeper}
+use Rattle.thes_cli.specs.declared.closing.Closed.{Closed}
+use Rattle.thes_cli.specs.declared.streams.Streams.{Streams}
+use Rattle.thes_cli.proofs.StoreRunLemmas.{opened_reached, work_leads}
+
+if_some_weaker : {A : Type 0} (o : Option A) (P Q : A → Type 0) → ((x : A) → P x → Q x) → IfSome o P → IfSome o Q
+if_some_weaker None P Q so is = tt
+if_some_weaker (Some x) P Q so is = so x is
+
+the_value : {A : Type 0} {x y : A} → (let a : Option A = Some x in a) ≡ Some y → x ≡ y
+the_value same = cc
+
+module _ {S : Type 0} (g : Ghosts S) where
+  open_first : (first : Option (KeeperView S)) → IsServingFirst g first → IsOpenFirst g first
+  open_first None up = up
+  open_first (Some k) up = up.1
+
+  -- Storage whose first connection is returned and up: it is up itself, and its rows are those of the database.
+  pub record ServesReturned (keeper : ReopeningView S) (conn : Held S) : Type 0 where
+    pub is_up : IsKeeperStillUp g keeper
+    pub same : (state g conn).now ≡ (state g conn).committed
+    pub tables : Tables
+    pub keeps : Keeps (state g conn).now tables
+    pub rows : rows_still g keeper ≡ cells_of_tables tables
+
+  returned_serves : (held : Tables → Type 0) (keeper : ReopeningView S) (back : Option (Held S)) (conn : Held S)
+      (t : Tables) → ReturnsFirst g held keeper back → back ≡ Some conn → IsUp (state g conn) → held t
+      → ServesReturned keeper conn
+  returned_serves held keeper back conn t returns is up holds =
+      let one : returns.keeper.conn ≡ conn = the_value (sym returns.conn_is ∙ is) in
+      let up_then : IsUp (state g returns.keeper.conn) = subst (λ (c : Held S). IsUp (state g c)) (sym one) up in
+      let known : IsStore (state g returns.keeper.first) =
+      λ up_first. let x = returns.of_files up_first t holds in record { settled = x.0; keeps = (t, x.1) } in
+      let store = returns.kept.served known up_then in
+      let keeps = store.keeps in record {
+        is_up = subst (IsServingFirst g) (sym returns.first_is) (known, up_then);
+        same = subst (λ (c : Held S). (state g c).now ≡ (state g c).committed) one store.settled;
+        tables = keeps.0;
+        keeps = subst (λ (c : Held S). Keeps (state g c).now keeps.0) one keeps.1;
+        rows = ap (rows_of_first g) returns.first_is
+            ∙ raw_of (state g returns.keeper.conn).now.trees keeps.0 keeps.1.hold;
+      }
+
+  -- The database was closed, if there is one.
+  pub closes_left : {C : Type 0} (is_clean : C → Type 0) (holds : C → Tables → Type 0) (left : Leaving S)
+      (conn : Option (Held S)) (files : Option C) → left.conn ≡ conn
+      → MatchOption conn (files ≡ None) (λ conn. IsSomeAnd files (λ files.
+      is_clean files → ClosesStore (holds files) (state g conn)))
+      → ClosesLeft g is_clean holds left
+      (record { files = files; is_in_doubt = left.is_in_doubt; is_reopened = left.is_reopened })
+  closes_left is_clean holds left conn files is closes = record {
+    is_reopened = refl;
+    is_in_doubt = refl;
+    files = subst (λ (o : Option (Held S)). MatchOption o (files ≡ None) (λ conn. IsSomeAnd files (λ files.
+        is_clean files → ClosesStore (holds files) (state g conn)))) (sym is) closes;
+  }
+
+  module _ {F R W E : Type 0} (given : F → Option (List ℕ)) (remaining : R → Option (List ℕ))
+      (out : W → Option (List ℕ)) (err : E → Option (List ℕ)) (held : Tables → Type 0) where
+    -- If an office was opened, a run of the machine leads from the tables of the files to those of the storage.
+    tables_lead : {O P L : Type 0} (job : DatabaseWork S O P F L) (old new : Streams R W E) (status : ℕ)
+        (keeper : ReopeningView S) (t after : Tables) → held t → ServesTables held (state g job.conn)
+        → IsKeeperStillUp g keeper → rows_still g keeper ≡ cells_of_tables after
+        → (works : WorksOverKeeper (storage_still g) (IsStillOpen g) (FindsStill g) given remaining out err
+        job.work (Some (string_bytes job.file)) job.limits (storage_of_connection job.conn) old status keeper new)
+        → RunsIfOpened works.0 job.limits t after
+    tables_lead job old new status keeper t after holds serves up rows (inr unopened, found) = tt
+    tables_lead job old new status keeper t after holds serves up rows (inl opened, found) =
+        let last = opened.new_office.keeper in
+        let up_last : IsKeeperStillUp g last = subst (λ (v : ReopeningView S). IsKeeperStillUp g v) opened.back_is up in
+        let reached = work_leads (storage_still g) given out err remaining job.work opened.old_office opened.new_office
+        old new status opened.does (opened_reached (storage_still g) job.limits (storage_of_connection job.conn)
+        opened.old_office opened.opens) in
+        let up_first = reached.was up_last in
+        let finds = found (open_first opened.old_office.keeper.first up_first) in
+        let at_start = serves finds.1.0 t holds in
+        let run = reached.goes_on up_last in
+        let rows_first = opened.opens.same up_first
+        ∙ raw_of (state g job.conn).now.trees t at_start.1.hold in
+        let rows_last = ap (rows_still g) (sym opened.back_is) ∙ rows in (
+          run.0,
+          run.1,
+          subst (λ (l : Limits). TablesAfterRun l (cells_of_tables t) run.0 run.1 (cells_of_tables after))
+              opened.opens.limits_are
+              (subst (λ (r : Raw). TablesAfterRun opened.old_office.limits r run.0 run.1 (cells_of_tables after)) rows_first
+              (subst (λ (r : Raw). TablesAfterRun opened.old_office.limits
+              (rows_still g opened.old_office.keeper) run.0 run.1 r) rows_last run.2)),
+        )
+
+    module _ {O P L C : Type 0} (is_clean : C → Type 0) (holds : C → Tables → Type 0)
+        (job : DatabaseWork S O P F L) (old new : Streams R W E) (status : ℕ) (left : Leaving S)
+        (works : WorksInDatabase given remaining out err g held job old status left new)
+        (serves : ServesTables held (state g job.conn)) where
+      closed_leaves : (conn : Option (Held S)) (files : Option C) → conn ≡ left.conn → left.is_reopened ≡ false
+          → MatchOption conn (files ≡ None) (λ conn. IsSomeAnd files (λ files.
+          is_clean files → ClosesStore (holds files) (state g conn)))
+          → IfSome files (λ files. is_clean files → (t : Tables) → held t
+          → LeavesInFiles g works.works.0 job.limits t works.keeper (holds files))
+      closed_leaves None None is kept closes = tt
+      closed_leaves None (Some files) is kept closes = absurd (cc)
+      closed_leaves (Some conn) None is kept closes = tt
+      closed_leaves (Some conn) (Some files) is kept closes = λ clean t was_held.
+          let closing = closes clean in
+          let end = returned_serves held works.keeper left.conn conn t (works.returns kept) (sym is) closing.was_up
+          was_held in record {
+            is_up = end.is_up;
+            tables_after = end.tables;
+            rows_after = end.rows;
+            run = tables_lead job old new status works.keeper t end.tables was_held serves end.is_up end.rows works.works;
+            holds_after = closing.leaves end.same end.tables end.keeps;
+          }
+
+      -- Work over the store of files, and the closing of its database, leave the store in the files.
+      pub works_to_closing : (closed : Closed C) → ClosesLeft g is_clean holds left closed
+          → WorksToClosing given remaining out err g held is_clean holds job old status closed new
+      works_to_closing closed closes = record {
+        leaving = left;
+        works = works;
+        closes = closes;
+        leaves = λ kept. closed_leaves left.conn closed.files refl (sym closes.is_reopened ∙ kept) closes.files;
+      }
+
+    to_leads : {O P L : Type 0} (job : DatabaseWork S O P F L) (old new : Streams R W E) (status : ℕ)
+        (keeper : ReopeningView S) (t : Tables) (holds : Tables → Type 0)
+        (works : WorksOpened (storage_still g) given remaining out err job.work job.limits
+        (storage_of_connection job.conn) old status keeper new
+        ⊎ ReportsUnopened (storage_still g) given remaining out err (Some (string_bytes job.file))
+        (storage_of_connection job.conn) old status keeper new)
+        → LeavesInFiles g works job.limits t keeper holds
+        → LeadsInFiles err old.errors new.errors status t holds
+    to_leads job old new status keeper t holds (inl opened) x = record {
+      limits = job.limits;
+      tables_after = x.tables_after;
+      run = inl x.run;
+      holds_after = x.holds_after;
+    }
+    to_leads job old new status keeper t holds (inr unopened) x = record {
+      limits = job.limits;
+      tables_after = x.tables_after;
+      run = inr record {
+        file = Some (string_bytes job.file);
+        fault = unopened.fault;
+        prints_it = unopened.prints_it;
+        status_is = unopened.status_is;
+      };
+      holds_after = x.holds_after;
+    }
+
+    -- The promise of a run, from that of its work.
+    pub leads_if_closed : {O P L C : Type 0} (is_clean : C → Type 0) (holds : C → Tables → Type 0)
+        (job : DatabaseWork S O P F L) (old new : Streams R W E) (status : ℕ) (closed : Closed C)
+        → WorksToClosing given remaining out err g held is_clean holds job old status closed new
+        → LeadsIfClosed err held is_clean holds old.errors new.errors status closed
+    leads_if_closed is_clean holds job old new status closed x = λ kept.
+        let works = x.works in
+        if_some_weaker closed.files _ _ (λ files leaves clean t was_held.
+        to_leads job old new status works.keeper t (holds files) works.works.0 (leaves clean t was_held)) (x.leaves kept)

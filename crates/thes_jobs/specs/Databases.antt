@@ -1,0 +1,49 @@
+-- The databases of stores from opening to closing, and what their files hold afterwards.
+use Rattle.std.specs.Prelude.{◌≡◌, Option, Some, None, false}
+use Rattle.sqlite.specs.Files.{image_of}
+use Rattle.sqlite.specs.Held.{Held, state}
+use Rattle.sqlite.specs.State.{State}
+use Rattle.sqlite_disk.specs.declared.Disk as disk
+use Rattle.sqlite_disk.specs.declared.Files.{Files}
+use Rattle.sqlite_trees.specs.declared.store.Store.{Ghosts}
+use Rattle.sqlite_wal.specs.Files.{outcomes}
+use Rattle.sqlite_wal.specs.Reads.{AreClean}
+use Rattle.sqlite_wal.specs.Recovery.{Image}
+use Rattle.thes_tables.specs.Tables.{Tables}
+use Rattle.thes_sql.specs.StoredRows.{Keeps}
+use Rattle.thes_sqlite.specs.DatabaseFiles.{HoldsStore}
+use Rattle.thes_sqlite.specs.KeeperView.{IsUp, ServesTables}
+
+-- A call leaves the tables of a store as they are: if the database was this store before, and nothing in it was
+-- uncommitted, it is so afterwards.
+abbrev pub KeepsTables : State → State → Type 0
+KeepsTables old new = IsUp new → (t : Tables) → (IsUp old → (old.now ≡ old.committed) × Keeps old.now t)
+    → (new.now ≡ new.committed) × Keeps new.now t
+
+-- A database was closed that was up. If it was a store with some tables, and nothing in it was uncommitted, `holds` is
+-- true of these tables.
+pub record ClosesStore (holds : Tables → Type 0) (s : State) : Type 0 where
+  pub was_up : IsUp s
+  pub leaves : s.now ≡ s.committed → (t : Tables) → Keeps s.now t → holds t
+
+-- A way to open databases opens them outside a transaction, and they serve the tables that their files held.
+pub record OpensStores {S : Type 0} (g : Ghosts S) (held : Tables → Type 0) (opens : Held S → Type 0) : Type 0 where
+  pub idle : (conn : Held S) → opens conn → conn.in_transaction ≡ false
+  pub serves : (conn : Held S) → opens conn → ServesTables held (state g conn)
+
+-- A way to close databases leaves the stores in their files.
+abbrev pub ClosesStores : {S L : Type 0} → Ghosts S → (Held S → L → Type 0) → (L → Type 0) → (L → Tables → Type 0)
+    → Type 0
+ClosesStores {S} {L} g closes is_clean holds = (conn : Held S) (left : L) → closes conn left → is_clean left
+    → ClosesStore (holds left) (state g conn)
+
+-- The files were closed, and the disk has returned what was written.
+abbrev pub AreCleanFiles : {D : Type 0} → disk.Ghosts D → Option (Files D) → Type 0
+AreCleanFiles g None = ⊥
+AreCleanFiles g (Some files) = AreClean g files.log files.db
+
+-- The files hold a store with these tables, as they read now and whatever a crash leaves of them.
+abbrev pub HoldTables : {D : Type 0} → disk.Ghosts D → Option (Files D) → Tables → Type 0
+HoldTables g None t = ⊥
+HoldTables g (Some files) t =
+    HoldsStore (image_of g files) t × ((image : Image) → outcomes g files.log files.db image → HoldsStore image t)
