@@ -1,7 +1,8 @@
 -- Proves that each row of the matches has a value that its rule accepts, if `clap` finds no fault.
-use Rattle.std.proofs.Common.{◌≡◌, ◌∙◌, ◌⊎◌, ◌++◌, ◌&&◌, ap, sym, refl, subst, inl, inr, ℕ, zero, suc, Bool, true}
-use Rattle.std.proofs.Common.{false, cond, List, [], ◌∷◌, length, drop, Option, None, Some, true≢false}
-use Rattle.std.specs.Prelude.{is_some, option_map, unwrap_or, find, fold, slice_get, encode_utf8}
+use Rattle.std.proofs.lemmas.Grind.{common_steps}
+use Rattle.std.proofs.Common.{arith, ◌≡◌, ◌⊎◌, ◌++◌, ap, sym, refl, inl, ℕ, zero, suc, Bool, true, false, cond, List}
+use Rattle.std.proofs.Common.{[], ◌∷◌, length, drop, Option, None, Some, true≢false}
+use Rattle.std.specs.Prelude.{is_some, option_map, find, fold, slice_get, encode_utf8}
 use Rattle.std.specs.Option.{option_map_or}
 use Rattle.std.specs.Str.{bytes_eq, chars}
 use Rattle.std.proofs.lemmas.Slice.Eq.{bytes_eq-Decides}
@@ -10,21 +11,17 @@ use Rattle.clap.specs.Facts.{parser_of_value, unwrap_or_range}
 use Rattle.clap.specs.Values.{read_as}
 use Rattle.clap.specs.ValueTests.{accepts}
 use Rattle.clap.specs.Walk.{Held, Names, Outcome, Row, Rule, Step, Text, Waiting, Walk, action_of, after_flag}
-use Rattle.clap.specs.Walk.{after_step, arg_by_id, arg_by_index, arg_by_long, arg_by_short, at_row, attached_value}
-use Rattle.clap.specs.Walk.{bundle_met, bundle_step, default_rows, done, first_of, flag_met, has_row, idle}
-use Rattle.clap.specs.Walk.{is_pending, long_met, long_or_other, more_values, most_values, next, nothing_held, one_of}
-use Rattle.clap.specs.Walk.{option, option_met, option_word, plain, plain_word, positional, reacted, reading_by}
-use Rattle.clap.specs.Walk.{refused, rows_after, settled, settled_rows, short_met, short_or_plain, subcommand}
-use Rattle.clap.specs.Walk.{subcommand_met, subcommand_or_other, takes_several, takes_values, to_positional, trailing}
-use Rattle.clap.specs.Walk.{used, used_as, used_by_id, value, values_or_missing, waits, walk, walk_from, walked}
-use Rattle.clap.specs.Walk.{walked_from, with_default, with_values, without, word_met}
+use Rattle.clap.specs.Walk.{after_step, arg_by_id, arg_by_long, arg_by_short, at_row, bundle_met, bundle_step, done}
+use Rattle.clap.specs.Walk.{first_of, flag_met, long_met, long_or_other, more_values, most_values, nothing_held, one_of}
+use Rattle.clap.specs.Walk.{option_met, plain, plain_word, reacted, reading_by, rows_after, settled, settled_rows}
+use Rattle.clap.specs.Walk.{short_met, short_or_plain, subcommand_or_other, trailing, used, used_as, used_by_id}
+use Rattle.clap.specs.Walk.{values_or_missing, walk, walk_from, walked, with_default, with_values, without, word_met}
 use Rattle.clap.specs.Simple.{Shape}
 use Rattle.clap.specs.Takes.{is_given}
-use Rattle.clap.specs.Kinds.{Kinds, check_kinds, or_else, range_kinds, value_kinds}
-use Rattle.clap.specs.Faults.{action_fault, bundle_fault, bundle_step_fault, check_fault, defaults_fault}
-use Rattle.clap.specs.Faults.{flag_word_fault, flags_fault, level_fault, long_fault, option_fault, other_fault}
-use Rattle.clap.specs.Faults.{positional_fault, react_fault, repeat_fault, settle_fault, short_fault, step_fault}
-use Rattle.clap.specs.Faults.{stray_fault, turn_fault, use_fault, walk_fault, word_fault}
+use Rattle.clap.specs.Kinds.{Kinds, check_kinds, or_else, range_kinds}
+use Rattle.clap.specs.Faults.{action_fault, bundle_fault, bundle_step_fault, check_fault, flag_word_fault, flags_fault}
+use Rattle.clap.specs.Faults.{level_fault, long_fault, option_fault, other_fault, react_fault, settle_fault}
+use Rattle.clap.specs.Faults.{short_fault, step_fault, turn_fault, use_fault, walk_fault, word_fault}
 use Rattle.clap.specs.declared.builder.action.ArgAction.{ArgAction}
 use Rattle.clap.specs.declared.builder.action.ArgAction.TheVariants as action
 use Rattle.clap.specs.declared.builder.value_parser.Reading.{Reading}
@@ -35,17 +32,13 @@ use Rattle.clap.specs.declared.parser.matches.ValueSource.TheVariants.{CommandLi
 
 -- If the combination of two faults is none, both are none.
 pub both_none : (a b : Kinds) → or_else a b ≡ [] → (a ≡ []) × (b ≡ [])
-both_none [] b e = (refl, e)
-both_none (k ∷ ks) b e = absurd (cc)
+both_none a b e = grind (arith, common_steps)
 
 passes : (b : Bool) (k : ErrorKind) → cond b [] (k ∷ []) ≡ [] → b ≡ true
-passes true k e = refl
-passes false k e = absurd (cc)
+passes b k e = grind (arith, common_steps)
 
 no_value : (least most : ℕ) → least ≡ 1 → range_kinds least most 0 ≡ [] → ⊥
-no_value least most one none =
-    let bad : range_kinds 1 most 0 ≡ [] = subst (λ (n : ℕ). range_kinds n most 0 ≡ []) one none in
-    cc
+no_value least most one none = grind (arith, common_steps)
 
 -- Assumes a property `Q` of the row of an option: of its identifier, the way it is read, and its
 -- first value.
@@ -75,11 +68,7 @@ module _ (Q : Text → Reading → Text → Type 0) where
 
   found_rule : (p : Rule → Bool) (c : List Rule) (a : Rule) → AllTake c → find p c ≡ Some a → TakesRight a
   found_rule p [] a all e = absurd (true≢false (ap (λ (o : Option Rule). is_some o) (sym e)))
-  found_rule p (x ∷ c) a all e = go (p x) e (found_rule p c a all.1)
-    where
-      go : (b : Bool) → cond b (Some x) (find p c) ≡ Some a → (find p c ≡ Some a → TakesRight a) → TakesRight a
-      go true is rest = subst TakesRight (ap (λ (o : Option Rule). unwrap_or o x) is) all.0
-      go false is rest = rest is
+  found_rule p (x ∷ c) a all e = grind (arith, common_steps, found_rule p c a all.1)
 
   joined : (xs ys : List Row) → AllFit xs → AllFit ys → AllFit (xs ++ ys)
   joined [] ys h k = k
@@ -121,22 +110,7 @@ module _ (Q : Text → Reading → Text → Type 0) where
           → (range_kinds (unwrap_or_range a.range).start_inclusive (most_values a) (length vs) ≡ [])
           × (action_fault x again a (values_or_missing a vs) rows ≡ [])
           → AllFit (used_as x a.id (reading_by a) (values_or_missing a vs) rows)
-      by action.Set [] takes none = absurd (no_value _ _ takes.0 none.0)
-      by action.Set (v ∷ vs) takes none =
-          let accepted =
-          (both_none (value_kinds a.ignore_case (parser_of_value a.parser) v) _
-          (both_none (repeat_fault again a.id rows) _ none.1).1).0 in
-          with_fit a.id (reading_by a) v vs (without a.id rows)
-          (takes.1 v (passes (accepts a.ignore_case (parser_of_value a.parser) v) _ accepted))
-          (without_fit a.id rows all)
-      by action.Help vs takes none = all
-      by action.Append vs takes none = absurd takes
-      by action.SetTrue vs takes none = absurd takes
-      by action.SetFalse vs takes none = absurd takes
-      by action.Count vs takes none = absurd takes
-      by action.HelpShort vs takes none = absurd takes
-      by action.HelpLong vs takes none = absurd takes
-      by action.Version vs takes none = all
+      by x vs takes none = grind (arith, common_steps, no_value, both_none, with_fit, without_fit)
 
   module _ (c : List Rule) (again : Bool) (all : AllTake c) where
     settled_fit : (h : Held) → settle_fault c again h ≡ [] → AllFit h.rows → AllFit (settled c h).rows
@@ -169,20 +143,12 @@ module _ (Q : Text → Reading → Text → Type 0) where
     flag_fit : (a : Rule) (v : Option Text) (h : Held) → TakesRight a → cond (is_some v) (TooManyValues ∷ [])
         (react_fault c again a [] h) ≡ []
         → AllFit h.rows → AllFit (flag_met c a v h).0.rows
-    flag_fit a (Some v) h right none fit = fit
-    flag_fit a None h right none fit = reacted_fit a [] h right none fit
+    flag_fit a v h right none fit = grind (arith, common_steps, reacted_fit)
 
     long_fit : (o : Option Rule) (v : Option Text) (h : Held) → ((a : Rule) → o ≡ Some a → TakesRight a)
         → long_fault c again o v h ≡ [] → AllFit h.rows
         → AllFit (long_met c o v h).0.rows
-    long_fit None v h right none fit = fit
-    long_fit (Some a) v h right none fit = go (takes_values a) none
-      where
-        go : (b : Bool) → cond b (option_fault c again a v h)
-            (cond (is_some v) (TooManyValues ∷ []) (react_fault c again a [] h)) ≡ []
-            → AllFit (cond b (option_met c a v h) (flag_met c a v h)).0.rows
-        go true e = option_fit a v h (right a refl) e fit
-        go false e = flag_fit a v h (right a refl) e fit
+    long_fit o v h right none fit = grind (arith, common_steps, option_fit, flag_fit)
 
     -- The rows still fit after a short option or flag.
     short_fit : (o : Option Rule) (rest : Text) (h : Held) (step : Held → Held × Outcome) (fault : Held → Kinds)
@@ -190,16 +156,7 @@ module _ (Q : Text → Reading → Text → Type 0) where
         → ((g : Held) → fault g ≡ [] → AllFit g.rows → AllFit (step g).0.rows) → short_fault c again o rest h fault
         ≡ [] → AllFit h.rows
         → AllFit (short_met c o rest h step).0.rows
-    short_fit None rest h step fault right each none fit = fit
-    short_fit (Some a) rest h step fault right each none fit = go (takes_values a) none
-      where
-        go : (b : Bool) → cond b (option_fault c again a (attached_value rest) h)
-            (or_else (react_fault c again a [] h) (fault (reacted c a [] h))) ≡ []
-            → AllFit (cond b (option_met c a (attached_value rest) h) (step (reacted c a [] h))).0.rows
-        go true e = option_fit a (attached_value rest) h (right a refl) e fit
-        go false e =
-            let faults = both_none (react_fault c again a [] h) _ e in
-            each (reacted c a [] h) faults.1 (reacted_fit a [] h (right a refl) faults.0 fit)
+    short_fit o rest h step fault right each none fit = grind (arith, common_steps, option_fit, both_none, reacted_fit)
 
     bundle_fit : (k : ℕ) (flags : Text) (skip : ℕ) (so_far : Outcome) (h : Held) → flags_fault c again k flags skip h
         ≡ [] → AllFit h.rows
@@ -222,20 +179,11 @@ module _ (Q : Text → Reading → Text → Type 0) where
 
     plain_fit : (waiting : Waiting) (word : Text) (h : Held) → AllFit h.rows
         → AllFit (plain_word c waiting word h).0.rows
-    plain_fit idle word h fit = fit
-    plain_fit positional word h fit = fit
-    plain_fit (option id) word h fit = go (arg_by_id c id)
-      where
-        go : (o : Option Rule) → AllFit (option_word o id word h).0.rows
-        go None = fit
-        go (Some a) = fit
+    plain_fit waiting word h fit = grind (arith, common_steps)
 
     flagged_fit : (waiting : Waiting) (word : Text) (h : Held) (o : Outcome) → AllFit h.rows
         → AllFit (after_flag c waiting word h o).0.rows
-    flagged_fit waiting word h done fit = fit
-    flagged_fit waiting word h (waits id) fit = fit
-    flagged_fit waiting word h plain fit = plain_fit waiting word h fit
-    flagged_fit waiting word h refused fit = plain_fit waiting word h fit
+    flagged_fit waiting word h o fit = grind (arith, common_steps, plain_fit)
 
   module _ (s : Shape) (all : AllTake s.rules) where
     flag_word_fit : (waiting : Waiting) (word : Text) (h : Held) → flag_word_fault s.rules s.args_override_self
@@ -271,87 +219,43 @@ module _ (Q : Text → Reading → Text → Type 0) where
     word_fit : (names : Names) (is_trailing : Bool) (waiting : Waiting) (position : ℕ) (word : Text) (h : Held)
         → word_fault s names is_trailing waiting word h ≡ [] → AllFit h.rows
         → AllFit (word_met s.rules names is_trailing waiting position word h).0.rows
-    word_fit names true waiting position word h none fit = fit
-    word_fit names false waiting position word h none fit = other_fit (subcommand_met names waiting word) waiting
-        position word h none fit
+    word_fit names is_trailing waiting position word h none fit = grind (arith, common_steps, other_fit)
 
     step_fit : (word : Text) (w : Walk) (h : Held) (x : Step) → step_fault s w.position h x ≡ [] → AllFit h.rows
         → AllFit (after_step s.rules word w h x).held.rows
-    step_fit word w h (next waiting) none fit = fit
-    step_fit word w h (trailing position) none fit = fit
-    step_fit word w h (subcommand name) none fit = fit
-    step_fit word w h value none fit = go (arg_by_index s.rules w.position) none
-      where
-        pushed_fit : (b : Bool) → cond b [] (settle_fault s.rules s.args_override_self h) ≡ []
-            → AllFit (cond b h (settled s.rules h)).rows
-        pushed_fit true e = fit
-        pushed_fit false e = settled_fit s.rules s.args_override_self all h e fit
-
-        go : (o : Option Rule) → option_map_or (λ a. positional_fault s.rules s.args_override_self a h) o
-            (stray_fault s) ≡ []
-            → AllFit (to_positional s.rules o word w h).held.rows
-        go None e = fit
-        go (Some a) e = pushed_fit (is_pending a h.pending && takes_several a) e
+    step_fit word w h x none fit = grind (arith, common_steps, settled_fit)
 
     turn_fit : (names : Names) (w : Walk) (word : Text) → turn_fault s names w word ≡ [] → AllFit w.held.rows
         → AllFit (walked s.rules names w word).held.rows
     unfolding walked
-    turn_fit names w word none fit = go w.stopped none
-      where
-        met : Held × Step
-        met = word_met s.rules names w.is_trailing w.waiting w.position word w.held
-
-        go : (o : Option (Text × List Text))
-            → cond (is_some o) [] (or_else (word_fault s names w.is_trailing w.waiting word w.held)
-            (step_fault s w.position met.0 met.1)) ≡ []
-            → AllFit (walked_from s.rules names o w word).held.rows
-        go (Some p) e = fit
-        go None e =
-            let faults = both_none (word_fault s names w.is_trailing w.waiting word w.held) _ e in
-            step_fit word w met.0 met.1 faults.1 (word_fit names w.is_trailing w.waiting w.position word w.held
-            faults.0 fit)
+    turn_fit names w word none fit = grind (arith, common_steps, both_none, step_fit, word_fit)
 
     walk_fit : (names : Names) (arguments : List Text) (w : Walk) → walk_fault s names w arguments ≡ []
         → AllFit w.held.rows → AllFit (fold (walked s.rules names) w arguments).held.rows
     unfolding walk_fault
     walk_fit names [] w none fit = fit
     walk_fit names (word ∷ rest) w none fit =
-        let faults = both_none (turn_fault s names w word) _ none in
-        walk_fit names rest (walked s.rules names w word) faults.1 (turn_fit names w word faults.0 fit)
+        grind (arith, common_steps, both_none, turn_fit, walk_fit names rest (walked s.rules names w word))
 
   no_default : (rows : List Row) (a : Rule) → a.defaults ≡ [] → with_default rows a ≡ rows
-  no_default rows a none = go (has_row a.id rows)
-    where
-      go : (b : Bool) → cond b rows (default_rows a.id (reading_by a) a.defaults rows) ≡ rows
-      go true = refl
-      go false = ap (λ (ds : List Text). default_rows a.id (reading_by a) ds rows) none
+  no_default rows a none = grind (arith, common_steps)
 
   no_defaults : (c : List Rule) (rows : List Row) → AllTake c → fold with_default rows c ≡ rows
   no_defaults [] rows all = refl
-  no_defaults (a ∷ c) rows all = ap (λ (rs : List Row). fold with_default rs c) (no_default rows a all.0.1)
-      ∙ no_defaults c rows all.1
+  no_defaults (a ∷ c) rows all = grind (arith, common_steps, no_default, no_defaults c rows all.1)
 
   -- The rows of a command without faults fit its rules.
   pub finished_fit : (s : Shape) (names : Names) (arguments : List Text) → AllTake s.rules
       → walk_fault s names (walk_from nothing_held) arguments ≡ []
       → settle_fault s.rules s.args_override_self (walk s.rules names nothing_held arguments).held ≡ []
       → AllFit (rows_after s.rules names arguments)
-  finished_fit s names arguments all walks settles =
-      let end = (walk s.rules names nothing_held arguments).held in
-      let fit = settled_fit s.rules s.args_override_self all end settles
-      (walk_fit s all names arguments (walk_from nothing_held) walks tt) in
-      subst AllFit (sym (no_defaults s.rules (settled s.rules end).rows all)) fit
+  finished_fit s names arguments all walks settles = grind (arith, common_steps, settled_fit, walk_fit, no_defaults)
 
   -- The rows of a command without faults and subcommands fit its rules, and its required options are given.
   pub level_fit : (s : Shape) (arguments : List Text) → AllTake s.rules → level_fault s [] nothing_held arguments
       false [] ≡ []
       → AllFit (rows_after s.rules [] arguments) × (check_fault s (rows_after s.rules [] arguments) false ≡ [])
-  level_fit s arguments all none =
-      let end = (walk s.rules [] nothing_held arguments).held in
-      let walks = both_none (walk_fault s [] (walk_from nothing_held) arguments) _ none in
-      let settles = both_none (settle_fault s.rules s.args_override_self end) _ walks.1 in
-      let ends = both_none (defaults_fault (settled s.rules end).rows s.rules) _ settles.1 in
-      (finished_fit s [] arguments all walks.0 settles.0, ends.1)
+  level_fit s arguments all none = grind (arith, common_steps, both_none, finished_fit)
 
   -- Some row has this identifier, and its value has the property.
   abbrev pub HasRowWith : Text → List Row → Type 0
@@ -361,43 +265,19 @@ module _ (Q : Text → Reading → Text → Type 0) where
   at_row_found : (id : Text) (r : Row) → Fits r → r.id ≡ id
       → (v : Text) × (how : Reading) × (slice_get r.values 0 ≡ Some v)
       × (option_map (read_as r.reading) (slice_get r.values 0) ≡ Some (read_as how v)) × Q id how v
-  at_row_found id r fit same =
-      let first = ap (λ (vs : List Text). slice_get vs 0) fit.2 in (
-        fit.0,
-        r.reading,
-        first,
-        ap (option_map (read_as r.reading)) first,
-        subst (λ (x : Text). Q x r.reading fit.0)
-            same fit.3,
-      )
+  at_row_found id r fit same = grind (arith, common_steps)
 
   -- Either no row has this identifier, or the first row that has it fits.
   pub found_or_none : (id : Text) (rows : List Row) → AllFit rows
       → ((find (λ r. bytes_eq r.id id) rows ≡ None) ⊎ HasRowWith id rows)
   found_or_none id [] fit = inl refl
-  found_or_none id (r ∷ rows) fit = go (bytes_eq r.id id) refl (found_or_none id rows fit.1)
-    where
-      go : (b : Bool) → bytes_eq r.id id ≡ b → ((find (λ r. bytes_eq r.id id) rows ≡ None) ⊎ HasRowWith id rows)
-          → ((find (λ r. bytes_eq r.id id) (r ∷ rows) ≡ None) ⊎ HasRowWith id (r ∷ rows))
-      go true e rest =
-          let at = at_row_found id r fit.0 ((bytes_eq-Decides r.id id).0 e) in
-          inr (at.0, at.1, rw e at.2, rw e at.3, at.4)
-      go false e (inl none) = inl (rw e none)
-      go false e (inr at) = inr (at.0, at.1, rw e at.2, rw e at.3, at.4)
+  found_or_none id (r ∷ rows) fit =
+      grind (arith, common_steps, at_row_found, bytes_eq-Decides, found_or_none id rows fit.1)
 
   -- An option that is given has a row with a value.
   pub found_given : (id : Text) (rows : List Row) → AllFit rows → is_given id rows ≡ true → HasRowWith id rows
-  found_given id rows fit given = go (found_or_none id rows fit)
-    where
-      go : ((find (λ r. bytes_eq r.id id) rows ≡ None) ⊎ HasRowWith id rows) → HasRowWith id rows
-      go (inr found) = found
-      go (inl none) =
-          let bad : false ≡ true = rw none at given in
-          absurd (true≢false (sym bad))
+  found_given id rows fit given = grind (arith, common_steps, found_or_none, true≢false)
 
 -- An option that the rules require is given, if the check finds no fault.
 pub wanted_given : (a b x : Bool) → check_kinds a b x ≡ [] → x ≡ false
-wanted_given true b x e = absurd (cc)
-wanted_given false true x e = absurd (cc)
-wanted_given false false true e = absurd (cc)
-wanted_given false false false e = refl
+wanted_given a b x e = grind (arith, common_steps)

@@ -1,15 +1,14 @@
 -- Proves that arguments without faults name a command of the program and have its required arguments.
-use Rattle.std.proofs.Common.{◌≡◌, ◌∙◌, ◌⊎◌, ap, sym, refl, subst, inl, inr, ℕ, Bool, true, false, not, cond, List}
-use Rattle.std.proofs.Common.{[], ◌∷◌, Option, None, Some, length, arith, true≢false}
-use Rattle.std.specs.Prelude.{IsSome, IfSome, is_some, option_map, unwrap_or, find, codes}
-use Rattle.std.specs.Option.{option_map_or}
+use Rattle.std.proofs.lemmas.Grind.{common_steps}
+use Rattle.std.proofs.Common.{◌≡◌, ◌∙◌, ◌⊎◌, ap, sym, refl, inl, inr, ℕ, Bool, true, false, not, List, [], ◌∷◌, Option}
+use Rattle.std.proofs.Common.{None, Some, length, arith, true≢false}
+use Rattle.std.specs.Prelude.{IsSome, IfSome, is_some, find, codes}
 use Rattle.std.specs.Str.{bytes_eq}
 use Rattle.std.proofs.lemmas.Bool.{not-false, or_parts}
 use Rattle.clap.specs.Values.{IsUnsignedIn, read_as}
-use Rattle.clap.specs.Walk.{Row, Text, answers_to, finished, first_of, nothing_held, one_of, rows_after, settled}
-use Rattle.clap.specs.Walk.{walk, walk_from}
+use Rattle.clap.specs.Walk.{Row, Text, finished, first_of, nothing_held, one_of, rows_after, settled, walk, walk_from}
 use Rattle.clap.specs.Words.{App, fault_of, subcommand_of}
-use Rattle.clap.specs.Simple.{Shape, argument_words, built, entered, label_of, names_of, rows_at}
+use Rattle.clap.specs.Simple.{Shape, argument_words, built, entered, names_of}
 use Rattle.clap.specs.Faults.{check_fault, defaults_fault, entered_fault, level_fault, settle_fault, walk_fault}
 use Rattle.clap.specs.Takes.{is_given}
 use Rattle.clap.specs.declared.builder.value_parser.Reading.{Reading}
@@ -18,12 +17,10 @@ use Rattle.clap.specs.declared.builder.value_parser.ValueParser.TheVariants.{Uns
 use Rattle.clap.proofs.ValueTestLemmas.{accepts-Accepts}
 use Rattle.thes_command_line.specs.Commands.{program}
 use Rattle.thes_command_line.specs.CommandLine.{IsCompleteCommand, HasCommand, NamesDisplay, script, import, export}
-use Rattle.thes_command_line.specs.CommandLine.{display}
-use Rattle.thes_command_line.specs.CommandLine.{serve, check, migrate}
+use Rattle.thes_command_line.specs.CommandLine.{display, serve, check, migrate}
 use Rattle.thes_command_line.proofs.ReadingLemmas.{if_some_of, some_and}
 use Rattle.thes_command_line.proofs.ArgumentWalkLemmas.{AllFit, HasRowWith, both_none, found_given, found_or_none}
-use Rattle.thes_command_line.proofs.ArgumentWalkLemmas.{level_fit}
-use Rattle.thes_command_line.proofs.ArgumentWalkLemmas.{wanted_given}
+use Rattle.thes_command_line.proofs.ArgumentWalkLemmas.{level_fit, wanted_given}
 
 -- The property that every row has.
 abbrev Any : Text → Reading → Text → Type 0
@@ -44,20 +41,17 @@ abbrev AllCompleted : List Shape → Type 0
 AllCompleted [] = Unit {0}
 AllCompleted (s ∷ shapes) = IsCompleted s × AllCompleted shapes
 
+-- What holds of the first, and of the rest.
+pub and_rest : {A B : Type 0} → A → B → A × B
+and_rest a b = (a, b)
+
 command_found : (p : Shape → Bool) (shapes : List Shape) (s : Shape) → AllCompleted shapes → find p shapes ≡ Some s
     → IsCompleted s
 command_found p [] s all e = absurd (true≢false (ap (λ (o : Option Shape). is_some o) (sym e)))
-command_found p (x ∷ shapes) s all e = go (p x) e (command_found p shapes s all.1)
-  where
-    go : (b : Bool) → cond b (Some x) (find p shapes) ≡ Some s → (find p shapes ≡ Some s → IsCompleted s)
-        → IsCompleted s
-    go true is rest = subst IsCompleted (ap (λ (o : Option Shape). unwrap_or o x) is) all.0
-    go false is rest = rest is
+command_found p (x ∷ shapes) s all e = grind (arith, common_steps, command_found p shapes s all.1)
 
 given_some : (id : Text) (rows : List Row) → AllFit Any rows → is_given id rows ≡ true → IsSome (first_of id rows)
-given_some id rows fit given =
-    let found = found_given Any id rows fit given in
-    ap (λ (o : Option Text). is_some o) found.2
+given_some id rows fit given = grind (arith, common_steps, found_given)
 
 import_completes : IsCompleted (built Rattle.thes_command_line.specs.Commands.import).top
 import_completes arguments none =
@@ -92,13 +86,7 @@ count_found : (rows : List Row) → ((find (λ r. bytes_eq r.id (codes "count"))
     ⊎ HasRowWith Numbers (codes "count") rows)
     → IfSome (first_of (codes "count") rows) (IsUnsignedIn 1 4294967295)
     × (one_of (codes "count") rows ≡ first_of (codes "count") rows)
-count_found rows (inl none) = (rw none tt, rw none refl)
-count_found rows (inr found) =
-    let count = found.4.1 refl in (
-      if_some_of (first_of (codes "count") rows) (IsUnsignedIn 1 4294967295)
-          (some_and (first_of (codes "count") rows) found.0 (IsUnsignedIn 1 4294967295) found.2 count.1),
-      as_written (codes "count") rows found.0 found.1 found.2 found.3 count.0,
-    )
+count_found rows h = grind (arith, common_steps, if_some_of, some_and, as_written)
 
 four_or_five : (n m : ℕ) → n ≡ 4 → m ≡ 5 → n ≡ m → ⊥
 four_or_five n m four five e = omega arith
@@ -111,31 +99,27 @@ serve_completes : IsCompleted (built Rattle.thes_command_line.specs.Commands.ser
 serve_completes arguments none =
     let top = (built Rattle.thes_command_line.specs.Commands.serve).top in
     let rows = rows_after top.rules [] arguments in
-    let fit = level_fit Numbers top arguments (
+    let fit = level_fit Numbers top arguments
+    (and_rest (
       (
-        (
-          refl,
-          λ v e. (
-            λ same. (refl, accepts-Accepts false (Unsigned 1 65535) v e),
-            λ same. absurd (other_names same),
-          ),
-        ),
         refl,
-      ),
-      (
-        (
-          (
-            refl,
-            λ v e. (
-              λ same. absurd (other_names (sym same)),
-              λ same. (refl, accepts-Accepts false (Unsigned 1 4294967295) v e),
-            ),
-          ),
-          refl,
+        λ v e. (
+          λ same. (refl, accepts-Accepts false (Unsigned 1 65535) v e),
+          λ same. absurd (other_names same),
         ),
-        ((tt, refl), tt),
       ),
-    ) none in
+      refl,
+    )
+    (and_rest (
+      (
+        refl,
+        λ v e. (
+          λ same. absurd (other_names (sym same)),
+          λ same. (refl, accepts-Accepts false (Unsigned 1 4294967295) v e),
+        ),
+      ),
+      refl,
+    ) (and_rest (tt, refl) tt))) none in
     let given = or_parts (not (is_given (codes "port") rows)) _ (wanted_given false false _ fit.1) in
     let found = found_given Numbers (codes "port") rows fit.0 (not-false _ given.0) in
     let port = found.4.0 refl in
@@ -147,41 +131,19 @@ serve_completes arguments none =
     })
 
 commands_complete : AllCompleted (built program).subs
-commands_complete = (
-  λ arguments none. script refl,
-  (
-    import_completes,
-    (
-      λ arguments none. export refl,
-      (
-        display_completes (codes "alphabetical") (inl refl),
-        (
-          display_completes (codes "hierarchical") (inr refl),
-          (serve_completes, (λ arguments none. check refl, (λ arguments none. migrate refl, tt))),
-        ),
-      ),
-    ),
-  ),
-)
+commands_complete = and_rest (λ arguments none. script refl) (and_rest import_completes
+    (and_rest (λ arguments none. export refl) (and_rest (display_completes (codes "alphabetical") (inl refl))
+    (and_rest (display_completes (codes "hierarchical") (inr refl)) (and_rest serve_completes
+    (and_rest (λ arguments none. check refl) (and_rest (λ arguments none. migrate refl) tt)))))))
 
 -- A program that requires a command has a fault if none is given.
 wants_one : (rows : List Row) (b : Bool) → check_fault (built program).top rows b ≡ [] → b ≡ true
-wants_one rows true e = refl
-wants_one rows false e = absurd (cc)
+wants_one rows b e = grind (arith, common_steps)
 
 entered_completes : (a : App) (stop : Option (Text × List Text)) → AllCompleted a.subs → is_some (entered a stop)
     ≡ true → entered_fault a stop ≡ []
     → HasCommand (entered a stop)
-entered_completes a None all some none = absurd (true≢false (sym some))
-entered_completes a (Some p) all some none = go (find (λ s. answers_to p.0 (label_of s)) a.subs) refl some none
-  where
-    go : (o : Option Shape) → find (λ s. answers_to p.0 (label_of s)) a.subs ≡ o
-        → is_some (option_map (λ s. rows_at s p.1) o) ≡ true
-        → option_map_or (λ s. level_fault s [] nothing_held p.1 false []) o [] ≡ []
-        → HasCommand (option_map (λ s. rows_at s p.1) o)
-    go None is e unfaulted = absurd (true≢false (sym e))
-    go (Some s) is e unfaulted = command_found (λ (x : Shape). answers_to p.0 (label_of x)) a.subs s all is p.1
-        unfaulted
+entered_completes a stop all some none = grind (arith, common_steps, true≢false, command_found)
 
 -- Arguments without faults name a command, and include its required arguments.
 pub has_command : (arguments : List Text) → fault_of program arguments ≡ []

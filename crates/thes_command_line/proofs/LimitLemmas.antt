@@ -1,10 +1,11 @@
 -- Proves that arguments without faults have a number from 1 in each option for a limit.
-use Rattle.std.proofs.Common.{◌≡◌, ◌⊎◌, sym, refl, inl, inr, Bool, true, false, List, [], None, true≢false, ◌==◌}
+use Rattle.std.proofs.lemmas.Grind.{common_steps}
+use Rattle.std.proofs.Common.{arith, ◌≡◌, ◌⊎◌, sym, refl, Bool, true, false, List, [], None, true≢false, ◌==◌}
 use Rattle.std.specs.Prelude.{find, codes, slice_get}
 use Rattle.std.specs.Option.{option_map_or}
 use Rattle.std.specs.Str.{bytes_eq}
 use Rattle.clap.specs.Values.{IsUnsignedIn}
-use Rattle.clap.specs.Walk.{Row, Text, first_of, nothing_held, walk, walk_from}
+use Rattle.clap.specs.Walk.{Row, Text, nothing_held, walk, walk_from}
 use Rattle.clap.specs.Words.{fault_of, matches_of}
 use Rattle.clap.specs.Simple.{argument_words, built, names_of}
 use Rattle.clap.specs.Faults.{entered_fault, settle_fault, walk_fault}
@@ -16,7 +17,7 @@ use Rattle.thes_command_line.specs.Commands.{program}
 use Rattle.thes_command_line.specs.CommandLine.{HasLimit, HasLimits}
 use Rattle.thes_command_line.proofs.ReadingLemmas.{if_some_of, some_and}
 use Rattle.thes_command_line.proofs.ArgumentWalkLemmas.{HasRowWith, both_none, finished_fit, found_or_none}
-use Rattle.thes_command_line.proofs.CompletingLemmas.{as_written}
+use Rattle.thes_command_line.proofs.CompletingLemmas.{and_rest, as_written}
 
 -- The options for limits are those of the program that begin with an `m`.
 abbrev is_limit : Text → Bool
@@ -28,14 +29,7 @@ LimitNumbers id how v = is_limit id ≡ true → (how ≡ AsWritten) × IsUnsign
 
 limit_found : (name : Text) (rows : List Row) → is_limit name ≡ true
     → ((find (λ r. bytes_eq r.id name) rows ≡ None) ⊎ HasRowWith LimitNumbers name rows) → HasLimit name rows
-limit_found name rows is (inl none) = record { number = rw none tt; as_written = rw none refl }
-limit_found name rows is (inr found) =
-    let limit = found.4 is in
-    record {
-      number = if_some_of (first_of name rows) (IsUnsignedIn 1 4294967295)
-          (some_and (first_of name rows) found.0 (IsUnsignedIn 1 4294967295) found.2 limit.1);
-      as_written = as_written name rows found.0 found.1 found.2 found.3 limit.0;
-    }
+limit_found name rows is h = grind (arith, common_steps, as_written, if_some_of, some_and)
 
 -- Arguments without faults have a number from 1 in each option for a limit.
 pub has_limits : (arguments : List Text) → fault_of program arguments ≡ []
@@ -49,28 +43,15 @@ has_limits arguments none =
     let below = both_none (entered_fault (built program) met.stopped) _ level.1 in
     let held = both_none (settle_fault top.rules top.args_override_self met.held) _ below.1 in
     let rows = matches_of program arguments in
-    let fit = finished_fit LimitNumbers top names given (
-      ((refl, λ v e same. absurd (true≢false (sym same))), refl),
-      (
-        ((refl, λ v e same. absurd (true≢false (sym same))), refl),
-        (
-          ((refl, λ v e same. (refl, accepts-Accepts false (Unsigned 1 4294967295) v e)), refl),
-          (
-            ((refl, λ v e same. (refl, accepts-Accepts false (Unsigned 1 4294967295) v e)), refl),
-            (
-              ((refl, λ v e same. (refl, accepts-Accepts false (Unsigned 1 4294967295) v e)), refl),
-              (
-                ((refl, λ v e same. (refl, accepts-Accepts false (Unsigned 1 4294967295) v e)), refl),
-                (
-                  ((refl, λ v e same. (refl, accepts-Accepts false (Unsigned 1 4294967295) v e)), refl),
-                  ((tt, refl), ((tt, refl), tt)),
-                ),
-              ),
-            ),
-          ),
-        ),
-      ),
-    )
+    let fit = finished_fit LimitNumbers top names given
+    (and_rest ((refl, λ v e same. absurd (true≢false (sym same))), refl)
+    (and_rest ((refl, λ v e same. absurd (true≢false (sym same))), refl)
+    (and_rest ((refl, λ v e same. (refl, accepts-Accepts false (Unsigned 1 4294967295) v e)), refl)
+    (and_rest ((refl, λ v e same. (refl, accepts-Accepts false (Unsigned 1 4294967295) v e)), refl)
+    (and_rest ((refl, λ v e same. (refl, accepts-Accepts false (Unsigned 1 4294967295) v e)), refl)
+    (and_rest ((refl, λ v e same. (refl, accepts-Accepts false (Unsigned 1 4294967295) v e)), refl)
+    (and_rest ((refl, λ v e same. (refl, accepts-Accepts false (Unsigned 1 4294967295) v e)), refl)
+    (and_rest (tt, refl) (and_rest (tt, refl) tt)))))))))
     level.0 held.0 in
     record {
       resources = limit_found (codes "max-resources") rows refl

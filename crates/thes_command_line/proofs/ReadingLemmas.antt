@@ -1,7 +1,8 @@
 -- Proves which values the getters of `clap` return, from the rows of its matches.
-use Rattle.std.proofs.Common.{◌≡◌, ◌∙◌, ◌<◌, ◌≤◌, ◌^◌, ap, sym, refl, subst, ℕ, List, Option, None, Some, Result, Ok}
-use Rattle.std.proofs.Common.{Err, arith, true, true≢false, codes}
-use Rattle.std.specs.Prelude.{Box, IsSome, IsSomeAnd, IfSome, is_some, option_map, unwrap_or}
+use Rattle.std.proofs.lemmas.Grind.{common_steps}
+use Rattle.std.proofs.Common.{◌≡◌, ◌∙◌, ◌<◌, ◌≤◌, ◌^◌, ap, sym, subst, ℕ, List, Option, None, Some, Result, Err, arith}
+use Rattle.std.proofs.Common.{true, true≢false, codes}
+use Rattle.std.specs.Prelude.{Box, IsSome, IsSomeAnd, IfSome, option_map, unwrap_or}
 use Rattle.std.specs.Option.{option_map_or}
 use Rattle.std.specs.Borrow.{Bor}
 use Rattle.std.specs.Box.{box_value}
@@ -19,14 +20,12 @@ use Rattle.thes_base.specs.ReadResults.{IsReadResult, IsNumberReadResult}
 use Rattle.thes_base.specs.declared.fault.FormFault.{FormFault}
 use Rattle.thes_base.specs.declared.fault.FormFault.TheVariants.{BadTag}
 use Rattle.thes_base.specs.declared.fault.ReadStop.{ReadStop}
-use Rattle.thes_base.specs.declared.fault.ReadStop.TheVariants as stops
 use Rattle.thes_command_line.specs.CommandLine.{LacksForm, ReadsDisplayOptions, SpellsNumber, number_of, default_count}
 use Rattle.thes_command_line.specs.EarlyExit.{exit_of_stop}
 
 -- If an option has a value, its getter returns a text.
 pub gives : (got : Option (Bor Text)) (o : Option Text) → option_map (λ s. s.now) got ≡ o → IsSome o → IsSome got
-gives None o e some = absurd (true≢false (sym (ap (λ (x : Option Text). is_some x) e ∙ some)))
-gives (Some t) o e some = refl
+gives got o e some = grind (arith, common_steps, true≢false)
 
 -- The text that the getter returns is the option's value.
 pub gives_text : (got : Option (Bor Text)) (o : Option Text) (t : Bor Text) → option_map (λ s. s.now) got ≡ o → got
@@ -37,21 +36,16 @@ pub some_and : (o : Option Text) (t : Text) (P : Text → Type 0) → o ≡ Some
 some_and o t P e p = subst (λ (x : Option Text). IsSomeAnd x P) (sym e) p
 
 pub is_some_of : (o : Option Text) (P : Text → Type 0) → IsSomeAnd o P → IsSome o
-is_some_of None P h = absurd h
-is_some_of (Some t) P h = refl
+is_some_of o P h = grind (arith, common_steps)
 
 pub if_some_of : (o : Option Text) (P : Text → Type 0) → IsSomeAnd o P → IfSome o P
-if_some_of None P h = absurd h
-if_some_of (Some t) P h = h
+if_some_of o P h = grind (arith, common_steps)
 
 -- A text that passed the parser is read as the number that it spells.
 read_as_number : (E : Type 0) (G : Text → Result ℕ E → Type 0) (k high : ℕ) (t : Text) (r : Option ℕ) → high < 2 ^ k
     → ReadsOne G t r
     → ((u : Text) (x : Result ℕ E) → G u x → ParsesUnsigned k 10 u x) → IsUnsignedIn 1 high t → r ≡ Some (number_of t)
-read_as_number E G k high t (Some n) fits read only passed = ap (λ (x : ℕ). Some x) (only t (Ok n) read).1
-read_as_number E G k high t None fits read only passed =
-    let small : number_of t ≤ high = passed.3 in
-    absurd (only t (Err read.0) read.1 (passed.0, omega arith))
+read_as_number E G k high t r fits read only passed = grind (arith, common_steps)
 
 -- The number of an option is that of its value, if it has one.
 pub number_read : (E : Type 0) (G : Text → Result ℕ E → Type 0) (k high : ℕ) (f : Found) (id : Text) (r : Option ℕ)
@@ -68,54 +62,33 @@ number_read E G k high f id r fits none value only same passed =
     go (Some t) e p = read_as_number E G k high t r fits (value t e) only p
 
 pub has_number : (o : Option Text) (r : Option ℕ) → r ≡ option_map number_of o → IsSome o → IsSome r
-has_number None r e some = absurd (true≢false (sym some))
-has_number (Some t) r e some = ap (λ (x : Option ℕ). is_some x) e
+has_number o r e some = grind (arith, common_steps, true≢false)
 
 pub from_one : (o : Option Text) (high n : ℕ) → IsSomeAnd o (IsUnsignedIn 1 high) → option_map number_of o ≡ Some n
     → 1 ≤ n
-from_one None high n p e = absurd p
-from_one (Some t) high n p e =
-    let is : number_of t ≡ n = ap (λ (x : Option ℕ). unwrap_or x 0) e in
-    subst (λ (x : ℕ). 1 ≤ x) is p.2
+from_one o high n p e = grind (arith, common_steps)
 
 pub or_default : (o : Option Text) (r : Option ℕ) (default : ℕ) → r ≡ option_map number_of o → option_map_or number_of o
     default ≡ unwrap_or r default
-or_default o r default e = same o ∙ ap (λ (x : Option ℕ). unwrap_or x default) (sym e)
-  where
-    same : (x : Option Text) → option_map_or number_of x default ≡ unwrap_or (option_map number_of x) default
-    same None = refl
-    same (Some t) = refl
+or_default o r default e = grind (arith, common_steps)
 
 pub default_from_one : (o : Option Text) (n : ℕ) → IfSome o (IsUnsignedIn 1 4294967295) → option_map_or number_of o
     default_count ≡ n → 1 ≤ n
-default_from_one None n p e = subst (λ (x : ℕ). 1 ≤ x) e (omega arith)
-default_from_one (Some t) n p e = subst (λ (x : ℕ). 1 ≤ x) e p.2
+default_from_one o n p e = grind (arith, common_steps)
 
 pub no_scheme : (arguments : List Row) (text : Text) (fault : FormFault) → first_of (codes "scheme") arguments
     ≡ Some text → IsNumberReadResult text (Err fault) → LacksForm arguments fault
-no_scheme arguments text fault e reports =
-    subst (LacksForm arguments) (sym reports.0) (some_and (first_of (codes "scheme") arguments) text
-    (λ t. (n : ℕ) → SpellsNumber t n → ⊥) e (λ n s. reports.1 n s.0 s.1))
+no_scheme arguments text fault e reports = grind (arith, common_steps, some_and)
 
 pub no_lang : (arguments : List Row) (scheme lang : Text) (n : ℕ) (stop : ReadStop)
     → first_of (codes "scheme") arguments ≡ Some scheme → SpellsNumber scheme n
     → first_of (codes "lang") arguments ≡ Some lang → IsReadResult {T = List ℕ} (IsTag lang) BadTag
     (λ t. t ≡ stored_text true lang) (Err stop)
     → ReadsDisplayOptions arguments (Err (exit_of_stop stop))
-no_lang arguments scheme lang n (stops.Form fault) at spells tagged reports = subst (LacksForm arguments)
-    (sym reports.0) (
-      some_and (first_of (codes "scheme") arguments) scheme (λ t. (m : ℕ) × SpellsNumber t m) at (n, spells),
-      some_and (first_of (codes "lang") arguments) lang (λ t. ¬ IsTag t) tagged reports.1,
-    )
-no_lang arguments scheme lang n stops.OutOfMemory at spells tagged reports = tt
+no_lang arguments scheme lang n stop at spells tagged reports = grind (arith, common_steps, some_and)
 
 pub command_rows : {Z : Type 0} (found : Option (Box SubCommand Z)) (name : Text) (arguments : List Row)
     → Some name ≡ option_map (λ b. (out-SubCommand (box_value b)).name.now) found → Some arguments
     ≡ option_map (λ p. p.1) (subcommand_rows found)
     → subcommand_rows found ≡ Some (name, arguments)
-command_rows None name arguments command_is reports =
-    absurd (true≢false (ap (λ (x : Option Text). is_some x) command_is))
-command_rows (Some b) name arguments command_is reports =
-    let name_is = ap (λ (x : Option Text). unwrap_or x name) command_is in
-    let words_is = ap (λ (x : Option (List Row)). unwrap_or x arguments) reports in
-    λ i. Some (sym name_is i, sym words_is i)
+command_rows found name arguments command_is reports = grind (arith, common_steps, true≢false)

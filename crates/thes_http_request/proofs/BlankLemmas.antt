@@ -1,4 +1,5 @@
 -- Proves that empty lines before a request line are skipped, up to its method.
+use Rattle.std.proofs.lemmas.Grind.{common_steps}
 use Rattle.std.proofs.Common.{◌≡◌, ◌∙◌, sym, ap, subst, refl, ℕ, ◌+◌, ◌<◌, ◌==◌, ◌&&◌, Bool, true, false, cond, List}
 use Rattle.std.proofs.Common.{[], ◌∷◌, ◌++◌, length, take, drop, arith, rules, length-append}
 use Rattle.std.specs.List.{list_all, position_or_len, before_first, after_first}
@@ -14,51 +15,40 @@ use Rattle.std.specs.Str.{bytes_eq}
 use Rattle.thes_http_request.specs.Heads.{without_blank_lines, is_space, is_open_target}
 
 first_true : (x : Bool) (a b : List ℕ) → (x && true) ≡ true → cond x a b ≡ a
-first_true true a b h = refl
-first_true false a b h = search (rules, h)
+first_true x a b h = grind (arith, common_steps)
 
 first_false : (x : Bool) (a b : List ℕ) → (x && true) ≡ false → cond x a b ≡ b
-first_false true a b h = search (rules, h)
-first_false false a b h = refl
+first_false x a b h = grind (arith, common_steps)
 
 second_true : (y z : Bool) (a b : List ℕ) → (y && (z && true)) ≡ true → cond (y && z) a b ≡ a
-second_true true z a b h = first_true z a b h
-second_true false z a b h = search (rules, h)
+second_true y z a b h = grind (arith, common_steps, first_true)
 
 second_false : (y z : Bool) (a b : List ℕ) → (y && (z && true)) ≡ false → cond (y && z) a b ≡ b
-second_false true z a b h = first_false z a b h
-second_false false z a b h = refl
+second_false y z a b h = grind (arith, common_steps, first_false)
 
 -- A leading line feed is skipped.
 pub blank_line_feed : (bytes : List ℕ) → bytes_eq (take 1 bytes) (10 ∷ []) ≡ true → without_blank_lines bytes
     ≡ without_blank_lines (drop 1 bytes)
 unfolding without_blank_lines
-blank_line_feed [] h = refl
-blank_line_feed (b ∷ []) h = first_true (b == 10) [] (b ∷ []) h
-blank_line_feed (a ∷ b ∷ bytes) h = first_true (a == 10) _ _ h
+blank_line_feed bytes h = grind (arith, common_steps, first_true)
 
 -- A leading carriage return with its line feed is skipped.
 pub blank_return : (bytes : List ℕ) → bytes_eq (take 1 bytes) (10 ∷ []) ≡ false → bytes_eq (take 2 bytes)
     (13 ∷ 10 ∷ []) ≡ true → without_blank_lines bytes ≡ without_blank_lines (drop 2 bytes)
 unfolding without_blank_lines
-blank_return [] h k = refl
-blank_return (b ∷ []) h k = search (rules, k)
-blank_return (a ∷ b ∷ bytes) h k = first_false (a == 10) _ _ h ∙ second_true (a == 13) (b == 10) _ _ k
+blank_return bytes h k = grind (arith, common_steps, first_false, second_true)
 
 -- Bytes that begin with neither line end are left as they are.
 pub blank_end : (bytes : List ℕ) → bytes_eq (take 1 bytes) (10 ∷ []) ≡ false → bytes_eq (take 2 bytes) (13 ∷ 10 ∷ [])
     ≡ false → without_blank_lines bytes ≡ bytes
 unfolding without_blank_lines
-blank_end [] h k = refl
-blank_end (b ∷ []) h k = first_false (b == 10) [] (b ∷ []) h
-blank_end (a ∷ b ∷ bytes) h k = first_false (a == 10) _ _ h ∙ second_false (a == 13) (b == 10) _ _ k
+blank_end bytes h k = grind (arith, common_steps, first_false, second_false)
 
 -- Empty lines are skipped, whatever line follows.
 
 skip_line_feed : (bytes : List ℕ) → without_blank_lines (10 ∷ bytes) ≡ without_blank_lines bytes
 unfolding without_blank_lines
-skip_line_feed [] = refl
-skip_line_feed (b ∷ bytes) = refl
+skip_line_feed bytes = grind (arith, common_steps)
 
 skip_return : (bytes : List ℕ) → without_blank_lines (13 ∷ 10 ∷ bytes) ≡ without_blank_lines bytes
 unfolding without_blank_lines
@@ -84,27 +74,19 @@ space_none = refl
 
 differs_from_other : (b n : ℕ) → is_token_byte n ≡ false → is_token_byte b ≡ true → (t : Bool) → (b == n) ≡ t
     → (b == n) ≡ false
-differs_from_other b n none h false e = e
-differs_from_other b n none h true e =
-    absurd (both_ways (is_token_byte n) none (subst (λ k. is_token_byte k ≡ true) (eqb-true b n e) h))
+differs_from_other b n none h t e = grind (arith, common_steps, both_ways, eqb-true)
 
 no_return : (y z : Bool) (a b : List ℕ) → y ≡ false → cond (y && z) a b ≡ b
-no_return true z a b e = search (rules, e)
-no_return false z a b e = refl
+no_return y z a b e = grind (arith, common_steps)
 
 line_stays : (b : ℕ) (bytes : List ℕ) → (b == 10) ≡ false → (b == 13) ≡ false → without_blank_lines (b ∷ bytes) ≡ b
     ∷ bytes
 unfolding without_blank_lines
-line_stays b [] h k = cond-false (b == 10) [] (b ∷ []) h
-line_stays a (b ∷ bytes) h k = cond-false (a == 10) _ _ h ∙ no_return (a == 13) (b == 10) _ _ k
+line_stays b bytes h k = grind (arith, common_steps, cond-false, no_return)
 
 -- A line that begins with a method isn't empty.
 pub token_stays : (method bytes : List ℕ) → IsToken method → without_blank_lines (method ++ bytes) ≡ method ++ bytes
-token_stays [] bytes t = let l = t.0 in absurd (omega (arith, l))
-token_stays (b ∷ method) bytes t =
-    let is : is_token_byte b ≡ true = t.1 0 b (omega arith) in
-    line_stays b (method ++ bytes) (differs_from_other b 10 line_feed_none is (b == 10) refl)
-    (differs_from_other b 13 return_none is (b == 13) refl)
+token_stays method bytes t = grind (arith, common_steps, line_stays, differs_from_other, line_feed_none, return_none)
 
 -- A line of a method, a space and a target has its first space after the method.
 

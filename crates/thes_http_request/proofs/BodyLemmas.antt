@@ -1,7 +1,7 @@
 -- Proves what the buffer holds while a body arrives, and that its capacity stays bounded.
-use Rattle.std.proofs.Common.{◌≡◌, ◌∙◌, sym, ap, subst, ℕ, ◌≤◌, ◌<◌, min, List, ◌++◌, length, take, take_all}
-use Rattle.std.proofs.Common.{append_assoc, Option, arith}
-use Rattle.std.proofs.lemmas.List.{length-take}
+use Rattle.std.proofs.lemmas.Grind.{common_steps}
+use Rattle.std.proofs.Common.{◌≡◌, ◌∙◌, sym, ap, subst, ℕ, ◌≤◌, ◌<◌, List, ◌++◌, length, take, take_all, append_assoc}
+use Rattle.std.proofs.Common.{Option, arith}
 use Rattle.std.specs.Io.KnownBytes.{Consumes}
 use Rattle.std.proofs.KnownBytes.{Consumes-trans}
 use Rattle.thes_http_request.specs.Inbox.{BufferGrowth, ConsumesSome, HasBoundedCapacity}
@@ -15,10 +15,7 @@ pub record BodySoFar (old new : Option (List ℕ)) (start : List ℕ) (count : �
 -- A body shorter than announced is all that has arrived.
 short_is : (all body : List ℕ) (count : ℕ) → body ≡ take count all → length body < count → (length all < count)
     × (body ≡ all)
-short_is all body count e l =
-    let len : length body ≡ min count (length all) = ap length e ∙ length-take count all in
-    let short : length all < count = omega (arith, len, l) in
-    (short, e ∙ take_all count all (omega (arith, short)))
+short_is all body count e l = grind (arith, common_steps)
 
 pub body_so_far_append : (old mid new : Option (List ℕ)) (start : List ℕ) (count : ℕ) (body body' : List ℕ)
     → BodySoFar old mid start count body → length body < count → BufferGrowth mid new body body' → length body'
@@ -36,8 +33,7 @@ body_so_far_append old mid new start count body body' s l g h =
 
 pub consumes_some_then : (old mid new : Option (List ℕ)) (start : List ℕ) (count : ℕ) (body : List ℕ)
     → BodySoFar old mid start count body → ConsumesSome mid new → ConsumesSome old new
-consumes_some_then old mid new start count body s t =
-    record { more = s.more ++ t.more; taken = Consumes-trans old mid new s.more t.more s.taken t.taken }
+consumes_some_then old mid new start count body s t = grind (arith, common_steps, Consumes-trans)
 
 -- A buffer with the same bytes, whatever its capacity, holds the same body.
 pub body_so_far_same : (old new : Option (List ℕ)) (start : List ℕ) (count : ℕ) (body body' : List ℕ)

@@ -1,7 +1,8 @@
 -- Proves how header fields are looked up by name, and how a length is parsed.
-use Rattle.std.proofs.Common.{◌≡◌, ◌∙◌, sym, ap, subst, refl, ℕ, suc, ◌+◌, ◌≤◌, ◌<◌, ◌^◌, ◌||◌, ◌&&◌, Bool, true}
-use Rattle.std.proofs.Common.{false, not, cond, List, [], ◌∷◌, length, drop, map, Ok, Err, arith, rules, get_or}
-use Rattle.std.specs.Prelude.{filter, nat_lt, is_some, MatchOption, Option, Some, None}
+use Rattle.std.proofs.lemmas.Grind.{common_steps}
+use Rattle.std.proofs.Common.{◌≡◌, ◌∙◌, sym, ap, subst, refl, ℕ, suc, ◌+◌, ◌≤◌, ◌<◌, ◌^◌, ◌||◌, ◌&&◌, Bool, true, false}
+use Rattle.std.proofs.Common.{not, cond, List, [], ◌∷◌, length, drop, map, Ok, Err, arith, rules, get_or}
+use Rattle.std.specs.Prelude.{filter, is_some, MatchOption, Option, Some, None}
 use Rattle.std.specs.List.{list_any, list_all, position_or_len}
 use Rattle.std.specs.Char.{is_ascii_digit}
 use Rattle.std.specs.Str.{IsUtf8}
@@ -10,7 +11,6 @@ use Rattle.std.specs.Int.{IsInRange}
 use Rattle.std.proofs.lemmas.Str.{IsUtf8-from_ascii, digit_value_digit}
 use Rattle.std.proofs.lemmas.Str.Parse.{digit_at, without_leading_plus_none}
 use Rattle.std.proofs.lemmas.Bool.{le-leb, lt-leb, leb-true, and_parts}
-use Rattle.std.proofs.Math.Dec.{leb}
 use Rattle.std.proofs.lemmas.Fmt.{IsAscii-from_digits}
 use Rattle.httparse.specs.declared.spans.HeaderSpan.{HeaderSpan}
 use Rattle.thes_http_request.specs.declared.problem.Problem.TheVariants.{BadHead, NoLength, TooLong}
@@ -18,30 +18,25 @@ use Rattle.thes_http_request.specs.Fields.{is_named, has_field, values_of, is_le
 
 module _ {X Y : Type 0} (p : Y → Bool) (f : X → Y) where
   any_step : (b t : Bool) (n l : ℕ) → (n < l → t ≡ true) → cond (not b) (1 + n) 0 < 1 + l → (b || t) ≡ true
-  any_step true t n l ih h = refl
-  any_step false t n l ih h = ih (omega (arith, h))
+  any_step b t n l ih h = grind (arith, common_steps)
 
   -- If the search finds an element, some element passes.
   pub any_found : (xs : List X) → position_or_len (λ x. p (f x)) xs < length xs → list_any p (map f xs) ≡ true
   any_found [] h = absurd (omega (arith, h))
-  any_found (x ∷ xs) h = any_step (p (f x)) (list_any p (map f xs)) (position_or_len (λ x. p (f x)) xs) (length xs)
-      (any_found xs) (omega (arith, h))
+  any_found (x ∷ xs) h = grind (arith, common_steps, any_step, any_found xs)
 
   none_step : (b t : Bool) (n l : ℕ) → (n ≡ l → t ≡ false) → cond (not b) (1 + n) 0 ≡ 1 + l → (b || t) ≡ false
-  none_step true t n l ih h = absurd (omega (arith, h))
-  none_step false t n l ih h = ih (omega (arith, h))
+  none_step b t n l ih h = grind (arith, common_steps)
 
   -- If the search finds no element, none passes.
   pub any_none : (xs : List X) → position_or_len (λ x. p (f x)) xs ≡ length xs → list_any p (map f xs) ≡ false
   any_none [] h = refl
-  any_none (x ∷ xs) h = none_step (p (f x)) (list_any p (map f xs)) (position_or_len (λ x. p (f x)) xs) (length xs)
-      (any_none xs) (omega (arith, h))
+  any_none (x ∷ xs) h = grind (arith, common_steps, none_step, any_none xs)
 
 module _ {Y : Type 0} (p : Y → Bool) where
   skip_step : (b : Bool) (y : Y) (t : Bool) (ys : List Y) → (b || t) ≡ false → (t ≡ false → ys ≡ [])
       → cond b (y ∷ ys) ys ≡ []
-  skip_step false y t ys h ih = ih h
-  skip_step true y t ys h ih = absurd (search (rules, h))
+  skip_step b y t ys h ih = grind (arith, common_steps)
 
   pub filter_none : (ys : List Y) → list_any p ys ≡ false → filter p ys ≡ []
   filter_none [] h = refl
@@ -84,51 +79,42 @@ module _ {X Y : Type 0} (p : Y → Bool) (f : X → Y) (g : Y → List ℕ) wher
       → list_any p (map f (drop (position_or_len (λ x. p (f x)) xs + 1) xs)) ≡ false
       → map g (filter p (map f xs)) ≡ g (f (get_or xs (position_or_len (λ x. p (f x)) xs) d)) ∷ []
   one_value [] d l h = absurd (omega (arith, l))
-  one_value (x ∷ xs) d l h = value_step (p (f x)) x xs (position_or_len (λ x. p (f x)) xs) d (one_value xs d)
-      (omega (arith, l)) h
+  one_value (x ∷ xs) d l h = grind (arith, common_steps, value_step, one_value xs d)
 
   -- Two fields with the name give `BadHead`.
   second_step : (b t : Bool) (y : Y) (ys : List Y) (a : List ℕ) (limit : ℕ)
       → (t ≡ true → length_in limit (a ∷ map g ys) ≡ Err BadHead) → (b || t) ≡ true
       → length_in limit (a ∷ map g (cond b (y ∷ ys) ys)) ≡ Err BadHead
-  second_step true t y ys a limit ih h = refl
-  second_step false t y ys a limit ih h = ih h
+  second_step b t y ys a limit ih h = grind (arith, common_steps)
 
   second_value : (a : List ℕ) (limit : ℕ) (ys : List Y) → list_any p ys ≡ true
       → length_in limit (a ∷ map g (filter p ys)) ≡ Err BadHead
   second_value a limit [] h = absurd (search (rules, h))
-  second_value a limit (y ∷ ys) h = second_step (p y) (list_any p ys) y (filter p ys) a limit
-      (second_value a limit ys) h
+  second_value a limit (y ∷ ys) h = grind (arith, common_steps, second_step, second_value a limit ys)
 
   values_step : (b : Bool) (x : X) (xs : List X) (n : ℕ) (limit : ℕ)
       → (n < length xs → list_any p (map f (drop (n + 1) xs)) ≡ true → length_in limit (map g (filter p (map f xs)))
       ≡ Err BadHead)
       → cond (not b) (1 + n) 0 < 1 + length xs → list_any p (map f (drop (cond (not b) (1 + n) 0 + 1) (x ∷ xs))) ≡ true
       → length_in limit (map g (cond b (f x ∷ filter p (map f xs)) (filter p (map f xs)))) ≡ Err BadHead
-  values_step true x xs n limit ih l h = second_value (g (f x)) limit (map f xs) h
-  values_step false x xs n limit ih l h = ih (omega (arith, l)) (next_none x xs n true h)
+  values_step b x xs n limit ih l h = grind (arith, common_steps, second_value, next_none)
 
   pub many_values : (xs : List X) (limit : ℕ) → position_or_len (λ x. p (f x)) xs < length xs
       → list_any p (map f (drop (position_or_len (λ x. p (f x)) xs + 1) xs)) ≡ true
       → length_in limit (map g (filter p (map f xs))) ≡ Err BadHead
   many_values [] limit l h = absurd (omega (arith, l))
-  many_values (x ∷ xs) limit l h = values_step (p (f x)) x xs (position_or_len (λ x. p (f x)) xs) limit
-      (many_values xs limit) (omega (arith, l)) h
+  many_values (x ∷ xs) limit l h = grind (arith, common_steps, values_step, many_values xs limit)
 
 digits_parts : (c : ℕ) (cs : List ℕ) → (is_ascii_digit c && list_all is_ascii_digit cs) ≡ true → IsInRange 48 57 c
     × (list_all is_ascii_digit cs ≡ true)
-digits_parts c cs h =
-    let all = and_parts (is_ascii_digit c) (list_all is_ascii_digit cs) h in
-    let digit = and_parts (leb 48 c) (leb c 57) all.0 in
-    ((leb-true 48 c digit.0, leb-true c 57 digit.1), all.1)
+digits_parts c cs h = grind (arith, common_steps, and_parts, leb-true)
 
 pub digits_of : (ds : List ℕ) → list_all is_ascii_digit ds ≡ true → AllDigits 10 ds
 digits_of [] h = tt
 digits_of (c ∷ cs) h = let k = digits_parts c cs h in (omega (arith, digit_value_digit c k.0), digits_of cs k.1)
 
 length_parts : (text : List ℕ) → is_length text ≡ true → (0 < length text) × (list_all is_ascii_digit text ≡ true)
-length_parts text h = let parts = and_parts (nat_lt 0 (length text)) (list_all is_ascii_digit text) h in let k =
-    parts.0 in (grind (arith, k), parts.1)
+length_parts text h = grind (arith, common_steps, and_parts)
 
 pub length_numeral : (text : List ℕ) → is_length text ≡ true → IsNumeral 10 text
 length_numeral text h = let k = length_parts text h in (k.0, digits_of text k.1)

@@ -1,21 +1,21 @@
 -- Proves that a head within the limits is neither incomplete nor bad, and that bytes begin with at
 -- most one head.
 use Rattle.std.proofs.Common.{refl, ◌⊎◌, drop, take_at, take-append-drop, ◌≡◌, ◌∙◌, sym, ap, subst, inl, inr, ℕ, ◌+◌}
-use Rattle.std.proofs.Common.{◌-◌, ◌≤◌, ◌<◌, List, [], ◌∷◌, ◌++◌, length, take}
-use Rattle.std.proofs.Common.{append_assoc, append-nil, arith, length-append}
+use Rattle.std.proofs.Common.{◌-◌, ◌≤◌, ◌<◌, List, [], ◌∷◌, ◌++◌, length, take, append_assoc, append-nil, arith}
+use Rattle.std.proofs.Common.{length-append}
 use Rattle.std.proofs.Math.Seq.{take-append-add}
 use Rattle.std.proofs.lemmas.List.{take-append-le}
 use Rattle.std.proofs.lemmas.Bool.{cases_lt}
 use Rattle.std.specs.List.{flat_map}
-use Rattle.httparse.specs.Grammar.{LineEnd, crlf, lf, print_end, print_blank, print_version, Field, print_field}
-use Rattle.httparse.specs.Grammar.{RequestHead, IsRequestHead, print_request, ReadsRequest, HasNoRequest}
+use Rattle.httparse.specs.Grammar.{print_end, print_blank, print_version, print_field, RequestHead, IsRequestHead}
+use Rattle.httparse.specs.Grammar.{print_request, ReadsRequest, HasNoRequest}
 use Rattle.httparse.specs.Spans.{RequestExceeds}
 use Rattle.httparse.specs.Pieces.{RequestStart}
 use Rattle.httparse.proofs.PieceLemmas.{Stops_token, Section_skip, RequestStart_deterministic}
 use Rattle.httparse.proofs.GrammarLemmas.{request_tree, request_pieces, request_unique}
 use Rattle.thes_http_request.proofs.LineLemmas.{before_feed, after_method, to_feed, front_is, lines_before_end}
 use Rattle.thes_http_request.proofs.HeadLemmas.{exceeds_in}
-use Rattle.thes_http_request.specs.Heads.{head_limit, fields_limit, whole_lines, HasHead, IsCutHead, IsBadHead}
+use Rattle.thes_http_request.specs.Heads.{head_limit, fields_limit, whole_lines, HasHead, IsBadHead}
 use Rattle.thes_http_request.specs.Laws.{HeadIsWhole, OneHead}
 
 -- The bytes of a head start a request: a request line, and what follows it.

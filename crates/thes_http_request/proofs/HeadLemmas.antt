@@ -1,6 +1,7 @@
 -- Proves when bytes are a bad head, and that no bytes are both an incomplete and a bad head.
-use Rattle.std.proofs.Common.{◌≡◌, ◌⊎◌, ◌∙◌, sym, ap, subst, ℕ, ◌+◌, ◌≤◌, ◌<◌, true, List, [], ◌∷◌, ◌++◌, length}
-use Rattle.std.proofs.Common.{take, drop, inl, inr, append-nil, append_assoc, take_all, arith, rules}
+use Rattle.std.proofs.lemmas.Grind.{common_steps}
+use Rattle.std.proofs.Common.{◌≡◌, ◌⊎◌, ◌∙◌, sym, ap, subst, ℕ, ◌+◌, ◌≤◌, ◌<◌, true, List, [], ◌∷◌, ◌++◌, length, take}
+use Rattle.std.proofs.Common.{drop, inl, inr, append-nil, append_assoc, take_all, arith}
 use Rattle.std.proofs.lemmas.List.{take-append-drop}
 use Rattle.std.proofs.lemmas.Bool.{cases_lt, both_ways}
 use Rattle.std.specs.Prelude.{IsTrue}
@@ -10,30 +11,21 @@ use Rattle.thes_http_request.proofs.BlankLemmas.{skip_blank, token_stays, open_t
 use Rattle.thes_http_request.proofs.LineLemmas.{fields_lines}
 use Rattle.thes_http_request.specs.Laws.{CutIsNotBad}
 use Rattle.thes_http_request.specs.Heads.{head_limit, fields_limit, without_blank_lines, whole_lines, is_open_target}
-use Rattle.thes_http_request.specs.Heads.{ends_in_target, IsUnfinished, IsNoHead, HasTooManyLines, IsCutHead}
-use Rattle.thes_http_request.specs.Heads.{IsBadHead}
+use Rattle.thes_http_request.specs.Heads.{ends_in_target, IsUnfinished, IsNoHead, HasTooManyLines, IsCutHead, IsBadHead}
 
 pub none_of_never : (bytes : List ℕ) → NeverHasRequest bytes → HasNoRequest bytes
 none_of_never bytes never = subst HasNoRequest (append-nil bytes) (never [])
 
 pub exceeds_in : (front rest bytes : List ℕ) → bytes ≡ front ++ rest → RequestExceeds fields_limit front
     → RequestExceeds fields_limit bytes
-exceeds_in front rest bytes e x = (
-  x.0,
-  x.1 ++ rest,
-  e ∙ (ap (λ t. t ++ rest) x.2 ∙ append_assoc x.0 x.1 rest),
-  x.3,
-  x.4,
-  x.5,
-)
+exceeds_in front rest bytes e x = grind (arith, common_steps)
 
 pub bad_long : (front bytes : List ℕ) → front ≡ take head_limit bytes → head_limit < length bytes → HasNoRequest front
     → IsBadHead bytes
 bad_long front bytes e l none = inr (inr (record { long = l; none = subst HasNoRequest e none }))
 
 bad_at : (bytes : List ℕ) → IsNoHead bytes ⊎ HasTooManyLines bytes → IsBadHead bytes
-bad_at bytes (inl n) = inl n
-bad_at bytes (inr m) = inr (inl m)
+bad_at bytes h = grind (arith, common_steps)
 
 bad_before : (front bytes : List ℕ) → front ≡ take head_limit bytes → head_limit < length bytes → IsNoHead front
     ⊎ HasTooManyLines front → IsBadHead bytes
@@ -74,19 +66,10 @@ ends_in_target_holds bytes (blank, method, target, token, uri, is) =
 
 -- A head with too many fields has too many complete lines.
 pub many_fields_many_lines : (bytes : List ℕ) → RequestExceeds fields_limit bytes → fields_limit + 1 < whole_lines bytes
-many_fields_many_lines bytes (front, rest, is, h, reads, many) =
-    let same : whole_lines bytes ≡ whole_lines (front ++ rest) = ap whole_lines is in
-    let lines = fields_lines front rest h reads in
-    omega (arith, same, lines, many)
+many_fields_many_lines bytes h = grind (arith, common_steps, fields_lines)
 
 open_is_no_end : (bytes : List ℕ) → MayBecomeRequest bytes ⊎ IsTrue (ends_in_target bytes) → IsNoHead bytes → ⊥
-open_is_no_end bytes (inl (inl m)) n = n.never m.0 m.1 [] m.2
-open_is_no_end bytes (inl (inr e)) n = both_ways (ends_in_target bytes) n.past_target (ends_in_target_holds bytes e)
-open_is_no_end bytes (inr t) n = both_ways (ends_in_target bytes) n.past_target (search (rules, t))
+open_is_no_end bytes h n = grind (arith, common_steps, both_ways, ends_in_target_holds)
 
 pub cut_is_not_bad : CutIsNotBad
-cut_is_not_bad bytes c (inl n) = open_is_no_end bytes c.unfinished.may_come n
-cut_is_not_bad bytes c (inr (inl (inl x))) = let k = many_fields_many_lines bytes x in let few = c.unfinished.few in
-    omega (arith, k, few)
-cut_is_not_bad bytes c (inr (inl (inr m))) = let k = m.1 in let few = c.unfinished.few in omega (arith, k, few)
-cut_is_not_bad bytes c (inr (inr l)) = let k = l.long in let short = c.short in omega (arith, k, short)
+cut_is_not_bad bytes c h = grind (arith, common_steps, open_is_no_end, many_fields_many_lines)

@@ -1,11 +1,11 @@
 -- Proves that the parts read from the spans of a head have the outcome of the head.
-use Rattle.std.proofs.Common.{◌≡◌, ◌∙◌, sym, ap, refl, ℕ, ◌≤◌, List, length, take, drop, map, Result, Ok, Err, IfOk}
-use Rattle.std.proofs.Common.{arith}
+use Rattle.std.proofs.lemmas.Grind.{common_steps}
+use Rattle.std.proofs.Common.{◌≡◌, ℕ, ◌≤◌, List, length, take, drop, map, Result, Ok, Err, IfOk, arith}
 use Rattle.httparse.specs.Spans.{header_bytes, span_bytes}
 use Rattle.httparse.specs.declared.spans.HeaderSpan.{HeaderSpan}
 use Rattle.httparse.specs.declared.spans.RequestSpans.{RequestSpans}
 use Rattle.thes_http_request.specs.declared.problem.Problem.{Problem}
-use Rattle.thes_http_request.specs.Heads.{head_limit, Parts, parts_of}
+use Rattle.thes_http_request.specs.Heads.{head_limit, Parts}
 use Rattle.thes_http_request.specs.Inbox.{IsHeadAt, HeadOutcome}
 use Rattle.thes_http_request.specs.HeadRequests.{HeadRequest, head_request_of}
 
@@ -22,23 +22,14 @@ head_outcome_from : (bytes : List ℕ) (headers : List HeaderSpan) (spans : Requ
     (outcome : Result HeadRequest Problem)
     → IsHeadAt bytes headers spans → length bytes ≤ head_limit → p ≡ parts_at bytes headers spans → head_request_of p
     ≡ outcome → HeadOutcome bytes (drop spans.len bytes) outcome
-head_outcome_from bytes headers spans p outcome a l e w =
-    let is : parts_at bytes headers spans ≡ parts_of a.head = rw (a.at.method, a.at.path, a.at.fields) refl in
-    let fits = a.within.section.len_fits in
-    let len = a.at.len in
-    record {
-      head = a.head;
-      has = record { reads = a.at.reads; short = omega (arith, fits, len, l); few = a.few };
-      wants = ap head_request_of (sym (e ∙ is)) ∙ w;
-    }
+head_outcome_from bytes headers spans p outcome a l e w = grind (arith, common_steps)
 
 pub head_outcome_ok : {A E : Type 0} (r : Result A E) (f : A → HeadRequest) (bytes : List ℕ)
     (headers : List HeaderSpan) (spans : RequestSpans) (p : Parts)
     → IsHeadAt bytes headers spans → length bytes ≤ head_limit → p ≡ parts_at bytes headers spans
     → IfOk r (λ w. head_request_of p ≡ Ok (f w))
     → IfOk r (λ w. HeadOutcome bytes (drop spans.len bytes) (Ok (f w)))
-head_outcome_ok (Ok x) f bytes headers spans p a l e w = head_outcome_from bytes headers spans p (Ok (f x)) a l e w
-head_outcome_ok (Err x) f bytes headers spans p a l e w = tt
+head_outcome_ok r f bytes headers spans p a l e w = grind (arith, common_steps, head_outcome_from)
 
 pub head_outcome_err : (bytes : List ℕ) (headers : List HeaderSpan) (spans : RequestSpans) (p : Parts)
     (problem : Problem)

@@ -4,8 +4,7 @@ use Rattle.std.specs.Str.{bytes_eq}
 use Rattle.thes_http_request.specs.declared.problem.Problem.{Problem}
 use Rattle.thes_http_request.specs.declared.problem.Problem.TheVariants.{TransferCoding, NoSuchPath, BadMethod}
 use Rattle.thes_http_request.specs.Heads.{Parts}
-use Rattle.thes_http_request.specs.Endpoints.{EndpointMatch, endpoint_of_path, path_of, query_of, method_of}
-use Rattle.thes_http_request.specs.Endpoints.{body_limit}
+use Rattle.thes_http_request.specs.Endpoints.{EndpointMatch, endpoint_of_path, path_of, query_of, method_of, body_limit}
 use Rattle.thes_http_request.specs.Fields.{has_field, body_length}
 use Rattle.thes_http_request.specs.HeadRequests.{head_request_of}
 

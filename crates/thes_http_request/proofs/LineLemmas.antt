@@ -1,7 +1,7 @@
 -- Proves bounds on the number of complete lines of a head, from the number of its fields.
-use Rattle.std.proofs.Common.{◌≡◌, ◌∙◌, sym, ap, subst, refl, ℕ, zero, suc, ◌+◌, ◌≤◌, ◌==◌, ◌&&◌, Bool, true, false}
-use Rattle.std.proofs.Common.{cond, List, [], ◌∷◌, ◌++◌, length, append-nil, All}
-use Rattle.std.proofs.Common.{append_assoc, arith}
+use Rattle.std.proofs.lemmas.Grind.{common_steps}
+use Rattle.std.proofs.Common.{◌≡◌, ◌∙◌, sym, ap, subst, refl, ℕ, zero, ◌+◌, ◌≤◌, ◌==◌, Bool, true, false, cond, List}
+use Rattle.std.proofs.Common.{[], ◌∷◌, ◌++◌, length, append-nil, All, append_assoc, arith}
 use Rattle.std.specs.List.{flat_map, count_by}
 use Rattle.std.proofs.lemmas.List.{append_cancel_right}
 use Rattle.std.proofs.lemmas.List.Sums.{sum_by-append, sum_by-cons}
@@ -23,22 +23,14 @@ lines_after : (x : ℕ) (xs : List ℕ) → lines_in xs ≤ lines_in (x ∷ xs)
 lines_after x xs = let e = sum_by-cons (λ x. cond (is_line_feed x) 1 0) x xs in omega (arith, e)
 
 one_end : (e : LineEnd) → 1 ≤ lines_in (print_end e)
-one_end crlf = omega arith
-one_end lf = omega arith
+one_end e = grind (arith, common_steps)
 
 one_field : (f : Field) → 1 ≤ lines_in (print_field f)
-one_field f =
-    let a = lines_both (f.name ++ 58 ∷ f.raw) (print_end f.end) in
-    let b = one_end f.end in
-    omega (arith, a, b)
+one_field f = grind (arith, common_steps, lines_both)
 
 each_field : (fs : List Field) → length fs ≤ lines_in (flat_map print_field fs)
 each_field [] = omega arith
-each_field (f ∷ fs) =
-    let a = lines_both (print_field f) (flat_map print_field fs) in
-    let b = one_field f in
-    let c = each_field fs in
-    omega (arith, a, b, c)
+each_field (f ∷ fs) = grind (arith, common_steps, lines_both, one_field, each_field fs)
 
 -- The end of a line, without its line feed.
 unfoldable pub before_feed : LineEnd → List ℕ
@@ -47,8 +39,7 @@ before_feed lf = []
 
 last_feed : (e : LineEnd) → print_end e ≡ before_feed e ++ 10 ∷ []
 unfolding before_feed
-last_feed crlf = refl
-last_feed lf = refl
+last_feed e = grind (arith, common_steps)
 
 -- The part of a head after its method, without the last line feed.
 unfoldable pub after_method : RequestHead → List ℕ
@@ -59,19 +50,7 @@ after_method h =
 -- The lines after the method outnumber the fields.
 many_lines : (h : RequestHead) → length h.fields + 1 ≤ lines_in (after_method h)
 unfolding after_method
-many_lines h =
-    let last = flat_map print_field h.fields ++ before_feed h.last in
-    let line = print_end h.line_end ++ last in
-    let version = print_version h.minor ++ line in
-    let a = lines_after 32 (h.target ++ 32 ∷ version) in
-    let b = lines_both h.target (32 ∷ version) in
-    let c = lines_after 32 version in
-    let d = lines_both (print_version h.minor) line in
-    let e = lines_both (print_end h.line_end) last in
-    let f = one_end h.line_end in
-    let g = lines_both (flat_map print_field h.fields) (before_feed h.last) in
-    let i = each_field h.fields in
-    omega (arith, a, b, c, d, e, f, g, i)
+many_lines h = grind (arith, common_steps, lines_after, lines_both, each_field)
 
 regroup : (blank method target version line fields last : List ℕ)
     → ((((blank ++ method) ++ 32 ∷ target) ++ 32 ∷ version) ++ line) ++ (fields ++ (last ++ 10 ∷ []))
@@ -80,13 +59,11 @@ regroup blank method target version line fields last = simp append_assoc refl
 
 pub to_feed : (h : RequestHead) → print_request h ≡ (print_blank h.blank ++ (h.method ++ after_method h)) ++ 10 ∷ []
 unfolding print_request after_method
-to_feed h = rw (last_feed h.last) (regroup (print_blank h.blank) h.method h.target (print_version h.minor)
-    (print_end h.line_end) (flat_map print_field h.fields) (before_feed h.last))
+to_feed h = grind (arith, common_steps, last_feed, regroup)
 
 pub front_is : (front : List ℕ) (h : RequestHead) → front ++ 10 ∷ [] ≡ print_request h ++ []
     → front ≡ print_blank h.blank ++ (h.method ++ after_method h)
-front_is front h e = append_cancel_right front (print_blank h.blank ++ (h.method ++ after_method h)) (10 ∷ [])
-    (e ∙ (append-nil (print_request h) ∙ to_feed h))
+front_is front h e = grind (arith, common_steps, append_cancel_right, to_feed)
 
 line_is : (front rest : List ℕ) (h : RequestHead) → ReadsRequest (front ++ 10 ∷ []) h []
     → without_blank_lines (front ++ rest) ≡ h.method ++ (after_method h ++ rest)
@@ -128,8 +105,7 @@ unfolding is_token_byte
 token_feeds bytes all = no_feeds is_token_byte refl bytes all
 
 end_feeds : (e : LineEnd) → lines_in (print_end e) ≡ 1
-end_feeds crlf = refl
-end_feeds lf = refl
+end_feeds e = grind (arith, common_steps)
 
 field_feeds : (f : Field) → IsField f → lines_in (print_field f) ≡ 1
 field_feeds f is =
@@ -151,13 +127,10 @@ all_feeds (f ∷ fs) all =
 
 last_feeds : (e : LineEnd) → lines_in (before_feed e) ≡ 0
 unfolding before_feed
-last_feeds crlf = refl
-last_feeds lf = refl
+last_feeds e = grind (arith, common_steps)
 
 version_feeds : (minor : ℕ) → minor ≤ 1 → lines_in (print_version minor) ≡ 0
-version_feeds zero l = refl
-version_feeds (suc zero) l = refl
-version_feeds (suc (suc minor)) l = absurd (omega (arith, l))
+version_feeds minor l = grind (arith, common_steps)
 
 -- After its method, and without its last line feed, a head has one complete line more than fields.
 few_lines : (h : RequestHead) → IsRequestHead h → lines_in (after_method h) ≡ length h.fields + 1
@@ -183,24 +156,9 @@ few_lines h is =
 lines_of_prefix : (xs ys : List ℕ) → whole_lines xs ≤ whole_lines (xs ++ ys)
 unfolding without_blank_lines
 lines_of_prefix [] ys = omega arith
-lines_of_prefix (b ∷ []) ys = by (b == 10) refl
-  where
-    by : (u : Bool) → (b == 10) ≡ u → lines_in (cond u [] (b ∷ [])) ≤ whole_lines (b ∷ ys)
-    by true e = omega arith
-    by false e =
-        let one = sum_by-cons (λ x. cond (is_line_feed x) 1 0) b [] in
-        let none : lines_in (b ∷ []) ≡ 0 = one ∙ rw e refl in omega (arith, none)
+lines_of_prefix (b ∷ []) ys = grind (arith, common_steps, sum_by-cons)
 lines_of_prefix (a ∷ b ∷ bytes) ys =
-    by (a == 10) ((a == 13) && (b == 10)) (lines_of_prefix (b ∷ bytes) ys) (lines_of_prefix bytes ys)
-  where
-    by : (u v : Bool) → whole_lines (b ∷ bytes) ≤ whole_lines (b ∷ (bytes ++ ys))
-        → whole_lines bytes ≤ whole_lines (bytes ++ ys)
-        → lines_in (cond u (without_blank_lines (b ∷ bytes)) (cond v (without_blank_lines bytes) (a ∷ b ∷ bytes)))
-        ≤ lines_in (cond u (without_blank_lines (b ∷ (bytes ++ ys)))
-        (cond v (without_blank_lines (bytes ++ ys)) (a ∷ b ∷ (bytes ++ ys))))
-    by true v i j = i
-    by false true i j = j
-    by false false i j = let c = lines_both (a ∷ b ∷ bytes) ys in omega (arith, c)
+    grind (arith, common_steps, lines_both, lines_of_prefix (b ∷ bytes) ys, lines_of_prefix bytes ys)
 
 -- Bytes that end before the last line feed of a head have at most one complete line more than the
 -- head has fields.

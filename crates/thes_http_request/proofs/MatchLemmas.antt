@@ -1,15 +1,15 @@
 -- Proves that a route which a router finds matches the path, and which paths have a route.
+use Rattle.std.proofs.lemmas.Grind.{common_steps}
 use Rattle.std.proofs.Common.{◌≡◌, ◌∙◌, sym, ap, refl, ◌⊎◌, inl, inr, ⊎_elim, ℕ, zero, suc, ◌+◌, ◌-◌, ◌<◌, ◌≤◌, ◌==◌}
 use Rattle.std.proofs.Common.{◌&&◌, Bool, true, false, cond, ltb, List, [], ◌∷◌, ◌++◌, length, take, drop, Option, Some}
-use Rattle.std.proofs.Common.{None, nat_eq, arith, length-append, length-take-le, take-append-drop, take_all}
-use Rattle.std.proofs.Common.{append-nil}
+use Rattle.std.proofs.Common.{None, nat_eq, arith, length-take-le, take_all, append-nil}
 use Rattle.std.specs.Prelude.{⊤}
 use Rattle.std.specs.List.{list_all, ends_with}
 use Rattle.std.proofs.lemmas.Bool.Decides.{nat_tests, Decides-eqb}
 use Rattle.std.proofs.lemmas.Slice.Eq.{ends_is}
 use Rattle.matchit.specs.Rows.{RowsOf, param_token, catch_all_token}
 use Rattle.matchit.specs.Seek.{own, step, or_else, segment, has_slash, slash, cuts, better, longest_from}
-use Rattle.matchit.specs.Seek.{longest_suffix, with_suffix, same_text, param_step, seek}
+use Rattle.matchit.specs.Seek.{longest_suffix, with_suffix, param_step, seek}
 use Rattle.matchit.proofs.ParamLemmas.{length-segment, one_less}
 
 -- A parameter takes some bytes without a slash, and the rest matches.
@@ -57,34 +57,15 @@ is_byte x = ltb x param_token
 pub matches_word : (w t path : List ℕ) → list_all is_byte w ≡ true → Matches (w ++ t) path
     → (rest : List ℕ) × (path ≡ w ++ rest) × Matches t rest
 matches_word [] t path h m = (path, refl, m)
-matches_word (x ∷ w) t path h m = by (is_byte x) refl (list_all is_byte w) refl h (matches_word w t)
-  where
-    by : (u : Bool) → is_byte x ≡ u → (v : Bool) → list_all is_byte w ≡ v → (u && v) ≡ true
-        → ((path' : List ℕ) → list_all is_byte w ≡ true → Matches (w ++ t) path'
-        → (rest : List ℕ) × (path' ≡ w ++ rest) × Matches t rest)
-        → (rest : List ℕ) × (path ≡ x ∷ (w ++ rest)) × Matches t rest
-    by true e true e' h' ih =
-        let no_param : (x == 256) ≡ false = grind (arith, nat_tests) in
-        let no_all : (x == 257) ≡ false = grind (arith, nat_tests) in
-        let one = rw (no_param, no_all) at m in
-        let more = ih one.rest e' one.matches in
-        (more.0, one.is ∙ ap (λ r. x ∷ r) more.1, more.2)
-    by true e false e' h' ih = absurd (cc)
-    by false e v e' h' ih = absurd (cc)
+matches_word (x ∷ w) t path h m = grind (arith, common_steps, matches_word w t)
 
 take_segment : (n : ℕ) (path : List ℕ) → n < length (segment path) → has_slash (take n path) ≡ false
 take_segment zero path l = refl
 take_segment (suc n) [] l = refl
-take_segment (suc n) (b ∷ path) l = by (b == slash) l (take_segment n path)
-  where
-    by : (v : Bool) → suc n < length (cond v (b ∷ []) (b ∷ segment path))
-        → (n < length (segment path) → has_slash (take n path) ≡ false) → cond v true (has_slash (take n path)) ≡ false
-    by true l ih = absurd (omega arith)
-    by false l ih = ih (omega arith)
+take_segment (suc n) (b ∷ path) l = grind (arith, common_steps, take_segment n path)
 
 cut_path : (n b : ℕ) (path : List ℕ) → 0 < n → b ∷ path ≡ take n (b ∷ path) ++ drop (n - 1) path
-cut_path zero b path l = absurd (omega arith)
-cut_path (suc m) b path l = rw (one_less m) (sym (take-append-drop (suc m) (b ∷ path)))
+cut_path n b path l = grind (arith, common_steps, one_less)
 
 module _ {K : Type 0} where
   -- Some row has the property.
@@ -116,23 +97,11 @@ module _ {K : Type 0} where
       → AnyRow P (step b rs) → AnyRow Q rs
   any_step P Q b f [] h = h
   any_step P Q b f (([], k) ∷ rest) h = inr (any_step P Q b f rest h)
-  any_step P Q b f ((x ∷ t, k) ∷ rest) h = by (x == b) refl h (any_step P Q b f rest)
-    where
-      by : (v : Bool) → (x == b) ≡ v → AnyRow P (cond v ((t, k) ∷ step b rest) (step b rest))
-          → (AnyRow P (step b rest) → AnyRow Q rest) → AnyRow Q ((x ∷ t, k) ∷ rest)
-      by true e (inl p) ih = let same : x ≡ b = grind (arith, nat_tests) in inl (rw same (f t k p))
-      by true e (inr r) ih = inr (ih r)
-      by false e r ih = inr (ih r)
+  any_step P Q b f ((x ∷ t, k) ∷ rest) h = grind (arith, common_steps, any_step P Q b f rest)
 
   any_with_suffix : (P : List ℕ → K → Type 0) (s : List ℕ) (rs : RowsOf K) → AnyRow P (with_suffix s rs) → AnyRow P rs
   any_with_suffix P s [] h = h
-  any_with_suffix P s ((t, k) ∷ rest) h = by (same_text (segment t) s) h (any_with_suffix P s rest)
-    where
-      by : (v : Bool) → AnyRow P (cond v ((t, k) ∷ with_suffix s rest) (with_suffix s rest))
-          → (AnyRow P (with_suffix s rest) → AnyRow P rest) → P t k ⊎ AnyRow P rest
-      by true (inl p) ih = inl p
-      by true (inr r) ih = inr (ih r)
-      by false r ih = inr (ih r)
+  any_with_suffix P s ((t, k) ∷ rest) h = grind (arith, common_steps, any_with_suffix P s rest)
 
   longest_is : (P : List ℕ → Type 0) (seg best : List ℕ) (rs : RowsOf K) → P best
       → ((s : List ℕ) → cuts seg s ≡ true → P s) → P (longest_from seg best rs)
@@ -194,8 +163,7 @@ module _ {K : Type 0} where
       })
 
   or_cases : (x y : Option K) (key : K) → or_else x y ≡ Some key → (x ≡ Some key) ⊎ (y ≡ Some key)
-  or_cases None y key e = inr e
-  or_cases (Some k) y key e = inl e
+  or_cases x y key e = grind (arith, common_steps)
 
   match_param : (rs : RowsOf K) (key : K) (b : ℕ) (path : List ℕ) (n : ℕ) (left : RowsOf K) → (left ≡ [])
       ⊎ IsParamStep (IsMatch key (drop (n - 1) path)) (step param_token rs) (b ∷ path) n left
@@ -242,8 +210,7 @@ module _ {K : Type 0} where
   -- If a search with an alternative finds nothing, neither of the two finds anything.
 
   none_of : (x y : Option K) → or_else x y ≡ None → (x ≡ None) × (y ≡ None)
-  none_of None y e = (refl, e)
-  none_of (Some k) y e = absurd (cc)
+  none_of x y e = grind (arith, common_steps)
 
   -- The rows that remain after these bytes of a path.
   abbrev pub steps : List ℕ → RowsOf K → RowsOf K
@@ -293,47 +260,22 @@ module _ {K : Type 0} where
 
 pub slash_within : (a c : List ℕ) → has_slash (a ++ slash ∷ c) ≡ true
 slash_within [] c = refl
-slash_within (b ∷ a) c = by (b == slash) (slash_within a c)
-  where
-    by : (v : Bool) → has_slash (a ++ slash ∷ c) ≡ true → cond v true (has_slash (a ++ slash ∷ c)) ≡ true
-    by true ih = refl
-    by false ih = ih
+slash_within (b ∷ a) c = grind (arith, common_steps, slash_within a c)
 
 pub segment_all : (v : List ℕ) → has_slash v ≡ false → segment v ≡ v
 segment_all [] h = refl
-segment_all (b ∷ v) h = by (b == slash) h (segment_all v)
-  where
-    by : (u : Bool) → cond u true (has_slash v) ≡ false → (has_slash v ≡ false → segment v ≡ v)
-        → cond u (b ∷ []) (b ∷ segment v) ≡ b ∷ v
-    by true h ih = absurd (cc)
-    by false h ih = ap (λ t. b ∷ t) (ih h)
+segment_all (b ∷ v) h = grind (arith, common_steps, segment_all v)
 
 pub segment_to_slash : (v rest : List ℕ) → has_slash v ≡ false → segment (v ++ slash ∷ rest) ≡ v ++ slash ∷ []
 segment_to_slash [] rest h = refl
-segment_to_slash (b ∷ v) rest h = by (b == slash) h (segment_to_slash v rest)
-  where
-    by : (u : Bool) → cond u true (has_slash v) ≡ false
-        → (has_slash v ≡ false → segment (v ++ slash ∷ rest) ≡ v ++ slash ∷ [])
-        → cond u (b ∷ []) (b ∷ segment (v ++ slash ∷ rest)) ≡ b ∷ (v ++ slash ∷ [])
-    by true h ih = absurd (cc)
-    by false h ih = ap (λ t. b ∷ t) (ih h)
+segment_to_slash (b ∷ v) rest h = grind (arith, common_steps, segment_to_slash v rest)
 
 ends_slash : (seg : List ℕ) → (ends_with nat_eq seg (slash ∷ []) ≡ true → seg ≡ take (length seg - 1) seg ++ slash ∷ [])
     × ((front : List ℕ) → seg ≡ front ++ slash ∷ [] → ends_with nat_eq seg (slash ∷ []) ≡ true)
 ends_slash seg = ends_is Decides-eqb seg (slash ∷ []) (ends_with nat_eq seg (slash ∷ [])) refl
 
 pub no_cut : (seg : List ℕ) → has_slash seg ≡ false → cuts seg (slash ∷ []) ≡ false
-no_cut seg h = by (ltb 1 (length seg)) (ends_with nat_eq seg (slash ∷ [])) refl
-  where
-    by : (u v : Bool) → ends_with nat_eq seg (slash ∷ []) ≡ v → (u && v) ≡ false
-    by false v e = refl
-    by true false e = refl
-    by true true e = absurd (let s = (ends_slash seg).0 e in
-        let t : has_slash seg ≡ true = ap has_slash s ∙ slash_within (take (length seg - 1) seg) [] in cc)
+no_cut seg h = grind (arith, common_steps, ends_slash, slash_within)
 
 pub cuts_at_slash : (b : ℕ) (v : List ℕ) → cuts (b ∷ (v ++ slash ∷ [])) (slash ∷ []) ≡ true
-cuts_at_slash b v =
-    let n = length-append v (slash ∷ []) in
-    let long : ltb 1 (length (b ∷ (v ++ slash ∷ []))) ≡ true = grind (arith, nat_tests) in
-    let ends = (ends_slash (b ∷ (v ++ slash ∷ []))).1 (b ∷ v) refl in
-    rw (long, ends) refl
+cuts_at_slash b v = grind (arith, common_steps, ends_slash)

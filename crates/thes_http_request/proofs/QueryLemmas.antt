@@ -1,5 +1,6 @@
 -- Proves the values in a query string of two pairs, decoded one by one.
-use Rattle.std.proofs.Common.{◌≡◌, ◌∙◌, refl, ℕ, List, [], ◌∷◌, map}
+use Rattle.std.proofs.lemmas.Grind.{common_steps}
+use Rattle.std.proofs.Common.{arith, ◌≡◌, refl, ℕ, List, [], ◌∷◌, map}
 use Rattle.form_urlencoded.specs.Form.{raw_pairs, DecodesTo}
 use Rattle.thes_http_request.specs.Queries.{display_query_of, display_query_in_pairs, decoded_pair}
 
@@ -12,5 +13,4 @@ display_query_with query ps e = rw e refl
 pub display_query_of_two : (query x x' y y' a a' b b' : List ℕ) → raw_pairs query ≡ (x, x') ∷ (y, y') ∷ []
     → DecodesTo x a → DecodesTo x' a' → DecodesTo y b → DecodesTo y' b'
     → display_query_of query ≡ display_query_in_pairs ((a, a') ∷ (b, b') ∷ [])
-display_query_of_two query x x' y y' a a' b b' e k k' l l' = display_query_with query ((x, x') ∷ (y, y') ∷ []) e
-    ∙ rw (k.2, k'.2, l.2, l'.2) refl
+display_query_of_two query x x' y y' a a' b b' e k k' l l' = grind (arith, common_steps, display_query_with)

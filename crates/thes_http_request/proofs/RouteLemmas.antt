@@ -1,8 +1,8 @@
 -- Proves that the routes find the endpoint that a path names, by its parts between slashes.
-use Rattle.std.proofs.Common.{◌≡◌, ◌∙◌, sym, ap, subst, refl, ◌⊎◌, inl, inr, ℕ, zero, suc, ◌+◌, ◌-◌, ◌<◌, ◌≤◌, ◌==◌}
-use Rattle.std.proofs.Common.{◌&&◌, Bool, true, false, cond, ltb, leb, List, [], ◌∷◌, ◌++◌, length, take, drop, get_or}
-use Rattle.std.proofs.Common.{codes, Option, Some, None, Result, Ok, Err, OnOk, MatchOption, Bor, unwrap_or, arith}
-use Rattle.std.proofs.Common.{length-append, append-nil, take_all, drop_at, take_at}
+use Rattle.std.proofs.lemmas.Grind.{common_steps}
+use Rattle.std.proofs.Common.{◌≡◌, ◌∙◌, sym, ap, subst, refl, ℕ, ◌+◌, ◌<◌, ◌≤◌, true, false, cond, ltb, List, [], ◌∷◌}
+use Rattle.std.proofs.Common.{◌++◌, length, drop, get_or, codes, Option, Some, None, Result, OnOk, MatchOption, Bor}
+use Rattle.std.proofs.Common.{unwrap_or, arith, length-append, append-nil, take_at}
 use Rattle.std.specs.List.{list_all, slice_split, onto_first, join_with_byte}
 use Rattle.std.specs.Str.{IsUtf8, bytes_eq}
 use Rattle.std.proofs.lemmas.Bool.Decides.{nat_tests}
@@ -13,21 +13,21 @@ use Rattle.std.proofs.lemmas.Str.{IsCharBoundary-before_ascii}
 use Rattle.std.proofs.Math.Seq.{get_or-append_seam}
 use Rattle.matchit.specs.Rows.{param_token}
 use Rattle.matchit.specs.Seek.{own, segment, has_slash, slash, first}
-use Rattle.matchit.specs.Params.{walk, wild_from, wild_stop, part_of, next_at, named, AllText}
+use Rattle.matchit.specs.Params.{walk, wild_from, wild_stop, part_of, named, AllText}
 use Rattle.matchit.specs.Router.{RouteOf, InsertsRead}
-use Rattle.matchit.specs.Route.{Scan, parse_route}
+use Rattle.matchit.specs.Route.{parse_route}
 use Rattle.matchit.specs.declared.error.InsertError.{InsertError}
 use Rattle.matchit.proofs.OnLiterals.{matchit_on_literals}
 use Rattle.thes_http_request.specs.declared.endpoint.Endpoint.{Endpoint}
 use Rattle.thes_http_request.specs.declared.endpoint.Endpoint.TheVariants.{Requests, Import, Totals, Concept, Postings}
 use Rattle.thes_http_request.specs.declared.endpoint.Endpoint.TheVariants.{Posting, Export, Alphabetical, Hierarchical}
 use Rattle.thes_http_request.specs.Endpoints.{EndpointMatch, is_slash, endpoint_of_path, endpoint_of_parts}
-use Rattle.thes_http_request.specs.Endpoints.{endpoint_named}
-use Rattle.thes_http_request.specs.Endpoints.{endpoint_within, endpoint_below, display_named, numbered_endpoint}
-use Rattle.thes_http_request.specs.Routes.{RouteRows, with_scan, with_route, route_rows}
-use Rattle.thes_http_request.proofs.MatchLemmas.{TakesParam, Matches, is_byte, matches_word, AnyRow, AllRows, IsMatch}
-use Rattle.thes_http_request.proofs.MatchLemmas.{any_elim, found_matches, steps, none_after, none_end, none_suffix}
-use Rattle.thes_http_request.proofs.MatchLemmas.{segment_all, segment_to_slash, no_cut, cuts_at_slash}
+use Rattle.thes_http_request.specs.Endpoints.{endpoint_named, endpoint_within, endpoint_below, display_named}
+use Rattle.thes_http_request.specs.Endpoints.{numbered_endpoint}
+use Rattle.thes_http_request.specs.Routes.{RouteRows, with_route, route_rows}
+use Rattle.thes_http_request.proofs.MatchLemmas.{is_byte, matches_word, AnyRow, IsMatch, any_elim, found_matches, steps}
+use Rattle.thes_http_request.proofs.MatchLemmas.{none_after, none_end, none_suffix, segment_all, segment_to_slash}
+use Rattle.thes_http_request.proofs.MatchLemmas.{no_cut, cuts_at_slash}
 
 -- A route without a number.
 abbrev plain_route : List ℕ → Endpoint → RouteOf Endpoint
@@ -66,11 +66,7 @@ nine_rows_are = refl
 -- follow.
 
 no_slash_at : (b : ℕ) (v : List ℕ) → has_slash (b ∷ v) ≡ false → (is_slash b ≡ false) × (has_slash v ≡ false)
-no_slash_at b v h = by (is_slash b) refl h
-  where
-    by : (u : Bool) → is_slash b ≡ u → cond u true (has_slash v) ≡ false → (is_slash b ≡ false) × (has_slash v ≡ false)
-    by true e h = absurd (cc)
-    by false e h = (e, h)
+no_slash_at b v h = grind (arith, common_steps)
 
 parts_of_one : (v : List ℕ) → has_slash v ≡ false → slice_split is_slash v ≡ v ∷ []
 parts_of_one [] h = refl
@@ -87,65 +83,29 @@ NoSlashes [] = Unit {0}
 NoSlashes (part ∷ parts) = (has_slash part ≡ false) × NoSlashes parts
 
 no_slash_onto : (b : ℕ) (parts : List (List ℕ)) → is_slash b ≡ false → NoSlashes parts → NoSlashes (onto_first b parts)
-no_slash_onto b [] e h = (rw e refl, tt)
-no_slash_onto b (part ∷ parts) e h = (rw e h.0, h.1)
+no_slash_onto b parts e h = grind (arith, common_steps)
 
 no_slash_parts : (path : List ℕ) → NoSlashes (slice_split is_slash path)
 no_slash_parts [] = (refl, tt)
-no_slash_parts (b ∷ path) = by (is_slash b) refl (no_slash_parts path)
-  where
-    by : (u : Bool) → is_slash b ≡ u → NoSlashes (slice_split is_slash path)
-        → NoSlashes (cond u ([] ∷ slice_split is_slash path) (onto_first b (slice_split is_slash path)))
-    by true e h = (refl, h)
-    by false e h = no_slash_onto b (slice_split is_slash path) e h
+no_slash_parts (b ∷ path) = grind (arith, common_steps, no_slash_onto, no_slash_parts path)
 
 -- The walk of a pattern arrives at its parameter after the bytes before it, and the parameter takes
 -- the bytes up to its end.
 
 param_after : (w t : List ℕ) (len token at : ℕ) → list_all is_byte w ≡ true → at + length w ≤ len
     → wild_from (w ++ param_token ∷ t) len token at ≡ (token + length w, at + length w)
-param_after [] t len token at h l =
-    let a : token + 0 ≡ token = omega arith in
-    let b : at + 0 ≡ at = omega arith in
-    rw (a, b) refl
-param_after (x ∷ w) t len token at h l = by (is_byte x) refl h (param_after w t len (token + 1) (next_at len at))
-  where
-    by : (u : Bool) → is_byte x ≡ u → (u && list_all is_byte w) ≡ true
-        → (list_all is_byte w ≡ true → next_at len at + length w ≤ len → wild_from (w ++ param_token ∷ t) len
-        (token + 1) (next_at len at) ≡ (token + 1 + length w, next_at len at + length w))
-        → cond u (wild_from (w ++ param_token ∷ t) len (token + 1) (next_at len at)) (token, at)
-        ≡ (token + suc (length w), at + suc (length w))
-    by true e h ih =
-        let t : ltb at len ≡ true = grind (arith, nat_tests) in
-        let a : token + suc (length w) ≡ token + 1 + length w = omega arith in
-        let b : at + suc (length w) ≡ at + 1 + length w = omega arith in
-        let n : next_at len at + length w ≤ len = rw t (omega arith) in
-        let more = rw t at (ih h n) in
-        rw (t, a, b) more
-    by false e h ih = absurd (cc)
+param_after [] t len token at h l = grind (arith, common_steps)
+param_after (x ∷ w) t len token at h l = grind (arith, common_steps, param_after w t len (token + 1))
 
 part_between : (w v rest : List ℕ) (stop : ℕ) → stop ≡ length w + length v
     → part_of (w ++ (v ++ rest)) (length w) stop ≡ v
-part_between w v rest stop e =
-    let n = length-append w (v ++ rest) in
-    let m = length-append v rest in
-    let one : leb (length w) (length w + length v) ≡ true = grind (arith, nat_tests) in
-    let two : leb (length w + length v) (length (w ++ (v ++ rest))) ≡ true = grind (arith, nat_tests) in
-    let count : length w + length v - length w ≡ length v = omega arith in
-    rw (e, one, two, count, drop_at w (v ++ rest) (length w) refl) (take_at v rest (length v) refl)
+part_between w v rest stop e = grind (arith, common_steps)
 
 -- A route with one parameter gives one pair: the parameter's name, and the text that it took.
 walk_one : (w t text path : List ℕ) (name : ℕ × ℕ) (v rest : List ℕ) → list_all is_byte w ≡ true
     → path ≡ w ++ (v ++ rest) → wild_stop (w ++ param_token ∷ t) (length w) path (length w) ≡ length w + length v
     → walk (w ++ param_token ∷ t) text path (name ∷ []) 0 0 ≡ (part_of text name.0 name.1, v) ∷ []
-walk_one w t text path name v rest h e stop =
-    let n = ap length e ∙ length-append w (v ++ rest) in
-    let zero_more : 0 + length w ≡ length w = omega arith in
-    let found : wild_from (w ++ param_token ∷ t) (length path) 0 0 ≡ (length w, length w) =
-    rw zero_more at (param_after w t (length path) 0 0 h (omega arith)) in
-    let part : part_of path (length w) (length w + length v) ≡ v = rw e
-    (part_between w v rest (length w + length v) refl) in
-    rw (found, stop, part) refl
+walk_one w t text path name v rest h e stop = grind (arith, common_steps, param_after, part_between)
 
 -- The text that the parameter of a route took, or an empty text.
 abbrev pub number_in : RouteOf Endpoint → List ℕ → List ℕ
@@ -258,37 +218,19 @@ postings_is path r m =
     (λ u. utf8_before v (codes "postings") (utf8_after (w ++ (v ++ t)) 9 u (omega (arith, length-append w (v ++ t)))
     refl))
 
+row_and_rest : {A B : Type 0} → A → B → A × B
+row_and_rest a b = (a, b)
+
 place_found_in : (path : List ℕ) (r : RouteOf Endpoint) → AnyRow (IsMatch r path) nine_rows → IsPlaceOf path r
 unfolding endpoint_of_path
-place_found_in path r h = any_elim (IsMatch r path) nine_rows (
-  postings_is path r,
-  (
-    concept_is path r,
-    (
-      plain_is (codes "/display/alphabetical") Alphabetical path r refl refl,
-      (
-        plain_is (codes "/display/hierarchical") Hierarchical path r refl refl,
-        (
-          plain_is (codes "/export") Export path r refl refl,
-          (
-            plain_is (codes "/import") Import path r refl refl,
-            (
-              posting_is path r,
-              (
-                plain_is (codes "/requests") Requests path r refl refl,
-                (
-                  plain_is (codes "/totals") Totals path r refl refl,
-                  (
-                      tt),
-                ),
-              ),
-            ),
-          ),
-        ),
-      ),
-    ),
-  ),
-) h
+place_found_in path r h = any_elim (IsMatch r path) nine_rows
+    (row_and_rest (postings_is path r) (row_and_rest (concept_is path r)
+    (row_and_rest (plain_is (codes "/display/alphabetical") Alphabetical path r refl refl)
+    (row_and_rest (plain_is (codes "/display/hierarchical") Hierarchical path r refl refl)
+    (row_and_rest (plain_is (codes "/export") Export path r refl refl)
+    (row_and_rest (plain_is (codes "/import") Import path r refl refl) (row_and_rest (posting_is path r)
+    (row_and_rest (plain_is (codes "/requests") Requests path r refl refl)
+    (row_and_rest (plain_is (codes "/totals") Totals path r refl refl) tt))))))))) h
 
 -- A route that the router finds is that of the endpoint which the path names.
 pub route_found : (rows : RouteRows) (path : List ℕ) (r : RouteOf Endpoint) → rows ≡ route_rows
@@ -299,11 +241,7 @@ route_found rows path r e f =
 -- A choice by a name is None if its second branch is, and its first whenever the name is chosen.
 unless_named : (a w : List ℕ) (x y : Option EndpointMatch) → (a ≡ w → x ≡ None) → y ≡ None
     → cond (bytes_eq a w) x y ≡ None
-unless_named a w x y f e = by (bytes_eq a w) refl
-  where
-    by : (u : Bool) → bytes_eq a w ≡ u → cond u x y ≡ None
-    by true h = f ((bytes_eq-Decides a w).0 h)
-    by false h = e
+unless_named a w x y f e = grind (arith, common_steps, bytes_eq-Decides)
 
 -- A path that leads to a row of its own has a route.
 misses : {Q : Type 0} (w : List ℕ) (r : RouteOf Endpoint) → first nine_rows w ≡ None → own (steps w nine_rows) ≡ Some r
@@ -357,23 +295,11 @@ postings_none (x ∷ b) h e =
 
 within_none : (a b : List ℕ) → has_slash b ≡ false → first nine_rows (slash ∷ (a ++ slash ∷ b)) ≡ None
     → endpoint_within a b ≡ None
-within_none a b h e =
-    unless_named a (codes "concepts") _ _ (λ s. concept_none b h (rw s at e))
-    (unless_named a (codes "postings") _ _ (λ s. posting_none b h (rw s at e))
-    (unless_named a (codes "display") _ _ (λ s. display_none b (rw s at e)) refl))
+within_none a b h e = grind (arith, common_steps, unless_named, concept_none, posting_none, display_none)
 
 below_none : (a b c : List ℕ) → has_slash b ≡ false → first nine_rows (slash ∷ (a ++ slash ∷ (b ++ slash ∷ c))) ≡ None
     → endpoint_below a b c ≡ None
-below_none a b c h e = by (bytes_eq a (codes "concepts")) refl (bytes_eq c (codes "postings")) refl
-  where
-    by : (u : Bool) → bytes_eq a (codes "concepts") ≡ u → (v : Bool) → bytes_eq c (codes "postings") ≡ v
-        → cond (u && v) (numbered_endpoint Postings b) None ≡ None
-    by true p true q =
-        let s = (bytes_eq-Decides a (codes "concepts")).0 p in
-        let t = (bytes_eq-Decides c (codes "postings")).0 q in
-        postings_none b h (rw (s, t) at e)
-    by true p false q = refl
-    by false p v q = refl
+below_none a b c h e = grind (arith, common_steps, bytes_eq-Decides, postings_none)
 
 parts_none : (parts : List (List ℕ)) → NoSlashes parts → first nine_rows (join_with_byte slash parts) ≡ None
     → endpoint_of_parts parts ≡ None
@@ -398,29 +324,12 @@ pub rows_with_new_route : (text : List ℕ) (endpoint : Endpoint) (old new : Rou
     (r : Result (Unit {0}) InsertError)
     → InsertsRead (parse_route text) endpoint old new r → OnOk r (new ≡ with_route text endpoint old)
 unfolding with_route
-rows_with_new_route text endpoint old new r i = by (parse_route text) r i
-  where
-    by : (x : Result Scan InsertError) (r : Result (Unit {0}) InsertError) → InsertsRead x endpoint old new r
-        → OnOk r (new ≡ with_scan x endpoint old)
-    by (Ok s) (Ok u) i = i.1
-    by (Err e) (Ok u) i = elim i.1 [ inl x ↦ absurd (cc) | inr x ↦ absurd (cc) ]
-    by (Ok s) (Err e) i = tt
-    by (Err p) (Err e) i = tt
-
--- Bytes that lack a property of a name differ from the name.
-pub other_name : (P : List ℕ → Type 0) (name allowed : List ℕ) → P allowed → (P name → ⊥)
-    → false ≡ bytes_eq name allowed
-other_name P name allowed p n = by (bytes_eq name allowed) refl
-  where
-    by : (u : Bool) → bytes_eq name allowed ≡ u → false ≡ u
-    by true e = absurd (n (subst P (sym ((bytes_eq-Decides name allowed).0 e)) p))
-    by false e = refl
+rows_with_new_route text endpoint old new r i = grind (arith, common_steps)
 
 taken_text : (pairs : List (List ℕ × List ℕ)) (taken : Option (Bor (List ℕ))) (none : Bor (List ℕ)) → none.now ≡ []
     → MatchOption taken (named (codes "n") pairs ≡ None) (λ v. named (codes "n") pairs ≡ Some v.now)
     → (unwrap_or taken none).now ≡ unwrap_or (named (codes "n") pairs) []
-taken_text pairs None none e m = rw m e
-taken_text pairs (Some v) none e m = rw m refl
+taken_text pairs taken none e m = grind (arith, common_steps)
 
 -- A route that the router finds is that of the endpoint which the path names, with the text that
 -- the parameter took.

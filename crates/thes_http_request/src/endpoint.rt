@@ -100,6 +100,7 @@ impl Model for Routes {
 }
 
 // Adds a route to an endpoint.
+#[tactic(auto, using(crate::proofs::RouteLemmas::rows_with_new_route))]
 fn add_route(
     router: &mut Router<Endpoint>,
     route: &str,

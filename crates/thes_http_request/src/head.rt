@@ -44,6 +44,7 @@ pub fn head_of(bytes: &[u8], headers: &mut [HeaderSpan]) -> Head
 }
 
 // Skips the empty lines before a request line (RFC 9112, section 2.2).
+#[tactic(auto, using(crate::proofs::BlankLemmas::blank_line_feed, crate::proofs::BlankLemmas::blank_return, crate::proofs::BlankLemmas::blank_end))]
 fn without_blank_lines(bytes: &[u8]) -> &[u8]
     ensures { result.now ≡ without_blank_lines bytes.now }
 {

@@ -25,6 +25,7 @@ pub struct HeadRequest<'a> {
 }
 
 /// Returns the request in a head, or the first problem with it.
+#[tactic(auto, using(crate::proofs::HeadOutcomeLemmas::head_outcome_ok, crate::proofs::HeadOutcomeLemmas::head_outcome_err))]
 pub fn read_head_request<'a>(
     alloc: Global,
     routes: &Routes,

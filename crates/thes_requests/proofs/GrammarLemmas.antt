@@ -1,71 +1,57 @@
 -- Proves one step of the loops of the JSON grammar over items and over members, with the conversion
 -- to data.
-use Rattle.std.proofs.Common.{◌≡◌, ℕ, zero, suc, ◌-◌, ◌<◌, ◌≤◌, List, length, Option, Some, None, option_map}
-use Rattle.std.proofs.Common.{option_and_then, refl, ap, ◌∙◌}
+use Rattle.std.proofs.lemmas.Grind.{common_steps}
+use Rattle.std.proofs.Common.{arith, ◌≡◌, ℕ, ◌-◌, ◌<◌, ◌≤◌, List, length, Option, Some, None, option_map}
+use Rattle.std.proofs.Common.{option_and_then, ap, ◌∙◌}
 use Rattle.json.specs.Token.{Token}
 use Rattle.json.specs.Json as json
-use Rattle.json.specs.Json.{Parse, parse_map, after_end_array, read_key, items_step, items, members}
+use Rattle.json.specs.Json.{Parse, parse_map, after_end_array, read_key, items, members}
 use Rattle.json.proofs.Grammar.{items_end, items_more, members_end, members_no_key, members_more}
 use Rattle.serde_json.specs.Data.{Data, array, object, no_items, item, Members, no_members, put}
 use Rattle.serde_json.specs.Read.{of_json, of_items, of_members, converted}
 
-abbrev pick : {A : Type 0} → A → Option A → A
-pick d None = d
-pick d (Some a) = a
-
 converted_parts : {A B : Type 0} (a : A) (r s : List Token) (x : Option B) (b : B) → option_map {U = B × List Token}
     (λ y. (y, r)) x ≡ Some (b, s) → (r ≡ s) × (x ≡ Some b)
-converted_parts a r s None b e = absurd (cc)
-converted_parts a r s (Some y) b e = let same = ap (pick (y, r)) e in (ap (λ p. p.1) same, ap (λ p. Some p.0) same)
+converted_parts a r s x b e = grind (arith, common_steps)
 
 pub converted_some : {A B : Type 0} (f : A → Option B) (o : Option (A × List Token)) (b : B) (r : List Token)
     → converted f o ≡ Some (b, r) → (a : A) × (o ≡ Some (a, r)) × (f a ≡ Some b)
-converted_some f None b r e = absurd (cc)
-converted_some f (Some p) b r e = let both = converted_parts p.0 p.1 r (f p.0) b e in
-    (p.0, ap (λ s. Some (p.0, s)) both.0, both.1)
+converted_some f o b r e = grind (arith, common_steps, converted_parts)
 
 conversion_fails : {B : Type 0} (r : List Token) (x : Option B) → option_map {U = B × List Token} (λ y. (y, r)) x
     ≡ None → x ≡ None
-conversion_fails r None e = refl
-conversion_fails r (Some y) e = absurd (cc)
+conversion_fails r x e = grind (arith, common_steps)
 
 map_twice : {A B : Type 0} (g : A → B) (r : List Token) (x : Option A) → option_map (λ b. (b, r)) (option_map g x)
     ≡ parse_map g (option_map (λ a. (a, r)) x)
-map_twice g r None = refl
-map_twice g r (Some a) = refl
+map_twice g r x = grind (arith, common_steps)
 
 pub converted-array : (o : Option (json.Items × List Token)) → converted of_json (parse_map json.array o)
     ≡ parse_map array (converted of_items o)
-converted-array None = refl
-converted-array (Some p) = map_twice array p.1 (of_items p.0)
+converted-array o = grind (arith, common_steps, map_twice)
 
 pub converted-object : (o : Option (json.Members × List Token)) → converted of_json (parse_map json.object o)
     ≡ parse_map object (converted (λ ms. of_members ms no_members) o)
-converted-object None = refl
-converted-object (Some p) = map_twice object p.1 (of_members p.0 no_members)
+converted-object o = grind (arith, common_steps, map_twice)
 
 with_item : (j : json.Json) (d : Data) → of_json j ≡ Some d → (o : Option (json.Items × List Token))
     → converted of_items (parse_map (json.item j) o) ≡ parse_map (item d) (converted of_items o)
-with_item j d e None = refl
-with_item j d e (Some p) = rw e (map_twice (item d) p.1 (of_items p.0))
+with_item j d e o = grind (arith, common_steps, map_twice)
 
 without_item : (j : json.Json) → of_json j ≡ None → (o : Option (json.Items × List Token))
     → converted of_items (parse_map (json.item j) o) ≡ None
-without_item j e None = refl
-without_item j e (Some p) = rw e
+without_item j e o = grind (arith, common_steps)
 
 with_member : (k : List ℕ) (j : json.Json) (d : Data) (old : Members) → of_json j ≡ Some d
     → (o : Option (json.Members × List Token))
     → converted (λ ms. of_members ms old) (parse_map (json.member k j) o)
     ≡ converted (λ ms. of_members ms (put k d old)) o
-with_member k j d old e None = refl
-with_member k j d old e (Some p) = rw e
+with_member k j d old e o = grind (arith, common_steps)
 
 without_member : (k : List ℕ) (j : json.Json) (old : Members) → of_json j ≡ None
     → (o : Option (json.Members × List Token)) → converted (λ ms. of_members ms old) (parse_map (json.member k j) o)
     ≡ None
-without_member k j old e None = refl
-without_member k j old e (Some p) = rw e
+without_member k j old e o = grind (arith, common_steps)
 
 module _ (p : Parse json.Json) where
   pub item_read : (n : ℕ) (ts r : List Token) (d : Data) → 0 < n → after_end_array ts ≡ None
@@ -76,15 +62,12 @@ module _ (p : Parse json.Json) where
 
   no_item : (more : Parse json.Items) (o : Option (json.Json × List Token)) → converted of_json o ≡ None
       → converted of_items (option_and_then (λ q. parse_map (json.item q.0) (more q.1)) o) ≡ None
-  no_item more None e = refl
-  no_item more (Some q) e = without_item q.0 (conversion_fails q.1 (of_json q.0) e) (more q.1)
+  no_item more o e = grind (arith, common_steps, without_item, conversion_fails)
 
   pub item_refused : (n : ℕ) (ts : List Token) → after_end_array ts ≡ None → converted of_json (p ts) ≡ None
       → converted of_items (items p n ts) ≡ None
   unfolding items
-  item_refused zero ts going e = refl
-  item_refused (suc n) ts going e = ap (λ o. converted of_items (items_step p (items p n) ts o)) going
-      ∙ no_item (items p n) (p ts) e
+  item_refused n ts going e = grind (arith, common_steps, no_item)
 
   pub items_over : (n : ℕ) (ts r : List Token) → length ts ≤ n → after_end_array ts ≡ Some r
       → converted of_items (items p n ts) ≡ Some (no_items, r)
@@ -103,14 +86,12 @@ module _ (p : Parse json.Json) where
     no_member : (k : List ℕ) (more : Parse json.Members) (o : Option (json.Json × List Token)) → converted of_json o
         ≡ None
         → converted (λ ms. of_members ms old) (option_and_then (λ q. parse_map (json.member k q.0) (more q.1)) o) ≡ None
-    no_member k more None e = refl
-    no_member k more (Some q) e = without_member k q.0 old (conversion_fails q.1 (of_json q.0) e) (more q.1)
+    no_member k more o e = grind (arith, common_steps, without_member, conversion_fails)
 
     pub member_refused : (n : ℕ) (k : List ℕ) (ts s : List Token) → read_key ts ≡ Some (Some k, s)
         → converted of_json (p s) ≡ None → converted (λ ms. of_members ms old) (members p n ts) ≡ None
     unfolding members
-    member_refused zero k ts s key e = refl
-    member_refused (suc n) k ts s key e = rw key (no_member k (members p n) (p s) e)
+    member_refused n k ts s key e = grind (arith, common_steps, no_member)
 
     pub key_refused : (n : ℕ) (ts : List Token) → read_key ts ≡ None → converted (λ ms. of_members ms old)
         (members p n ts) ≡ None

@@ -1,7 +1,7 @@
 -- Proves what the line buffer holds of a line while it consumes it byte by byte and run by run.
+use Rattle.std.proofs.lemmas.Grind.{common_steps}
 use Rattle.std.proofs.Common.{◌≡◌, ◌≤◌, ◌<◌, ◌+◌, ◌∙◌, ap, ℕ, zero, suc, List, [], ◌∷◌, ◌++◌, ◌==◌, Bool, true, false}
-use Rattle.std.proofs.Common.{cond, refl, length, length-append, take, append_assoc, arith, sym, subst, Option, None}
-use Rattle.std.proofs.Common.{Some}
+use Rattle.std.proofs.Common.{refl, length, take, arith, sym, subst, Option, None, Some}
 use Rattle.std.specs.Prelude.{slice_index, ◌-◌, drop, unwrap_or}
 use Rattle.std.proofs.lemmas.Bool.{false_from_ne_true}
 use Rattle.std.proofs.lemmas.List.{get_or-take, length-take, length-take-le, take-append-drop, drop-drop, drop-take}
@@ -14,9 +14,7 @@ use Rattle.thes_requests.specs.declared.line_buffer.LineRun.{LineRun}
 has_newline-append : (raw run : List ℕ) → has_newline raw ≡ false → has_newline run ≡ false → has_newline (raw ++ run)
     ≡ false
 has_newline-append [] run h k = k
-has_newline-append (x ∷ raw) run h k = elim (x == 10) as (λ t. cond t true (has_newline raw) ≡ false
-    → cond t true (has_newline (raw ++ run)) ≡ false) [ true ↦ λ e. e | false ↦ λ e. has_newline-append raw run e k ]
-    h
+has_newline-append (x ∷ raw) run h k = grind (arith, common_steps, has_newline-append raw run)
 
 -- A prefix has no line feed if none of its bytes is one.
 pub no_newline : (bytes : List ℕ) (count : ℕ) → count ≤ length bytes
@@ -69,19 +67,13 @@ pub line_so_far_append : (old mid new : Option (List ℕ)) (line line' run : Lis
     → LineSoFar old mid line held taken → Consumes mid new run → has_newline run ≡ false
     → (held' ≡ true → (held ≡ true) × (line' ≡ line ++ run))
     → LineSoFar old new line' held' (taken + length run)
-line_so_far_append old mid new line line' run held held' taken f s e k = record {
-  raw = f.raw ++ run;
-  bytes = Consumes-trans old mid new f.raw run f.bytes s;
-  one = has_newline-append f.raw run f.one e;
-  count = rw (length-append f.raw run) (ap (λ n. n + length run) f.count);
-  kept = λ h. let p = k h in p.1 ∙ ap (λ t. t ++ run) (f.kept p.0);
-}
+line_so_far_append old mid new line line' run held held' taken f s e k =
+    grind (arith, common_steps, Consumes-trans, has_newline-append)
 
 -- Bytes in the buffer are consumed before those of the reader.
 consumes_buffered : (run rest : List ℕ) (unread : Option (List ℕ)) → Consumes (prepend_known (run ++ rest) unread)
     (prepend_known rest unread) run
-consumes_buffered run rest None = tt
-consumes_buffered run rest (Some bytes) = append_assoc run rest bytes
+consumes_buffered run rest unread = grind (arith, common_steps)
 
 -- A run of the buffer extends the line consumed so far.
 pub line_so_far_run : (old unread : Option (List ℕ)) (held rest line line' : List ℕ) (kept : Bool) (run : LineRun)

@@ -1,6 +1,7 @@
 -- Proves how the lines of bytes change when a line is appended.
-use Rattle.std.proofs.Common.{◌≡◌, ◌≢◌, inl, inr, ◌∙◌, sym, ap, refl, ℕ, List, [], ◌∷◌, ◌++◌, ◌==◌, map, append_assoc}
-use Rattle.std.proofs.Common.{append-nil, Bool, true, false, cond, rules}
+use Rattle.std.proofs.lemmas.Grind.{common_steps}
+use Rattle.std.proofs.Common.{arith, ◌≡◌, ◌≢◌, inr, sym, ap, refl, ℕ, List, [], ◌∷◌, ◌++◌, ◌==◌, map, append_assoc}
+use Rattle.std.proofs.Common.{Bool, true, false, cond}
 use Rattle.std.specs.List.{slice_split, onto_first}
 use Rattle.std.specs.Str.Lines.{lines, lines_of_parts, strip_carriage_return}
 use Rattle.thes_requests.specs.LineBuffer.{has_newline, line_bytes, line_content}
@@ -23,23 +24,12 @@ split_some (x ∷ xs) =
 split_line : (raw rest : List ℕ) → has_newline raw ≡ false → slice_split at_newline (raw ++ 10 ∷ rest) ≡ raw
     ∷ slice_split at_newline rest
 split_line [] rest h = refl
-split_line (x ∷ raw) rest h =
-    let more = slice_split at_newline (raw ++ 10 ∷ rest) in
-    elim (at_newline x) as (λ t. cond t true (has_newline raw) ≡ false → cond t ([] ∷ more) (onto_first x more)
-    ≡ (x ∷ raw) ∷ slice_split at_newline rest) [
-      | true ↦ λ k. cc
-      | false ↦ λ k. ap (onto_first x) (split_line raw rest k)
-    ] h
+split_line (x ∷ raw) rest h = grind (arith, common_steps, split_line raw rest)
 
 -- Bytes without a line feed are one part.
 split_last : (raw : List ℕ) → has_newline raw ≡ false → slice_split at_newline raw ≡ raw ∷ []
 split_last [] h = refl
-split_last (x ∷ raw) h =
-    elim (at_newline x) as (λ t. cond t true (has_newline raw) ≡ false → cond t ([] ∷ slice_split at_newline raw)
-    (onto_first x (slice_split at_newline raw)) ≡ (x ∷ raw) ∷ []) [
-      | true ↦ λ k. cc
-      | false ↦ λ k. ap (onto_first x) (split_last raw k)
-    ] h
+split_last (x ∷ raw) h = grind (arith, common_steps, split_last raw)
 
 lines_line : (raw rest : List ℕ) → has_newline raw ≡ false → lines (raw ++ 10 ∷ rest) ≡ strip_carriage_return raw
     ∷ lines rest
@@ -49,25 +39,19 @@ whole_line : (raw rest : List ℕ) → has_newline raw ≡ false → raw_lines (
 whole_line raw rest h = let s = split_some rest in rw (split_line raw rest h, s.2) refl
 
 lines_last : (raw : List ℕ) → has_newline raw ≡ false → raw ≢ [] → lines raw ≡ raw ∷ []
-lines_last [] h n = absurd (n refl)
-lines_last (x ∷ raw) h n = let some : lines_of_parts ((x ∷ raw) ∷ []) ≡ (x ∷ raw) ∷ [] = search rules in
-    rw (split_last (x ∷ raw) h) some
+lines_last raw h n = grind (arith, common_steps, split_last)
 
 whole_last : (raw : List ℕ) → has_newline raw ≡ false → raw ≢ [] → raw_lines raw ≡ raw ∷ []
-whole_last [] h n = absurd (n refl)
-whole_last (x ∷ raw) h n = let some : raw_lines_of ((x ∷ raw) ∷ []) ≡ (x ∷ raw) ∷ [] = search rules in
-    rw (split_last (x ∷ raw) h) some
+whole_last raw h n = grind (arith, common_steps, split_last)
 
 -- The bytes of one line split into that line alone.
 line_lines : (raw : List ℕ) (ended : Bool) → has_newline raw ≡ false → (ended ≡ true → raw ≢ [])
     → lines (line_bytes raw ended) ≡ line_content raw ended ∷ []
-line_lines raw true h some = lines_last raw h (some refl)
-line_lines raw false h some = lines_line raw [] h
+line_lines raw ended h some = grind (arith, common_steps, lines_last, lines_line)
 
 pub line_whole : (raw : List ℕ) (ended : Bool) → has_newline raw ≡ false → (ended ≡ true → raw ≢ [])
     → raw_lines (line_bytes raw ended) ≡ raw ∷ []
-line_whole raw true h some = whole_last raw h (some refl)
-line_whole raw false h some = whole_line raw [] h
+line_whole raw ended h some = grind (arith, common_steps, whole_last, whole_line)
 
 -- Bytes that end with a line feed split into the same lines, whatever follows.
 
@@ -106,35 +90,19 @@ whole_front front ys = let s = split_some ys in
     rw (split_append front ys, s.2) (whole_append (slice_split at_newline front) s.0 s.1)
 
 pub lines-append : (xs ys : List ℕ) → EndsLine xs → lines (xs ++ ys) ≡ lines xs ++ lines ys
-lines-append xs ys (inl none) = rw none refl
-lines-append xs ys (inr (front, e)) = rw (
-  e,
-  append_assoc front (10 ∷ []) ys,
-  lines_front front ys,
-  lines_front front [],
-  append-nil (map strip_carriage_return (slice_split at_newline front)),
-) refl
+lines-append xs ys h = grind (arith, common_steps, lines_front)
 
 pub raw_lines-append : (xs ys : List ℕ) → EndsLine xs → raw_lines (xs ++ ys) ≡ raw_lines xs ++ raw_lines ys
-raw_lines-append xs ys (inl none) = rw none refl
-raw_lines-append xs ys (inr (front, e)) = rw (
-  e,
-  append_assoc front (10 ∷ []) ys,
-  whole_front front ys,
-  whole_front front [],
-  append-nil (slice_split at_newline front),
-) refl
+raw_lines-append xs ys h = grind (arith, common_steps, whole_front)
 
 -- Bytes of one line, appended to bytes that end with a line feed, add one line.
 pub lines-more : (xs raw : List ℕ) (ended : Bool) → EndsLine xs → has_newline raw ≡ false → (ended ≡ true → raw ≢ [])
     → lines (xs ++ line_bytes raw ended) ≡ lines xs ++ line_content raw ended ∷ []
-lines-more xs raw ended e h some = lines-append xs (line_bytes raw ended) e ∙ ap (λ t. lines xs ++ t)
-    (line_lines raw ended h some)
+lines-more xs raw ended e h some = grind (arith, common_steps, lines-append, line_lines)
 
 pub raw_lines-more : (xs raw : List ℕ) (ended : Bool) → EndsLine xs → has_newline raw ≡ false
     → (ended ≡ true → raw ≢ []) → raw_lines (xs ++ line_bytes raw ended) ≡ raw_lines xs ++ raw ∷ []
-raw_lines-more xs raw ended e h some = raw_lines-append xs (line_bytes raw ended) e ∙ ap (λ t. raw_lines xs ++ t)
-    (line_whole raw ended h some)
+raw_lines-more xs raw ended e h some = grind (arith, common_steps, raw_lines-append, line_whole)
 
 -- After one more line the bytes end with a line feed again, unless the input ended.
 pub ends_line_after_line : (xs raw : List ℕ) (ended : Bool) → ended ≡ false → EndsLine (xs ++ line_bytes raw ended)

@@ -1,16 +1,15 @@
 -- Proves how an array of numbers is read value by value, and that bytes are JSON exactly when they
 -- are UTF-8 and parse.
-use Rattle.std.proofs.Common.{◌≡◌, ap, suc, refl, ℕ, true, false, cond, List, [], ◌∷◌, length, Some, None, Option}
-use Rattle.std.proofs.Common.{option_and_then, option_map, ◌∙◌, sym, map, take, drop, ◌++◌, ◌<◌, ◌+◌, slice_index_or}
-use Rattle.std.proofs.Common.{subst, add-one, drop-cons, Err, IsUtf8}
+use Rattle.std.proofs.lemmas.Grind.{common_steps}
+use Rattle.std.proofs.Common.{arith, ◌≡◌, ap, suc, refl, ℕ, List, [], ◌∷◌, length, Some, None, Option, option_map, ◌∙◌}
+use Rattle.std.proofs.Common.{sym, map, take, drop, ◌++◌, ◌<◌, ◌+◌, slice_index_or, subst, add-one, drop-cons, Err}
+use Rattle.std.proofs.Common.{IsUtf8}
 use Rattle.std.proofs.Math.Seq.{take-suc}
-use Rattle.std.proofs.lemmas.List.{take-append-drop, map-append, length-map, get_or-map}
+use Rattle.std.proofs.lemmas.List.{map-append, length-map, get_or-map}
 use Rattle.thes_base.specs.Forms.{IsNumber}
 use Rattle.thes_base.specs.ReadResults.{IsReadResult}
 use Rattle.thes_base.specs.declared.fault.FormFault.TheVariants.{BadNumber}
 use Rattle.thes_base.specs.declared.fault.ReadStop.{ReadStop}
-use Rattle.thes_base.specs.declared.fault.ReadStop.TheVariants.{Form, OutOfMemory}
-use Rattle.std.specs.Str.{is_utf8}
 use Rattle.std.proofs.lemmas.Str.{is_utf8-from_IsUtf8, IsUtf8-from_is_utf8}
 use Rattle.serde_json.specs.Data.{Data, Num}
 use Rattle.serde_json.specs.Read.{read}
@@ -25,10 +24,7 @@ pub json_in-text : (bytes : List ℕ) (d : Data) → IsUtf8 bytes → read bytes
 json_in-text bytes d u r = rw (is_utf8-from_IsUtf8 bytes u, r) refl
 
 pub json_in-none : (bytes : List ℕ) → (IsUtf8 bytes → read bytes ≡ None) → json_in bytes ≡ None
-json_in-none bytes h = elim (is_utf8 bytes) as (λ t. (t ≡ true → IsUtf8 bytes) → cond t (read bytes) None ≡ None) [
-  | true ↦ λ u. h (u refl)
-  | false ↦ λ u. refl
-] (IsUtf8-from_is_utf8 bytes)
+json_in-none bytes h = grind (arith, common_steps, IsUtf8-from_is_utf8)
 
 -- The numbers of a prefix, followed by those of the rest.
 abbrev join_numbers : Option (List Num) → Option (List Num) → Option (List Num)
@@ -37,26 +33,15 @@ join_numbers (Some ns) o = option_map (λ ms. ns ++ ms) o
 
 join_numbers-cons : (n : Num) (o p : Option (List Num)) → option_map (λ ns. n ∷ ns) (join_numbers o p)
     ≡ join_numbers (option_map (λ ns. n ∷ ns) o) p
-join_numbers-cons n None p = refl
-join_numbers-cons n (Some ns) None = refl
-join_numbers-cons n (Some ns) (Some ms) = refl
+join_numbers-cons n o p = grind (arith, common_steps)
 
 join_numbers-nil : (o : Option (List Num)) → join_numbers (Some []) o ≡ o
-join_numbers-nil None = refl
-join_numbers-nil (Some ns) = refl
+join_numbers-nil o = grind (arith, common_steps)
 
 all_numbers-append : (ds es : List Data) → all_numbers (items_of (ds ++ es))
     ≡ join_numbers (all_numbers (items_of ds)) (all_numbers (items_of es))
 all_numbers-append [] es = sym (join_numbers-nil (all_numbers (items_of es)))
-all_numbers-append (d ∷ ds) es = rw (all_numbers-append ds es) (first (as_number d))
-  where
-    first : (o : Option Num)
-        → option_and_then
-        (λ n. option_map (λ ns. n ∷ ns) (join_numbers (all_numbers (items_of ds)) (all_numbers (items_of es)))) o
-        ≡ join_numbers (option_and_then (λ n. option_map (λ ns. n ∷ ns) (all_numbers (items_of ds))) o)
-        (all_numbers (items_of es))
-    first None = refl
-    first (Some n) = join_numbers-cons n (all_numbers (items_of ds)) (all_numbers (items_of es))
+all_numbers-append (d ∷ ds) es = grind (arith, common_steps, join_numbers-cons, all_numbers-append ds es)
 
 -- A further number extends the list of numbers.
 pub all_numbers-one : (ds : List Data) (d : Data) (ns : List Num) (n : Num) → all_numbers (items_of ds) ≡ Some ns
@@ -71,17 +56,14 @@ all_numbers-none ds d es ns e f = rw (all_numbers-append ds (d ∷ es), e, f) re
 -- A list is its prefix before an index, the element there, and the rest.
 split_at_index : {A : Type 0} (xs : List A) (i : ℕ) (x : A) → i < length xs → x ≡ slice_index_or xs i x → xs
     ≡ take i xs ++ x ∷ drop (suc i) xs
-split_at_index xs i x h e = sym (take-append-drop i xs) ∙ ap (λ r. take i xs ++ r)
-    (drop-cons xs i x h ∙ ap (λ y. y ∷ drop (suc i) xs) (sym e))
+split_at_index xs i x h e = grind (arith, common_steps, drop-cons)
 
 -- If the value at the index is a number, it extends the list of numbers read before it.
 pub numbers-step : (values : List Value) (i : ℕ) (v : Value) (ns : List Num) (n : Num) → i < length values → v
     ≡ slice_index_or values i v
     → all_numbers (items_view (take i values)) ≡ Some ns → as_number (view v) ≡ Some n
     → all_numbers (items_view (take (i + 1) values)) ≡ Some (ns ++ n ∷ [])
-numbers-step values i v ns n h e f g =
-    rw (add-one i, take-suc values i v h, ← e, map-append view (take i values) (v ∷ []))
-    (all_numbers-one (map view (take i values)) (view v) ns n f g)
+numbers-step values i v ns n h e f g = grind (arith, common_steps, add-one, take-suc, all_numbers-one)
 
 pub numbers-stop : (values : List Value) (i : ℕ) (v : Value) (ns : List Num) → i < length values → v
     ≡ slice_index_or values i v
@@ -109,5 +91,4 @@ module _ {A : Type 0} (see : A → Num) (xs : List A) (i : ℕ) (x : A) (h : i <
       (λ n. n ≡ whole_number (see x)) (Err stop)
       → IsReadResult (AreNumbers (map whole_number (map see xs))) BadNumber (λ ns. ns ≡ map whole_number (map see xs))
       (Err stop)
-  not_numbers OutOfMemory k = tt
-  not_numbers (Form f) k = (k.0, λ all. k.1 (number_among all))
+  not_numbers stop k = grind (arith, common_steps, number_among)

@@ -1,7 +1,7 @@
 -- Proves what a look-up finds among members put in one by one, and how many names there are.
-use Rattle.std.proofs.Common.{◌≡◌, ℕ, suc, ◌≤◌, List, [], ◌∷◌, fold, Option, Some, None, Ordering, Less, Equal}
-use Rattle.std.proofs.Common.{Greater, nat_cmp, is_eq, cond, bytes_eq, Bor, refl, sym, ap, ◌∙◌, le_refl, le_trans}
-use Rattle.std.proofs.Common.{arith}
+use Rattle.std.proofs.lemmas.Grind.{common_steps}
+use Rattle.std.proofs.Common.{◌≡◌, ℕ, suc, ◌≤◌, List, [], ◌∷◌, fold, Option, Some, None, Ordering, Less, Equal, Greater}
+use Rattle.std.proofs.Common.{nat_cmp, is_eq, cond, bytes_eq, Bor, refl, sym, ap, ◌∙◌, le_refl, le_trans, arith}
 use Rattle.std.specs.Prelude.{⊤}
 use Rattle.std.specs.Cmp.Lexicographic.{slice_cmp}
 use Rattle.std.specs.Ordering.{match_ordering, ordering_reverse}
@@ -19,15 +19,11 @@ order = slice_cmp nat_cmp
 put_other_name : (o q : Ordering) (e d : Option Data) (rest : Option Data) → (o ≡ Equal → q ≡ Greater)
     → match_ordering q (match_ordering o rest d rest) e (match_ordering o rest d rest)
     ≡ match_ordering o (match_ordering q rest e rest) d (match_ordering q rest e rest)
-put_other_name Less q e d rest h = refl
-put_other_name Greater q e d rest h = refl
-put_other_name Equal q e d rest h = rw (h refl)
+put_other_name o q e d rest h = grind (arith, common_steps)
 
 put_same_name : (o : Ordering) (e d rest : Option Data) → match_ordering o rest d rest
     ≡ match_ordering o (match_ordering o rest e rest) d (match_ordering o rest e rest)
-put_same_name Less e d rest = refl
-put_same_name Equal e d rest = refl
-put_same_name Greater e d rest = refl
+put_same_name o e d rest = grind (arith, common_steps)
 
 -- Two equal names compare alike with any other name.
 equal_names_order : (n k l : List ℕ) (o : Ordering) → order n k ≡ Equal → order k l ≡ o → order n l ≡ o
@@ -56,15 +52,12 @@ get_member-put n k d (member l e ms) = there (order k l) refl (get_member-put n 
         (λ t. equal_names_order n k l Greater t h))
 
 by_test : (o : Ordering) (d rest : Option Data) → match_ordering o rest d rest ≡ cond (is_eq o) d rest
-by_test Less d rest = refl
-by_test Equal d rest = refl
-by_test Greater d rest = refl
+by_test o d rest = grind (arith, common_steps)
 
 -- A look-up finds the last value put in for a name.
 pub get_after_put : (n k : List ℕ) (d : Data) (ms : Members) → get_member n (put k d ms)
     ≡ cond (bytes_eq n k) (Some d) (get_member n ms)
-get_after_put n k d ms = get_member-put n k d ms ∙ by_test (order n k) (Some d) (get_member n ms)
-    ∙ ap (λ b. cond b (Some d) (get_member n ms)) (is_eq-slice_cmp n k)
+get_after_put n k d ms = grind (arith, common_steps, get_member-put, by_test, is_eq-slice_cmp)
 
 -- The members are in ascending order of their names.
 abbrev pub AreOrderedMembers : Members → Type 0
@@ -93,18 +86,7 @@ with_one (Some d) n = n
 pub members_len-put : (k : List ℕ) (d : Data) (ms : Members) → AreOrderedMembers ms → members_len (put k d ms)
     ≡ with_one (get_member k ms) (members_len ms)
 members_len-put k d no_members h = refl
-members_len-put k d (member l e ms) h = there (order k l) refl (members_len-put k d ms h.1)
-  where
-    further : (o : Option Data) (n : ℕ) → suc (with_one o n) ≡ with_one o (suc n)
-    further None n = refl
-    further (Some x) n = refl
-
-    there : (o : Ordering) → order k l ≡ o → members_len (put k d ms) ≡ with_one (get_member k ms) (members_len ms)
-        → members_len (match_ordering o (member k d (member l e ms)) (member l d ms) (member l e (put k d ms)))
-        ≡ with_one (match_ordering o (get_member k ms) (Some e) (get_member k ms)) (suc (members_len ms))
-    there Less b rest = rw (h.0 k b) refl
-    there Equal b rest = refl
-    there Greater b rest = ap suc rest ∙ further (get_member k ms) (members_len ms)
+members_len-put k d (member l e ms) h = grind (arith, common_steps, members_len-put k d ms h.1)
 
 -- The members of a list, put in one by one.
 
@@ -121,8 +103,7 @@ AreOrderedMembers-put_all ms (e ∷ es) h = AreOrderedMembers-put_all (put e.0.n
     (AreOrderedMembers-put e.0.now e.1 ms h)
 
 no_fewer : (o : Option Data) (n : ℕ) → n ≤ with_one o n
-no_fewer None n = omega arith
-no_fewer (Some d) n = le_refl n
+no_fewer o n = grind (arith, common_steps)
 
 pub members_len-put_all : (ms : Members) (es : List NamedData) → AreOrderedMembers ms → members_len ms
     ≤ members_len (put_all ms es)

@@ -1,15 +1,14 @@
 -- Proves how rules combine in sequence, and that their outcome is unique.
-use Rattle.std.proofs.Common.{◌≡◌, ◌∙◌, refl, sym, subst, ap, inl, inr, Result, Ok, Err}
+use Rattle.std.proofs.lemmas.Grind.{common_steps}
+use Rattle.std.proofs.Common.{arith, ◌≡◌, ◌∙◌, refl, sym, ap, inl, inr, Result, Ok, Err}
 use Rattle.thes_base.specs.declared.fault.FormFault.{FormFault}
 use Rattle.thes_base.specs.declared.fault.ReadStop.{ReadStop}
-use Rattle.thes_base.specs.declared.fault.ReadStop.TheVariants.{Form}
 use Rattle.thes_requests.specs.Readings.{RequestReading, reads, fails, unless, ReadsAs, Gives, ◌>>=◌}
 
 module _ {A B : Type 0} (next : A → RequestReading B) where
   outcome_after_value : (reading : RequestReading A) (x : A) (outcome : Result B FormFault) → ReadsAs reading (Ok x)
       → ReadsAs (next x) outcome → ReadsAs (reading >>= next) outcome
-  outcome_after_value (reads y) x outcome h k = let P : A → Type 0 = λ z. ReadsAs (next z) outcome in
-      subst P (let e : x ≡ y = cc in e) k
+  outcome_after_value (reads y) x outcome h k = grind (arith, common_steps)
   outcome_after_value (fails f) x outcome h k = cc
   outcome_after_value (unless rule f rest) x outcome (inl h) k = let e = h.1 in cc
   outcome_after_value (unless rule f rest) x outcome (inr h) k = inr (h.0, outcome_after_value rest x outcome h.1 k)
@@ -34,12 +33,7 @@ module _ {A B : Type 0} (next : A → RequestReading B) where
   -- If the first rules give a fault, the outcome is that fault.
   pub gives_fault : (reading : RequestReading A) (e : ReadStop) → Gives reading (Err e) → Gives (reading >>= next)
       (Err e)
-  gives_fault reading e h =
-      record {
-        value = λ y p. cc;
-        fault =
-            λ f p. fault_of_first reading f (h.fault f (ap (λ v. Err v) (let q : e ≡ Form f = cc in q)));
-      }
+  gives_fault reading e h = grind (arith, common_steps, fault_of_first)
 
 -- Rules have at most one outcome.
 pub one_outcome : {A : Type 0} (reading : RequestReading A) (x y : Result A FormFault) → ReadsAs reading x

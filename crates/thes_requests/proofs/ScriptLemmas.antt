@@ -1,9 +1,8 @@
 -- Proves the progress of a script line by line, and each of its ends.
-use Rattle.std.proofs.Common.{◌≡◌, ◌≢◌, ◌⊎◌, inl, inr, ◌∙◌, sym, ap, refl, subst, ℕ, ◌+◌, ◌<◌, ◌≤◌, ◌↔◌, List, []}
-use Rattle.std.proofs.Common.{◌∷◌, ◌++◌, length, length-append, append-nil, take, Bool, true, false, Option, Some}
-use Rattle.std.proofs.Common.{None, Result, Err, arith}
+use Rattle.std.proofs.lemmas.Grind.{common_steps}
+use Rattle.std.proofs.Common.{◌≡◌, ◌≢◌, ◌⊎◌, inl, inr, ◌∙◌, sym, ap, refl, subst, ℕ, ◌+◌, ◌<◌, ◌≤◌, ◌↔◌, List, [], ◌∷◌}
+use Rattle.std.proofs.Common.{◌++◌, length, length-append, take, Bool, true, false, Option, Result, Err, arith}
 use Rattle.std.proofs.KnownBytes.{Appends-trans, Appends-nil, Consumes-trans, Consumes-nil, Consumes-kept, Keeps-refl}
-use Rattle.std.proofs.lemmas.Grind.{flat_map-append, fold-append}
 use Rattle.std.proofs.lemmas.List.Elements.{All-push, All-nil, All-head, All-tail}
 use Rattle.std.specs.List.{All}
 use Rattle.std.specs.Str.Lines.{lines}
@@ -19,10 +18,9 @@ use Rattle.thes_base.specs.declared.pipe.Pipe.{Pipe}
 use Rattle.thes_requests.specs.LineBuffer.{bytes_left, line_bytes, line_content, line_limit, ConsumesLine}
 use Rattle.thes_requests.specs.LineBuffer.{ConsumesPartOfLine, IsLineTooLong, IsEndFound}
 use Rattle.thes_requests.specs.Serving.{LineBehaviour}
-use Rattle.thes_requests.specs.Script.{StepLine, RunLines, AreAllowed, lines_limit, EndsLine, raw_lines}
-use Rattle.thes_requests.specs.Script.{ServesLines, outcome_text, script_text, end_after_outcome}
-use Rattle.thes_requests.specs.Script.{end_of_outcomes, end_without_lines, Session, session, StopsWithinAnswer}
-use Rattle.thes_requests.specs.Script.{ExceedsLimits, IsCause, Completes, Stops}
+use Rattle.thes_requests.specs.Script.{StepLine, RunLines, AreAllowed, lines_limit, EndsLine, raw_lines, ServesLines}
+use Rattle.thes_requests.specs.Script.{outcome_text, script_text, end_after_outcome, end_of_outcomes, end_without_lines}
+use Rattle.thes_requests.specs.Script.{Session, session, StopsWithinAnswer, ExceedsLimits, IsCause, Completes, Stops}
 use Rattle.thes_requests.specs.ScriptSteps.{OutcomeWritten, StopsWithOutcome, ScriptProgress}
 use Rattle.thes_requests.specs.declared.script.ScriptEnd.{ScriptEnd}
 use Rattle.thes_requests.specs.declared.serve.LineOutcome.{LineOutcome}
@@ -34,11 +32,7 @@ run_one_more : {S : Type 0} (serves : LineBehaviour S) (old : S) (done : List (L
     (line_outcomes : List LineOutcome) (mid new : S) (line : List ℕ) (f : LineOutcome)
     → RunLines serves old done line_outcomes mid → StepLine serves mid line f new
     → RunLines serves old (done ++ line ∷ []) (line_outcomes ++ f ∷ []) new
-run_one_more {S} serves old [] [] mid new line f r s = (
-  new,
-  subst (λ (st : S). StepLine serves st line f new) r s,
-  refl,
-)
+run_one_more {S} serves old [] [] mid new line f r s = grind (arith, common_steps)
 run_one_more serves old [] (p ∷ line_outcomes) mid new line f r s = absurd r
 run_one_more serves old (l ∷ done) [] mid new line f r s = absurd r
 run_one_more serves old (l ∷ done) (p ∷ line_outcomes) mid new line f r s =
@@ -46,23 +40,15 @@ run_one_more serves old (l ∷ done) (p ∷ line_outcomes) mid new line f r s =
 
 allowed_one_more : (whole : List (List ℕ)) (raw : List ℕ) → AreAllowed whole → length whole < lines_limit → length raw
     ≤ line_limit → AreAllowed (whole ++ raw ∷ [])
-allowed_one_more whole raw a few short = record {
-  few = rw (length-append whole (raw ∷ [])) (omega (arith, few));
-  short = All-push (λ line. length line ≤ line_limit) whole raw a.short short;
-}
+allowed_one_more whole raw a few short = grind (arith, common_steps, All-push)
 
 text_one_more : (line_outcomes : List LineOutcome) (f : LineOutcome) → script_text (line_outcomes ++ f ∷ [])
     ≡ script_text line_outcomes ++ outcome_text f
-text_one_more line_outcomes f =
-    rw (
-      flat_map-append outcome_text line_outcomes (f ∷ []),
-      append-nil (outcome_text f),
-    ) refl
+text_one_more line_outcomes f = grind (arith, common_steps)
 
 end_one_more : (line_outcomes : List LineOutcome) (f : LineOutcome) → end_of_outcomes (line_outcomes ++ f ∷ [])
     ≡ end_after_outcome (end_of_outcomes line_outcomes) f
-end_one_more line_outcomes f = fold-append end_after_outcome end_without_lines line_outcomes
-    (f ∷ [])
+end_one_more line_outcomes f = grind (arith, common_steps)
 
 -- The last line of an input isn't empty, if no line feed ends it.
 some_last : {old new : Option (List ℕ)} {raw : List ℕ} {e : Bool} → ConsumesLine old new raw e → e ≡ true → raw ≢ []
@@ -73,28 +59,17 @@ serves_one_more : {S : Type 0} {serves : LineBehaviour S} {bytes : List ℕ} {li
     → ServesLines serves bytes line_outcomes old mid → EndsLine bytes → length (raw_lines bytes) < lines_limit
     → ConsumesLine before after raw e → StepLine serves mid (line_content raw e) line_outcome new
     → ServesLines serves (bytes ++ line_bytes raw e) (line_outcomes ++ line_outcome ∷ []) old new
-serves_one_more {S} {serves} {bytes} {line_outcomes} {old} {mid} {new} {before} {after} {raw} {e} line_outcome s whole
-    few k step = record {
-      lines_allowed = rw (raw_lines-more bytes raw e whole k.one (some_last k))
-          (allowed_one_more (raw_lines bytes) raw s.lines_allowed few k.short);
-      run = rw (lines-more bytes raw e whole k.one (some_last k)) (run_one_more serves old (lines bytes) line_outcomes
-          mid
-          new (line_content raw e) line_outcome s.run step);
-    }
+serves_one_more line_outcome s whole few k step =
+    grind (arith, common_steps, raw_lines-more, some_last, allowed_one_more, lines-more, run_one_more)
 
 -- Before the first line there are no outcomes and no output.
 
 serves_no_lines : {S : Type 0} (serves : LineBehaviour S) (handler : S) → ServesLines serves [] [] handler handler
-serves_no_lines serves handler =
-    record {
-      lines_allowed = record { few = omega arith; short = All-nil (λ line. length line ≤ line_limit) };
-      run = refl;
-    }
+serves_no_lines serves handler = grind (arith, common_steps, All-nil)
 
 -- If the buffer is empty, the bytes left are those of the reader.
 nothing_buffered : (known : Option (List ℕ)) → Consumes known (prepend_known [] known) []
-nothing_buffered None = tt
-nothing_buffered (Some xs) = refl
+nothing_buffered known = grind (arith, common_steps)
 
 -- At the end of the input no byte is left in the buffer, so the bytes consumed are all of the
 -- reader's.
@@ -105,11 +80,7 @@ nil_right (x ∷ xs) ys h = cc
 
 all_taken : (known rest : Option (List ℕ)) (held bytes : List ℕ) → Consumes known (prepend_known held rest) bytes
     → IsAtEnd (prepend_known held rest) → Consumes known rest bytes × IsAtEnd rest
-all_taken None None held bytes k e = (tt, tt)
-all_taken None (Some ys) held bytes k e = (tt, nil_right held ys e)
-all_taken (Some xs) None held bytes k e = absurd k
-all_taken (Some xs) (Some ys) held bytes k e =
-    (k ∙ ap (λ t. bytes ++ t) (e ∙ sym (nil_right held ys e)), nil_right held ys e)
+all_taken known rest held bytes k e = grind (arith, common_steps, nil_right)
 
 last_holds : {X : Type 0} (P : X → Type 0) (xs : List X) (x : X) → All P (xs ++ x ∷ []) → P x
 last_holds P [] x h = All-head P x [] h
@@ -169,21 +140,7 @@ module _ {R W S : Type 0} (remaining : R → Option (List ℕ)) (contents : W �
         (bytes_left remaining held' reader') (ended_of reader') → failed_of reader' ≡ false → failed_of writer ≡ false
         → is_open handler ≡ true
         → Completes remaining contents serves is_open old (session reader' writer handler) ended
-    completes_at_end reader' held' f r w o =
-        let all = all_taken (unread_bytes remaining old.reader) (unread_bytes remaining reader') held' s.bytes
-        (Consumes-kept (unread_bytes remaining old.reader) (bytes_left remaining held reader)
-        (bytes_left remaining held' reader') s.bytes s.taken f.0) f.1 in record {
-          input = s.bytes;
-          taken = all.0;
-          end = all.1;
-          reported = f.2;
-          working = (r, w);
-          line_outcomes = s.line_outcomes;
-          lines = s.lines;
-          stays_open = o;
-          text = s.text;
-          noted_end = s.noted_end;
-        }
+    completes_at_end reader' held' f r w o = grind (arith, common_steps, all_taken, Consumes-kept)
 
     -- A script whose input ended with the last line is complete.
     pub completes_after_last : ended_of reader ≡ true → failed_of reader ≡ false → failed_of writer ≡ false
@@ -201,17 +158,7 @@ module _ {R W S : Type 0} (remaining : R → Option (List ℕ)) (contents : W �
         (bytes_left remaining held reader) s.line_outcomes
         → ((fault ≡ Read) ↔ (failed_of reader' ≡ true)) → ((fault ≡ Write) ↔ (failed_of writer ≡ true))
         → Stops remaining contents serves is_open old (session reader' writer handler) fault
-    stops_between_lines reader' fault goes cause r w = record {
-      served = s.bytes;
-      rest = bytes_left remaining held reader;
-      taken = s.taken;
-      whole = inl (s.whole goes);
-      line_outcomes = s.line_outcomes;
-      lines = s.lines;
-      cause = cause;
-      read = r;
-      wrote = w;
-    }
+    stops_between_lines reader' fault goes cause r w = grind (arith, common_steps)
 
     -- A script that stops at the answer to a line has served that line.
     pub stops_at_line : (reader' : Pipe R) (writer' : Pipe W) (desk' : S) (held' : List ℕ) (fault : PipeFault)
@@ -273,29 +220,17 @@ module _ {R W S : Type 0} (remaining : R → Option (List ℕ)) (contents : W �
 
         never_read : (fault : PipeFault) → StopsWithOutcome contents is_open desk' writer writer' line_outcome fault
             → (fault ≡ Read) ↔ (failed_of reader' ≡ true)
-        never_read Read h = absurd h
-        never_read Write h = (λ e. cc, λ e. let f = fine in cc)
-        never_read TooLong h = (λ e. cc, λ e. let f = fine in cc)
-        never_read (Fault g) h = (λ e. cc, λ e. let f = fine in cc)
+        never_read fault h = grind (arith, common_steps)
 
         wrote_only : (fault : PipeFault) → StopsWithOutcome contents is_open desk' writer writer' line_outcome fault
             → (fault ≡ Write) ↔ (failed_of writer' ≡ true)
-        wrote_only Read h = absurd h
-        wrote_only Write h = (λ e. h.1, λ e. refl)
-        wrote_only TooLong h = (λ e. cc, λ e. let f = h.1 in cc)
-        wrote_only (Fault g) h = (λ e. cc, λ e. let f = h.1 in cc)
+        wrote_only fault h = grind (arith, common_steps)
 
     -- A reader that failed within a line is the cause of the stop.
     pub breaks_within_line : (reader' : Pipe R) → ConsumesPartOfLine (bytes_left remaining held reader)
         (unread_bytes remaining reader') → IsCause remaining contents serves is_open old
         (session reader' writer handler) Read s.bytes (bytes_left remaining held reader) s.line_outcomes
-    breaks_within_line reader' p = (
-      s.text,
-      p.raw,
-      Consumes-trans (unread_bytes remaining old.reader) (bytes_left remaining held reader)
-          (unread_bytes remaining reader') s.bytes p.raw s.taken p.bytes,
-      p.one,
-    )
+    breaks_within_line reader' p = grind (arith, common_steps, Consumes-trans)
 
     -- A next line longer than the limit exceeds the limits.
     pub exceeds_line_limit : ended_of reader ≡ false → IsLineTooLong (bytes_left remaining held reader)
@@ -320,16 +255,8 @@ module _ {R W S : Type 0} (remaining : R → Option (List ℕ)) (contents : W �
     pub exceeds_lines_limit : (reader' : Pipe R) (held' : List ℕ) (raw : List ℕ) (e : Bool) → ended_of reader ≡ false
         → count ≡ lines_limit → ConsumesLine (bytes_left remaining held reader) (bytes_left remaining held' reader')
         raw e → ExceedsLimits s.bytes (bytes_left remaining held reader)
-    exceeds_lines_limit reader' held' raw e goes full k = record {
-      next = line_bytes raw e;
-      bytes_left = bytes_left remaining held' reader';
-      bytes = k.bytes;
-      one = ap length (line_whole raw e k.one (some_last k));
-      next_not_allowed = λ a.
-          let all = ap length (raw_lines-more s.bytes raw e (s.whole goes) k.one (some_last k)) in
-          let more = length-append (raw_lines s.bytes) (raw ∷ []) in
-          let c = s.line_count in let few = a.few in omega (arith, few, all, more, c, full);
-    }
+    exceeds_lines_limit reader' held' raw e goes full k =
+        grind (arith, common_steps, line_whole, some_last, raw_lines-more)
 
     -- If the search for a line fails, the script stops, because of the reader or of a limit.
     pub stops_at_read : (reader' : Pipe R) (held' : List ℕ) {T : Type 0} (stop : Stop) → ended_of reader ≡ false

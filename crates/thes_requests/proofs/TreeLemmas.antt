@@ -1,10 +1,10 @@
 -- Proves which data a parsed value represents, level by level, and which its items and members
 -- represent while they are parsed.
-use Rattle.std.proofs.Common.{◌≡◌, ℕ, ◌+◌, ◌<◌, ◌≤◌, List, [], ◌∷◌, ◌++◌, Bool, length, map, take, drop}
-use Rattle.std.proofs.Common.{slice_index_or, Option, Some, None, option_map, is_none, Vec, Global, Bor, cond}
-use Rattle.std.proofs.Common.{bytes_eq, refl, sym, ap, ◌∙◌, subst, add-one, rules}
-use Rattle.std.proofs.lemmas.List.{map-append, take-append-drop, take_more}
-use Rattle.std.proofs.lemmas.List.Sums.{fold-append}
+use Rattle.std.proofs.lemmas.Grind.{common_steps}
+use Rattle.std.proofs.Common.{arith, ◌≡◌, ℕ, ◌+◌, ◌<◌, ◌≤◌, List, [], ◌∷◌, ◌++◌, Bool, length, map, take, drop}
+use Rattle.std.proofs.Common.{slice_index_or, Option, Some, option_map, is_none, Vec, Global, Bor, cond, bytes_eq, refl}
+use Rattle.std.proofs.Common.{sym, ap, ◌∙◌, subst, add-one, rules}
+use Rattle.std.proofs.lemmas.List.{take-append-drop, take_more}
 use Rattle.json.specs.Token.{Token}
 use Rattle.json.specs.Json.{parse_map}
 use Rattle.serde_json.specs.Data.{array, object, Items, no_items, item, no_members, put}
@@ -13,8 +13,7 @@ use Rattle.serde_json.specs.Find.{get_member}
 use Rattle.thes_requests.specs.Tree.{view, items_view, members_view}
 use Rattle.thes_requests.specs.declared.tree.Value.{Value, Array, Object, the_lemmas}
 use Rattle.thes_requests.proofs.ObjectLemmas.{put_all, get_after_put, AreOrderedMembers, AreOrderedMembers-put_all}
-use Rattle.thes_requests.proofs.ObjectLemmas.{with_one}
-use Rattle.thes_requests.proofs.ObjectLemmas.{members_len-put, members_len-put_all}
+use Rattle.thes_requests.proofs.ObjectLemmas.{with_one, members_len-put, members_len-put_all}
 
 abbrev pub Entry : Type 0
 Entry = Bor (List ℕ) × Value
@@ -29,9 +28,7 @@ view-Object m = search (rules, the_lemmas)
 
 pub members_view-append : (es fs : List Entry) → members_view (es ++ fs) ≡ put_all (members_view es)
     (map (λ m. (m.0, view m.1)) fs)
-members_view-append es fs =
-    ap (put_all no_members) (map-append (λ m. (m.0, view m.1)) es fs) ∙ fold-append (λ found m. put m.0.now m.1 found)
-    no_members (map (λ m. (m.0, view m.1)) es) (map (λ m. (m.0, view m.1)) fs)
+members_view-append es fs = grind (arith, common_steps)
 
 pub members_view-push : (es : List Entry) (e : Entry) → members_view (es ++ e ∷ []) ≡ put e.0.now (view e.1)
     (members_view es)
@@ -39,28 +36,21 @@ members_view-push es e = members_view-append es (e ∷ [])
 
 get_member-push : (name : List ℕ) (es : List Entry) (e : Entry) → get_member name (members_view (es ++ e ∷ []))
     ≡ cond (bytes_eq name e.0.now) (Some (view e.1)) (get_member name (members_view es))
-get_member-push name es e = ap (get_member name) (members_view-push es e) ∙ get_after_put name e.0.now (view e.1)
-    (members_view es)
+get_member-push name es e = grind (arith, common_steps, members_view-push, get_after_put)
 
 -- A look-up among the first members finds the last of them, if it has the name, and else looks
 -- among those before it.
 pub get_member-take : (name : List ℕ) (es : List Entry) (k i : ℕ) (e : Entry) (b : Bool) → k ≡ i + 1 → i < length es
     → e ≡ slice_index_or es i e → bytes_eq name e.0.now ≡ b
     → get_member name (members_view (take k es)) ≡ cond b (Some (view e.1)) (get_member name (members_view (take i es)))
-get_member-take name es k i e b next h is same =
-    let front : take k es ≡ take i es ++ e ∷ [] = ap (λ j. take j es) next ∙ take_more es i e h
-    ∙ ap (λ y. take i es ++ y ∷ []) (sym is) in
-    let before = get_member name (members_view (take i es)) in
-    ap (λ fs. get_member name (members_view fs)) front ∙ get_member-push name (take i es) e
-    ∙ ap (λ t. cond t (Some (view e.1)) before) same
+get_member-take name es k i e b next h is same = grind (arith, common_steps, take_more, get_member-push)
 
 AreOrderedMembers-members_view : (es : List Entry) → AreOrderedMembers (members_view es)
 AreOrderedMembers-members_view es = AreOrderedMembers-put_all no_members (map (λ m. (m.0, view m.1)) es) tt
 
 count_after_look_up : (r : Option (Bor Value)) (n : ℕ) → with_one (option_map (λ v. view v.now) r) n
     ≡ cond (is_none r) (n + 1) n
-count_after_look_up None n = sym (add-one n)
-count_after_look_up (Some v) n = refl
+count_after_look_up r n = grind (arith, common_steps, add-one)
 
 module _ (xs : List Entry) (i : ℕ) where
   -- The number of different names up to the next member, given a search for its name among the
@@ -100,9 +90,7 @@ items_push (w ∷ vs) v rest = ap (item (view w)) (items_push vs v rest)
 
 pub one_more_item : (vs : List Value) (v : Value) (r : Option (Items × List Token)) → parse_map (items_before vs)
     (parse_map (item (view v)) r) ≡ parse_map (items_before (vs ++ v ∷ [])) r
-one_more_item vs v None = refl
-one_more_item vs v (Some p) = ap (λ ds. Some (ds, p.1)) (items_push vs v p.0)
+one_more_item vs v r = grind (arith, common_steps, items_push)
 
 pub none_before : (r : Option (Items × List Token)) → r ≡ parse_map (λ a. a) r
-none_before None = refl
-none_before (Some p) = refl
+none_before r = grind (arith, common_steps)

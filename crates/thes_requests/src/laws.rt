@@ -3,6 +3,7 @@ ghost use Rattle.thes_requests.specs.Laws.{OneReading, SomeReading};
 
 /// No effect; states for the proof that bytes have at most one meaning: one request or one form
 /// fault.
+#[tactic(auto, using(crate::proofs::ReadingLemmas::one_outcome))]
 pub fn one_reading()
     ensures { OneReading }
 {}

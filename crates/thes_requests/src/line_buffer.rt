@@ -188,6 +188,7 @@ impl LineBuffer {
     }
 
     // Consumes the next `count` bytes of the buffer.
+    #[tactic(auto, using(crate::proofs::LineBufferLemmas::buffer_after_consume))]
     fn consume(&mut self, count: usize)
         requires { count ≤ length self.old }
         ensures { self.new ≡ drop count self.old }

@@ -175,6 +175,7 @@ pub fn postings_at(alloc: Global, value: &Value<'_>) -> Result<PostNos, ReadStop
 
 // Converts JSON numbers to numbers of postings, or returns `BadNumber` if one isn't an integer from
 // 1 to 2³² - 1.
+#[tactic(auto, using(crate::proofs::MemberLemmas::not_numbers))]
 fn post_nos(alloc: Global, numbers: &[&serde_json::Number]) -> Result<PostNos, ReadStop>
     ensures { let ns = map whole_number (map (λ n. number_view n.now) numbers.now) in IsReadResult
         (AreNumbers ns) BadNumber (λ ms. ms ≡ ns) result }

@@ -56,6 +56,7 @@ fn number_and_text(
 }
 
 // Reads the command to add a scheme: its preferred label.
+#[tactic(auto, using(crate::proofs::MemberReadingLemmas::gives_line2))]
 fn scheme_in(alloc: Global, value: &Value<'_>) -> Result<Command, ReadStop>
     ensures { Gives (command_in CommandKeyword.Scheme (view value.now)) result }
 {
@@ -64,6 +65,7 @@ fn scheme_in(alloc: Global, value: &Value<'_>) -> Result<Command, ReadStop>
 }
 
 // Reads the command to add a concept: the number of its scheme, and its preferred label.
+#[tactic(auto, using(crate::proofs::MemberReadingLemmas::gives_line3))]
 fn concept_in(alloc: Global, value: &Value<'_>) -> Result<Command, ReadStop>
     ensures { Gives (command_in CommandKeyword.Concept (view value.now)) result }
 {
@@ -72,6 +74,7 @@ fn concept_in(alloc: Global, value: &Value<'_>) -> Result<Command, ReadStop>
 }
 
 // Reads the command to add a collection: the number of its scheme, and its preferred label.
+#[tactic(auto, using(crate::proofs::MemberReadingLemmas::gives_line3))]
 fn collection_in(alloc: Global, value: &Value<'_>) -> Result<Command, ReadStop>
     ensures { Gives (command_in CommandKeyword.Collection (view value.now)) result }
 {
@@ -97,7 +100,7 @@ fn label_in(alloc: Global, value: &Value<'_>) -> Result<(ResNo, Label), ReadStop
 }
 
 // Reads the command to add a label: its owner, kind, language and text.
-#[tactic(auto, using(crate::proofs::ReadingLemmas::gives_fault), unfolding(crate::specs::Requests::map_reading))]
+#[tactic(auto, using(crate::proofs::MemberReadingLemmas::gives_mapped))]
 fn add_label_in(alloc: Global, value: &Value<'_>) -> Result<Command, ReadStop>
     ensures { Gives (command_in CommandKeyword.AddLabel (view value.now)) result }
 {
@@ -106,7 +109,7 @@ fn add_label_in(alloc: Global, value: &Value<'_>) -> Result<Command, ReadStop>
 }
 
 // Reads the command to remove a label, which has the same members as the one to add it.
-#[tactic(auto, using(crate::proofs::ReadingLemmas::gives_fault), unfolding(crate::specs::Requests::map_reading))]
+#[tactic(auto, using(crate::proofs::MemberReadingLemmas::gives_mapped))]
 fn drop_label_in(alloc: Global, value: &Value<'_>) -> Result<Command, ReadStop>
     ensures { Gives (command_in CommandKeyword.DropLabel (view value.now)) result }
 {
@@ -137,7 +140,7 @@ fn link_in(value: &Value<'_>) -> Result<Link, ReadStop>
 }
 
 // Reads the command to add a link: its kind and two ends.
-#[tactic(auto, using(crate::proofs::ReadingLemmas::gives_fault), unfolding(crate::specs::Requests::map_reading))]
+#[tactic(auto, using(crate::proofs::MemberReadingLemmas::gives_mapped))]
 fn add_link_in(value: &Value<'_>) -> Result<Command, ReadStop>
     ensures { Gives (command_in CommandKeyword.Link (view value.now)) result }
 {
@@ -146,7 +149,7 @@ fn add_link_in(value: &Value<'_>) -> Result<Command, ReadStop>
 }
 
 // Reads the command to remove a link, which has the same members as the one to add it.
-#[tactic(auto, using(crate::proofs::ReadingLemmas::gives_fault), unfolding(crate::specs::Requests::map_reading))]
+#[tactic(auto, using(crate::proofs::MemberReadingLemmas::gives_mapped))]
 fn unlink_in(value: &Value<'_>) -> Result<Command, ReadStop>
     ensures { Gives (command_in CommandKeyword.Unlink (view value.now)) result }
 {
@@ -155,6 +158,7 @@ fn unlink_in(value: &Value<'_>) -> Result<Command, ReadStop>
 }
 
 // Reads the command to deprecate a concept: its number.
+#[tactic(auto, using(crate::proofs::MemberReadingLemmas::gives_line1))]
 fn deprecate_in(value: &Value<'_>) -> Result<Command, ReadStop>
     ensures { Gives (command_in CommandKeyword.Deprecate (view value.now)) result }
 {
@@ -194,6 +198,7 @@ fn post_in(alloc: Global, value: &Value<'_>) -> Result<Command, ReadStop>
 }
 
 // Reads the command to withdraw a posting: its number.
+#[tactic(auto, using(crate::proofs::MemberReadingLemmas::gives_line1))]
 fn withdraw_in(value: &Value<'_>) -> Result<Command, ReadStop>
     ensures { Gives (command_in CommandKeyword.Withdraw (view value.now)) result }
 {
@@ -236,6 +241,7 @@ fn totals_in(value: &Value<'_>) -> Result<Query, ReadStop>
 }
 
 // Reads the query for a concept: its number.
+#[tactic(auto, using(crate::proofs::MemberReadingLemmas::gives_line1))]
 fn concept_query_in(value: &Value<'_>) -> Result<Query, ReadStop>
     ensures { Gives (query_in QueryKeyword.Concept (view value.now)) result }
 {
@@ -244,6 +250,7 @@ fn concept_query_in(value: &Value<'_>) -> Result<Query, ReadStop>
 }
 
 // Reads the query for the postings of a concept: its number.
+#[tactic(auto, using(crate::proofs::MemberReadingLemmas::gives_line1))]
 fn postings_query_in(value: &Value<'_>) -> Result<Query, ReadStop>
     ensures { Gives (query_in QueryKeyword.Postings (view value.now)) result }
 {
@@ -252,6 +259,7 @@ fn postings_query_in(value: &Value<'_>) -> Result<Query, ReadStop>
 }
 
 // Reads the query for a posting: its number.
+#[tactic(auto, using(crate::proofs::MemberReadingLemmas::gives_line1))]
 fn posting_query_in(value: &Value<'_>) -> Result<Query, ReadStop>
     ensures { Gives (query_in QueryKeyword.Posting (view value.now)) result }
 {
@@ -273,7 +281,7 @@ fn query_in(noun: QueryKeyword, value: &Value<'_>) -> Result<Query, ReadStop>
 
 // Reads a request whose `do` has the keyword `verb`; `None` means that `do` names no command, and
 // gives `BadShape`.
-#[tactic(auto, using(crate::proofs::ReadingLemmas::gives_fault), unfolding(crate::specs::Requests::map_reading))]
+#[tactic(auto, using(crate::proofs::MemberReadingLemmas::gives_mapped))]
 fn do_in(
     alloc: Global,
     verb: Option<CommandKeyword>,
@@ -289,7 +297,7 @@ fn do_in(
 
 // Reads a request whose `get` has the keyword `noun`; `None` means that `get` names no query, and
 // gives `BadShape`.
-#[tactic(auto, using(crate::proofs::ReadingLemmas::gives_fault), unfolding(crate::specs::Requests::map_reading))]
+#[tactic(auto, using(crate::proofs::MemberReadingLemmas::gives_mapped))]
 fn get_in(noun: Option<QueryKeyword>, value: &Value<'_>) -> Result<Request, ReadStop>
     ensures { Gives (get_request noun (view value.now)) result }
 {

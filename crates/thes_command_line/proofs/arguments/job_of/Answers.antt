@@ -1,20 +1,14 @@
-use Rattle.std.proofs.Common.{◌∙◌, ap, sym, subst, Err, List, Some, ℕ}
+use Rattle.std.proofs.lemmas.Grind.{common_steps}
+use Rattle.std.proofs.Common.{arith, ◌∙◌, ap, sym, subst, List, Some, ℕ}
 use Rattle.std.specs.Prelude.{option_map}
-use Rattle.clap.specs.Words.{found_of, rows_of, subcommand_rows_of}
-use Rattle.thes_base.specs.Forms.{IsBase}
-use Rattle.thes_base.specs.ReadResults.{IsReadResult}
-use Rattle.thes_base.specs.declared.fault.FormFault.TheVariants.{BadIri}
+use Rattle.clap.specs.Words.{found_of, rows_of}
 use Rattle.thes_command_line.specs.CommandLine.{HasCommand}
 use Rattle.thes_command_line.proofs.ReadingLemmas.{command_rows}
 use Rattle.thes_command_line.proofs.CommandLineLemmas.{exit_of_unread}
 use Rattle.thes_command_line.proofs.arguments.job_of.Goals as goal
 
 pub returns-in-Err : goal.returns-in-Err
-returns-in-Err c =
-    let m = c.args.options.now in
-    rw c.from.ensures (exit_of_unread (rows_of (found_of m)) (subcommand_rows_of m) c.in-Err.stop
-    (subst (λ (text : List ℕ). IsReadResult {T = List ℕ} (IsBase text) BadIri (λ t. Unit {0}) (Err c.in-Err.stop))
-    c.base_argument.ensures c.in-Err.ensures))
+returns-in-Err c = grind (arith, common_steps, exit_of_unread)
 
 pub task_of-requires : goal.task_of-requires
 task_of-requires c =

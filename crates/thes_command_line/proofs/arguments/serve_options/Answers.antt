@@ -3,9 +3,8 @@ use Rattle.std.specs.Str.Parse.{ExplainsUnsignedError, HasUnsignedDigitsIfOk, Pa
 use Rattle.clap.specs.Values.{IsUnsignedIn}
 use Rattle.clap.specs.Words.{first_of, found_of, rows_of}
 use Rattle.thes_command_line.proofs.ReadingLemmas.{default_from_one, from_one, has_number, if_some_of, is_some_of}
-use Rattle.thes_command_line.proofs.ReadingLemmas.{number_read}
+use Rattle.thes_command_line.proofs.ReadingLemmas.{number_read, or_default}
 use Rattle.thes_command_line.specs.CommandLine.{default_count}
-use Rattle.thes_command_line.proofs.ReadingLemmas.{or_default}
 use Rattle.thes_command_line.proofs.arguments.serve_options.Goals as goal
 
 pub unwrap-requires : goal.unwrap-requires

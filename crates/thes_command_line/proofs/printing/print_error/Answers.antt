@@ -1,6 +1,6 @@
-use Rattle.thes_command_line.proofs.PrintLemmas.{either}
+use Rattle.std.proofs.lemmas.Grind.{common_steps}
+use Rattle.std.proofs.Common.{arith}
 use Rattle.thes_command_line.proofs.printing.print_error.Goals as goal
 
 pub returns : goal.returns
-returns g c =
-    either g.E.Write.contents c.args.errors.now c.print.new.writer c.args.text.now c.print.result c.print.ensures
+returns g c = grind (arith, common_steps)

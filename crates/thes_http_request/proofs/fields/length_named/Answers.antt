@@ -1,4 +1,5 @@
-use Rattle.std.proofs.Common.{rules, sym, ◌∙◌, ◌+◌, map, ap}
+use Rattle.std.proofs.lemmas.Grind.{common_steps}
+use Rattle.std.proofs.Common.{arith, rules, sym, ◌∙◌, ◌+◌, map, ap}
 use Rattle.std.proofs.lemmas.List.{take_rest}
 use Rattle.std.specs.Char.{to_ascii_lowercase}
 use Rattle.httparse.specs.Spans.{header_bytes}
@@ -7,17 +8,10 @@ use Rattle.thes_http_request.proofs.FieldLemmas.{no_spans, no_length, many_field
 use Rattle.thes_http_request.proofs.fields.length_named.Goals as goal
 
 pub returns-in_default : goal.returns-in_default
-returns-in_default c = sym (no_length (map to_ascii_lowercase c.args.name.now) (header_bytes c.args.bytes.now)
-    c.args.headers.now c.args.limit (search rules))
+returns-in_default c = grind (arith, common_steps, no_length)
 
 pub returns-then-has_field : goal.returns-then-has_field
-returns-then-has_field c =
-    let name = map to_ascii_lowercase c.args.name.now in
-    let shown = header_bytes c.args.bytes.now in
-    let after = ap (λ t. has_field name (map shown t)) (sym (take_rest c.args.headers.now (c.in-Some.at + 1)))
-    ∙ (sym c.has_field.ensures ∙ c.if-has_field.true) in
-    sym (many_fields_refused name shown c.args.headers.now c.args.limit c.in-Some.at (search rules) (search rules)
-    after)
+returns-then-has_field c = grind (arith, common_steps, take_rest, many_fields_refused)
 
 pub returns : goal.returns
 returns c =

@@ -1,4 +1,5 @@
-use Rattle.std.proofs.Common.{rules, ◌≡◌, ◌∙◌, sym, ap, Err, Some, None, true, false}
+use Rattle.std.proofs.lemmas.Grind.{common_steps}
+use Rattle.std.proofs.Common.{arith, rules, ◌≡◌, ◌∙◌, sym, ap, Err, Some, true, false}
 use Rattle.std.specs.Str.{bytes_eq}
 use Rattle.thes_http_request.specs.Endpoints.{EndpointMatch, endpoint_of_path, path_of, method_of}
 use Rattle.thes_http_request.proofs.HeadRequestLemmas.{refuses_coding, refuses_path, refuses_method, refuses_length}
@@ -6,14 +7,10 @@ use Rattle.thes_http_request.proofs.HeadRequestLemmas.{accepts_request}
 use Rattle.thes_http_request.proofs.head_request.request_of_parts.Goals as goal
 
 pub returns-then-has_field-clause-err : goal.returns-then-has_field-clause-err
-returns-then-has_field-clause-err c = λ p h. refuses_coding _ (sym c.has_field.ensures ∙ c.if-has_field.true)
-    ∙ ap (λ q. Err q) (cc)
+returns-then-has_field-clause-err c = grind (arith, common_steps, refuses_coding)
 
 pub returns-in_default-clause-err : goal.returns-in_default-clause-err
-returns-in_default-clause-err c = λ p h.
-    let found : endpoint_of_path (path_of c.args.target.now) ≡ None = rw (← c.split_target.ensures.path)
-    (search rules) in
-    refuses_path _ (sym c.has_field.ensures ∙ c.if-has_field.false) found ∙ ap (λ q. Err q) (cc)
+returns-in_default-clause-err c = grind (arith, common_steps, refuses_path)
 
 pub returns-then-not-has_method-clause-err : goal.returns-then-not-has_method-clause-err
 returns-then-not-has_method-clause-err c = λ p h.

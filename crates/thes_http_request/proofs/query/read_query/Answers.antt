@@ -1,28 +1,17 @@
-use Rattle.std.proofs.Common.{◌∙◌, sym, ap, [], ◌∷◌}
+use Rattle.std.proofs.lemmas.Grind.{common_steps}
+use Rattle.std.proofs.Common.{arith, ◌∙◌, sym, ap, ◌∷◌}
 use Rattle.form_urlencoded.specs.Form.{raw_pairs}
 use Rattle.thes_http_request.proofs.QueryLemmas.{display_query_with, display_query_of_two}
 use Rattle.thes_http_request.proofs.query.read_query.Goals as goal
 
 pub returns-in_default : goal.returns-in_default
-returns-in_default c = display_query_with c.args.query.now [] (ap raw_pairs (sym c.as_bytes.ensures.value)
-    ∙ (sym c.parse-pairs.ensures.value ∙ c.in_default.ensures.steps.0))
+returns-in_default c = grind (arith, common_steps, display_query_with)
 
 pub returns-in_default-next : goal.returns-in_default-next
-returns-in_default-next c =
-    let first = c.in-Some.ensures.steps.0 in
-    display_query_with c.args.query.now ((first.0, first.1) ∷ []) (ap raw_pairs (sym c.as_bytes.ensures.value)
-    ∙ (sym c.parse-pairs.ensures.value
-    ∙ (first.2 ∙ ap (λ t. (first.0, first.1) ∷ t) c.in_default-next.ensures.steps.0)))
+returns-in_default-next c = grind (arith, common_steps, display_query_with)
 
 pub returns-in_default-next-2 : goal.returns-in_default-next-2
-returns-in_default-next-2 c =
-    let first = c.in-Some.ensures.steps.0 in
-    let second = c.in-Some-next.ensures.steps.0 in
-    let third = (rw c.in_default-next-2.is at c.next-3.ensures.steps).0 in
-    display_query_with c.args.query.now ((first.0, first.1) ∷ (second.0, second.1) ∷ (third.0, third.1) ∷ _)
-    (ap raw_pairs (sym c.as_bytes.ensures.value)
-    ∙ (sym c.parse-pairs.ensures.value
-    ∙ (first.2 ∙ ap (λ t. (first.0, first.1) ∷ t) (second.2 ∙ ap (λ t. (second.0, second.1) ∷ t) third.2))))
+returns-in_default-next-2 c = grind (arith, common_steps, display_query_with)
 
 pub returns : goal.returns
 returns c =

@@ -1,4 +1,5 @@
-use Rattle.std.proofs.Common.{◌≡◌, inl, inr, ap, false, List, ℕ, Result, Ok, Err, rules}
+use Rattle.std.proofs.lemmas.Grind.{common_steps}
+use Rattle.std.proofs.Common.{arith, ◌≡◌, ap, false, List, ℕ, Result, Ok, rules}
 use Rattle.thes_base.specs.declared.fault.Fault.{Fault}
 use Rattle.thes_base.specs.declared.request.Answer.{Answer}
 use Rattle.thes_base.specs.declared.request.Command.{Command}
@@ -13,8 +14,7 @@ use Rattle.thes_requests.proofs.serve.serve_line.Goals as goal
 command_served : {S : Type 0} (d : RequestBehaviour S) (line : List ℕ) (old new : S) (command : Command)
     (given : Result Answer Fault) → IsCommandLine line command → d.performs old command given new
     → Serves d old line (command_answer given) new
-command_served d line old new command (Ok a) is did = inl (command, is, did)
-command_served d line old new command (Err f) is did = inr (inl (command, is, did))
+command_served d line old new command given is did = grind (arith, common_steps)
 
 pub returns-in-Ok-Do : goal.returns-in-Ok-Do
 returns-in-Ok-Do g c = λ text same.

@@ -1,4 +1,4 @@
-use Rattle.std.proofs.Common.{rules, refl}
+use Rattle.std.proofs.Common.{refl}
 use Rattle.thes_http_request.proofs.RouteLemmas.{route_with_text, no_route_found}
 use Rattle.thes_http_request.proofs.endpoint.Routes.find.Goals as goal
 

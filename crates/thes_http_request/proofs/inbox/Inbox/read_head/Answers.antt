@@ -1,4 +1,5 @@
-use Rattle.std.proofs.Common.{rules}
+use Rattle.std.proofs.lemmas.Grind.{common_steps}
+use Rattle.std.proofs.Common.{arith, rules}
 use Rattle.thes_http_request.proofs.HeadLemmas.{bad_front, bad_long, cut_front}
 use Rattle.thes_base.proofs.PipeLemmas.{pays_then}
 use Rattle.thes_http_request.proofs.InboxLemmas.{consumes_then_growth}
@@ -12,24 +13,13 @@ returns-then-is_full-clause-bad g c = λ h. bad_long _ _ c.head_bytes.ensures (s
     (c.head_of.ensures.more (search rules)).none
 
 pub loop-spans-preserved : goal.loop-spans-preserved
-loop-spans-preserved g c = record {
-  taken = consumes_then_growth _ _ _ _ _ c.loop-spans.invariant.taken c.fill.ensures.taken;
-  fresh = (c.in-Ok-true.ensures.more c.in-Ok-true.field-0-test).1;
-  room = search rules;
-  paid = pays_then c.loop-spans.invariant.paid c.fill.ensures.paid;
-}
+loop-spans-preserved g c = grind (arith, common_steps, consumes_then_growth, pays_then)
 
 pub returns-in-Ok-false-clause-taken : goal.returns-in-Ok-false-clause-taken
 returns-in-Ok-false-clause-taken g c = consumes_then_growth _ _ _ _ _ c.loop-spans.invariant.taken c.fill.ensures.taken
 
 pub returns-in-Ok-false-clause-cut : goal.returns-in-Ok-false-clause-cut
-returns-in-Ok-false-clause-cut g c =
-    let e = c.in-Ok-false.ensures.end c.in-Ok-false.field-0-test in
-    λ h. (
-      cut_front _ _ _ c.head_bytes.ensures e.0 (c.is_full.ensures.short c.if-is_full.false)
-          (c.head_of.ensures.more (search rules)),
-      e.1,
-    )
+returns-in-Ok-false-clause-cut g c = grind (arith, common_steps, cut_front)
 
 pub returns-in-Err-clause-taken : goal.returns-in-Err-clause-taken
 returns-in-Err-clause-taken g c = consumes_then_growth _ _ _ _ _ c.loop-spans.invariant.taken c.fill.ensures.taken
