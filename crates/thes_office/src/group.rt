@@ -1,10 +1,11 @@
 //! Groups of posts with different keys: each is decided on the state that those before it make, and
 //! the changes of all are committed in one transaction.
 ghost use Rattle.std.specs.Prelude.{◌≡◌, ◌⊎◌, ◌≤◌, ◌<◌, ◌↔◌, ◌++◌, ◌+◌, ◌∷◌, [], false, true};
-ghost use Rattle.std.specs.Prelude.{IsTrue, IfOk, OnOk, OnErr, take, length};
+ghost use Rattle.std.specs.Prelude.{IsTrue, IfOk, IfErr, OnOk, OnErr, take, length};
 ghost use Rattle.thes_base.specs.declared.request.Answer.{Answer};
 ghost use Rattle.thes_base.specs.State.{State};
 ghost use Rattle.thes_core.specs.CoreView.{IsViewOf};
+ghost use Rattle.thes_core.specs.Facts.{AreFacts};
 ghost use Rattle.thes_store.specs.Storage.{CommitFrame, DeltaFitsStorage, QueryFrame, RawAfterChanges};
 ghost use Rattle.thes_office.specs.Groups.{GroupDecided, HasFactsOf, IsDecided, IsGroup, IsNewPost};
 ghost use Rattle.thes_office.specs.Groups.{IsPostOf, TablesAfterGroup};
@@ -15,7 +16,7 @@ use std::alloc::{AllocError, Global};
 use thes_base::fault::Fault;
 use thes_base::request::{Answer, Command};
 use thes_base::text::Key;
-use thes_core::{Core, Verdict};
+use thes_core::{Core, Facts, Verdict};
 use thes_store::keeper::Keeper;
 use thes_tables::delta::Delta;
 
@@ -27,6 +28,19 @@ const GROUP_LIMIT: usize = 128;
 struct Decided {
     answers: Vec<Answer>,
     delta: Delta,
+}
+
+impl Decided {
+    // Appends an answer and its changes.
+    fn append(&mut self, answer: Answer, delta: Delta) -> Result<(), AllocError>
+        ensures answers { OnOk result
+            (self.new.answers.items ≡ self.old.answers.items ++ answer ∷ []) }
+        ensures changes { OnOk result (self.new.delta ≡ self.old.delta ++ delta) }
+    {
+        append_changes(&mut self.delta, delta)?;
+        self.answers.push(answer)?;
+        Ok(())
+    }
 }
 
 // Checks whether a request is a Post with the key.
@@ -92,8 +106,40 @@ fn append_changes(delta: &mut Delta, more: Delta) -> Result<(), AllocError>
     Ok(())
 }
 
-// Decides one more request of a group, and applies it to the core, which holds the state after the
-// requests before it. On a fault the core may be ahead of the tables.
+// Decides one more request of a group on the facts that it needs, and applies it to the core, which
+// holds the state after the requests before it. If memory runs out, the core may be ahead of the
+// tables.
+fn decide_with_facts(
+    core: &mut Core,
+    command: &Command,
+    facts: &Facts,
+    decided: &mut Decided,
+) -> Result<(), Fault>
+    requires { core.old.spent ≡ false }
+    ensures decides { OnOk result ((answer : Answer)
+        × (decided.new.answers.items ≡ decided.old.answers.items ++ answer ∷ [])
+        × ((s : State) → IsViewOf core.old s → AreFacts command.now s.histories facts.now
+        → IsDecided core.old.setting s command.now
+        answer decided.old.delta decided.new.delta core.new)) }
+    ensures usable { OnOk result ((core.new.spent ≡ false)
+        × (core.new.setting ≡ core.old.setting)) }
+    ensures err { IfErr result (λ fault. fault ≡ Fault.OutOfMemory) }
+{
+    match core.decide(command, facts)? {
+        Verdict::Settled(answer) => {
+            decided.answers.push(answer)?;
+            Ok(())
+        }
+        Verdict::Accepted(answer, delta) => {
+            core.apply(command, facts)?;
+            decided.append(answer, delta)?;
+            Ok(())
+        }
+    }
+}
+
+// Queries the storage for the facts that one more request of a group needs, and decides it on them.
+// On a fault the core may be ahead of the tables.
 fn decide_next<K: Keeper>(
     alloc: Global,
     keeper: &mut K,
@@ -116,18 +162,8 @@ fn decide_next<K: Keeper>(
         Ok(facts) => facts,
         Err(fault) => return Err(fault),
     };
-    match core.decide(command, &facts)? {
-        Verdict::Settled(answer) => {
-            decided.answers.push(answer)?;
-            Ok(())
-        }
-        Verdict::Accepted(answer, delta) => {
-            core.apply(command, &facts)?;
-            append_changes(&mut decided.delta, delta)?;
-            decided.answers.push(answer)?;
-            Ok(())
-        }
-    }
+    decide_with_facts(core, command, &facts, decided)?;
+    Ok(())
 }
 
 // Decides the requests of a group in order, and applies them to the core.

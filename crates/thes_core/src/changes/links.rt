@@ -2,12 +2,14 @@
 ghost use Rattle.std.specs.Prelude.{◌≡◌, ◌++◌, IfOk, OnOk, List, map};
 ghost use Rattle.std.specs.List.{filter_map};
 ghost use Rattle.thes_base.specs.Data.{LabelData};
+ghost use Rattle.thes_base.specs.Links.{normal_form, redirect};
 ghost use Rattle.thes_base.specs.declared.data.History.{History};
 ghost use Rattle.thes_base.specs.declared.request.Command.TheVariants as request;
 ghost use Rattle.thes_base.specs.Changes.{state_after_deprecation, state_after_merge};
 ghost use Rattle.thes_core.specs.Deltas.{link_added_by_merge, copied_label_rows};
 ghost use Rattle.thes_core.specs.Requests.{PartsAccept, AreMatching};
 ghost use Rattle.thes_core.specs.PartsView.{parts_state};
+ghost use Rattle.thes_links.specs.GraphView.{is_marked};
 ghost use Rattle.thes_links.specs.Reading.{IsRow};
 ghost use Rattle.thes_tables.specs.declared.change.Change.TheVariants as change;
 ghost use Rattle.thes_tables.specs.Changes.{add_link, drop_link};
@@ -36,6 +38,13 @@ fn push_removals(delta: &mut Delta, links: &[Link]) -> Result<(), AllocError>
         delta.push(link_removal(link))?;
     }
     Ok(())
+}
+
+// Returns the number of a link's end after a merge.
+fn end_after_merge(number: ResNo, source: ResNo, target: ResNo) -> ResNo
+    ensures { result ≡ redirect source target number }
+{
+    if number == source { target } else { number }
 }
 
 // Copies a label for the target of a merge, a preferred label as an alternative one.
@@ -82,13 +91,21 @@ impl Thesaurus {
         Ok(delta)
     }
 
+    // Returns the normal form of a link, in which the graph would hold it.
+    fn normal_in_graph(&self, link: &Link) -> Link
+        ensures { result ≡ normal_form (is_marked self.now.graph) link.now }
+    {
+        let outside = self.graph.is_outside(link.a) || self.graph.is_outside(link.b);
+        normalize_ends(link, outside)
+    }
+
     // Returns the link that a merge adds in place of an old one: its normal form after redirection; None if its ends
     // become equal or that form is held already.
     fn merge_result(&self, link: &Link, source: ResNo, target: ResNo) -> Option<Link>
         ensures { result ≡ link_added_by_merge self.now.graph source target link.now }
     {
-        let a = if link.a == source { target } else { link.a };
-        let b = if link.b == source { target } else { link.b };
+        let a = end_after_merge(link.a, source, target);
+        let b = end_after_merge(link.b, source, target);
         if a == b {
             return None;
         }
@@ -97,8 +114,7 @@ impl Thesaurus {
         if self.graph.has(&sent) {
             return None;
         }
-        let outside = self.graph.is_outside(a) || self.graph.is_outside(b);
-        Some(normalize_ends(&sent, outside))
+        Some(self.normal_in_graph(&sent))
     }
 
     // Appends the insertion of each link that a merge adds in place of these.
