@@ -14,9 +14,9 @@ use Rattle.thes_tables.specs.declared.rows.HierRow.{HierRow}
 use Rattle.thes_tables.specs.declared.rows.PostingRow.{PostingRow}
 use Rattle.thes_tables.specs.declared.rows.MoveRow.{MoveRow}
 use Rattle.thes_tables.specs.Tables.{Tables}
-use Rattle.thes_sql.specs.StoredRows.{Hold, Keeps, AreHidden, ArePostingsNumbered, HoldResources, HoldOutside}
-use Rattle.thes_sql.specs.StoredRows.{HoldPostings, HoldMoves, label_values, link_values, hier_values, AreSpelled}
-use Rattle.thes_sql.specs.StoredRows.{IsSpelledOutside, IsSpelledLabel, IsSpelledPosting}
+use Rattle.thes_sql.specs.StoredRows.{Keeps, AreHidden, ArePostingsNumbered, HoldResources, HoldOutside, HoldPostings}
+use Rattle.thes_sql.specs.StoredRows.{HoldMoves, label_values, link_values, hier_values, AreSpelled, IsSpelledOutside}
+use Rattle.thes_sql.specs.StoredRows.{IsSpelledLabel, IsSpelledPosting}
 use Rattle.thes_sql.specs.OldStore.{KeepsAs, stored_version}
 use Rattle.thes_sql.specs.Reads.{tree_of}
 use Rattle.thes_sql.specs.Schema.{store_schema}
@@ -32,19 +32,6 @@ HoldsAs version table.Link t tree = AreHidden link_values t.link tree
 HoldsAs version table.Hier t tree = AreHidden hier_values t.hier tree
 HoldsAs version table.Posting t tree = HoldPostings t.posting tree
 HoldsAs version table.Move t tree = HoldMoves t.move tree
-
-abbrev pub HoldsTable : Table → Tables → List Row → Type 0
-HoldsTable = HoldsAs 2
-
-pub holds_tree : (db : Trees) (t : Tables) → Hold db t → (p : Table) → HoldsTable p t (db (tree_of p))
-holds_tree db t h table.Meta = h.meta
-holds_tree db t h table.Resource = h.resource
-holds_tree db t h table.Outside = h.outside
-holds_tree db t h table.Label = h.label
-holds_tree db t h table.Link = h.link
-holds_tree db t h table.Hier = h.hier
-holds_tree db t h table.Posting = h.posting
-holds_tree db t h table.Move = h.move
 
 -- A database in which each tree has its table's rows is a store with the tables.
 pub keeps_all : (version : ℕ) (db : Database) (t : Tables) → db.schema ≡ store_schema
@@ -66,9 +53,12 @@ keeps_all version db t has each numbered spelled = record {
   hier = each table.Hier;
 }
 
--- A store with version 2 in table meta is one of version 2.
+-- A store of version 2 is one with version 2 in table meta.
 pub keeps_current : (db : Database) (t : Tables) → KeepsAs 2 db t → Keeps db t
 keeps_current db t k = search rules
+
+pub keeps_as_current : (db : Database) (t : Tables) → Keeps db t → KeepsAs 2 db t
+keeps_as_current db t k = search rules
 
 pub untouched_tree : (tree : ℕ) (old new : Trees) → LeavesOtherTables tree old new → (p : Table) → tree_of p ≢ tree
     → new (tree_of p) ≡ old (tree_of p)
@@ -81,56 +71,63 @@ untouched_tree tree old new same table.Hier = same.1.1.1.1.1.1.1.0
 untouched_tree tree old new same table.Posting = same.1.1.1.1.1.0
 untouched_tree tree old new same table.Move = same.1.1.1.1.1.1.0
 
-module _ (old new : State) (t : Tables) (kept : Keeps old.now t) where
-  module _ {tree : ℕ} {Held : List Row → Type 0} (w : Rewrites tree Held old new) where
-    -- Each table other than the rewritten one still has its rows.
-    other_table_held : (p : Table) → tree_of p ≢ tree → HoldsTable p t (new.now.trees (tree_of p))
-    other_table_held p apart =
-        subst (HoldsTable p t) (sym (untouched_tree tree old.now.trees new.now.trees w.others p apart))
-        (holds_tree old.now.trees t kept.hold p)
+-- Assumes a store whose table meta has this version.
+module _ (version : ℕ) (old new : State) (t : Tables) (kept : KeepsAs version old.now t) where
+  holds_tree : (p : Table) → HoldsAs version p t (old.now.trees (tree_of p))
+  holds_tree table.Meta = kept.hold.meta
+  holds_tree table.Resource = kept.hold.resource
+  holds_tree table.Outside = kept.hold.outside
+  holds_tree table.Label = kept.hold.label
+  holds_tree table.Link = kept.hold.link
+  holds_tree table.Hier = kept.hier
+  holds_tree table.Posting = kept.hold.posting
+  holds_tree table.Move = kept.hold.move
 
-    keeps_with : (u : Tables) → ((p : Table) → HoldsTable p u (new.now.trees (tree_of p)))
-        → ArePostingsNumbered 1 u.posting → AreSpelled u → Keeps new.now u
-    keeps_with u each numbered spelled = keeps_current new.now u (keeps_all 2 new.now u w.schema each numbered spelled)
+  -- Each table other than the rewritten one still has its rows.
+  pub other_table_held : {tree : ℕ} {Held : List Row → Type 0} → Rewrites tree Held old new → (p : Table)
+      → tree_of p ≢ tree → HoldsAs version p t (new.now.trees (tree_of p))
+  other_table_held {tree} w p apart =
+      subst (HoldsAs version p t) (sym (untouched_tree tree old.now.trees new.now.trees w.others p apart))
+      (holds_tree p)
 
   pub keeps_resource : (rows : List Resource) → Rewrites 1 (HoldResources rows) old new
-      → Keeps new.now (record t { resource = rows })
-  keeps_resource rows w = keeps_with w (record t { resource = rows })
+      → KeepsAs version new.now (record t { resource = rows })
+  keeps_resource rows w = keeps_all version new.now (record t { resource = rows }) w.schema
       (elim [ table.Resource ↦ w.rows | p ↦ other_table_held w p (λ e. omega (arith, e)) ]) kept.hold.numbered
       kept.hold.spelled
 
   pub keeps_outside : (rows : List (ℕ × List ℕ)) → Rewrites 2 (HoldOutside rows) old new
-      → AllByRecursion IsSpelledOutside rows → Keeps new.now (record t { outside = rows })
-  keeps_outside rows w told = keeps_with w (record t { outside = rows })
+      → AllByRecursion IsSpelledOutside rows → KeepsAs version new.now (record t { outside = rows })
+  keeps_outside rows w told = keeps_all version new.now (record t { outside = rows }) w.schema
       (elim [ table.Outside ↦ w.rows | p ↦ other_table_held w p (λ e. omega (arith, e)) ]) kept.hold.numbered
       (kept.hold.spelled.0, (told, kept.hold.spelled.1.1))
 
   pub keeps_label : (rows : List Label) → Rewrites 4 (AreHidden label_values rows) old new
-      → AllByRecursion IsSpelledLabel rows → Keeps new.now (record t { label = rows })
-  keeps_label rows w told = keeps_with w (record t { label = rows })
+      → AllByRecursion IsSpelledLabel rows → KeepsAs version new.now (record t { label = rows })
+  keeps_label rows w told = keeps_all version new.now (record t { label = rows }) w.schema
       (elim [ table.Label ↦ w.rows | p ↦ other_table_held w p (λ e. omega (arith, e)) ]) kept.hold.numbered
       (kept.hold.spelled.0, (kept.hold.spelled.1.0, (told, kept.hold.spelled.1.1.1)))
 
   pub keeps_link : (rows : List Link) → Rewrites 6 (AreHidden link_values rows) old new
-      → Keeps new.now (record t { link = rows })
-  keeps_link rows w = keeps_with w (record t { link = rows })
+      → KeepsAs version new.now (record t { link = rows })
+  keeps_link rows w = keeps_all version new.now (record t { link = rows }) w.schema
       (elim [ table.Link ↦ w.rows | p ↦ other_table_held w p (λ e. omega (arith, e)) ]) kept.hold.numbered
       kept.hold.spelled
 
   pub keeps_hier : (rows : List HierRow) → Rewrites 11 (AreHidden hier_values rows) old new
-      → Keeps new.now (record t { hier = rows })
-  keeps_hier rows w = keeps_with w (record t { hier = rows })
+      → KeepsAs version new.now (record t { hier = rows })
+  keeps_hier rows w = keeps_all version new.now (record t { hier = rows }) w.schema
       (elim [ table.Hier ↦ w.rows | p ↦ other_table_held w p (λ e. omega (arith, e)) ]) kept.hold.numbered
       kept.hold.spelled
 
   pub keeps_posting : (rows : List PostingRow) → Rewrites 8 (HoldPostings rows) old new → ArePostingsNumbered 1 rows
-      → AllByRecursion IsSpelledPosting rows → Keeps new.now (record t { posting = rows })
-  keeps_posting rows w num told = keeps_with w (record t { posting = rows })
+      → AllByRecursion IsSpelledPosting rows → KeepsAs version new.now (record t { posting = rows })
+  keeps_posting rows w num told = keeps_all version new.now (record t { posting = rows }) w.schema
       (elim [ table.Posting ↦ w.rows | p ↦ other_table_held w p (λ e. omega (arith, e)) ]) num
       (kept.hold.spelled.0, (kept.hold.spelled.1.0, (kept.hold.spelled.1.1.0, told)))
 
   pub keeps_move : (rows : List MoveRow) → Rewrites 10 (HoldMoves rows) old new
-      → Keeps new.now (record t { move = rows })
-  keeps_move rows w = keeps_with w (record t { move = rows })
+      → KeepsAs version new.now (record t { move = rows })
+  keeps_move rows w = keeps_all version new.now (record t { move = rows }) w.schema
       (elim [ table.Move ↦ w.rows | p ↦ other_table_held w p (λ e. omega (arith, e)) ]) kept.hold.numbered
       kept.hold.spelled

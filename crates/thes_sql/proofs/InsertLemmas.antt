@@ -1,7 +1,8 @@
 -- Proves that each INSERT makes its change: it appends one row to its table.
-use Rattle.std.proofs.Common.{arith, ◌≡◌, inl, inr, ℕ, ℤ, ◌+ℤ◌, suc, pos, List, [], ◌∷◌, ◌++◌, ◌<◌, ◌+◌, ◌/◌, length}
-use Rattle.std.proofs.Common.{map, filter, fold, slice_get, Bool, cond, false, Option, None, Some, Ok, Err, Result}
-use Rattle.std.proofs.Common.{OnOk, refl, sym, ap, subst, ◌∙◌}
+use Rattle.std.proofs.lemmas.Grind.{common_steps}
+use Rattle.std.proofs.Common.{arith, ◌≡◌, inl, inr, ℕ, ℤ, ◌+ℤ◌, pos, List, [], ◌∷◌, ◌++◌, ◌<◌, ◌+◌, ◌/◌, length, map}
+use Rattle.std.proofs.Common.{filter, fold, slice_get, Bool, false, Option, None, Some, Ok, Err, Result, OnOk, refl}
+use Rattle.std.proofs.Common.{sym, ap, subst, ◌∙◌}
 use Rattle.std.proofs.lemmas.Int.{ints}
 use Rattle.std.specs.Prelude.{IsUtf8}
 use Rattle.sqlite.specs.declared.types.Value.{Value}
@@ -39,35 +40,36 @@ use Rattle.thes_tables.specs.declared.change.Change.TheVariants as change
 use Rattle.thes_tables.specs.Tables.{Tables, IsIn}
 use Rattle.thes_tables.specs.Rows.{tables_after_change, ChangeFits}
 use Rattle.thes_sql.specs.TransactionEffects.{AppliesChange}
-use Rattle.thes_tables.specs.Cells.{resource_kind_no, optional_cell, hier_type_no, resource_cells, outside_cells}
-use Rattle.thes_tables.specs.Cells.{posting_cells, move_cells}
+use Rattle.thes_tables.specs.Cells.{optional_cell, hier_type_no, resource_cells, outside_cells, posting_cells}
+use Rattle.thes_tables.specs.Cells.{move_cells}
 use Rattle.thes_sql.specs.Schema.{resource_table, outside_table, label_table, link_table, hier_table, posting_table}
 use Rattle.thes_sql.specs.Schema.{move_table, store_schema}
-use Rattle.thes_sql.specs.StoredRows.{Keeps, AreIncreasingAbove, AreKeyed, AreHidden, ArePostingsNumbered, hidden_row}
-use Rattle.thes_sql.specs.StoredRows.{values, numbered_from, stored_resource, stored_outside, stored_posting}
-use Rattle.thes_sql.specs.StoredRows.{stored_move, label_values, link_values, hier_values, value_of, IsSpelledOutside}
+use Rattle.thes_sql.specs.OldStore.{KeepsAs}
+use Rattle.thes_sql.specs.StoredRows.{AreIncreasingAbove, AreKeyed, AreHidden, ArePostingsNumbered, hidden_row, values}
+use Rattle.thes_sql.specs.StoredRows.{numbered_from, stored_resource, stored_outside, stored_posting, stored_move}
+use Rattle.thes_sql.specs.StoredRows.{label_values, link_values, hier_values, value_of, IsSpelledOutside}
 use Rattle.thes_sql.specs.StoredRows.{IsSpelledLabel, IsSpelledPosting}
-use Rattle.thes_sql.proofs.StatementTextLemmas.{IsCommandText}
-use Rattle.thes_sql.proofs.StatementTextLemmas as text
+use Rattle.thes_sql.proofs.StatementTextLemmas.{IsCommandText, statement_text, statement_is}
 use Rattle.thes_sql.proofs.WriteEffectLemmas.{IsQuietTable, insert_effect, cast_int, cast_null}
 use Rattle.thes_sql.proofs.KeyedRowLemmas.{keyed_push}
 use Rattle.sqlite_trees.proofs.ListLemmas.{all-append}
 use Rattle.thes_sql.proofs.StatementLemmas.{Rewrites, rewrites_as}
 use Rattle.thes_sql.proofs.HeldTableLemmas.{keeps_resource, keeps_outside, keeps_label, keeps_link, keeps_hier}
-use Rattle.thes_sql.proofs.HeldTableLemmas.{keeps_posting, keeps_move}
+use Rattle.thes_sql.proofs.HeldTableLemmas.{keeps_posting, keeps_move, keeps_current, keeps_as_current}
 
--- The statement makes the change in each store with tables that the change fits.
-abbrev pub Makes : List ℕ → Row → Change → Type 1
-Makes text params c = (old new : State) (t : Tables) (count : ℕ) → Keeps old.now t → ChangeFits c t
-    → Executes text params old new (Ok count) → Keeps new.now (tables_after_change c t)
+-- The statement makes the change, inside a transaction.
+abbrev pub Makes : Row → Change → Type 1
+Makes params c = (old new : State) (r : Result ℕ Error) → ExecutesInside 0 (statement_text c) params old new r
+    → OnOk r (AppliesChange c old new)
 
-pub applies_change : (text : List ℕ) (params : Row) (c : Change) → Makes text params c
-    → (old new : State) (r : Result ℕ Error)
-    → ExecutesInside 0 text params old new r → OnOk r (AppliesChange c old new)
-applies_change text params c makes old new (Err e) h = tt
-applies_change text params c makes old new (Ok count) h = record {
-  rows =
-      λ t kept fits. makes old new t count kept fits h.0;
+-- A statement makes the change if it does so in each store with tables that the change fits.
+pub makes_change : (params : Row) (c : Change) → ((old new : State) (t : Tables) (count : ℕ) → KeepsAs 2 old.now t
+    → ChangeFits c t → Executes (statement_text c) params old new (Ok count)
+    → KeepsAs 2 new.now (tables_after_change c t)) → Makes params c
+makes_change params c makes old new (Err e) h = tt
+makes_change params c makes old new (Ok count) h = record {
+  rows = λ t kept fits.
+      keeps_current new.now _ (makes old new t count (keeps_as_current old.now t kept) fits h.0);
   inside = h.1.mode;
   is_open = h.1.is_open;
 }
@@ -129,15 +131,12 @@ module _ {A : Type 0} (of : A → List Value) where
   above_next : (a n : ℕ) (ls : List (ℕ × A)) → AreIncreasingAbove (λ (row : ℕ × A). row.0) a ls → a < n
       → a < next_id n ls
   above_next a n [] up lt = lt
-  above_next a n (l ∷ ls) up lt = let more = above_next l.0 (l.0 + 1) ls up.1 (omega arith) in let first = up.0 in
-      omega (arith, more, first)
+  above_next a n (l ∷ ls) up lt = grind (arith, common_steps, above_next l.0 (l.0 + 1) ls up.1)
 
   below_next : (a n : ℕ) (ls : List (ℕ × A)) → AreIncreasingAbove (λ (row : ℕ × A). row.0) a ls → (y : ℕ × A) → Has ls y
       → y.0 < next_id n ls
   below_next a n [] up y h = absurd h
-  below_next a n (l ∷ ls) up y (inl e) = subst (λ (z : ℕ × A). z.0 < next_id (l.0 + 1) ls) (sym e)
-      (above_next l.0 (l.0 + 1) ls up.1 (omega arith))
-  below_next a n (l ∷ ls) up y (inr h) = below_next l.0 (l.0 + 1) ls up.1 y h
+  below_next a n (l ∷ ls) up y h = grind (arith, common_steps, above_next, below_next l.0 (l.0 + 1) ls up.1 y)
 
   shown_push : (ls : List (ℕ × A)) (row : ℕ × A) → map (λ (row : ℕ × A). row.1) (ls ++ row ∷ []) ≡ map (λ (row : ℕ
       × A). row.1) ls ++ row.1 ∷ []
@@ -193,9 +192,7 @@ in_has (y ∷ ys) x (inr h) = inr (in_has ys x h)
 numbered_push : {A : Type 0} (n : ℕ) (xs : List A) (x : A) → numbered_from n (xs ++ x ∷ []) ≡ numbered_from n xs ++
     (n + length xs, x) ∷ []
 numbered_push n [] x = ap (λ m. (m, x) ∷ []) (let e : n ≡ n + 0 = omega arith in e)
-numbered_push n (y ∷ ys) x = ap (λ rest. (n, y) ∷ rest) (numbered_push (n + 1) ys x
-    ∙ ap (λ m. numbered_from (n + 1) ys ++ (m, x) ∷ []) (let e : n + 1 + length ys ≡ n + suc (length ys) =
-    omega arith in e))
+numbered_push n (y ∷ ys) x = grind (arith, common_steps, numbered_push (n + 1) ys x)
 
 numbered_below : {A : Type 0} (n : ℕ) (xs : List A) (y : ℕ × A) → Has (numbered_from n xs) y → y.0 < n + length xs
 numbered_below n [] y h = absurd h
@@ -210,9 +207,7 @@ postings_push first (r ∷ rows) x num e = (num.0, postings_push (first + 1) row
 postings_below : (first : ℕ) (rows : List PostingRow) (y : PostingRow) → ArePostingsNumbered first rows → Has rows y
     → y.number < first + length rows
 postings_below first [] y num h = absurd h
-postings_below first (r ∷ rows) y num (inl e) = let n = num.0 in let q = ap (λ (z : PostingRow). z.number) e in
-    omega (arith, n, q)
-postings_below first (r ∷ rows) y num (inr h) = let k = postings_below (first + 1) rows y num.1 h in omega (arith, k)
+postings_below first (r ∷ rows) y num h = grind (arith, common_steps, postings_below (first + 1) rows y num.1)
 
 cast_held : (o : Option ℕ) → cast Integer (value_of (optional_cell o)) ≡ value_of (optional_cell o)
 cast_held None = cast_null
@@ -221,109 +216,89 @@ cast_held (Some n) = cast_int (pos n)
 -- The column types leave a row of table resource unchanged.
 pub cast_resource : (row : ℕ × Resource) → cast_row (record resource_table { tree = 1 })
     (stored_resource row) ≡ stored_resource row
-cast_resource row = rw (
-  cast_null,
-  cast_int (pos row.0),
-  cast_int (pos (resource_kind_no row.1.kind)),
-  cast_held row.1.scheme,
-  cast_int (pos (cond row.1.live 1 0)),
-  cast_held row.1.replaced,
-) refl
+cast_resource row = simp (cast_null, cast_int, cast_held)
 
 -- The INSERT of a resource makes the change AddResource.
-pub makes_resource : (n : ℕ) (r : Resource) → Makes text.add_resource_text (values (resource_cells n r))
-    (change.AddResource n r)
-makes_resource n r old new t count kept next h =
+pub makes_resource : (n : ℕ) (r : Resource) → Makes (values (resource_cells n r)) (change.AddResource n r)
+makes_resource n r = makes_change _ (change.AddResource n r) (λ old new t count kept next h.
     let is : numbered_from 1 t.resource ++ (n, r) ∷ [] ≡ numbered_from 1 (t.resource ++ r ∷ []) =
     ap (λ m. numbered_from 1 t.resource ++ (m, r) ∷ []) (let e : n ≡ 1 + length t.resource = omega (arith, next) in e)
     ∙ sym (numbered_push 1 t.resource r) in
-    keeps_resource old new t kept (t.resource ++ r ∷ []) (rewrites_as 1 old new
+    keeps_resource 2 old new t kept (t.resource ++ r ∷ []) (rewrites_as 1 old new
     (subst (λ l. AreKeyed stored_resource (λ (row : ℕ × Resource). row.0) l (new.now.trees 1)) is)
     (adds_keyed (λ (row : ℕ × Resource). row.0) stored_resource (λ row. refl) 1 (record resource_table { tree = 1 })
-    text.add_resource_text text.add_resource_terms 6 (values (resource_cells n r)) (n, r) refl refl
-    (λ olds news. refl) text.add_resource_is refl (λ rows. ap (with_rowid Chosen rows) (cast_resource (n, r))) old new
-    (numbered_from 1 t.resource) count kept.schema kept.hold.resource (omega (arith, next))
-    (λ y k. let b = numbered_below 1 t.resource y k in omega (arith, b, next)) h))
+    _ _ _ (values (resource_cells n r)) (n, r) refl refl (λ olds news. refl) (statement_is (change.AddResource n r))
+    refl (λ rows. ap (with_rowid Chosen rows) (cast_resource (n, r))) old new (numbered_from 1 t.resource) count
+    kept.schema kept.hold.resource (omega (arith, next))
+    (λ y k. let b = numbered_below 1 t.resource y k in omega (arith, b, next)) h)))
 
 cast_outside : (row : ℕ × List ℕ) → cast_row (record outside_table { tree = 2 }) (stored_outside row) ≡ stored_outside
     row
 cast_outside row = rw (cast_null, cast_int (pos row.0)) refl
 
 -- The INSERT of an outside concept makes the change AddOutside.
-pub makes_outside : (n : ℕ) (iri : List ℕ) → 0 < n → IsUtf8 iri → Makes text.add_outside_text
-    (values (outside_cells (n, iri)))
+pub makes_outside : (n : ℕ) (iri : List ℕ) → 0 < n → IsUtf8 iri → Makes (values (outside_cells (n, iri)))
     (change.AddOutside n iri)
-makes_outside n iri least spelled old new t count kept below h =
-    keeps_outside old new t kept (t.outside ++ (n, iri) ∷ [])
+makes_outside n iri least spelled = makes_change _ (change.AddOutside n iri) (λ old new t count kept below h.
+    keeps_outside 2 old new t kept (t.outside ++ (n, iri) ∷ [])
     (adds_keyed (λ (row : ℕ × List ℕ). row.0) stored_outside (λ row. refl) 2 (record outside_table { tree = 2 })
-    text.add_outside_text text.add_outside_terms 3 (values (outside_cells (n, iri))) (n, iri) refl refl
-    (λ olds news. refl)
-    text.add_outside_is refl (λ rows. ap (with_rowid Chosen rows) (cast_outside (n, iri))) old new t.outside count
-    kept.schema kept.hold.outside least (λ y k. below y (in_has t.outside y k)) h)
-    (all-append IsSpelledOutside t.outside ((n, iri) ∷ []) kept.hold.spelled.1.0 (spelled, tt))
+    _ _ _ (values (outside_cells (n, iri))) (n, iri) refl refl (λ olds news. refl)
+    (statement_is (change.AddOutside n iri)) refl (λ rows. ap (with_rowid Chosen rows) (cast_outside (n, iri))) old new
+    t.outside count kept.schema kept.hold.outside least (λ y k. below y (in_has t.outside y k)) h)
+    (all-append IsSpelledOutside t.outside ((n, iri) ∷ []) kept.hold.spelled.1.0 (spelled, tt)))
 
 pub cast_posting : (p : PostingRow) → cast_row (record posting_table { tree = 8 }) (stored_posting p) ≡ stored_posting p
-cast_posting p = rw (
-  cast_null,
-  cast_int (pos p.number),
-  cast_int (pos p.first),
-  cast_int (pos p.place),
-  cast_int (pos (cond p.withdrawn 1 0)),
-) refl
+cast_posting p = simp (cast_null, cast_int)
 
 -- The INSERT of a posting makes the change AddPosting.
-pub makes_posting : (p : PostingRow) → IsSpelledPosting p
-    → Makes text.add_posting_text (values (posting_cells p)) (change.AddPosting p)
-makes_posting p spelled old new t count kept fits h =
+pub makes_posting : (p : PostingRow) → IsSpelledPosting p → Makes (values (posting_cells p)) (change.AddPosting p)
+makes_posting p spelled = makes_change _ (change.AddPosting p) (λ old new t count kept fits h.
     let next = fits.0 in
-    keeps_posting old new t kept (t.posting ++ p ∷ [])
+    keeps_posting 2 old new t kept (t.posting ++ p ∷ [])
     (adds_keyed (λ (row : PostingRow). row.number) stored_posting (λ row. refl) 5 (record posting_table { tree = 8 })
-    text.add_posting_text text.add_posting_terms 7 (values (posting_cells p)) p refl refl (λ olds news. refl)
-    text.add_posting_is refl (λ rows. ap (with_rowid Chosen rows) (cast_posting p)) old new t.posting count
-    kept.schema kept.hold.posting (omega (arith, next))
+    _ _ _ (values (posting_cells p)) p refl refl (λ olds news. refl) (statement_is (change.AddPosting p)) refl
+    (λ rows. ap (with_rowid Chosen rows) (cast_posting p)) old new t.posting count kept.schema kept.hold.posting
+    (omega (arith, next))
     (λ y k. let b = postings_below 1 t.posting y kept.hold.numbered k in omega (arith, b, next)) h)
     (postings_push 1 t.posting p kept.hold.numbered (omega (arith, next)))
-    (all-append IsSpelledPosting t.posting (p ∷ []) kept.hold.spelled.1.1.1 (spelled, tt))
+    (all-append IsSpelledPosting t.posting (p ∷ []) kept.hold.spelled.1.1.1 (spelled, tt)))
 
 cast_move : (m : MoveRow) → cast_row (record move_table { tree = 10 }) (stored_move m) ≡ stored_move m
-cast_move m = rw (
-  cast_null,
-  cast_int (pos m.number),
-  cast_int (pos m.posting),
-  cast_int (pos m.source),
-  cast_int (pos m.target),
-) refl
+cast_move m = simp (cast_null, cast_int)
 
 -- The INSERT of a move makes the change AddMove.
-pub makes_move : (m : MoveRow) → 0 < m.number → Makes text.add_move_text (values (move_cells m)) (change.AddMove m)
-makes_move m least old new t count kept below h =
-    keeps_move old new t kept (t.move ++ m ∷ [])
+pub makes_move : (m : MoveRow) → 0 < m.number → Makes (values (move_cells m)) (change.AddMove m)
+makes_move m least = makes_change _ (change.AddMove m) (λ old new t count kept below h.
+    keeps_move 2 old new t kept (t.move ++ m ∷ [])
     (adds_keyed (λ (row : MoveRow). row.number) stored_move (λ row. refl) 6 (record move_table { tree = 10 })
-    text.add_move_text text.add_move_terms 5 (values (move_cells m)) m refl refl (λ olds news. refl)
-    text.add_move_is refl (λ rows. ap (with_rowid Chosen rows) (cast_move m)) old new t.move count kept.schema
-    kept.hold.move least (λ y k. below y (in_has t.move y k)) h)
+    _ _ _ (values (move_cells m)) m refl refl (λ olds news. refl) (statement_is (change.AddMove m)) refl
+    (λ rows. ap (with_rowid Chosen rows) (cast_move m)) old new t.move count kept.schema kept.hold.move least
+    (λ y k. below y (in_has t.move y k)) h))
 
 -- The INSERT of a label makes the change AddLabel.
-pub makes_label : (l : Label) → IsSpelledLabel l → Makes text.add_label_text (label_values l) (change.AddLabel l)
-makes_label l spelled old new t count kept fits h = keeps_label old new t kept (t.label ++ l ∷ [])
-    (adds_hidden label_values 3 (record label_table { tree = 4 }) text.add_label_text text.add_label_terms 5 l refl refl
-    (λ olds news. refl) text.add_label_is refl
+pub makes_label : (l : Label) → IsSpelledLabel l → Makes (label_values l) (change.AddLabel l)
+makes_label l spelled = makes_change _ (change.AddLabel l) (λ old new t count kept fits h.
+    keeps_label 2 old new t kept (t.label ++ l ∷ [])
+    (adds_hidden label_values 3 (record label_table { tree = 4 }) _ _ _ l refl refl (λ olds news. refl)
+    (statement_is (change.AddLabel l)) refl
     (λ rows. rw (cast_null, cast_int (pos l.owner), cast_int (pos (label_kind_no l.kind))) refl) old new t.label
     count kept.schema kept.hold.label h)
-    (all-append IsSpelledLabel t.label (l ∷ []) kept.hold.spelled.1.1.0 (spelled, tt))
+    (all-append IsSpelledLabel t.label (l ∷ []) kept.hold.spelled.1.1.0 (spelled, tt)))
 
 -- The INSERT of a link makes the change AddLink.
-pub makes_link : (l : Link) → Makes text.add_link_text (link_values l) (change.AddLink l)
-makes_link l old new t count kept fits h = keeps_link old new t kept (t.link ++ l ∷ [])
-    (adds_hidden link_values 4 (record link_table { tree = 6 }) text.add_link_text text.add_link_terms 4 l refl refl
-    (λ olds news. refl) text.add_link_is refl
+pub makes_link : (l : Link) → Makes (link_values l) (change.AddLink l)
+makes_link l = makes_change _ (change.AddLink l) (λ old new t count kept fits h.
+    keeps_link 2 old new t kept (t.link ++ l ∷ [])
+    (adds_hidden link_values 4 (record link_table { tree = 6 }) _ _ _ l refl refl
+    (λ olds news. refl) (statement_is (change.AddLink l)) refl
     (λ rows. rw (cast_null, cast_int (pos (link_kind_no l.kind)), cast_int (pos l.a), cast_int (pos l.b)) refl) old
-    new t.link count kept.schema kept.hold.link h)
+    new t.link count kept.schema kept.hold.link h))
 
 -- The INSERT of a hierarchical link makes the change AddHier.
-pub makes_hier : (row : HierRow) → Makes text.add_hier_text (hier_values row) (change.AddHier row)
-makes_hier row old new t count kept fits h = keeps_hier old new t kept (t.hier ++ row ∷ [])
-    (adds_hidden hier_values 7 (record hier_table { tree = 11 }) text.add_hier_text text.add_hier_terms 4 row refl refl
-    (λ olds news. refl) text.add_hier_is refl
+pub makes_hier : (row : HierRow) → Makes (hier_values row) (change.AddHier row)
+makes_hier row = makes_change _ (change.AddHier row) (λ old new t count kept fits h.
+    keeps_hier 2 old new t kept (t.hier ++ row ∷ [])
+    (adds_hidden hier_values 7 (record hier_table { tree = 11 }) _ _ _ row refl refl
+    (λ olds news. refl) (statement_is (change.AddHier row)) refl
     (λ rows. rw (cast_null, cast_int (pos row.a), cast_int (pos row.b), cast_int (pos (hier_type_no row.typ))) refl)
-    old new t.hier count kept.schema kept.hold.hier h)
+    old new t.hier count kept.schema kept.hier h))

@@ -1,10 +1,11 @@
 -- Proves the effects of edits by rowid on rows that are sorted by number.
+use Rattle.std.proofs.lemmas.Grind.{common_steps}
 use Rattle.std.proofs.Common.{arith, ◌≡◌, inl, inr, ℕ, ℤ, pos, ◌<◌, ◌≤◌, ◌==◌, List, [], ◌∷◌, ◌++◌, map, filter, Bool}
-use Rattle.std.proofs.Common.{true, false, not, cond, if◌then◌else◌, refl, sym, ap, subst, ◌∙◌, Less}
+use Rattle.std.proofs.Common.{true, false, not, if◌then◌else◌, refl, sym, ap, subst, ◌∙◌, Less}
 use Rattle.std.specs.List.{AllByRecursion}
 use Rattle.std.specs.List.Sorted.{IsPermutation}
 use Rattle.std.proofs.lemmas.List.Sorted.{IsPermutation-sym}
-use Rattle.std.proofs.lemmas.Bool.{cases_Bool, not-true, eqb-true}
+use Rattle.std.proofs.lemmas.Bool.{cases_Bool, not-true}
 use Rattle.std.proofs.lemmas.Bool.Decides.{nat_tests}
 use Rattle.std.proofs.lemmas.Int.{ints}
 use Rattle.sqlite.specs.declared.types.Value.TheVariants.{Int}
@@ -19,8 +20,8 @@ use Rattle.sqlite_rules.proofs.PlaceLemmas.{given as given_is}
 use Rattle.sqlite_rules.proofs.ProbeLemmas.{has_mapped, mapped_has}
 use Rattle.sqlite_rules.proofs.TableLemmas.{put_all_has, put_all_keeps, put_all_adds, without_all_has}
 use Rattle.thes_sql.specs.StoredRows.{AreIncreasingAbove, AreKeyed}
-use Rattle.thes_sql.proofs.TableRowLemmas.{perm_has, filter_has, has_filter, same_rows, table_put, table_left}
-use Rattle.thes_sql.proofs.TableRowLemmas.{left_not, left_has, test_id, num_same}
+use Rattle.thes_sql.proofs.TableRowLemmas.{perm_has, filter_has, has_filter, same_rows, table_put, table_left, left_not}
+use Rattle.thes_sql.proofs.TableRowLemmas.{left_has, test_id, num_same}
 use Rattle.thes_tables.proofs.RowSetLemmas.{clash}
 
 pub int_value_less : (m n : ℕ) → m < n → value_cmp (Int (pos m)) (Int (pos n)) ≡ Less
@@ -33,51 +34,29 @@ module _ {X : Type 0} (num : X → ℕ) where
 
   pub rising_number_above : (a : ℕ) (xs : List X) (x : X) → AreIncreasingAbove num a xs → Has xs x → a < num x
   rising_number_above a [] x up h = absurd h
-  rising_number_above a (y ∷ ys) x up (inl e) = subst (λ z. a < num z) (sym e) up.0
-  rising_number_above a (y ∷ ys) x up (inr h) = let l = rising_number_above (num y) ys x up.1 h in let f = up.0 in
-      omega (arith, l, f)
+  rising_number_above a (y ∷ ys) x up h = grind (arith, common_steps, rising_number_above (num y) ys x up.1)
 
   pub number_unique : (a : ℕ) (xs : List X) → AreIncreasingAbove num a xs → (x y : X) → Has xs x → Has xs y → num x
       ≡ num y → x ≡ y
   number_unique a [] up x y h k e = absurd h
-  number_unique a (z ∷ zs) up x y (inl h) (inl k) e = h ∙ sym k
-  number_unique a (z ∷ zs) up x y (inl h) (inr k) e = absurd (let l = rising_number_above (num z) zs y up.1 k in
-      let q = ap num h in
-      omega (arith, l, q, e))
-  number_unique a (z ∷ zs) up x y (inr h) (inl k) e = absurd (let l = rising_number_above (num z) zs x up.1 h in
-      let q = ap num k in
-      omega (arith, l, q, e))
-  number_unique a (z ∷ zs) up x y (inr h) (inr k) e = number_unique (num z) zs up.1 x y h k e
+  number_unique a (z ∷ zs) up x y h k e =
+      grind (arith, common_steps, rising_number_above, number_unique (num z) zs up.1 x y)
 
   pub rising_push : (a : ℕ) (xs : List X) (x : X) → AreIncreasingAbove num a xs → a < num x
       → ((y : X) → Has xs y → num y < num x)
       → AreIncreasingAbove num a (xs ++ x ∷ [])
   rising_push a [] x up lt below = (lt, tt)
-  rising_push a (y ∷ ys) x up lt below = (
-    up.0,
-    rising_push (num y) ys x up.1 (below y (inl refl))
-        (λ z h. below z (inr h)),
-  )
+  rising_push a (y ∷ ys) x up lt below = grind (arith, common_steps, rising_push (num y) ys x up.1)
 
   pub rising_map : (g : X → X) → ((x : X) → num (g x) ≡ num x) → (a : ℕ) (xs : List X) → AreIncreasingAbove num a xs
       → AreIncreasingAbove num a (map g xs)
   rising_map g keeps a [] up = tt
-  rising_map g keeps a (x ∷ xs) up =
-      let e = keeps x in (
-        subst (λ n. a < n) (sym e) up.0,
-        subst (λ n. AreIncreasingAbove num n (map g xs)) (sym e)
-            (rising_map g keeps (num x) xs up.1),
-      )
+  rising_map g keeps a (x ∷ xs) up = grind (arith, common_steps, rising_map g keeps (num x) xs up.1)
 
   pub rising_filter : (q : X → Bool) (a : ℕ) (xs : List X) → AreIncreasingAbove num a xs → AreIncreasingAbove num a
       (filter q xs)
   rising_filter q a [] up = tt
-  rising_filter q a (x ∷ xs) up = go (q x) (rising_filter q (num x) xs up.1)
-    where
-      go : (b : Bool) → AreIncreasingAbove num (num x) (filter q xs) → AreIncreasingAbove num a
-          (cond b (x ∷ filter q xs) (filter q xs))
-      go true more = (up.0, more)
-      go false more = rising_weaker a (num x) (filter q xs) (let lt = up.0 in omega (arith, lt)) more
+  rising_filter q a (x ∷ xs) up = grind (arith, common_steps, rising_weaker, rising_filter q (num x) xs up.1)
 
   module _ (stored : X → Row) (is_num : (x : X) → rowid (stored x) ≡ Int (pos (num x))) where
     stored_less : (x y : X) → num x < num y → value_cmp (rowid (stored x)) (rowid (stored y)) ≡ Less
@@ -86,11 +65,7 @@ module _ {X : Type 0} (num : X → ℕ) where
     all_above : (x : X) (b : ℕ) (ys : List X) → num x ≤ b → AreIncreasingAbove num b ys
         → AllByRecursion (λ r. value_cmp (rowid (stored x)) (rowid r) ≡ Less) (map stored ys)
     all_above x b [] le up = tt
-    all_above x b (y ∷ ys) le up = let lt = up.0 in (
-      stored_less x y (omega (arith, le, lt)),
-      all_above x (num y) ys
-          (omega (arith, le, lt)) up.1,
-    )
+    all_above x b (y ∷ ys) le up = grind (arith, common_steps, stored_less, all_above x (num y) ys)
 
     pub is_table : (a : ℕ) (xs : List X) → AreIncreasingAbove num a xs → IsTable (map stored xs)
     is_table a [] up = tt
@@ -102,18 +77,13 @@ module _ {X : Type 0} (num : X → ℕ) where
     put_last : (x : X) (xs : List X) → ((y : X) → Has xs y → num y < num x)
         → put_row (stored x) (map stored xs) ≡ map stored (xs ++ x ∷ [])
     put_last x [] below = refl
-    put_last x (y ∷ ys) below = rw (stored_less y x (below y (inl refl)))
-        (ap (λ rows. stored y ∷ rows) (put_last x ys (λ z h. below z (inr h))))
+    put_last x (y ∷ ys) below = grind (arith, common_steps, stored_less, put_last x ys)
 
     -- A row with a greater number than all others is put at the end.
     pub keyed_push : (x : X) (xs : List X) (tree : List Row) → AreKeyed stored num xs tree → 0 < num x
         → ((y : X) → Has xs y → num y < num x)
         → AreKeyed stored num (xs ++ x ∷ []) (put_row (stored x) tree)
-    keyed_push x xs tree held lt below = record {
-      rises = rising_push 0 xs x held.rises lt below;
-      rows =
-          ap (put_row (stored x)) held.rows ∙ put_last x xs below;
-    }
+    keyed_push x xs tree held lt below = grind (arith, common_steps, rising_push, put_last)
 
     -- Assumes a statement that selects the rows that pass a test, in any order.
     module _ (p : X → Bool) (xs : List X) (up : AreIncreasingAbove num 0 xs) (given : List Row) (shown : X
@@ -140,20 +110,10 @@ module _ {X : Type 0} (num : X → ℕ) where
           (mapped_has shown (filter p xs) x (has_filter p xs x h t))
 
       id_of : (id : ℤ) → Has ids id → (x : X) × Has xs x × (p x ≡ true) × (id ≡ pos (num x))
-      id_of id h =
-          let m = has_mapped (λ r. id_in (rowid r)) given id h in
-          let g = given_of m.0 m.1 in
-          (g.0, g.1, g.2, m.2 ∙ ap (λ r. id_in (rowid r)) g.3 ∙ shown_id g.0)
+      id_of id h = grind (arith, common_steps, has_mapped, given_of)
 
       kept : (x : X) → Has xs x → p x ≡ false → Has left (stored x)
-      kept x h t = left_has ids (map stored xs) (stored x) (mapped_has stored xs x h)
-          (λ id m. let k = id_of id m in elim (cases_Bool (has_rowid id (stored x))) [
-            | inl hit ↦
-                let same = number_unique 0 xs up x k.0 h k.1 (eqb-true (num x) (num k.0) (sym (has_num (num k.0) x)
-                ∙ ap (λ j. has_rowid j (stored x)) (sym k.3) ∙ hit)) in
-                clash (p x) (ap p same ∙ k.2) t
-            | inr miss ↦ miss
-          ])
+      kept x h t = grind (arith, common_steps, left_has, mapped_has, id_of, number_unique, has_num)
 
       gone : (x : X) (r : Row) → Has xs x → p x ≡ true → r ≡ stored x → Has left r → ⊥
       gone x r h t e old =
@@ -194,11 +154,7 @@ module _ {X : Type 0} (num : X → ℕ) where
         changed_no x e = ap (λ b. if b then f x else x) e
 
         pub change_num : (x : X) → num (change x) ≡ num x
-        change_num x = elim (cases_Bool (p x)) [
-          | inl t ↦ ap num (changed_yes x t)
-              ∙ keeps x
-          | inr t ↦ ap num (changed_no x t)
-        ]
+        change_num x = grind (arith, common_steps)
 
         abbrev news : List Row
         news = numbered Given left (map cast given)

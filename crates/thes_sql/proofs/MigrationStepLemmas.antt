@@ -1,6 +1,7 @@
 -- Proves that each statement of a migration takes a store one step from version 1 to version 2.
-use Rattle.std.proofs.Common.{arith, ◌≡◌, ◌≢◌, ℕ, pos, List, [], ◌∷◌, ◌++◌, map, filter, codes, true, not, Ok, Err}
-use Rattle.std.proofs.Common.{Result, OnOk, refl, sym, ap, subst, ◌∙◌, append-nil, append_assoc, lit<, rules}
+use Rattle.std.proofs.lemmas.Grind.{common_steps}
+use Rattle.std.proofs.Common.{arith, ◌≡◌, ℕ, pos, List, [], ◌∷◌, ◌++◌, map, filter, codes, true, not, Ok, Result, OnOk}
+use Rattle.std.proofs.Common.{refl, sym, ap, subst, ◌∙◌, append-nil, append_assoc, lit<, rules}
 use Rattle.std.proofs.Math.Bool.{and-true}
 use Rattle.std.specs.List.{list_all}
 use Rattle.sqlite.specs.declared.types.Value.{Value}
@@ -26,7 +27,6 @@ use Rattle.sqlite.proofs.Callers.{statement_of, runs_as}
 use Rattle.sqlite_keyed.proofs.ListLemmas.{map-map, filter-map}
 use Rattle.thes_base.specs.declared.data.Link.{Link}
 use Rattle.thes_base.specs.Links.{link_kind_no}
-use Rattle.thes_base.specs.declared.fault.Table.{Table as Name}
 use Rattle.thes_base.specs.declared.fault.Table.TheVariants as table
 use Rattle.thes_tables.specs.declared.cells.Cell.{Cell}
 use Rattle.thes_tables.specs.declared.cells.Cell.TheVariants as cells
@@ -39,11 +39,10 @@ use Rattle.thes_tables.specs.OldRows.{is_broader, untyped_row, tables_after_migr
 use Rattle.thes_sql.specs.OldStore.{KeepsAs, stored_version, tables_with_copied_links, HasEmptyHier, HasCopiedLinks}
 use Rattle.thes_sql.specs.OldStore.{HasMovedLinks, IsMigratedStore}
 use Rattle.thes_sql.specs.TransactionEffects.{TransformsTables}
-use Rattle.thes_sql.specs.Reads.{tree_of}
 use Rattle.thes_sql.proofs.StatementTextLemmas.{plain_query, whole_program, equal_terms, IsCommandText}
 use Rattle.thes_sql.proofs.WriteEffectLemmas.{insert_effect, cast_int, cast_null}
 use Rattle.thes_sql.proofs.StatementLemmas.{Rewrites, rewrites_as, updates, deletes}
-use Rattle.thes_sql.proofs.HeldTableLemmas.{untouched_tree, HoldsAs, keeps_all, keeps_current}
+use Rattle.thes_sql.proofs.HeldTableLemmas.{other_table_held, keeps_all, keeps_current, keeps_hier, keeps_link}
 use Rattle.thes_sql.proofs.InsertLemmas.{hidden_push, hidden_drop}
 use Rattle.thes_sql.proofs.CreateStoreLemmas.{cast_meta}
 use Rattle.thes_sql.proofs.SelectLemmas.{ordered_query, answer_rows}
@@ -90,43 +89,6 @@ version_is : IsCommandText version_text (Update 0 (whole_program (plain_query 0 
 unfolding understood everything
 version_is = (refl, (refl, refl))
 
-holds_each_as : (version : ℕ) (db : Database) (t : Tables) → KeepsAs version db t → (p : Name)
-    → HoldsAs version p t (db.trees (tree_of p))
-holds_each_as version db t k table.Meta = k.hold.meta
-holds_each_as version db t k table.Resource = k.hold.resource
-holds_each_as version db t k table.Outside = k.hold.outside
-holds_each_as version db t k table.Label = k.hold.label
-holds_each_as version db t k table.Link = k.hold.link
-holds_each_as version db t k table.Hier = k.hier
-holds_each_as version db t k table.Posting = k.hold.posting
-holds_each_as version db t k table.Move = k.hold.move
-
-module _ (version : ℕ) (old new : State) (t : Tables) (kept : KeepsAs version old.now t) where
-  -- Each table other than the rewritten one still has its rows.
-  other_table_kept : {tree : ℕ} {Held : List Row → Type 0} → Rewrites tree Held old new → (p : Name) → tree_of p ≢ tree
-      → HoldsAs version p t (new.now.trees (tree_of p))
-  other_table_kept {tree} w p apart =
-      subst (HoldsAs version p t) (sym (untouched_tree tree old.now.trees new.now.trees w.others p apart))
-      (holds_each_as version old.now t kept p)
-
-  as_hier : (rows : List HierRow) → Rewrites 11 (AreHidden hier_values rows) old new
-      → KeepsAs version new.now (record t { hier = rows })
-  as_hier rows w = keeps_all version new.now (record t { hier = rows }) w.schema
-      (elim [ table.Hier ↦ w.rows | p ↦ other_table_kept w p (λ e. omega (arith, e)) ]) kept.hold.numbered
-      kept.hold.spelled
-
-  as_link : (rows : List Link) → Rewrites 6 (AreHidden link_values rows) old new
-      → KeepsAs version new.now (record t { link = rows })
-  as_link rows w = keeps_all version new.now (record t { link = rows }) w.schema
-      (elim [ table.Link ↦ w.rows | p ↦ other_table_kept w p (λ e. omega (arith, e)) ]) kept.hold.numbered
-      kept.hold.spelled
-
-  as_version : (next : ℕ) → Rewrites 0 (λ tree. tree ≡ stored_version next t.base ∷ []) old new
-      → KeepsAs next new.now t
-  as_version next w = keeps_all next new.now t w.schema
-      (elim [ table.Meta ↦ w.rows | p ↦ other_table_kept w p (λ e. omega (arith, e)) ]) kept.hold.numbered
-      kept.hold.spelled
-
 -- Rows without numbers are inserted in order, each under the next rowid.
 module _ {A : Type 0} (of : A → List Value) (table : Table)
     (casts : (y : A) (rows : List Row) → with_rowid Chosen rows (cast_row table (Null ∷ of y)) ≡ Int (next_rowid rows)
@@ -163,9 +125,7 @@ is_kind row = and-true _ ∙ same_ints (link_kind_no row.1.kind) 1
 picked_links : (given : List (ℕ × Link)) (links : List Link) → map (λ (row : ℕ × Link). row.1) given ≡ links
     → map (λ (row : ℕ × Link). untyped_row row.1) (filter (λ (row : ℕ × Link). is_broader row.1) given)
     ≡ map untyped_row (filter is_broader links)
-picked_links given links is =
-    sym (map-map untyped_row (λ (row : ℕ × Link). row.1) (filter (λ (row : ℕ × Link). is_broader row.1) given))
-    ∙ ap (map untyped_row) (sym (filter-map is_broader (λ (row : ℕ × Link). row.1) given) ∙ ap (filter is_broader) is)
+picked_links given links is = grind (arith, common_steps, map-map, filter-map)
 
 -- The INSERT .. SELECT puts the links of kind broader into the empty table hier.
 copies_links : (t : Tables) (old new : State) (count : ℕ) → KeepsAs 1 old.now (record t { hier = [] })
@@ -189,7 +149,7 @@ copies_links t old new count kept h =
     ∙ copied_rows (filter (λ (row : ℕ × Link). is_broader row.1) held.given)
     ∙ ap (map (λ (y : HierRow). Null ∷ hier_values y)) (picked_links held.given t.link held.same) in
     let all = hidden_push_all hier_values there cast_hier rows [] (trees 11) kept.hier in
-    as_hier 1 old new (record t { hier = [] }) kept rows (record {
+    keeps_hier 1 old new (record t { hier = [] }) kept rows (record {
       schema = it.2;
       rows = subst (AreHidden hier_values rows)
           (sym (it.3.rows ∙ ap (λ l. edited trees (edit_of trees there [] Chosen 0 l)) given)) all;
@@ -201,7 +161,7 @@ drops_copied : (t : Tables) (old new : State) (count : ℕ) → KeepsAs 1 old.no
     → KeepsAs 1 new.now (record t { link = filter (λ l. not (is_broader l)) t.link })
 drops_copied t old new count kept h =
     let held = kept.hold.link in
-    as_link 1 old new t kept (filter (λ l. not (is_broader l)) t.link)
+    keeps_link 1 old new t kept (filter (λ l. not (is_broader l)) t.link)
     (rewrites_as 6 old new (hidden_drop link_values (λ l. not (is_broader l)) t.link (old.now.trees 6)
     (new.now.trees 6) held)
     (deletes (λ (row : ℕ × Link). row.0) (hidden_row link_values) (λ row. refl) 4 (record link_table { tree = 6 }) refl
@@ -211,21 +171,21 @@ drops_copied t old new count kept h =
 sets_version : (t : Tables) (old new : State) (count : ℕ) → KeepsAs 1 old.now t
     → Executes version_text [] old new (Ok count) → Keeps new.now t
 sets_version t old new count kept h =
-    keeps_current new.now t (as_version 1 old new t kept 2 (rewrites_as 0 old new (λ held. held.rows)
+    let w : Rewrites 0 (λ tree. tree ≡ stored_version 2 t.base ∷ []) old new = rewrites_as 0 old new
+    (λ held. held.rows)
     (updates (λ (row : ℕ × List ℕ). 1) (λ (row : ℕ × List ℕ). stored_version row.0 row.1) (λ row. refl) 0 meta_table
     refl (λ olds news. refl) version_text [] [] (λ row. true) (λ row. refl) version_project version_is
     (λ row. (2, row.1)) (λ row. refl) (λ row. refl) (λ row. cast_meta row.1) old new ((1, t.base) ∷ []) count
-    kept.schema (record { rises = (lit< tt, tt); rows = kept.hold.meta }) h)))
+    kept.schema (record { rises = (lit< tt, tt); rows = kept.hold.meta }) h) in
+    keeps_current new.now t (keeps_all 2 new.now t w.schema
+    (elim [ table.Meta ↦ w.rows | p ↦ other_table_held 1 old new t kept w p (λ e. omega (arith, e)) ])
+    kept.hold.numbered kept.hold.spelled)
 
 transforms_inside : (From To : Tables → Database → Type 0) (text : List ℕ) → ((t : Tables) (old new : State) (count : ℕ)
     → From t old.now → Executes text [] old new (Ok count) → To t new.now)
     → (old new : State) (r : Result ℕ Error) → ExecutesInside 0 text [] old new r
     → OnOk r (TransformsTables From To old new)
-transforms_inside From To text makes old new (Err e) h = tt
-transforms_inside From To text makes old new (Ok count) h = record {
-  made = λ t was. makes t old new count was h.0;
-  inside = h.1.mode;
-}
+transforms_inside From To text makes old new r h = grind (arith, common_steps)
 
 pub does_copy : (old new : State) (r : Result ℕ Error) → ExecutesInside 0 copy_text [] old new r
     → OnOk r (TransformsTables HasEmptyHier HasCopiedLinks old new)

@@ -1,6 +1,7 @@
 -- Proves that a query leaves the database unchanged, and which rows or faults it returns.
-use Rattle.std.proofs.Common.{◌≡◌, ◌⊎◌, inl, inr, ℕ, List, length, Ok, Err, Result, IfOk, IfErr, false, IsTrue, sym, ap}
-use Rattle.std.proofs.Common.{true, refl, OnOk, [], subst, ◌∙◌, append-nil, Option, None, Some, is_ok, ◌≢◌}
+use Rattle.std.proofs.Common.{arith, ◌≡◌, ◌⊎◌, inl, inr, ℕ, List, Ok, Err, Result, IfOk, IfErr, false, IsTrue, sym, ap}
+use Rattle.std.proofs.Common.{true, refl, OnOk, [], subst, ◌∙◌, Option, None, Some, is_ok, ◌≢◌}
+use Rattle.std.proofs.lemmas.Grind.{common_steps}
 use Rattle.sqlite.specs.Order.{Row}
 use Rattle.sqlite.specs.Tree.{Trees}
 use Rattle.sqlite.specs.Effect.{Database, RefusesQuery, RefusesToRead, is_query}
@@ -10,12 +11,11 @@ use Rattle.sqlite_schema.specs.declared.program.Program.{Program}
 use Rattle.sqlite_resolve.specs.declared.error.CompileError.{CompileError}
 use Rattle.sqlite.specs.declared.error.Error.TheVariants.{SqlInputError}
 use Rattle.sqlite_trees.specs.declared.error.StoreError.{StoreError}
-use Rattle.sqlite_trees.specs.declared.error.StoreError.TheVariants as cause
 use Rattle.sqlite.specs.Listing.{understood, reads_listing, IsSourceOf}
 use Rattle.sqlite.specs.Outline.{Outline}
 use Rattle.sqlite.specs.Steps.{Outlines}
-use Rattle.sqlite.specs.State.{State, HasCleanDisk, Shown, ShowsRows, FailsToQuery, FailsToShow, IsNotRun}
-use Rattle.sqlite.specs.State.{IsUnchanged, IsNoStatement, store_error, IsRolledBack, Survives, CommitsShowing}
+use Rattle.sqlite.specs.State.{State, HasCleanDisk, Shown, ShowsRows, FailsToQuery, FailsToShow, IsNotRun, IsUnchanged}
+use Rattle.sqlite.specs.State.{IsNoStatement, store_error, IsRolledBack, Survives, CommitsShowing}
 use Rattle.sqlite.specs.Held.{Held, state}
 use Rattle.sqlite.specs.Given.{Returns, HasGiven, HasBegun}
 use Rattle.sqlite.specs.declared.error.Error.{Error}
@@ -32,24 +32,18 @@ use Rattle.thes_sql.proofs.QueryTextLemmas.{query_is_plain, query_reads, query_i
 
 shows_open : (old new : State) (sql : List ℕ) (c : Compiled) (params : Row) (rows : List Row) (o : Option Returning)
     → ShowsRows old new sql c params rows o → IsTrue old.is_open
-shows_open old new sql c params rows None h = h.3.0.was_open
-shows_open old new sql c params rows (Some what) h = h.1.shown.was_open
+shows_open old new sql c params rows o h = grind (arith, common_steps)
 
 runs_open : (old new : State) (sql : List ℕ) (c : Compiled) (params : Row) (e : Error) (o : Option Returning)
     → FailsToShow old new sql c params e o → IsTrue new.is_open → IsTrue old.is_open
-runs_open old new sql c params e None h now = h.3.0.was_open
-runs_open old new sql c params e (Some what) (inl h) now = h.1.0.was_open
-runs_open old new sql c params e (Some what) (inr h) now = h.3.was_open now
+runs_open old new sql c params e o h now = grind (arith, common_steps)
 
 -- If the database is open after a query, it was open before it.
 was_open : (sql : List ℕ) (params : Row) (old new : State) {V : Type 0} (items : V → List Row) (r : Result V Error)
     → IfOk r (λ v. Shown sql params old new (items v)) → IfErr r (FailsToQuery sql params old new)
     → IsTrue new.is_open → IsTrue old.is_open
 unfolding Shown FailsToQuery IsNotRun
-was_open sql params old new items (Ok v) ok err now = shows_open old new sql ok.0 _ (items v) ok.0.returning ok.2
-was_open sql params old new items (Err e) ok (inl (inl refused)) now = refused.1.0.was_open
-was_open sql params old new items (Err e) ok (inl (inr fails)) now = fails.3.was_open now
-was_open sql params old new items (Err e) ok (inr h) now = runs_open old new sql h.0 _ e h.0.returning h.2 now
+was_open sql params old new items r ok err now = grind (arith, common_steps, shows_open, runs_open)
 
 -- After a query the database is unchanged, or rolled back to what was committed.
 module _ (sql : List ℕ) (params : Row) (old new : State) (is : IsQuery sql) where
@@ -58,19 +52,11 @@ module _ (sql : List ℕ) (params : Row) (old new : State) (is : IsQuery sql) wh
 
   shown_same : (out : List Row) → Shown sql params old new out → IsUnchanged old new
   unfolding Shown
-  shown_same out h =
-      let bare = plain_here h.0 h.1.is in
-      let it = rw bare.0 at h.2 in
-      it.3
+  shown_same out h = grind (arith, common_steps, plain_here)
 
   fails_same : (e : Error) → FailsToQuery sql params old new e → IsUnchanged old new ⊎ IsRolledBack old new
   unfolding FailsToQuery IsNotRun
-  fails_same e (inl (inl refused)) = inl refused.1
-  fails_same e (inl (inr fails)) = inr fails.3
-  fails_same e (inr h) =
-      let bare = plain_here h.0 h.1.is in
-      let it = rw bare.0 at h.2 in
-      inl it.3
+  fails_same e h = grind (arith, common_steps, plain_here)
 
   unchanged_or_rolled_back : {V : Type 0} (items : V → List Row) (r : Result V Error)
       → IfOk r (λ v. Shown sql params old new (items v)) → IfErr r (FailsToQuery sql params old new)
@@ -85,8 +71,7 @@ module _ (sql : List ℕ) (params : Row) (old new : State) (is : IsQuery sql) wh
 left_as_committed : (old new : State) → IsTrue new.is_open → old.now ≡ old.committed → IsUnchanged old new
     ⊎ IsRolledBack old new
     → (new.now ≡ old.now) × (new.committed ≡ old.committed)
-left_as_committed old new still_open settled (inl h) = (h.0.now_is, h.0.committed_is)
-left_as_committed old new still_open settled (inr h) = let back = h.undone still_open in (back.0 ∙ sym settled, back.1)
+left_as_committed old new still_open settled h = grind (arith, common_steps)
 
 -- A query leaves a database unchanged, and commits nothing.
 module _ {S : Type 0} (g : Ghosts S) (sql : List ℕ) (params : Row) (old new : Held S) {V : Type 0}
@@ -137,12 +122,7 @@ module _ (sql : List ℕ) (params : Row) (is : IsQuery sql) where
 
 -- The error of a store that failed is never that of a query that finds nothing.
 pub cause_finds : (e : Error) (cause : StoreError) → e ≡ store_error cause → finds_nothing e ≡ false
-cause_finds e cause.OutOfMemory is = ap finds_nothing is
-cause_finds e cause.Io is = ap finds_nothing is
-cause_finds e cause.Corrupt is = ap finds_nothing is
-cause_finds e cause.Full is = ap finds_nothing is
-cause_finds e cause.Broken is = ap finds_nothing is
-cause_finds e cause.Unstorable is = ap finds_nothing is
+cause_finds e cause is = grind (arith, common_steps)
 
 module _ (sql : List ℕ) (old new : State) (is : IsWholeQuery sql) where
   finds_shown : (out : List Row) → Shown sql [] old new out → Finds sql old.now (Some out)
@@ -155,16 +135,7 @@ module _ (sql : List ℕ) (old new : State) (is : IsWholeQuery sql) where
   -- A single query without parameters is refused only if it doesn't compile.
   no_other : (e : Error) → IsNoStatement old sql [] e
       → (fault : CompileError) × (understood old.now.schema sql ≡ Err fault) × (e ≡ SqlInputError fault)
-  no_other e (inl h) = h
-  no_other e (inr h) =
-      let closed = query_is_whole sql is old.now.schema h.0 h.1 in
-      elim h.2 [
-        | inl a ↦ absurd (a.0 closed.1)
-        | inr more ↦ elim more [
-          | inl b ↦ absurd (b.0 (sym (ap length closed.0)))
-          | inr c ↦ absurd (c.0 (query_is_plain sql is.0 old.now.schema h.0 h.1).1)
-        ]
-      ]
+  no_other e h = grind (arith, common_steps, query_is_whole, query_is_plain)
 
   not_compiled : (e : Error) → IsNoStatement old sql [] e
       → (finds_nothing e ≡ true) × (compiles old.now.schema sql ≡ false)
@@ -197,8 +168,7 @@ module _ (sql : List ℕ) (old new : State) (is : IsWholeQuery sql) where
   pub found_result : {V : Type 0} (items : V → List Row) (r : Result V Error)
       → IfOk r (λ v. Shown sql [] old new (items v)) → IfErr r (FailsToQuery sql [] old new)
       → IfOk r (λ v. Finds sql old.now (Some (items v))) × IfErr r (FailsToFind sql old new)
-  found_result items (Ok v) ok err = (finds_shown (items v) ok, tt)
-  found_result items (Err e) ok err = (tt, fails_to_find e err)
+  found_result items r ok err = grind (arith, common_steps, finds_shown, fails_to_find)
 
 -- Preparing a statement leaves the database unchanged.
 module _ {S : Type 0} (g : Ghosts S) (sql : List ℕ) (old new : Held S) where
@@ -210,8 +180,7 @@ module _ {S : Type 0} (g : Ghosts S) (sql : List ℕ) (old new : Held S) where
 
   open_before : IsUnchanged (state g old) (state g new) ⊎ IsRolledBack (state g old) (state g new)
       → IsTrue (state g new).is_open → IsTrue (state g old).is_open
-  open_before (inl h) now = h.0.was_open
-  open_before (inr h) now = h.was_open now
+  open_before h now = grind (arith, common_steps)
 
   -- Preparing a statement leaves the database unchanged, and a crash leaves nothing new.
   pub prepared_leaves : (old.in_transaction ≡ false → new.in_transaction ≡ false)
@@ -219,22 +188,13 @@ module _ {S : Type 0} (g : Ghosts S) (sql : List ℕ) (old new : Held S) where
       → (HasCleanDisk (state g new) → IsUnchanged (state g old) (state g new) ⊎ IsRolledBack (state g old)
       (state g new))
       → LeavesAlone g old new
-  prepared_leaves mode s so = record {
-    tables = record {
-      mode = mode;
-      was = λ clean still_open. open_before (so clean) still_open;
-      clean = s.clean;
-      same = λ clean still_open settled. left_as_committed (state g old) (state g new) still_open settled (so clean);
-    };
-    crash = s;
-  }
+  prepared_leaves mode s so = grind (arith, common_steps, open_before, left_as_committed)
 
   pub each_so : {V : Type 0} (P : V → Type 0) (r : Result V Error)
       → IfOk r (λ v. P v × IsUnchanged (state g old) (state g new))
       → IfErr r (λ e. (params : Row) → IsNotRun (state g old) (state g new) sql params e)
       → IsUnchanged (state g old) (state g new) ⊎ IsRolledBack (state g old) (state g new)
-  each_so P (Ok v) ok err = inl ok.1
-  each_so P (Err e) ok err = prepared_so e err
+  each_so P r ok err = grind (arith, common_steps, prepared_so)
 
 -- Preparing a single query shows whether it compiles, unless the store fails.
 module _ (sql : List ℕ) (old new : State) (is : IsWholeQuery sql) where
@@ -300,23 +260,11 @@ module _ (sql : List ℕ) (params : Row) (old new : State) (q : Program) (names 
   bare = subst (λ schema. IsPlain (understood schema sql)) (sym has) plain
 
   no_statement : IsNoStatement old sql params e → e ≢ SqlInputError fault
-  no_statement (inl h) same = let k = sym here ∙ ap command_of h.1 in cc
-  no_statement (inr h) same = elim h.2 [
-    | inl a ↦ let k = sym a.1 ∙ same in cc
-    | inr more ↦ elim more [ inl b ↦ let k = sym b.1 ∙ same in cc | inr c ↦ let k = sym c.1 ∙ same in cc ]
-  ]
+  no_statement h same = grind (arith, common_steps, here)
 
   no_refusal : (db : Database) → RefusesQuery old.step_limit db q params e → e ≢ SqlInputError fault
-  no_refusal db (inl h) same = let k = sym h.0 ∙ same in cc
-  no_refusal db (inr (inl h)) same = let k = sym h.0 ∙ same in cc
-  no_refusal db (inr (inr h)) same = let k = sym h.0 ∙ same in cc
+  no_refusal db h same = grind (arith, common_steps)
 
   pub is_understood : FailsToQuery sql params old new e → e ≢ SqlInputError fault
   unfolding FailsToQuery IsNotRun
-  is_understood (inl (inl refused)) same = no_statement refused.0 same
-  is_understood (inl (inr fails)) same = no_cause fault fails.0 (sym same ∙ fails.1)
-  is_understood (inr h) same =
-      let simple = subst IsPlain h.1.is bare in
-      let it = rw (simple.0, simple.1, append-nil params) at h.2 in
-      no_refusal it.0 (subst (λ k. RefusesToRead old.step_limit k it.0 params e)
-      (sym (ap command_of h.1.is) ∙ here) it.2) same
+  is_understood h same = grind (arith, common_steps, no_statement, no_cause, bare, no_refusal)

@@ -1,7 +1,8 @@
 -- Proves that the statements that create or migrate a store define its schema.
-use Rattle.std.proofs.Common.{arith, ◌≡◌, ◌≢◌, Option, ℕ, suc, zero, ◌<◌, List, [], ◌∷◌, codes, length, take, drop}
-use Rattle.std.proofs.Common.{slice_get, Some, None, Ok, Err, Result, OnOk, inl, inr, refl, sym, ap, subst, subst₂}
-use Rattle.std.proofs.Common.{◌∙◌, ◌||◌, ◌++◌, true, false, lit<, IsTrue}
+use Rattle.std.proofs.lemmas.Grind.{common_steps}
+use Rattle.std.proofs.Common.{arith, ◌≡◌, ◌≢◌, ℕ, suc, zero, ◌<◌, List, [], ◌∷◌, codes, length, take, drop, slice_get}
+use Rattle.std.proofs.Common.{Some, None, Ok, Err, Result, OnOk, inl, inr, refl, sym, subst, ◌∙◌, ◌++◌, true, false}
+use Rattle.std.proofs.Common.{lit<, IsTrue}
 use Rattle.std.specs.List.{AllByRecursion}
 use Rattle.sqlite.specs.Schema.{Schema}
 use Rattle.sqlite.specs.Table.{Table}
@@ -11,20 +12,18 @@ use Rattle.sqlite.specs.Compile.{table_defined_by}
 use Rattle.sqlite_resolve.specs.Compile.{index_defined_by}
 use Rattle.sqlite.specs.Change.{created, next_tree}
 use Rattle.sqlite_catalog.specs.Change.{KeepsRows, indexed}
-use Rattle.sqlite.specs.Does.{Tally, Does, Defines, MakesIndex, AtPlace, lacks_sequence}
+use Rattle.sqlite.specs.Does.{Does, lacks_sequence}
 use Rattle.sqlite.specs.Tree.{Trees}
 use Rattle.sqlite.specs.declared.error.Error.{Error}
 use Rattle.sqlite_tied.specs.Compute.{everything}
 use Rattle.sqlite.specs.Listing.{understood}
 use Rattle.sqlite.specs.Effect.{Database, alter_error, is_query}
-use Rattle.sqlite.specs.State.{State, mode_of, Runs, RunsCommand, Executes, ExecutesIn, shows_rows, IsUnchanged}
-use Rattle.sqlite.specs.State.{IsNoStatement, ExecutesInside, IsNotRun}
-use Rattle.sqlite.specs.Clock.{timed}
+use Rattle.sqlite.specs.State.{State, Runs, Executes, ExecutesIn, shows_rows, IsUnchanged, IsNoStatement}
+use Rattle.sqlite.specs.State.{ExecutesInside, IsNotRun}
 use Rattle.sqlite.specs.declared.run.Mode.{Mode}
 use Rattle.sqlite.specs.declared.error.Error.TheVariants.{SqlInputError}
 use Rattle.sqlite_resolve.specs.declared.error.CompileError.{CompileError}
 use Rattle.sqlite_catalog.specs.declared.error.Refusal.{Refusal}
-use Rattle.sqlite_catalog.specs.declared.error.Refusal.TheVariants as refusal
 use Rattle.sqlite_catalog.specs.Calls.{RefusesIndex}
 use Rattle.std.proofs.lemmas.Bool.{cases_Bool}
 use Rattle.sqlite.specs.Batch.{first_len, RunInTurn, ExecutesAllInside}
@@ -34,16 +33,13 @@ use Rattle.sqlite_trees.specs.declared.store.Store.{Ghosts}
 use Rattle.sqlite.proofs.Callers.{IsPlain, command_of, statement_of, runs_as}
 use Rattle.sqlite_trees.proofs.ListLemmas.{all-append}
 use Rattle.thes_sql.specs.Schema.{meta_table, resource_table, outside_table, label_table, link_table, hier_table}
-use Rattle.thes_sql.specs.Schema.{posting_table, move_table, posting_at, move_posting}
-use Rattle.thes_sql.specs.Schema.{empty_schema, schema_1, schema_2, schema_3, schema_4, schema_5, schema_6, schema_7}
-use Rattle.thes_sql.specs.Schema.{schema_without_indexes, schema_9, store_schema}
+use Rattle.thes_sql.specs.Schema.{posting_table, move_table, posting_at, move_posting, empty_schema, schema_1, schema_2}
+use Rattle.thes_sql.specs.Schema.{schema_3, schema_4, schema_5, schema_6, schema_7, schema_without_indexes, schema_9}
+use Rattle.thes_sql.specs.Schema.{store_schema}
 use Rattle.thes_tables.specs.Tables.{Tables}
-use Rattle.thes_sql.specs.StoredRows.{HoldResources, HoldOutside, HoldPostings, HoldMoves, AreHidden, label_values}
-use Rattle.thes_sql.specs.StoredRows.{link_values}
 use Rattle.thes_sql.specs.OldStore.{old_schema, KeepsOld, KeepsAs, IsOldStore, HasEmptyHier}
 use Rattle.thes_sql.specs.TransactionEffects.{IsEmpty, Transforms, TransformsTables, ExtendsSchema}
 use Rattle.thes_sql.specs.TransactionEffects.{RunsOrFailsToCompile}
-use Rattle.thes_sql.proofs.WriteEffectLemmas.{value_unstopped, same_value}
 use Rattle.thes_sql.proofs.ReadFrameLemmas.{no_cause}
 
 -- The text defines the table in this schema.
@@ -102,10 +98,6 @@ abbrev create_hier_text : List ℕ
 create_hier_text =
     codes "CREATE TABLE hier (a INTEGER NOT NULL, b INTEGER NOT NULL, typ INTEGER NOT NULL, PRIMARY KEY (a, b, typ)) STRICT;"
 
-create_hier_is : MakesTable schema_7 create_hier_text hier_table
-unfolding understood everything
-create_hier_is = (refl, refl, (refl, refl))
-
 abbrev create_posting_text : List ℕ
 create_posting_text =
     codes "CREATE TABLE posting (num INTEGER PRIMARY KEY, pkey TEXT NOT NULL UNIQUE, record TEXT NOT NULL, first_at INTEGER NOT NULL, at INTEGER NOT NULL, withdrawn INTEGER NOT NULL) STRICT;"
@@ -125,17 +117,8 @@ create_move_is = (refl, refl, (refl, refl))
 abbrev index_posting_at_text : List ℕ
 index_posting_at_text = codes "CREATE INDEX IF NOT EXISTS posting_at ON posting (at)"
 
-index_posting_at_is : AddsIndex schema_without_indexes index_posting_at_text 5 (record posting_table { tree = 8 })
-    posting_at
-unfolding understood everything
-index_posting_at_is = (refl, refl, (refl, refl))
-
 abbrev index_move_posting_text : List ℕ
 index_move_posting_text = codes "CREATE INDEX IF NOT EXISTS move_posting ON move (posting)"
-
-index_move_posting_is : AddsIndex schema_9 index_move_posting_text 6 (record move_table { tree = 10 }) move_posting
-unfolding understood everything
-index_move_posting_is = (refl, refl, (refl, refl))
 
 -- A statement of a batch runs as the command that its text means.
 ran_as : (text : List ℕ) (old new : State) (from : Schema) → old.now.schema ≡ from → (command : Command)
@@ -143,13 +126,7 @@ ran_as : (text : List ℕ) (old new : State) (from : Schema) → old.now.schema 
     → (count : ℕ) → ExecutesIn true text [] old new (Ok count)
     → Runs old new None command (statement_of text (understood from text)) [] count
 unfolding ExecutesIn
-ran_as text old new from has command unasked is plain count h =
-    let known = sym h.1.is ∙ ap (λ s. understood s text) has in
-    let bare = subst IsPlain (sym known) plain in
-    let same : h.0.command ≡ command = ap command_of known ∙ is in
-    let hidden : shows_rows true h.0 ≡ false = ap (λ k. is_query k || false) same ∙ rw unasked refl in
-    subst₂ (λ k t. Runs old new None k t [] count) same (ap (statement_of text) known)
-    (rw (bare.0, bare.1) at (rw hidden at h.2))
+ran_as text old new from has command unasked is plain count h = grind (arith, common_steps)
 
 -- A CREATE TABLE leaves the rows of other tables unchanged, and creates the new table empty.
 made_table : (from : Schema) (text : List ℕ) (table : Table) → MakesTable from text table
@@ -158,21 +135,7 @@ made_table : (from : Schema) (text : List ℕ) (table : Table) → MakesTable fr
     → (new.now.schema ≡ created from table) × KeepsRows from.tables old.now.trees new.now.trees
     × (new.now.trees (next_tree from) ≡ [])
 made_table from text table is uncounted old new count has h =
-    let w = ran_as text old new from has CreateTable refl is.0 is.2 count h in
-    let all = value_unstopped w.changed in
-    let first = value_unstopped all.1 in
-    let made = first.1 in
-    let same : made.table ≡ table = same_value (sym made.defined ∙ is.1) in
-    let schema : first.0.schema ≡ created from table = made.is ∙ ap (λ s. created s made.table) has
-    ∙ ap (created from) same in
-    let plain : lacks_sequence first.0.schema ≡ false = ap lacks_sequence schema ∙ uncounted in
-    let now : new.now ≡ first.0 = ap (λ (p : Tally × Database). p.1) (same_value all.2)
-    ∙ same_value (rw plain at first.2) in
-    let kept : KeepsRows from.tables old.now.trees first.0.trees =
-    subst (λ s. KeepsRows s.tables old.now.trees first.0.trees) has made.others in
-    let last : first.0.trees (next_tree from) ≡ [] = subst (λ s. first.0.trees (next_tree s) ≡ []) has made.empty in
-    subst (λ (d : Database). (d.schema ≡ created from table) × KeepsRows from.tables old.now.trees d.trees
-    × (d.trees (next_tree from) ≡ [])) (sym now) (schema, kept, last)
+    let w = ran_as text old new from has CreateTable refl is.0 is.2 count h in grind (arith, common_steps)
 
 -- A CREATE INDEX leaves all rows unchanged.
 made_index : (from : Schema) (text : List ℕ) (at : ℕ) (table : Table) (index : Index)
@@ -180,20 +143,7 @@ made_index : (from : Schema) (text : List ℕ) (at : ℕ) (table : Table) (index
     → (old new : State) (count : ℕ) → old.now.schema ≡ from → Executes text [] old new (Ok count)
     → (new.now.schema ≡ indexed from table index) × KeepsRows from.tables old.now.trees new.now.trees
 made_index from text at table index is is_at old new count has h =
-    let w = runs_as text [] old new from has (CreateIndex at) is.0 is.2 count h in
-    let d1 = subst (λ s. Does old.step_limit (mode_of old) [] (record old.now { schema = s })
-    (statement_of text (understood from text)) None (CreateIndex at) (Ok (w.tally, new.now))) has w.changed in
-    let d2 : Defines (mode_of old) (MakesIndex (statement_of text (understood from text))
-    (record old.now { schema = from }) table) (Ok (w.tally, new.now)) =
-    subst (λ o. AtPlace (λ t. Defines (mode_of old) (MakesIndex (statement_of text (understood from text))
-    (record old.now { schema = from }) t)) o (Ok (w.tally, new.now))) is_at d1 in
-    let all = value_unstopped d2 in
-    let made = all.1 in
-    let same : made.index ≡ index = same_value (sym made.defined ∙ is.1) in
-    let schema : all.0.schema ≡ indexed from table index = made.is ∙ ap (indexed from table) same in
-    let now : new.now ≡ all.0 = ap (λ (p : Tally × Database). p.1) (same_value all.2) in
-    subst (λ (d : Database). (d.schema ≡ indexed from table index) × KeepsRows from.tables old.now.trees d.trees)
-    (sym now) (schema, made.rows)
+    let w = runs_as text [] old new from has (CreateIndex at) is.0 is.2 count h in grind (arith, common_steps)
 
 still_empty : (old next : Trees) (tables : List Table) → KeepsRows tables old next
     → AllByRecursion (λ (t : Table). old t.tree ≡ []) tables → AllByRecursion (λ (t : Table). next t.tree ≡ []) tables
@@ -271,72 +221,27 @@ module _ (text : List ℕ) (old new : State) (fault : CompileError) where
   module _ (from : Schema) (at : ℕ) (table : Table) (index : Index) (is : AddsIndex from text at table index)
       (is_at : slice_get from.tables at ≡ Some table) (has : old.now.schema ≡ from) where
     no_statement : IsNoStatement old text [] (SqlInputError fault) → ⊥
-    no_statement (inl h) = let k = sym (ap command_of h.1) ∙ ap (λ s. command_of (understood s text)) has ∙ is.0 in cc
-    no_statement (inr h) = elim h.2 [
-      | inl a ↦ let k = a.1 in cc
-      | inr more ↦ elim more [ inl b ↦ let k = b.1 in cc | inr c ↦ let k = c.1 in cc ]
-    ]
+    no_statement h = grind (arith, common_steps)
 
     no_alter : (reason : Refusal) → RefusesIndex from old.now.trees table (statement_of text (understood from text))
         reason
         → SqlInputError fault ≢ alter_error reason
-    no_alter (refusal.Invalid e) h told = let k = sym h ∙ is.1 in cc
-    no_alter _ h told = cc
+    no_alter reason h told = grind (arith, common_steps)
 
     -- A CREATE INDEX on an existing table doesn't fail to compile when it is run.
     not_made : (mode : Mode) → Does old.step_limit mode [] (record old.now { schema = from })
         (statement_of text (understood from text)) None (CreateIndex at) (Err (Some (SqlInputError fault))) → ⊥
-    not_made mode d =
-        let it : Defines mode (MakesIndex (statement_of text (understood from text))
-        (record old.now { schema = from }) table)
-        (Err (Some (SqlInputError fault))) =
-        subst (λ o. AtPlace (λ t. Defines mode (MakesIndex (statement_of text (understood from text))
-        (record old.now { schema = from }) t)) o (Err (Some (SqlInputError fault)))) is_at d in
-        elim it [ inl stopped ↦ stops stopped.0 stopped.1 stopped.2 | inr made ↦ let k = made.2 in absurd (cc) ]
-      where
-        stops : (stop : Option Error) → MakesIndex (statement_of text (understood from text))
-            (record old.now { schema = from })
-            table (Err stop) → ◌≡◌ {A = Result (Tally × Database) (Option Error)} (Err (Some (SqlInputError fault)))
-            (Err stop) → ⊥
-        stops None h told = cc
-        stops (Some e) (inl bad) told = let k = bad.1 in cc
-        stops (Some e) (inr bad) told =
-            let same : SqlInputError fault ≡ e = cc in
-            no_alter bad.0 bad.1 (same ∙ bad.2)
+    not_made mode d = grind (arith, common_steps, no_alter)
 
     -- A CREATE INDEX on an existing table doesn't fail to compile.
     pub not_refused : Executes text [] old new (Err (SqlInputError fault)) → ⊥
     unfolding ExecutesIn IsNotRun
-    not_refused (inl (inl none)) = no_statement none.0
-    not_refused (inl (inr fails)) = no_cause fault fails.0 fails.1
-    not_refused (inr h) =
-        let known = sym h.1.is ∙ ap (λ s. understood s text) has in
-        let bare = subst IsPlain (sym known) is.2 in
-        let same : h.0.command ≡ CreateIndex at = ap command_of known ∙ is.0 in
-        let ran : RunsCommand old new text h.0 (timed [] h.0.formats h.1.now) (Err (SqlInputError fault)) =
-        elim (cases_Bool (shows_rows false h.0)) [
-          | inl shows ↦ absurd (let e = (rw shows at h.2).0 in cc)
-          | inr runs ↦ rw runs at h.2
-        ] in
-        elim ran [
-          | inl refused ↦ elim refused.0 [
-            | inl misplaced ↦ elim misplaced [ inl a ↦ let k = a.0 in cc | inr b ↦ let k = b.0 in cc ]
-            | inr done ↦ not_made (mode_of old)
-                (subst₂ (λ s t. Does old.step_limit (mode_of old) [] (record old.now { schema = s }) t None
-                (CreateIndex at) (Err (Some (SqlInputError fault)))) has (ap (statement_of text) known)
-                (rw (bare.0, bare.1, same) at done.1))
-          ]
-          | inr fails ↦ no_cause fault fails.0 fails.1
-        ]
+    not_refused h = grind (arith, common_steps, no_statement, no_cause, not_made)
 
 pub tries_refused : (text : List ℕ) (old new : State) (fault : CompileError)
     → ExecutesInside 0 text [] old new (Err (SqlInputError fault)) → IsTrue old.in_transaction
     → RunsOrFailsToCompile text old new
-tries_refused text old new fault (inl h) inside = record {
-  ran = inr (fault, h.0);
-  inside = (refused_unchanged text old new fault h.0).0.mode ∙ inside;
-}
-tries_refused text old new fault (inr h) inside = absurd (let k = h.1 in cc)
+tries_refused text old new fault h inside = grind (arith, common_steps, refused_unchanged)
 
 -- Trying a CREATE INDEX on an existing table defines the index.
 index_after_try : (from : Schema) (text : List ℕ) (at : ℕ) (table : Table) (index : Index) → AddsIndex from text
@@ -358,12 +263,13 @@ keeps_rows_twice (t ∷ tables) start mid next a b = (b.0 ∙ a.0, keeps_rows_tw
 pub both_indexes : (old mid new : State) → RunsOrFailsToCompile index_posting_at_text old mid
     → RunsOrFailsToCompile index_move_posting_text mid new
     → ExtendsSchema schema_without_indexes store_schema [] old new
+unfolding understood everything
 both_indexes old mid new first second = record {
   made = λ has.
       let one = index_after_try schema_without_indexes index_posting_at_text 5 (record posting_table { tree = 8 })
-      posting_at index_posting_at_is refl old mid first has in
+      posting_at (refl, refl, (refl, refl)) refl old mid first has in
       let two = index_after_try schema_9 index_move_posting_text 6 (record move_table { tree = 10 }) move_posting
-      index_move_posting_is refl mid new second one.0 in
+      (refl, refl, (refl, refl)) refl mid new second one.0 in
       (two.0, keeps_rows_twice schema_without_indexes.tables old.now.trees mid.now.trees new.now.trees one.1 two.1, tt);
   inside = second.inside;
 }
@@ -373,48 +279,13 @@ module _ (old mid new : State) (first : ExtendsSchema old_schema schema_without_
     (second : ExtendsSchema schema_without_indexes store_schema [] mid new) where
   -- Table hier and the indexes turn an empty store of version 1 into one of version 2.
   pub newer_empty : Transforms (IsEmpty old_schema) (IsEmpty store_schema) old new
-  newer_empty = record {
-    made = λ empty.
-        let one = first.made empty.0 in
-        let two = second.made one.0 in
-        let none = still_empty old.now.trees mid.now.trees old_schema.tables one.1 empty.1 in (
-          two.0,
-          still_empty mid.now.trees new.now.trees schema_without_indexes.tables two.1
-              (all-append (λ (t : Table). mid.now.trees t.tree ≡ []) old_schema.tables (record hier_table { tree = 11 }
-              ∷ []) none (one.2.0, tt)),
-        );
-    inside = second.inside;
-  }
+  newer_empty = grind (arith, common_steps, still_empty, all-append)
 
   -- Creating table hier and the indexes leaves the tables of version 1 unchanged, and table hier
   -- empty.
   enlarged_rows : (t : Tables) → KeepsOld old.now t → KeepsAs 1 new.now (record t { hier = [] })
   enlarged_rows t was =
-      let one = first.made was.schema in
-      let two = second.made one.0 in
-      let k = keeps_rows_twice old_schema.tables old.now.trees mid.now.trees new.now.trees one.1 (
-        two.1.0,
-        (
-          two.1.1.0,
-          (two.1.1.1.0, (two.1.1.1.1.0, (two.1.1.1.1.1.0, (two.1.1.1.1.1.1.0, (two.1.1.1.1.1.1.1.0, tt))))),
-        ),
-      ) in
-      let h = was.hold in
-      record {
-        schema = two.0;
-        hold = record {
-          meta = k.0 ∙ h.meta;
-          resource = subst (HoldResources t.resource) (sym k.1.0) h.resource;
-          outside = subst (HoldOutside t.outside) (sym k.1.1.0) h.outside;
-          label = subst (AreHidden label_values t.label) (sym k.1.1.1.0) h.label;
-          link = subst (AreHidden link_values t.link) (sym k.1.1.1.1.0) h.link;
-          posting = subst (HoldPostings t.posting) (sym k.1.1.1.1.1.0) h.posting;
-          numbered = h.numbered;
-          move = subst (HoldMoves t.move) (sym k.1.1.1.1.1.1.0) h.move;
-          spelled = h.spelled;
-        };
-        hier = record { given = []; same = refl; held = record { rises = tt; rows = two.1.1.1.1.1.1.1.1.0 ∙ one.2.0 } };
-      }
+      let one = first.made was.schema in let two = second.made one.0 in grind (arith, common_steps)
 
   pub newer_enlarged : TransformsTables IsOldStore HasEmptyHier old new
   newer_enlarged = record { made = enlarged_rows; inside = second.inside }
@@ -471,14 +342,14 @@ module _ {S : Type 0} (g : Ghosts S) where
   gets_hier : (old new : Held S) → ExecutesAllInside g 0 create_hier_text old new (Ok tt) → (state g old).now.schema
       ≡ old_schema
       → HasHier (state g old).now.trees (state g new).now
-  unfolding ExecutesAllInside everything
+  unfolding ExecutesAllInside understood everything
   gets_hier old new h has =
       let start = (state g old).now.trees in
       first_made g new create_hier_text create_hier_text [] (λ db. (db.schema ≡ schema_7) × (db.trees ≡ start))
       (HasHier start)
       (length create_hier_text) old refl refl (lit< tt)
       (λ was is count from ran.
-      let m = made_table schema_7 create_hier_text hier_table create_hier_is refl was is count from.0 ran in
+      let m = made_table schema_7 create_hier_text hier_table (refl, refl, (refl, refl)) refl was is count from.0 ran in
       (m.0, subst (λ (db : Trees). KeepsRows schema_7.tables db is.now.trees) from.1 m.1, (m.2, tt)))
       (has, refl) h (λ mid most was more. subst (λ h. HasHier start (state g h).now) (sym more.1) was)
 

@@ -1,7 +1,8 @@
 -- Proves which rows a SELECT from one table returns.
-use Rattle.std.proofs.Common.{arith, ◌≡◌, ℕ, pos, List, [], ◌∷◌, ◌<◌, ◌≤◌, ◌==◌, ◌&&◌, map, filter, inl, inr}
-use Rattle.std.proofs.Common.{flat_map, codes, Bool, true, false, not, cond, refl, sym, ap, ◌+◌, subst, ◌∙◌, Less}
-use Rattle.std.proofs.Common.{lit<, Option, Some, None, Ok, is_ok, subst₂}
+use Rattle.std.proofs.lemmas.Grind.{common_steps}
+use Rattle.std.proofs.Common.{arith, ◌≡◌, ℕ, pos, List, [], ◌∷◌, ◌<◌, ◌≤◌, ◌==◌, ◌&&◌, map, filter, inl, inr, flat_map}
+use Rattle.std.proofs.Common.{codes, Bool, true, false, not, cond, refl, sym, ap, subst, ◌∙◌, Less, lit<, Option, Some}
+use Rattle.std.proofs.Common.{None, Ok, is_ok, subst₂}
 use Rattle.std.proofs.Math.Bool.{and-true}
 use Rattle.std.specs.List.{AllByRecursion, list_all}
 use Rattle.std.specs.List.Sorted.{IsPermutation}
@@ -20,7 +21,6 @@ use Rattle.sqlite.specs.Schema.{Schema}
 use Rattle.sqlite.specs.declared.error.Error.{Error}
 use Rattle.sqlite_keyed.proofs.SortLemmas.{sorted_unique}
 use Rattle.sqlite_keyed.proofs.ListLemmas.{map-map}
-use Rattle.sqlite_catalog.proofs.ListFacts.{filter_all}
 use Rattle.sqlite_trees.specs.Tree.{IsAscending, IsTable, rowid}
 use Rattle.sqlite.specs.Program.{overlay}
 use Rattle.sqlite.specs.Tree.{Trees}
@@ -38,18 +38,16 @@ use Rattle.thes_tables.specs.declared.cells.Cell.{Cell}
 use Rattle.thes_tables.specs.declared.rows.PostingRow.{PostingRow}
 use Rattle.thes_tables.specs.declared.rows.MoveRow.{MoveRow}
 use Rattle.thes_tables.specs.Tables.{Tables}
-use Rattle.thes_tables.specs.Cells.{resource_rows, resource_cells, outside_cells, label_cells, link_cells, hier_cells}
-use Rattle.thes_tables.specs.Cells.{posting_cells, move_cells, meta_cells, number_cell}
+use Rattle.thes_tables.specs.Cells.{posting_cells, move_cells, number_cell}
 use Rattle.thes_sql.specs.Schema.{store_schema}
-use Rattle.thes_sql.specs.StoredRows.{Keeps, AreIncreasingAbove, AreKeyed, AreHidden, hidden_row, numbered_from, values}
-use Rattle.thes_sql.specs.StoredRows.{stored_meta, stored_resource, stored_outside, stored_posting, stored_move}
+use Rattle.thes_sql.specs.StoredRows.{Keeps, AreIncreasingAbove, AreKeyed, values, stored_posting, stored_move}
 use Rattle.thes_sql.specs.OldStore.{old_schema, IsStoreOfVersion, stored_version, version_row}
 use Rattle.thes_tables.specs.declared.cells.Cell.TheVariants as cells
-use Rattle.thes_sql.specs.Reads.{cells_of_table, read_text, cells_with_key, cells_with_number, cells_at_concept}
-use Rattle.thes_sql.specs.Reads.{assigned_text, assigned_numbers_text, number_cells_at_concept, cells_of_moves}
-use Rattle.thes_sql.specs.Reads.{tree_of, places_of, rows_in_trees, IsReadable}
+use Rattle.thes_sql.specs.Reads.{read_text, cells_with_key, cells_with_number, cells_at_concept, assigned_text}
+use Rattle.thes_sql.specs.Reads.{assigned_numbers_text, number_cells_at_concept, cells_of_moves, tree_of, places_of}
+use Rattle.thes_sql.specs.Reads.{rows_in_trees, IsReadable}
 use Rattle.thes_sql.specs.Queries.{IsQuery, Finds}
-use Rattle.thes_sql.proofs.StatementTextLemmas.{plain_query, whole_program, equal_terms}
+use Rattle.thes_sql.proofs.StatementTextLemmas.{plain_query, whole_program, equal_terms, number_filter, place_filter}
 use Rattle.thes_sql.proofs.KeyedRowLemmas.{int_value_less, rising_filter}
 use Rattle.thes_sql.proofs.StatementLemmas.{staged_rows_pass, no_lets, map_shows}
 use Rattle.thes_sql.proofs.WhereLemmas.{by_number, by_place, same_ints, same_words}
@@ -78,10 +76,7 @@ module _ {X : Type 0} (num : X → ℕ) (stored : X → Row) (cells : X → List
   output_before_later : (a : ℕ) (x : X) (xs : List X) → num x ≤ a → AreIncreasingAbove num a xs
       → AllByRecursion (λ b. output_cmp query (out_of x) b ≡ Less) (map out_of xs)
   output_before_later a x [] le up = tt
-  output_before_later a x (y ∷ ys) le up =
-      let lt = up.0 in
-      let below : num x < num y = omega (arith, le, lt) in
-      (rw (int_value_less (num x) (num y) below) refl, output_before_later (num y) x ys (omega (arith, below)) up.1)
+  output_before_later a x (y ∷ ys) le up = grind (arith, common_steps, int_value_less, output_before_later (num y) x ys)
 
   outputs_ascend : (a : ℕ) (xs : List X) → AreIncreasingAbove num a xs
       → IsAscending (λ a b. output_cmp query a b ≡ Less) (map out_of xs)
@@ -111,38 +106,6 @@ module _ {X : Type 0} (num : X → ℕ) (stored : X → Row) (cells : X → List
       h in
       answer_rows old.now.trees xs out held (read.answer Null)
 
--- A query without filters returns all rows of a table.
-module _ {X : Type 0} (num : X → ℕ) (stored : X → Row) (cells : X → List Cell) (tree : ℕ) (project : List Term)
-    (shows : (x : X) → output (ordered_query tree [] project) ([] ∷ stored x ∷ []) ≡
-    (Int (pos (num x)) ∷ [], values (cells x))) where
-  pub all_query_rows : (text : List ℕ) → IsQueryText text (ordered_query tree [] project)
-      → (old new : State) (xs : List X)
-      (out : List Row) → old.now.schema ≡ store_schema → AreKeyed stored num xs (old.now.trees tree)
-      → Shown text [] old new out → out ≡ map values (map cells xs)
-  all_query_rows text is old new xs out has held h = query_rows num stored cells tree project [] [] (λ x. true)
-      (λ x. refl) shows
-      text is old new xs out has held h
-      ∙ ap (λ l. map values (map cells l)) (filter_all (λ x. true) xs (λ x k. refl))
-
-numbered_rows : (n : ℕ) (rs : List Resource) → map (λ (row : ℕ × Resource). resource_cells row.0 row.1)
-    (numbered_from n rs) ≡ resource_rows n rs
-numbered_rows n [] = refl
-numbered_rows n (r ∷ rs) = ap (λ l. resource_cells n r ∷ l) (numbered_rows (n + 1) rs)
-
--- A query without filters returns all rows of a table without numbers, in insertion order.
-hidden_all : {A : Type 0} (cells : A → List Cell) (tree : ℕ) (project : List Term)
-    → ((row : ℕ × A) → output (ordered_query tree [] project) ([] ∷ hidden_row (λ x. values (cells x)) row ∷ []) ≡
-    (Int (pos row.0) ∷ [], values (cells row.1)))
-    → (text : List ℕ) → IsQueryText text (ordered_query tree [] project) → (old new : State) (xs : List A)
-    (out : List Row)
-    → old.now.schema ≡ store_schema → AreHidden (λ x. values (cells x)) xs (old.now.trees tree)
-    → Shown text [] old new out → out ≡ map values (map cells xs)
-hidden_all {A} cells tree project shows text is old new xs out has held h =
-    all_query_rows (λ (row : ℕ × A). row.0) (hidden_row (λ x. values (cells x))) (λ row. cells row.1) tree project
-    shows text
-    is old new held.given out has held.held h
-    ∙ ap (map values) (sym (map-map cells (λ (row : ℕ × A). row.1) held.given) ∙ ap (map cells) held.same)
-
 abbrev posting_columns : List Term
 posting_columns = col 1 0 ∷ col 1 2 ∷ col 1 3 ∷ col 1 4 ∷ col 1 5 ∷ col 1 6 ∷ []
 
@@ -164,37 +127,6 @@ pub table_query_text : (p : Table) → IsQueryText (read_text p) (ordered_query 
 unfolding understood everything
 table_query_text table.Meta = (_, refl, refl, (refl, refl))
 table_query_text p = (_, refl, refl, (refl, refl))
-
--- The query for a table returns all its rows, in order.
-pub rows_of_table : (p : Table) (old new : State) (t : Tables) (out : List Row) → Keeps old.now t
-    → Shown (read_text p) [] old new out → out ≡ map values (cells_of_table p t)
-rows_of_table table.Meta old new t out kept h = all_query_rows (λ (base : List ℕ). 1) stored_meta meta_cells 0
-    (columns_of table.Meta) (λ base. refl) (read_text table.Meta) (table_query_text table.Meta) old new (t.base ∷ [])
-    out
-    kept.schema (record { rises = (lit< tt, tt); rows = kept.hold.meta }) h
-rows_of_table table.Resource old new t out kept h = all_query_rows (λ (row : ℕ × Resource). row.0) stored_resource
-    (λ row. resource_cells row.0 row.1) 1 (columns_of table.Resource) (λ row. refl) (read_text table.Resource)
-    (table_query_text table.Resource) old new (numbered_from 1 t.resource) out kept.schema kept.hold.resource h
-    ∙ ap (map values) (numbered_rows 1 t.resource)
-rows_of_table table.Outside old new t out kept h = all_query_rows (λ (row : ℕ × List ℕ). row.0) stored_outside
-    outside_cells 2
-    (columns_of table.Outside) (λ row. refl) (read_text table.Outside) (table_query_text table.Outside) old new
-    t.outside out
-    kept.schema kept.hold.outside h
-rows_of_table table.Label old new t out kept h = hidden_all label_cells 4 (columns_of table.Label) (λ row. refl)
-    (read_text table.Label) (table_query_text table.Label) old new t.label out kept.schema kept.hold.label h
-rows_of_table table.Link old new t out kept h = hidden_all link_cells 6 (columns_of table.Link) (λ row. refl)
-    (read_text table.Link) (table_query_text table.Link) old new t.link out kept.schema kept.hold.link h
-rows_of_table table.Hier old new t out kept h = hidden_all hier_cells 11 (columns_of table.Hier) (λ row. refl)
-    (read_text table.Hier) (table_query_text table.Hier) old new t.hier out kept.schema kept.hold.hier h
-rows_of_table table.Posting old new t out kept h = all_query_rows (λ (row : PostingRow). row.number) stored_posting
-    posting_cells 8 (columns_of table.Posting) (λ row. refl) (read_text table.Posting)
-    (table_query_text table.Posting) old new
-    t.posting out kept.schema kept.hold.posting h
-rows_of_table table.Move old new t out kept h = all_query_rows (λ (row : MoveRow). row.number) stored_move move_cells 10
-    (columns_of table.Move) (λ row. refl) (read_text table.Move) (table_query_text table.Move) old new t.move out
-    kept.schema
-    kept.hold.move h
 
 module _ (tree : ℕ) (project : List Term) (of : Row → Row)
     (shows : (row : Row) → output (ordered_query tree [] project) ([] ∷ row ∷ []) ≡ (rowid row ∷ [], of row)) where
@@ -260,7 +192,7 @@ keyed_is_query = refl
 abbrev pub numbered_text : List ℕ
 numbered_text = codes "SELECT num, pkey, record, first_at, at, withdrawn FROM posting WHERE num = ?1 ORDER BY num"
 
-pub numbered_is : IsQueryText numbered_text (ordered_query 8 (equal_terms (col 1 0) (col 0 0) ∷ []) posting_columns)
+pub numbered_is : IsQueryText numbered_text (ordered_query 8 number_filter posting_columns)
 unfolding understood everything
 numbered_is = (_, refl, refl, (refl, refl))
 
@@ -269,7 +201,7 @@ unfolding everything
 numbered_is_query = refl
 
 pub standing_is : IsQueryText assigned_text (ordered_query 8
-    (equal_terms (col 1 5) (col 0 0) ∷ equal_terms (col 1 6) (lit (Int (pos 0))) ∷ []) posting_columns)
+    place_filter posting_columns)
 unfolding understood everything
 standing_is = (_, refl, refl, (refl, refl))
 
@@ -278,7 +210,7 @@ unfolding everything
 standing_is_query = refl
 
 pub standing_numbers_is : IsQueryText assigned_numbers_text (ordered_query 8
-    (equal_terms (col 1 5) (col 0 0) ∷ equal_terms (col 1 6) (lit (Int (pos 0))) ∷ []) (col 1 0 ∷ []))
+    place_filter (col 1 0 ∷ []))
 unfolding understood everything
 standing_numbers_is = (_, refl, refl, (refl, refl))
 
@@ -314,13 +246,13 @@ rows_with_key key = postings_shown keyed_text (Words key ∷ []) (equal_terms (c
 
 pub row_with_number : (n : ℕ) (old new : State) (t : Tables) (out : List Row) → Keeps old.now t
     → Shown numbered_text (Int (pos n) ∷ []) old new out → out ≡ map values (cells_with_number n t)
-row_with_number n = postings_shown numbered_text (Int (pos n) ∷ []) (equal_terms (col 1 0) (col 0 0) ∷ [])
+row_with_number n = postings_shown numbered_text (Int (pos n) ∷ []) number_filter
     (λ x. x.number == n) (by_number [] n) numbered_is
 
 pub rows_at_concept : (concept : ℕ) (old new : State) (t : Tables) (out : List Row) → Keeps old.now t
     → Shown assigned_text (Int (pos concept) ∷ []) old new out → out ≡ map values (cells_at_concept concept t)
 rows_at_concept concept = postings_shown assigned_text (Int (pos concept) ∷ [])
-    (equal_terms (col 1 5) (col 0 0) ∷ equal_terms (col 1 6) (lit (Int (pos 0))) ∷ [])
+    place_filter
     (λ x. not x.withdrawn && x.place == concept) (by_place [] concept) standing_is
 
 pub numbers_at_concept : (concept : ℕ) (old new : State) (t : Tables) (out : List Row) → Keeps old.now t
@@ -328,7 +260,7 @@ pub numbers_at_concept : (concept : ℕ) (old new : State) (t : Tables) (out : L
     → out ≡ map values (number_cells_at_concept concept t)
 numbers_at_concept concept old new t out kept h = query_rows (λ (row : PostingRow). row.number) stored_posting
     (λ (row : PostingRow). number_cell row.number ∷ []) 8 (col 1 0 ∷ []) (Int (pos concept) ∷ [])
-    (equal_terms (col 1 5) (col 0 0) ∷ equal_terms (col 1 6) (lit (Int (pos 0))) ∷ [])
+    place_filter
     (λ x. not x.withdrawn && x.place == concept) (by_place [] concept) (λ row. refl) assigned_numbers_text
     standing_numbers_is old new t.posting out kept.schema kept.hold.posting h
 
@@ -400,13 +332,7 @@ meta_compiles = (refl, refl)
 meta_not_refused : (db : Database) (schema : Schema) → db.schema ≡ schema
     → accepts_program schema [] meta_query [] ≡ true → (e : Error)
     → RefusesQuery None db (whole_program meta_query) [] e → ⊥
-meta_not_refused db schema has typed e (inl h) =
-    let k = sym h.1 ∙ ap (λ s. accepts_program s [] meta_query []) has ∙ typed in cc
-meta_not_refused db schema has typed e (inr (inl h)) = elim h.1 [
-  | inl none ↦ none
-  | inr fold ↦ no_fold_overflows (overlay db.trees []) meta_query.from ([] ∷ []) refl fold
-]
-meta_not_refused db schema has typed e (inr (inr h)) = let none = h.1 in cc
+meta_not_refused db schema has typed e h = grind (arith, common_steps, no_fold_overflows)
 
 pub version_found : (version : ℕ) (base : List ℕ) (db : Database) (found : Option (List Row))
     → IsStoreOfVersion version base db → Finds meta_text db found → found ≡ Some (version_row version base ∷ [])

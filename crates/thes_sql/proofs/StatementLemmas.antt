@@ -1,7 +1,7 @@
 -- Proves the effects of a statement on the rows of one table, for any table.
-use Rattle.std.proofs.Common.{◌≡◌, ◌≢◌, ℕ, pos, List, [], ◌∷◌, ◌++◌, map, filter, flat_map, slice_get, drop, nat_le}
-use Rattle.std.proofs.Common.{unwrap_or, None, ◌^◌, ◌-◌, Bool, true, false, not, cond, if◌then◌else◌, Some, Ok, refl}
-use Rattle.std.proofs.Common.{sym, ap, subst, ◌∙◌}
+use Rattle.std.proofs.Common.{arith, ◌≡◌, ◌≢◌, ℕ, pos, List, [], ◌∷◌, map, filter, flat_map, slice_get, drop, ◌-◌, Bool}
+use Rattle.std.proofs.Common.{true, not, cond, if◌then◌else◌, Some, Ok, refl, sym, ap, subst, ◌∙◌}
+use Rattle.std.proofs.lemmas.Grind.{common_steps}
 use Rattle.std.specs.List.{AllByRecursion, list_all}
 use Rattle.std.specs.List.Sorted.{IsPermutation}
 use Rattle.std.proofs.lemmas.List.Sorted.{IsPermutation-map}
@@ -48,14 +48,13 @@ rewrites_as tree old new tell w = record { schema = w.schema; rows = tell w.rows
 
 -- A query without tables of its own reads the database's tables.
 pub no_lets : (db : Trees) (t : ℕ) → overlay db [] t ≡ db t
-no_lets db t = elim (nat_le (2 ^ 31) t) as (λ b. unwrap_or (if b then slice_get [] (t - 2 ^ 31) else None)
-    (db t) ≡ db t) [ true ↦ refl | false ↦ refl ]
+no_lets db t = grind (arith, common_steps)
 
 -- Mapping a composition of functions is mapping each of them.
 pub map_shows : {X A B : Type 0} (f : A → B) (g : X → A) (h : X → B) → ((x : X) → f (g x) ≡ h x) → (xs : List X)
     → map f (map g xs) ≡ map h xs
 map_shows f g h shows [] = refl
-map_shows f g h shows (x ∷ xs) = λ i. shows x i ∷ map_shows f g h shows xs i
+map_shows f g h shows (x ∷ xs) = grind (arith, common_steps, shows, map_shows f g h shows xs)
 
 -- Assumes a query of one table with a test on its rows.
 module _ {X : Type 0} (stored : X → Row) (params : Row) (filters : List Term) (p : X → Bool) (test : (x : X)
@@ -66,14 +65,7 @@ module _ {X : Type 0} (stored : X → Row) (params : Row) (filters : List Term) 
 
   pub staged_rows_pass : (xs : List X) → staged_rows xs ≡ map (λ x. params ∷ stored x ∷ []) (filter p xs)
   staged_rows_pass [] = refl
-  staged_rows_pass (x ∷ xs) = ap (λ b. cond b ((params ∷ stored x ∷ []) ∷ []) [] ++ staged_rows xs) (test x)
-      ∙ go (p x) (staged_rows_pass xs)
-    where
-      go : (b : Bool) → staged_rows xs ≡ map (λ x. params ∷ stored x ∷ []) (filter p xs)
-          → cond b ((params ∷ stored x ∷ []) ∷ []) [] ++ staged_rows xs ≡ map (λ x. params ∷ stored x ∷ [])
-          (cond b (x ∷ filter p xs) (filter p xs))
-      go true e = ap (λ l. (params ∷ stored x ∷ []) ∷ l) e
-      go false e = e
+  staged_rows_pass (x ∷ xs) = grind (arith, common_steps, test, staged_rows_pass xs)
 
   module _ (tree : ℕ) (project : List Term) (shown : X → Row) (shows : (x : X)
       → output (plain_query tree filters project []) (params ∷ stored x ∷ []) ≡ ([], shown x)) where

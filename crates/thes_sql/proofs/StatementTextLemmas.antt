@@ -14,6 +14,8 @@ use Rattle.sqlite.specs.Source.TheVariants.{Values}
 use Rattle.sqlite_tied.specs.Compute.{everything}
 use Rattle.sqlite.specs.Listing.{understood}
 use Rattle.sqlite.proofs.Callers.{IsPlain, command_of}
+use Rattle.thes_tables.specs.declared.change.Change.{Change}
+use Rattle.thes_tables.specs.declared.change.Change.TheVariants as change
 use Rattle.thes_sql.specs.Schema.{store_schema}
 
 -- The query of one table with these filters, columns and order.
@@ -41,6 +43,29 @@ abbrev pub IsCommandText : List ℕ → Command → Type 0
 IsCommandText text command = (command_of (understood store_schema text) ≡ command)
     × IsPlain (understood store_schema text)
 
+-- The number of the row is the first parameter.
+abbrev pub number_filter : List Term
+number_filter = equal_terms (col 1 0) (col 0 0) ∷ []
+
+-- The posting is assigned to the first parameter, and isn't withdrawn.
+abbrev pub place_filter : List Term
+place_filter = equal_terms (col 1 5) (col 0 0) ∷ equal_terms (col 1 6) (lit (Int (pos 0))) ∷ []
+
+-- The three values of the row are the parameters.
+abbrev pub link_filter : List Term
+link_filter = equal_terms (col 1 1) (col 0 0) ∷ equal_terms (col 1 2) (col 0 1) ∷ equal_terms (col 1 3) (col 0 2) ∷ []
+
+-- The four values of the row are the parameters.
+abbrev pub label_filter : List Term
+label_filter = equal_terms (col 1 1) (col 0 0) ∷ equal_terms (col 1 2) (col 0 1) ∷ equal_terms (col 1 3) (col 0 2)
+    ∷ equal_terms (col 1 4) (col 0 3) ∷ []
+
+abbrev pub resource_columns : Term → Term → List Term
+resource_columns live replaced = col 1 0 ∷ col 1 0 ∷ lit Null ∷ col 1 2 ∷ col 1 3 ∷ live ∷ replaced ∷ []
+
+abbrev pub posting_columns : Term → Term → List Term
+posting_columns at withdrawn = col 1 0 ∷ col 1 0 ∷ lit Null ∷ col 1 2 ∷ col 1 3 ∷ col 1 4 ∷ at ∷ withdrawn ∷ []
+
 abbrev pub add_meta_text : List ℕ
 add_meta_text = codes "INSERT INTO meta (one, version, base) VALUES (?1, ?2, ?3)"
 
@@ -51,166 +76,70 @@ pub add_meta_is : IsCommandText add_meta_text (Insert 0 (Values add_meta_terms 4
 unfolding understood everything
 add_meta_is = (refl, (refl, refl))
 
-abbrev pub add_resource_text : List ℕ
-add_resource_text = codes "INSERT INTO resource (num, kind, scheme, live, replaced) VALUES (?1, ?2, ?3, ?4, ?5)"
-
-abbrev pub add_resource_terms : List Term
-add_resource_terms = col 0 0 ∷ lit Null ∷ col 0 1 ∷ col 0 2 ∷ col 0 3 ∷ col 0 4 ∷ []
-
-pub add_resource_is : IsCommandText add_resource_text (Insert 1 (Values add_resource_terms 6))
-unfolding understood everything
-add_resource_is = (refl, (refl, refl))
-
-abbrev pub add_outside_text : List ℕ
-add_outside_text = codes "INSERT INTO outside (num, iri) VALUES (?1, ?2)"
-
-abbrev pub add_outside_terms : List Term
-add_outside_terms = col 0 0 ∷ lit Null ∷ col 0 1 ∷ []
-
-pub add_outside_is : IsCommandText add_outside_text (Insert 2 (Values add_outside_terms 3))
-unfolding understood everything
-add_outside_is = (refl, (refl, refl))
-
-abbrev pub add_label_text : List ℕ
-add_label_text = codes "INSERT INTO label (owner, kind, tag, text) VALUES (?1, ?2, ?3, ?4)"
-
-abbrev pub add_label_terms : List Term
-add_label_terms = lit Null ∷ col 0 0 ∷ col 0 1 ∷ col 0 2 ∷ col 0 3 ∷ []
-
-pub add_label_is : IsCommandText add_label_text (Insert 3 (Values add_label_terms 5))
-unfolding understood everything
-add_label_is = (refl, (refl, refl))
-
-abbrev pub add_link_text : List ℕ
-add_link_text = codes "INSERT INTO link (kind, a, b) VALUES (?1, ?2, ?3)"
-
-abbrev pub add_link_terms : List Term
-add_link_terms = lit Null ∷ col 0 0 ∷ col 0 1 ∷ col 0 2 ∷ []
-
-pub add_link_is : IsCommandText add_link_text (Insert 4 (Values add_link_terms 4))
-unfolding understood everything
-add_link_is = (refl, (refl, refl))
-
-abbrev pub add_hier_text : List ℕ
-add_hier_text = codes "INSERT INTO hier (a, b, typ) VALUES (?1, ?2, ?3)"
-
-abbrev pub add_hier_terms : List Term
-add_hier_terms = lit Null ∷ col 0 0 ∷ col 0 1 ∷ col 0 2 ∷ []
-
-pub add_hier_is : IsCommandText add_hier_text (Insert 7 (Values add_hier_terms 4))
-unfolding understood everything
-add_hier_is = (refl, (refl, refl))
-
-abbrev pub add_posting_text : List ℕ
-add_posting_text =
+-- The text of the statement that makes a change.
+abbrev pub statement_text : Change → List ℕ
+statement_text (change.AddResource n resource) =
+    codes "INSERT INTO resource (num, kind, scheme, live, replaced) VALUES (?1, ?2, ?3, ?4, ?5)"
+statement_text (change.Retire n) = codes "UPDATE resource SET live = 0, replaced = NULL WHERE num = ?1"
+statement_text (change.Replace n by) = codes "UPDATE resource SET live = 0, replaced = ?2 WHERE num = ?1"
+statement_text (change.AddOutside n iri) = codes "INSERT INTO outside (num, iri) VALUES (?1, ?2)"
+statement_text (change.AddLabel label) = codes "INSERT INTO label (owner, kind, tag, text) VALUES (?1, ?2, ?3, ?4)"
+statement_text (change.DropLabel label) =
+    codes "DELETE FROM label WHERE owner = ?1 AND kind = ?2 AND tag = ?3 AND text = ?4"
+statement_text (change.AddLink link) = codes "INSERT INTO link (kind, a, b) VALUES (?1, ?2, ?3)"
+statement_text (change.DropLink link) = codes "DELETE FROM link WHERE kind = ?1 AND a = ?2 AND b = ?3"
+statement_text (change.AddHier row) = codes "INSERT INTO hier (a, b, typ) VALUES (?1, ?2, ?3)"
+statement_text (change.DropHier row) = codes "DELETE FROM hier WHERE a = ?1 AND b = ?2 AND typ = ?3"
+statement_text (change.AddPosting row) =
     codes "INSERT INTO posting (num, pkey, record, first_at, at, withdrawn) VALUES (?1, ?2, ?3, ?4, ?5, ?6)"
+statement_text (change.Withdraw n) = codes "UPDATE posting SET withdrawn = 1 WHERE num = ?1"
+statement_text (change.SetPlace n place) = codes "UPDATE posting SET at = ?2 WHERE num = ?1"
+statement_text (change.MoveAll source target) = codes "UPDATE posting SET at = ?2 WHERE at = ?1 AND withdrawn = 0"
+statement_text (change.AddMove row) = codes "INSERT INTO move (num, posting, source, target) VALUES (?1, ?2, ?3, ?4)"
 
-abbrev pub add_posting_terms : List Term
-add_posting_terms = col 0 0 ∷ lit Null ∷ col 0 1 ∷ col 0 2 ∷ col 0 3 ∷ col 0 4 ∷ col 0 5 ∷ []
+-- An UPDATE, and a DELETE, of the rows that pass these filters.
+abbrev update_of : ℕ → ℕ → List Term → List Term → Command
+update_of at tree filters columns = Update at (whole_program (plain_query tree filters columns []))
 
-pub add_posting_is : IsCommandText add_posting_text (Insert 5 (Values add_posting_terms 7))
+abbrev delete_of : ℕ → ℕ → List Term → Command
+delete_of at tree filters = Delete at (whole_program (plain_query tree filters (col 1 0 ∷ []) []))
+
+-- The command that this text means.
+abbrev pub statement_command : Change → Command
+statement_command (change.AddResource n resource) =
+    Insert 1 (Values (col 0 0 ∷ lit Null ∷ col 0 1 ∷ col 0 2 ∷ col 0 3 ∷ col 0 4 ∷ []) 6)
+statement_command (change.Retire n) = update_of 1 1 number_filter (resource_columns (lit (Int (pos 0))) (lit Null))
+statement_command (change.Replace n by) = update_of 1 1 number_filter (resource_columns (lit (Int (pos 0))) (col 0 1))
+statement_command (change.AddOutside n iri) = Insert 2 (Values (col 0 0 ∷ lit Null ∷ col 0 1 ∷ []) 3)
+statement_command (change.AddLabel label) =
+    Insert 3 (Values (lit Null ∷ col 0 0 ∷ col 0 1 ∷ col 0 2 ∷ col 0 3 ∷ []) 5)
+statement_command (change.DropLabel label) = delete_of 3 4 label_filter
+statement_command (change.AddLink link) = Insert 4 (Values (lit Null ∷ col 0 0 ∷ col 0 1 ∷ col 0 2 ∷ []) 4)
+statement_command (change.DropLink link) = delete_of 4 6 link_filter
+statement_command (change.AddHier row) = Insert 7 (Values (lit Null ∷ col 0 0 ∷ col 0 1 ∷ col 0 2 ∷ []) 4)
+statement_command (change.DropHier row) = delete_of 7 11 link_filter
+statement_command (change.AddPosting row) =
+    Insert 5 (Values (col 0 0 ∷ lit Null ∷ col 0 1 ∷ col 0 2 ∷ col 0 3 ∷ col 0 4 ∷ col 0 5 ∷ []) 7)
+statement_command (change.Withdraw n) = update_of 5 8 number_filter (posting_columns (col 1 5) (lit (Int (pos 1))))
+statement_command (change.SetPlace n place) = update_of 5 8 number_filter (posting_columns (col 0 1) (col 1 6))
+statement_command (change.MoveAll source target) = update_of 5 8 place_filter (posting_columns (col 0 1) (col 1 6))
+statement_command (change.AddMove row) =
+    Insert 6 (Values (col 0 0 ∷ lit Null ∷ col 0 1 ∷ col 0 2 ∷ col 0 3 ∷ []) 5)
+
+pub statement_is : (c : Change) → IsCommandText (statement_text c) (statement_command c)
 unfolding understood everything
-add_posting_is = (refl, (refl, refl))
-
-abbrev pub add_move_text : List ℕ
-add_move_text = codes "INSERT INTO move (num, posting, source, target) VALUES (?1, ?2, ?3, ?4)"
-
-abbrev pub add_move_terms : List Term
-add_move_terms = col 0 0 ∷ lit Null ∷ col 0 1 ∷ col 0 2 ∷ col 0 3 ∷ []
-
-pub add_move_is : IsCommandText add_move_text (Insert 6 (Values add_move_terms 5))
-unfolding understood everything
-add_move_is = (refl, (refl, refl))
-
-abbrev pub resource_columns : Term → Term → List Term
-resource_columns live replaced = col 1 0 ∷ col 1 0 ∷ lit Null ∷ col 1 2 ∷ col 1 3 ∷ live ∷ replaced ∷ []
-
-abbrev pub retire_text : List ℕ
-retire_text = codes "UPDATE resource SET live = 0, replaced = NULL WHERE num = ?1"
-
-abbrev pub retire_query : Query
-retire_query = plain_query 1 (equal_terms (col 1 0) (col 0 0) ∷ []) (resource_columns (lit (Int (pos 0))) (lit Null)) []
-
-pub retire_is : IsCommandText retire_text (Update 1 (whole_program retire_query))
-unfolding understood everything
-retire_is = (refl, (refl, refl))
-
-abbrev pub replace_text : List ℕ
-replace_text = codes "UPDATE resource SET live = 0, replaced = ?2 WHERE num = ?1"
-
-abbrev pub replace_query : Query
-replace_query = plain_query 1 (equal_terms (col 1 0) (col 0 0) ∷ []) (resource_columns (lit (Int (pos 0))) (col 0 1)) []
-
-pub replace_is : IsCommandText replace_text (Update 1 (whole_program replace_query))
-unfolding understood everything
-replace_is = (refl, (refl, refl))
-
-abbrev pub posting_columns : Term → Term → List Term
-posting_columns at withdrawn = col 1 0 ∷ col 1 0 ∷ lit Null ∷ col 1 2 ∷ col 1 3 ∷ col 1 4 ∷ at ∷ withdrawn ∷ []
-
-abbrev pub withdraw_text : List ℕ
-withdraw_text = codes "UPDATE posting SET withdrawn = 1 WHERE num = ?1"
-
-abbrev pub withdraw_query : Query
-withdraw_query = plain_query 8 (equal_terms (col 1 0) (col 0 0) ∷ []) (posting_columns (col 1 5) (lit (Int (pos 1)))) []
-
-pub withdraw_is : IsCommandText withdraw_text (Update 5 (whole_program withdraw_query))
-unfolding understood everything
-withdraw_is = (refl, (refl, refl))
-
-abbrev pub set_place_text : List ℕ
-set_place_text = codes "UPDATE posting SET at = ?2 WHERE num = ?1"
-
-abbrev pub set_place_query : Query
-set_place_query = plain_query 8 (equal_terms (col 1 0) (col 0 0) ∷ []) (posting_columns (col 0 1) (col 1 6)) []
-
-pub set_place_is : IsCommandText set_place_text (Update 5 (whole_program set_place_query))
-unfolding understood everything
-set_place_is = (refl, (refl, refl))
-
-abbrev pub move_all_text : List ℕ
-move_all_text = codes "UPDATE posting SET at = ?2 WHERE at = ?1 AND withdrawn = 0"
-
-abbrev pub move_all_query : Query
-move_all_query = plain_query 8 (equal_terms (col 1 5) (col 0 0) ∷ equal_terms (col 1 6) (lit (Int (pos 0))) ∷ [])
-    (posting_columns (col 0 1) (col 1 6)) []
-
-pub move_all_is : IsCommandText move_all_text (Update 5 (whole_program move_all_query))
-unfolding understood everything
-move_all_is = (refl, (refl, refl))
-
-abbrev pub drop_label_text : List ℕ
-drop_label_text = codes "DELETE FROM label WHERE owner = ?1 AND kind = ?2 AND tag = ?3 AND text = ?4"
-
-abbrev pub drop_label_query : Query
-drop_label_query = plain_query 4 (equal_terms (col 1 1) (col 0 0) ∷ equal_terms (col 1 2) (col 0 1)
-    ∷ equal_terms (col 1 3)
-    (col 0 2) ∷ equal_terms (col 1 4) (col 0 3) ∷ []) (col 1 0 ∷ []) []
-
-pub drop_label_is : IsCommandText drop_label_text (Delete 3 (whole_program drop_label_query))
-unfolding understood everything
-drop_label_is = (refl, (refl, refl))
-
-abbrev pub drop_link_text : List ℕ
-drop_link_text = codes "DELETE FROM link WHERE kind = ?1 AND a = ?2 AND b = ?3"
-
-abbrev pub drop_link_query : Query
-drop_link_query = plain_query 6 (equal_terms (col 1 1) (col 0 0) ∷ equal_terms (col 1 2) (col 0 1)
-    ∷ equal_terms (col 1 3) (col 0 2) ∷ [])
-    (col 1 0 ∷ []) []
-
-pub drop_link_is : IsCommandText drop_link_text (Delete 4 (whole_program drop_link_query))
-unfolding understood everything
-drop_link_is = (refl, (refl, refl))
-
-abbrev pub drop_hier_text : List ℕ
-drop_hier_text = codes "DELETE FROM hier WHERE a = ?1 AND b = ?2 AND typ = ?3"
-
-abbrev pub drop_hier_query : Query
-drop_hier_query = plain_query 11 (equal_terms (col 1 1) (col 0 0) ∷ equal_terms (col 1 2) (col 0 1)
-    ∷ equal_terms (col 1 3) (col 0 2) ∷ [])
-    (col 1 0 ∷ []) []
-
-pub drop_hier_is : IsCommandText drop_hier_text (Delete 7 (whole_program drop_hier_query))
-unfolding understood everything
-drop_hier_is = (refl, (refl, refl))
+statement_is (change.AddResource n resource) = (refl, (refl, refl))
+statement_is (change.Retire n) = (refl, (refl, refl))
+statement_is (change.Replace n by) = (refl, (refl, refl))
+statement_is (change.AddOutside n iri) = (refl, (refl, refl))
+statement_is (change.AddLabel label) = (refl, (refl, refl))
+statement_is (change.DropLabel label) = (refl, (refl, refl))
+statement_is (change.AddLink link) = (refl, (refl, refl))
+statement_is (change.DropLink link) = (refl, (refl, refl))
+statement_is (change.AddHier row) = (refl, (refl, refl))
+statement_is (change.DropHier row) = (refl, (refl, refl))
+statement_is (change.AddPosting row) = (refl, (refl, refl))
+statement_is (change.Withdraw n) = (refl, (refl, refl))
+statement_is (change.SetPlace n place) = (refl, (refl, refl))
+statement_is (change.MoveAll source target) = (refl, (refl, refl))
+statement_is (change.AddMove row) = (refl, (refl, refl))

@@ -1,10 +1,10 @@
 -- Lemmas on lists as sets, and on trees whose rows are sorted by rowid.
+use Rattle.std.proofs.lemmas.Grind.{common_steps}
 use Rattle.std.proofs.Common.{arith, ◌≡◌, inl, inr, ℕ, ℤ, pos, ◌==◌, List, [], ◌∷◌, map, Bool, true, false, not}
-use Rattle.std.proofs.Common.{if◌then◌else◌, refl, sym, ap, subst, ◌∙◌, Less, is_eq}
+use Rattle.std.proofs.Common.{if◌then◌else◌, refl, sym, ap, ◌∙◌, Less, is_eq}
 use Rattle.std.specs.List.{AllByRecursion}
 use Rattle.std.specs.List.Sorted.{IsPermutation}
 use Rattle.std.proofs.lemmas.List.Sorted.{IsPermutation-sym}
-use Rattle.std.proofs.lemmas.Bool.{not-true}
 use Rattle.std.proofs.lemmas.Bool.Decides.{nat_tests}
 use Rattle.std.proofs.lemmas.Int.{ints}
 use Rattle.std.specs.Ordering.{ordering_reverse}
@@ -28,19 +28,14 @@ perm_has xs ys same x h = all_has (Has ys) xs x
 pub all_turned : {A : Type 0} (P : A → Type 0) (p : A → Bool) (f : A → A) → ((x : A) → P x → P (f x)) → (xs : List A)
     → AllByRecursion P xs → AllByRecursion P (map (λ x. if p x then f x else x) xs)
 all_turned P p f told [] all = tt
-all_turned {A} P p f told (x ∷ xs) all = (go (p x), all_turned P p f told xs all.1)
-  where
-    go : (b : Bool) → P (if b then f x else x)
-    go true = told x all.0
-    go false = all.0
+all_turned {A} P p f told (x ∷ xs) all = grind (arith, common_steps, all_turned P p f told xs)
 
 never_both : (a b : Row) → value_cmp (rowid a) (rowid b) ≡ Less → value_cmp (rowid b) (rowid a) ≡ Less → ⊥
 never_both a b p q = let e = value_cmp_total.antisymm (rowid a) (rowid b) ∙ ap ordering_reverse q in cc
 
 not_among_later : (z : Row) (zs : List Row) → AllByRecursion (λ r. value_cmp (rowid z) (rowid r) ≡ Less) zs → (r : Row)
     → Has zs r → r ≡ z → ⊥
-not_among_later z zs up r h e = let lower = subst (λ x. value_cmp (rowid z) (rowid x) ≡ Less) e (all_has _ zs r up h) in
-    never_both z z lower lower
+not_among_later z zs up r h e = grind (arith, common_steps, all_has, never_both)
 
 -- Two trees sorted by rowid are equal if each has the rows of the other.
 pub same_rows : (xs ys : List Row) → IsTable xs → IsTable ys → ((r : Row) → Has xs r → Has ys r)
@@ -75,9 +70,8 @@ table_left (id ∷ ids) rows up = table_left ids (without_rowid id rows)
 pub left_not : (ids : List ℤ) (rows : List Row) (x : Row) → Has (without_all rows ids) x → (id : ℤ) → Has ids id
     → has_rowid id x ≡ false
 left_not [] rows x h id m = absurd m
-left_not (j ∷ ids) rows x h id (inl e) = ap (λ k. has_rowid k x) e
-    ∙ not-true _ (filter_has (λ r. not (has_rowid j r)) rows x (without_all_has ids (without_rowid j rows) x h)).1
-left_not (j ∷ ids) rows x h id (inr m) = left_not ids (without_rowid j rows) x h id m
+left_not (j ∷ ids) rows x h id m =
+    grind (arith, common_steps, filter_has, without_all_has, left_not ids (without_rowid j rows) x)
 
 pub left_has : (ids : List ℤ) (rows : List Row) (x : Row) → Has rows x
     → ((id : ℤ) → Has ids id → has_rowid id x ≡ false) → Has (without_all rows ids) x

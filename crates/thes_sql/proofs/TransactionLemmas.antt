@@ -1,6 +1,7 @@
 -- Proves that a transaction applies its changes in order and atomically.
-use Rattle.std.proofs.Common.{arith, ◌≡◌, ℕ, ◌+◌, ◌<◌, get_or, true, List, ◌∷◌, length, drop, refl, sym, ap, subst}
-use Rattle.std.proofs.Common.{◌∙◌, IsTrue}
+use Rattle.std.proofs.lemmas.Grind.{common_steps}
+use Rattle.std.proofs.Common.{arith, ◌≡◌, ℕ, ◌+◌, ◌<◌, get_or, true, List, ◌∷◌, length, drop, refl, sym, ap, subst, ◌∙◌}
+use Rattle.std.proofs.Common.{IsTrue}
 use Rattle.std.proofs.lemmas.List.{drop_more}
 use Rattle.sqlite.specs.Tree.{Trees}
 use Rattle.sqlite.specs.State.{State, HasCleanDisk, KeepsCommit, Survives}
@@ -10,7 +11,7 @@ use Rattle.sqlite.proofs.StateLemmas.{survives_then}
 use Rattle.sqlite_trees.specs.declared.store.Store.{Ghosts}
 use Rattle.thes_tables.specs.declared.change.Change.{Change}
 use Rattle.thes_tables.specs.Tables.{Tables}
-use Rattle.thes_tables.specs.Rows.{DeltaFits, tables_after_change, tables_after_delta}
+use Rattle.thes_tables.specs.Rows.{DeltaFits, tables_after_delta}
 use Rattle.thes_sql.specs.StoredRows.{Keeps, Hold}
 use Rattle.thes_sql.specs.OldStore.{KeepsOld, IsOldStore, IsMigratedStore}
 use Rattle.thes_tables.specs.OldRows.{tables_after_migration}
@@ -19,21 +20,10 @@ use Rattle.thes_sql.specs.TransactionEffects.{AppliesChange, AppliesChanges, IsU
 -- Applying the next change leaves one change fewer.
 pub under_way_next : (changes left more : List Change) (change : Change) (old mid new : State) → left ≡ change ∷ more
     → IsUnderWay changes left old mid → AppliesChange change mid new → IsUnderWay changes more old new
-under_way_next changes left more change old mid new is far did = record {
-  rows = λ rows keeps fits.
-      let so_far = far.rows rows keeps fits in
-      let now = subst (λ l. DeltaFits l so_far.0 × (tables_after_delta l so_far.0 ≡ tables_after_delta changes rows)) is
-      (so_far.2, so_far.3) in
-      (tables_after_change change so_far.0, did.rows so_far.0 so_far.1 now.0.0, now.0.1, now.1);
-  inside = did.inside;
-}
+under_way_next changes left more change old mid new is far did = grind (arith, common_steps)
 
 pub keeps_then : (a b c : State) → KeepsCommit a b → KeepsCommit b c → KeepsCommit a c
-keeps_then a b c p q = record {
-  was_open = λ o. p.was_open (q.was_open o);
-  committed = λ o. q.committed o
-      ∙ p.committed (q.was_open o);
-}
+keeps_then a b c p q = grind (arith, common_steps)
 
 pub survives_on : (a b c : State) → Survives a b (λ _. ⊥) → Survives b c (λ _. ⊥) → Survives a c (λ _. ⊥)
 survives_on a b c p q = survives_then a b c _ _ (λ _. ⊥) (λ _ db none. none) (λ _ db none. none) p q
@@ -42,20 +32,15 @@ pub drop_next_change : {X : Type 0} (xs : List X) (i : ℕ) (x : X) → i < leng
     → drop i xs ≡ x ∷ drop (i + 1) xs
 drop_next_change xs i x low is = drop_more xs i x low ∙ ap (λ y. y ∷ drop (i + 1) xs) (sym is)
 
--- If a crash interrupts a commit of the changes, it leaves the old tables or those with all changes.
-pub committed_later : (changes : List Change) (old mid new : State) → Survives old mid (λ _. ⊥)
-    → Survives mid new (λ (db : Trees). db ≡ mid.now.trees)
-    → (HasCleanDisk mid → (t : Tables) → Keeps old.now t → DeltaFits changes t
-    → Keeps mid.now (tables_after_delta changes t))
-    → Survives old new (λ trees. (t : Tables) → Keeps old.now t → DeltaFits changes t
-    → Hold trees (tables_after_delta changes t))
-committed_later changes old mid new first last did =
-    survives_then old mid new _ _
-    (λ trees. (t : Tables) → Keeps old.now t → DeltaFits changes t → Hold trees (tables_after_delta changes t))
-    (λ _ db none. absurd none)
-    (λ clean db is t keeps fits. subst (λ trees. Hold trees (tables_after_delta changes t)) (sym is)
-    (did (omega (arith, last.clean, clean)) t keeps fits).hold)
-    first last
+-- If a crash interrupts a transaction, it leaves the old database or what the transaction has made.
+kept_or_old : {S : Type 0} (g : Ghosts S) (start begun : Held S) (mid new : State) (Lands : Trees → Type 0)
+    → begun ≡ record start { in_transaction = true } → Survives (state g begun) mid (λ _. ⊥)
+    → (HasCleanDisk mid → Lands mid.now.trees) → Survives mid new (λ (db : Trees). db ≡ mid.now.trees)
+    → Survives (state g start) new Lands
+kept_or_old g start begun mid new Lands is first did last =
+    survives_then (state g start) mid new _ _ Lands (λ _ db none. absurd none)
+    (λ clean db left. subst Lands (sym left) (did (omega (arith, last.clean, clean))))
+    (survives_begin g start mid (λ _. ⊥) (subst (λ h. Survives (state g h) mid (λ _. ⊥)) is first)) last
 
 -- If a crash interrupts a transaction of the changes, it leaves the old tables or those with all changes.
 pub all_or_old : {S : Type 0} (g : Ghosts S) (start begun : Held S) (changes : List Change) (mid new : State)
@@ -65,11 +50,9 @@ pub all_or_old : {S : Type 0} (g : Ghosts S) (start begun : Held S) (changes : L
     → Survives (state g start) new
     (λ trees. (t : Tables) → Keeps (state g start).now t → DeltaFits changes t
     → Hold trees (tables_after_delta changes t))
-all_or_old g start begun changes mid new is first did last =
-    committed_later changes (state g start) mid new
-    (survives_begin g start mid (λ _. ⊥) (subst (λ h. Survives (state g h) mid (λ _. ⊥)) is first)) last
-    (λ clean. (subst (λ (h : Held _). IsTrue h.in_transaction → AppliesChanges changes (state g h) mid) is (did clean)
-    refl).rows)
+all_or_old g start begun changes mid new is first did last = kept_or_old g start begun mid new _ is first
+    (λ clean t keeps fits. ((subst (λ (h : Held _). IsTrue h.in_transaction → AppliesChanges changes (state g h) mid) is
+    (did clean) refl).rows t keeps fits).hold) last
 
 -- If a crash interrupts a migration, it leaves the old database or the migrated tables.
 pub migrated_or_old : {S : Type 0} (g : Ghosts S) (start begun : Held S) (mid new : State)
@@ -79,12 +62,6 @@ pub migrated_or_old : {S : Type 0} (g : Ghosts S) (start begun : Held S) (mid ne
     → Survives mid new (λ (db : Trees). db ≡ mid.now.trees)
     → Survives (state g start) new
     (λ trees. (t : Tables) → KeepsOld (state g start).now t → Hold trees (tables_after_migration t))
-migrated_or_old g start begun mid new is first did last =
-    survives_then (state g start) mid new _ _
-    (λ trees. (t : Tables) → KeepsOld (state g start).now t → Hold trees (tables_after_migration t))
-    (λ _ db none. absurd none)
-    (λ clean db left t old. subst (λ trees. Hold trees (tables_after_migration t)) (sym left)
-    ((subst (λ (h : Held _). IsTrue h.in_transaction
-    → TransformsTables IsOldStore IsMigratedStore (state g h) mid) is (did (omega (arith, last.clean, clean)))
-    refl).made t old).hold)
-    (survives_begin g start mid (λ _. ⊥) (subst (λ h. Survives (state g h) mid (λ _. ⊥)) is first)) last
+migrated_or_old g start begun mid new is first did last = kept_or_old g start begun mid new _ is first
+    (λ clean t old. ((subst (λ (h : Held _). IsTrue h.in_transaction
+    → TransformsTables IsOldStore IsMigratedStore (state g h) mid) is (did clean) refl).made t old).hold) last

@@ -1,6 +1,7 @@
 -- Proves which rows pass the WHERE clause of each statement.
-use Rattle.std.proofs.Common.{arith, ◌≡◌, ℕ, pos, List, [], ◌∷◌, ◌==◌, Bool, true, false, not, ◌&&◌, cond, Some, refl}
-use Rattle.std.proofs.Common.{sym, ap, ◌∙◌, is_eq, nat_cmp}
+use Rattle.std.proofs.lemmas.Grind.{common_steps}
+use Rattle.std.proofs.Common.{arith, ◌≡◌, ℕ, pos, List, [], ◌∷◌, ◌==◌, Bool, true, false, not, ◌&&◌, Some, refl, ap}
+use Rattle.std.proofs.Common.{◌∙◌, is_eq, nat_cmp}
 use Rattle.std.proofs.Math.Bool.{and-true}
 use Rattle.std.specs.List.{list_all}
 use Rattle.std.specs.Ordering.{eq_by_cmp}
@@ -16,19 +17,17 @@ use Rattle.sqlite_sql.specs.declared.ops.CompareOp.TheVariants.{Eq}
 use Rattle.sqlite_value.specs.declared.keys.Collation.TheVariants.{Binary}
 use Rattle.thes_base.specs.declared.data.Link.{Link}
 use Rattle.thes_base.specs.declared.data.Resource.{Resource}
-use Rattle.thes_base.specs.Labels.{Label, label_kind_no, label_cmp}
+use Rattle.thes_base.specs.Labels.{Label, label_cmp}
 use Rattle.thes_base.specs.Links.{link_kind_no, link_cmp}
 use Rattle.thes_base.proofs.SetMemberLemmas.{both_equal}
 use Rattle.thes_tables.specs.declared.rows.HierRow.{HierRow}
 use Rattle.thes_tables.specs.declared.rows.HierType.{HierType}
-use Rattle.thes_tables.specs.declared.rows.HierType.TheVariants as typ
 use Rattle.thes_tables.specs.declared.rows.PostingRow.{PostingRow}
 use Rattle.thes_tables.specs.Tables.{hier_link, hier_kind}
 use Rattle.thes_tables.specs.Cells.{hier_type_no}
 use Rattle.thes_sql.specs.StoredRows.{hidden_row, stored_resource, stored_posting, label_values, link_values}
 use Rattle.thes_sql.specs.StoredRows.{hier_values}
-use Rattle.thes_sql.proofs.StatementTextLemmas.{retire_query, set_place_query, move_all_query, drop_label_query}
-use Rattle.thes_sql.proofs.StatementTextLemmas.{drop_link_query, drop_hier_query}
+use Rattle.thes_sql.proofs.StatementTextLemmas.{number_filter, place_filter, label_filter, link_filter}
 use Rattle.thes_sql.proofs.TableRowLemmas.{test_id}
 
 truth_is : (b : Bool) → is_true (from_truth (Some b)) ≡ b
@@ -48,77 +47,32 @@ unfolding binary
 same_words a b = truth_is _ ∙ ap is_eq (value_cmp-Text a b)
 
 pub by_resource : (params : Row) (n : ℕ) (row : ℕ × Resource)
-    → list_all (holds ((Int (pos n) ∷ params) ∷ stored_resource row ∷ [])) retire_query.filter ≡ (row.0 == n)
+    → list_all (holds ((Int (pos n) ∷ params) ∷ stored_resource row ∷ [])) number_filter ≡ (row.0 == n)
 by_resource params n row = and-true _ ∙ same_ints row.0 n
 
 pub by_number : (params : Row) (n : ℕ) (x : PostingRow) → list_all
-    (holds ((Int (pos n) ∷ params) ∷ stored_posting x ∷ [])) set_place_query.filter ≡ (x.number == n)
+    (holds ((Int (pos n) ∷ params) ∷ stored_posting x ∷ [])) number_filter ≡ (x.number == n)
 by_number params n x = and-true _ ∙ same_ints x.number n
 
-flag_is : (b : Bool) → (cond b 1 0 == 0) ≡ not b
-flag_is true = refl
-flag_is false = refl
-
-and_swap : (a b : Bool) → (a && (b && true)) ≡ (b && a)
-and_swap true true = refl
-and_swap false true = refl
-and_swap _ _ = refl
-
 pub by_place : (params : Row) (source : ℕ) (x : PostingRow) →
-    list_all (holds ((Int (pos source) ∷ params) ∷ stored_posting x ∷ [])) move_all_query.filter ≡
+    list_all (holds ((Int (pos source) ∷ params) ∷ stored_posting x ∷ [])) place_filter ≡
     (not x.withdrawn && x.place == source)
-by_place params source x = (λ i. same_ints x.place source i && ((same_ints (cond x.withdrawn 1 0) 0
-    ∙ flag_is x.withdrawn) i && true)) ∙ and_swap (x.place == source) (not x.withdrawn)
+by_place params source x = grind (arith, common_steps, same_ints)
 
 -- The only row that passes is that of this label.
 pub by_label : (l : Label) (row : ℕ × Label) → list_all (holds (label_values l ∷ hidden_row label_values row ∷ []))
-    drop_label_query.filter ≡ eq_by_cmp label_cmp row.1 l
-by_label l row =
-    let x = row.1 in
-    let third = both_equal (slice_cmp nat_cmp x.tag l.tag) (slice_cmp nat_cmp x.text l.text) in
-    let second = both_equal (nat_cmp (label_kind_no x.kind) (label_kind_no l.kind)) _ in
-    let first = both_equal (nat_cmp x.owner l.owner) _ in
-    (λ i. same_numbers x.owner l.owner i && (same_numbers (label_kind_no x.kind) (label_kind_no l.kind) i &&
-    (same_words x.tag l.tag i && (and-true _ ∙ same_words x.text l.text) i)))
-    ∙ sym (first ∙ ap (λ b. is_eq (nat_cmp x.owner l.owner) && b) (second
-    ∙ ap (λ b. is_eq (nat_cmp (label_kind_no x.kind) (label_kind_no l.kind)) && b) third))
+    label_filter ≡ eq_by_cmp label_cmp row.1 l
+by_label l row = grind (arith, common_steps, same_numbers, same_words, both_equal)
 
 pub by_link : (l : Link) (row : ℕ × Link) → list_all (holds (link_values l ∷ hidden_row link_values row ∷ []))
-    drop_link_query.filter ≡ eq_by_cmp link_cmp row.1 l
-by_link l row =
-    let x = row.1 in
-    let second = both_equal (nat_cmp x.a l.a) (nat_cmp x.b l.b) in
-    let first = both_equal (nat_cmp (link_kind_no x.kind) (link_kind_no l.kind)) _ in
-    (λ i. same_numbers (link_kind_no x.kind) (link_kind_no l.kind) i && (same_numbers x.a l.a i && (and-true _
-    ∙ same_numbers x.b l.b) i))
-    ∙ sym (first ∙ ap (λ b. is_eq (nat_cmp (link_kind_no x.kind) (link_kind_no l.kind)) && b) second)
+    link_filter ≡ eq_by_cmp link_cmp row.1 l
+by_link l row = grind (arith, common_steps, same_numbers, both_equal)
 
 same_types : (s t : HierType) → is_eq (nat_cmp (hier_type_no s) (hier_type_no t)) ≡ is_eq
     (nat_cmp (link_kind_no (hier_kind s)) (link_kind_no (hier_kind t)))
-same_types typ.Untyped typ.Untyped = refl
-same_types typ.Generic typ.Untyped = refl
-same_types typ.Partitive typ.Untyped = refl
-same_types typ.Instantial typ.Untyped = refl
-same_types _ _ = refl
-
-last_first : (a b c : Bool) → (a && (b && c)) ≡ (c && (a && b))
-last_first true true true = refl
-last_first true true false = refl
-last_first true false true = refl
-last_first true false false = refl
-last_first false b true = refl
-last_first false b false = refl
+same_types s t = grind (arith, common_steps)
 
 -- The only row that passes is that of this hierarchical link.
 pub by_hier : (l : HierRow) (row : ℕ × HierRow) → list_all (holds (hier_values l ∷ hidden_row hier_values row ∷ []))
-    drop_hier_query.filter ≡ eq_by_cmp link_cmp (hier_link row.1) (hier_link l)
-by_hier l row =
-    let x = row.1 in
-    let second = both_equal (nat_cmp x.a l.a) (nat_cmp x.b l.b) in
-    let first = both_equal (nat_cmp (link_kind_no (hier_kind x.typ)) (link_kind_no (hier_kind l.typ))) _ in
-    (λ i. same_numbers x.a l.a i && (same_numbers x.b l.b i && (and-true _
-    ∙ same_numbers (hier_type_no x.typ) (hier_type_no l.typ) ∙ same_types x.typ l.typ) i))
-    ∙ last_first (is_eq (nat_cmp x.a l.a)) (is_eq (nat_cmp x.b l.b))
-    (is_eq (nat_cmp (link_kind_no (hier_kind x.typ)) (link_kind_no (hier_kind l.typ))))
-    ∙ sym (first ∙ ap (λ b. is_eq (nat_cmp (link_kind_no (hier_kind x.typ)) (link_kind_no (hier_kind l.typ))) && b)
-    second)
+    link_filter ≡ eq_by_cmp link_cmp (hier_link row.1) (hier_link l)
+by_hier l row = grind (arith, common_steps, same_numbers, same_types, both_equal)

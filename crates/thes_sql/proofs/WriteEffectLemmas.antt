@@ -1,7 +1,8 @@
 -- Proves the effect of a write in a schema without foreign keys, AUTOINCREMENT and defaults that
 -- depend on the time.
-use Rattle.std.proofs.Common.{◌≡◌, ◌⊎◌, inl, inr, ℕ, ℤ, List, [], slice_get, Bool, true, false, cond, Option, Some}
-use Rattle.std.proofs.Common.{None, Ok, Err, Result, refl, sym, ap, subst, ◌∙◌}
+use Rattle.std.proofs.Common.{arith, ◌≡◌, ◌⊎◌, inl, inr, ℕ, ℤ, List, [], slice_get, Bool, true, false, cond, Option}
+use Rattle.std.proofs.Common.{Some, None, Ok, Err, Result, refl, ap, subst}
+use Rattle.std.proofs.lemmas.Grind.{common_steps}
 use Rattle.sqlite.specs.declared.types.Value.{Value}
 use Rattle.sqlite.specs.declared.types.Value.TheVariants.{Null, Int}
 use Rattle.sqlite.specs.Order.{Row}
@@ -17,8 +18,8 @@ use Rattle.sqlite.specs.Cast.{cast}
 use Rattle.sqlite.specs.Rowids.{Rowids}
 use Rattle.sqlite.specs.Rowids.TheVariants.{Chosen, Given}
 use Rattle.sqlite.specs.Does.{Tally, Does, OnRows, WritesRows, Concludes, AtPlace}
-use Rattle.sqlite.specs.Rows.{Written, Task, stamped, Queried, Sourced, Edited, Counts, count_of, rowids_for, Inserts}
-use Rattle.sqlite.specs.Rows.{Then, Gives}
+use Rattle.sqlite.specs.Rows.{Written, Task, stamped, Queried, Sourced, Edited, Counts, rowids_for, Inserts, Then}
+use Rattle.sqlite.specs.Rows.{Gives}
 use Rattle.sqlite.specs.declared.run.Mode.{Mode}
 use Rattle.sqlite.specs.Tree.{Trees}
 use Rattle.sqlite.specs.Effect.{Database, Answers}
@@ -67,20 +68,7 @@ pub rows_written : (task : Task) (from : Source) (db : Trees) (w : Written) → 
     → (rows : List Row) × Sourced task.limit (record { schema = task.schema; trees = db })
     (stamped task.table task.params) from (Ok rows)
     × Edited task.schema task.keys db (edit_of db task.table [] Chosen 0 rows) (Ok w.trees)
-rows_written task from db w uncounted h =
-    let given = value_unstopped h in
-    let counter = value_unstopped given.2 in
-    let written = value_unstopped counter.2 in
-    let counted = value_unstopped written.2 in
-    let last : counted.0 ≡ written.0 = count_same task written.0 counted.0 counter.0 _ uncounted counted.1 in
-    let trees : written.0 ≡ w.trees = sym (ap (λ (it : Written). it.trees) (same_value counted.2) ∙ last) in
-    let how = rowids_chosen task.table (count_of counter.0) uncounted in (
-      given.0,
-      given.1,
-      subst (λ t. Edited task.schema task.keys db (edit_of db task.table [] Chosen 0 given.0) (Ok t)) trees
-          (subst (λ r. Edited task.schema task.keys db (edit_of db task.table [] r 0 given.0) (Ok written.0)) how
-          written.1),
-    )
+rows_written task from db w uncounted h = grind (arith, common_steps, count_same, rowids_chosen)
 
 pub conclusion_state : (task : Task) (mode : Mode) (w : Written) (tally : Tally) (next : Database)
     → Concludes task mode None w (Ok (tally, next)) → next ≡ record { schema = task.schema; trees = w.trees }
@@ -107,14 +95,7 @@ read_then : (task : Task) (q : Program) (given : Row) (db : Trees) (edit : List 
     }))) (Ok w)
     → (read : List Row) × Answers (record { schema = task.schema; trees = db }) q given read
     × Edited task.schema task.keys db (edit read) (Ok w.trees)
-read_then task q given db edit rows w h =
-    let asked = value_unstopped h in
-    let written = value_unstopped asked.2 in (
-      asked.0,
-      asked.1,
-      subst (λ t. Edited task.schema task.keys db (edit asked.0) (Ok t))
-          (sym (ap (λ (it : Written). it.trees) (same_value written.2))) written.1,
-    )
+read_then task q given db edit rows w h = grind (arith, common_steps)
 
 -- Assumes a statement on the table at this position of the schema.
 module _ (schema : Schema) (at : ℕ) (table : Table) (params : Row) (text : List ℕ) (old new : State) (count : ℕ)
@@ -135,12 +116,7 @@ module _ (schema : Schema) (at : ℕ) (table : Table) (params : Row) (text : Lis
       → AtPlace (λ t. OnRows (record task { table = t }) (mode_of old) None command db) (slice_get schema.tables at)
       (Ok (tally, new.now))
       → (w : Written) × WritesRows task db command (Ok w) × (new.now ≡ record { schema = schema; trees = w.trees })
-  written_rows command tally d =
-      let done =
-      value_unstopped
-      (subst (λ o. AtPlace (λ t. OnRows (record task { table = t }) (mode_of old) None command db) o
-      (Ok (tally, new.now))) is d) in
-      (done.0, done.1, conclusion_state task (mode_of old) done.0 tally new.now done.2)
+  written_rows command tally d = grind (arith, common_steps, conclusion_state)
 
   -- The edit is applied without further edits by foreign keys.
   edit_applied : (ids : List ℤ) (how : Rowids) (skip : ℕ) (rows : List Row) (next : Trees)
@@ -148,11 +124,9 @@ module _ (schema : Schema) (at : ℕ) (table : Table) (params : Row) (text : Lis
       → new.now ≡ record { schema = schema; trees = next }
       → (new.now.schema ≡ schema) × Applies schema Enforced db (edit_of db table ids how skip rows) new.now.trees
   edit_applied ids how skip rows next did now =
-      let edit = edit_of db table ids how skip rows in (
-        ap (λ (d : Database). d.schema) now,
-        subst (Applies schema Enforced db edit) (sym (ap (λ (d : Database). d.trees) now))
-            (one_step schema Enforced db next edit (quiet (taken_by db edit) edit.news) did),
-      )
+      let edit = edit_of db table ids how skip rows in
+      let one = one_step schema Enforced db next edit (quiet (taken_by db edit) edit.news) did in
+      grind (arith, common_steps)
 
   pub insert_effect : (from : Source) → table.is_counted ≡ false → Writes old new None (Insert at from) text params
       count

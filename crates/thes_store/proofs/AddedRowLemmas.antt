@@ -1,7 +1,8 @@
 -- The rows that changes insert, counted change by change.
+use Rattle.std.proofs.lemmas.Grind.{common_steps}
 use Rattle.std.proofs.Common.{◌≡◌, ◌+◌, ◌<◌, ◌≤◌, ◌∙◌, ℕ, suc, List, [], ◌∷◌, ◌++◌, length, true, false, take, get_or}
-use Rattle.std.proofs.Common.{refl, sym, ap, subst, arith, ⊎_elim, append-nil, length-append}
-use Rattle.std.specs.Prelude.{Option, None, Some, slice_get, is_some, vec_len}
+use Rattle.std.proofs.Common.{refl, ap, arith, append-nil, length-append}
+use Rattle.std.specs.Prelude.{Option, None, Some, is_some, vec_len}
 use Rattle.std.specs.List.{cons_option}
 use Rattle.std.proofs.lemmas.List.Elements.{filter_map-append}
 use Rattle.thes_base.proofs.NumberedLemmas.{push_cases}
@@ -22,8 +23,7 @@ module _ {A : Type 0} where
 
     pub count_more : length (rows_added_by added_row (take (i + 1) changes))
         ≡ length (rows_added_by added_row (take i changes)) + length (rows_added_by added_row (c ∷ []))
-    count_more = ap length more_added ∙ length-append (rows_added_by added_row (take i changes))
-        (rows_added_by added_row (c ∷ []))
+    count_more = grind (arith, common_steps, more_added, length-append)
 
   pub count_one : (o : Option A) → is_some o ≡ true → length (cons_option o []) ≡ 1
   count_one None e = absurd (cc)
@@ -42,24 +42,10 @@ module _ {A : Type 0} where
       coming → KeepsPlaces old.places new.places → new.rows ≡ old.rows
       → ((row : A) → o ≡ Some row → HasPlace new.places (number row) (vec_len old.rows + length coming))
       → AreExpected number new (coming ++ cons_option o [])
-  expected_more number old new coming o expected keeps rows comes k row e =
-      subst (λ n. HasPlace new.places (number row) (n + k)) (sym (ap (λ (v : _). vec_len v) rows)) (go o comes e)
-    where
-      go : (o : Option A)
-          → ((row : A) → o ≡ Some row → HasPlace new.places (number row) (vec_len old.rows + length coming))
-          → slice_get (coming ++ cons_option o []) k ≡ Some row → HasPlace new.places (number row)
-          (vec_len old.rows + k)
-      go None comes e = keeps (number row) (vec_len old.rows + k)
-          (expected k row (sym (ap (λ l. slice_get l k) (append-nil coming)) ∙ e))
-      go (Some x) comes e = ⊎_elim
-          (λ (before : slice_get coming k ≡ Some row). keeps (number row) (vec_len old.rows + k)
-          (expected k row before))
-          (λ (last : (suc k ≡ length coming + 1) × (row ≡ x)).
-          let here = last.0 in
-          let at : length coming ≡ k = omega (arith, here) in
-          subst (λ n. HasPlace new.places (number row) (vec_len old.rows + n))
-          at (comes row (ap (λ y. Some y) (sym last.1))))
-          (push_cases coming x row (suc k) e)
+  expected_more number old new coming None expected keeps rows comes k row e =
+      let all = append-nil coming in grind (arith, common_steps)
+  expected_more number old new coming (Some x) expected keeps rows comes k row e =
+      let p = push_cases coming x row (suc k) e in grind (arith, common_steps)
 
   pub same_len : (old new : Slots A) → new.rows ≡ old.rows → vec_len new.rows ≡ vec_len old.rows
   same_len old new rows = ap (λ (v : _). vec_len v) rows

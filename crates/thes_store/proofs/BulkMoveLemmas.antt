@@ -1,15 +1,15 @@
 -- A bulk move by an index moves exactly the postings assigned to the source.
-use Rattle.std.proofs.Common.{◌≡◌, ◌≢◌, ◌⊎◌, ◌∙◌, inl, inr, ℕ, zero, suc, List, [], ◌∷◌, ◌++◌, map, Bool, true, false}
-use Rattle.std.proofs.Common.{cond, refl, sym, ap, subst}
-use Rattle.std.specs.Prelude.{Option, None, Some, slice_get, slice_set, not, ◌&&◌, ◌==◌}
+use Rattle.std.proofs.Common.{arith, ◌≡◌, ◌⊎◌, ◌∙◌, inl, inr, ℕ, zero, suc, List, [], ◌∷◌, ◌++◌, map, true, refl, sym}
+use Rattle.std.proofs.Common.{ap, subst}
+use Rattle.std.proofs.lemmas.Grind.{common_steps}
+use Rattle.std.specs.Prelude.{Option, None, Some, slice_get, slice_set}
 use Rattle.std.specs.Option.{IsSomeAnd}
 use Rattle.std.specs.Ordering.{nat_cmp}
 use Rattle.std.specs.BTreeSet.{BTreeSet, contains}
 use Rattle.std.proofs.lemmas.Option.{same_Some}
-use Rattle.std.proofs.lemmas.Bool.{eqb-true}
 use Rattle.thes_tables.specs.declared.rows.PostingRow.{PostingRow}
 use Rattle.thes_tables.specs.Tables.{IsIn}
-use Rattle.thes_tables.specs.Rows.{row_at_place, row_after_move_all}
+use Rattle.thes_tables.specs.Rows.{row_after_move_all}
 use Rattle.thes_store.proofs.IndexPositionLemmas.{in_keys}
 use Rattle.thes_store.specs.declared.index.Index.{Index}
 use Rattle.thes_store.specs.Covers.{IndexesByPlace}
@@ -42,31 +42,12 @@ module _ {A : Type 0} (f : A → A) where
     map_set (x ∷ rows) (suc i) row e = ap (λ l. f x ∷ l) (map_set rows i row e)
 
     map_with : (i : ℕ) (rows : List A) → map f (rows_after_change_at f i rows) ≡ map f rows
-    map_with i rows = go (slice_get rows i) refl
-      where
-        go : (o : Option A) → slice_get rows i ≡ o
-            → map f (elim o [ None ↦ rows | Some row ↦ slice_set rows i (f row) ]) ≡ map f rows
-        go None e = refl
-        go (Some row) e = map_set rows i row e
+    map_with i rows = grind (arith, common_steps, map_set)
 
     -- After the row at a position is changed, the function changes only rows at the remaining positions.
     stay_with : (i : ℕ) (places : List ℕ) (rows : List A) → StayBut (i ∷ places) rows
         → StayBut places (rows_after_change_at f i rows)
-    stay_with i places rows stay = go (slice_get rows i) refl
-      where
-        left : (j : ℕ) (row : A) → j ≢ i → (f row ≡ row) ⊎ IsIn j (i ∷ places) → (f row ≡ row) ⊎ IsIn j places
-        left j row apart (inl same) = inl same
-        left j row apart (inr (inl at)) = absurd (apart at)
-        left j row apart (inr (inr later)) = inr later
-
-        go : (o : Option A) → slice_get rows i ≡ o
-            → StayBut places (elim o [ None ↦ rows | Some row ↦ slice_set rows i (f row) ])
-        go None e j row at = left j row (λ same. let no = sym e ∙ ap (slice_get rows) (sym same) ∙ at in absurd (cc))
-            (stay j row at)
-        go (Some old) e j row at = elim (slice_set_cases rows (f old) row i j at) [
-          | inl here ↦ inl (ap f here.1 ∙ again old ∙ sym here.1)
-          | inr other ↦ left j row other.0 (stay j row other.1)
-        ]
+    stay_with i places rows stay = grind (arith, common_steps, slice_set_cases, again)
 
     -- Changing the rows at these positions changes all rows, if the positions include each row that the function
     -- changes.
@@ -78,27 +59,11 @@ module _ {A : Type 0} (f : A → A) where
 
 moved_again : (source target : ℕ) (row : PostingRow) → row_after_move_all source target
     (row_after_move_all source target row) ≡ row_after_move_all source target row
-moved_again source target row = go (not row.withdrawn && row.place == source) refl
-  where
-    twice : (b : Bool) → cond b (row_at_place target (row_at_place target row)) (row_at_place target row)
-        ≡ row_at_place target row
-    twice true = refl
-    twice false = refl
-
-    go : (b : Bool) → (not row.withdrawn && row.place == source) ≡ b → row_after_move_all source target
-        (cond b (row_at_place target row) row) ≡ cond b (row_at_place target row) row
-    go true e = twice (not row.withdrawn && target == source)
-    go false e = ap (λ b. cond b (row_at_place target row) row) e
+moved_again source target row = grind (arith, common_steps)
 
 moved_or_stays : (source target : ℕ) (row : PostingRow) → (row_after_move_all source target row ≡ row)
     ⊎ (row.place ≡ source)
-moved_or_stays source target row = go (not row.withdrawn) (row.place == source) (λ e. eqb-true row.place source e)
-  where
-    go : (b d : Bool) → (d ≡ true → row.place ≡ source) → (cond (b && d) (row_at_place target row) row ≡ row)
-        ⊎ (row.place ≡ source)
-    go true true is = inr (is refl)
-    go true false is = inl refl
-    go false d is = inl refl
+moved_or_stays source target row = grind (arith, common_steps)
 
 pub moved_at_positions : (index : Index) (source target : ℕ) (set : BTreeSet ℕ) (rows : List PostingRow)
     → IndexesByPlace index rows → slice_get index.sets.items source ≡ Some set → rows_after_changes_at

@@ -1,9 +1,10 @@
 -- The indexes have each row of the tables after each change of a commit.
+use Rattle.std.proofs.lemmas.Grind.{common_steps}
 use Rattle.std.proofs.Common.{◌≡◌, ◌⊎◌, ◌+◌, ◌-◌, ◌<◌, ◌≤◌, ◌∙◌, inl, inr, ℕ, zero, suc, List, [], ◌∷◌, length, map}
-use Rattle.std.proofs.Common.{Bool, true, false, cond, take, get_or, refl, sym, ap, subst, arith, length-append}
-use Rattle.std.specs.Prelude.{Option, None, Some, Result, slice_get, slice_set, not, ◌&&◌, ◌==◌}
+use Rattle.std.proofs.Common.{take, get_or, refl, sym, ap, subst, arith, length-append}
+use Rattle.std.specs.Prelude.{Option, None, Some, Result, slice_get, slice_set}
 use Rattle.std.specs.declared.alloc.AllocError.{AllocError}
-use Rattle.std.proofs.lemmas.Bool.{cases_eq, cases_lt, eqb-true}
+use Rattle.std.proofs.lemmas.Bool.{cases_eq}
 use Rattle.std.proofs.lemmas.Option.{same_Some}
 use Rattle.std.proofs.lemmas.List.{take_all}
 use Rattle.thes_base.specs.Resources.{entry_at, set_entry_at}
@@ -11,7 +12,6 @@ use Rattle.thes_base.proofs.NumberedLemmas.{push_cases, set_cases, numbered_boun
 use Rattle.thes_tables.specs.declared.change.Change.{Change}
 use Rattle.thes_tables.specs.declared.change.Change.TheVariants as change
 use Rattle.thes_tables.specs.declared.rows.PostingRow.{PostingRow}
-use Rattle.thes_tables.specs.declared.rows.MoveRow.{MoveRow}
 use Rattle.thes_tables.specs.Tables.{Tables, IsIn}
 use Rattle.thes_tables.specs.Rows.{tables_after_change, tables_after_delta, with_posting, row_after_withdrawal}
 use Rattle.thes_tables.specs.Rows.{row_at_place, row_after_move_all, ChangeFits, DeltaFits}
@@ -50,21 +50,10 @@ map_cases f (x ∷ xs) (suc (suc m)) y e = map_cases f xs (suc m) y e
 moved_cases : (source target : ℕ) (row : PostingRow)
     → ((row.place ≡ source) × ((row_after_move_all source target row).place ≡ target))
     ⊎ ((row_after_move_all source target row).place ≡ row.place)
-moved_cases source target row = go (not row.withdrawn) (row.place == source) (λ e. eqb-true row.place source e)
-  where
-    go : (b d : Bool) → (d ≡ true → row.place ≡ source)
-        → ((row.place ≡ source) × ((cond (b && d) (row_at_place target row) row).place ≡ target))
-        ⊎ ((cond (b && d) (row_at_place target row) row).place ≡ row.place)
-    go true true is = inl (is refl, refl)
-    go true false is = inr refl
-    go false d is = inr refl
+moved_cases source target row = grind (arith, common_steps)
 
 moved_key : (source target : ℕ) (row : PostingRow) → (row_after_move_all source target row).key ≡ row.key
-moved_key source target row = go (not row.withdrawn && row.place == source)
-  where
-    go : (b : Bool) → (cond b (row_at_place target row) row).key ≡ row.key
-    go true = refl
-    go false = refl
+moved_key source target row = grind (arith, common_steps)
 
 abbrev KeyIs : Indexes → List ℕ → ℕ → Type 0
 KeyIs x key i = KeyHasPosition x.keys key i
@@ -75,75 +64,34 @@ covers_after_posting_change : (x : Indexes) (t : Tables) (f : PostingRow → Pos
     → ((i : ℕ) (row : PostingRow) → suc i ≡ n → HasPosition x.standing row.place i
     → HasPosition x.standing (f row).place i)
     → Covers x t → Covers x (record t { posting = with_posting f n t.posting })
-covers_after_posting_change x t f n key place covers = record {
-  keys = λ i y e. let r = with_cases f n t.posting (suc i) y e in elim r.2 [
-    | inl same ↦ subst (λ (z : PostingRow). KeyIs x z.key i) (sym same) (covers.keys i r.0 r.1)
-    | inr tables_after_change ↦ subst (λ k. KeyIs x k i)
-        (sym (ap (λ (z : PostingRow). z.key) tables_after_change.1 ∙ key r.0)) (covers.keys i r.0 r.1)
-  ];
-  standing = λ i y e. let r = with_cases f n t.posting (suc i) y e in elim r.2 [
-    | inl same ↦ subst (λ (z : PostingRow). HasPosition x.standing z.place i) (sym same) (covers.standing i r.0 r.1)
-    | inr tables_after_change ↦ subst (λ (z : PostingRow). HasPosition x.standing z.place i) (sym tables_after_change.1)
-        (place i r.0 tables_after_change.0 (covers.standing i r.0 r.1))
-  ];
-  moves = covers.moves;
-}
+covers_after_posting_change x t f n key place covers =
+    record {
+      keys = λ i y e. let r = with_cases f n t.posting (suc i) y e in grind (arith, common_steps);
+      standing = λ i y e. let r = with_cases f n t.posting (suc i) y e in grind (arith, common_steps);
+      moves = covers.moves;
+    }
 
 -- The indexes have each row after a bulk move, if they have the moved postings under the target.
 covers_after_move : (x : Indexes) (t : Tables) (source target : ℕ)
     → ((i : ℕ) (row : PostingRow) → slice_get t.posting i ≡ Some row → row.place ≡ source
     → HasPosition x.standing target
     i) → Covers x t → Covers x (record t { posting = map (row_after_move_all source target) t.posting })
-covers_after_move x t source target along covers = record {
-  keys = λ i y e. let r = map_cases (row_after_move_all source target) t.posting (suc i) y e in
-      subst (λ k. KeyIs x k i) (sym (ap (λ (z : PostingRow). z.key) r.2 ∙ moved_key source target r.0))
-      (covers.keys i r.0 r.1);
-  standing = λ i y e.
-      let r = map_cases (row_after_move_all source target) t.posting (suc i) y e in
-      let at = covers.standing i r.0 r.1 in
-      subst (λ (z : PostingRow). HasPosition x.standing z.place i) (sym r.2) (elim (moved_cases source target r.0) [
-        | inl moves ↦ subst (λ p. HasPosition x.standing p i) (sym moves.1) (along i r.0 r.1 moves.0)
-        | inr stays ↦ subst (λ p. HasPosition x.standing p i) (sym stays) at
-      ]);
-  moves = covers.moves;
-}
+covers_after_move x t source target along covers =
+    record {
+      keys = λ i y e. let r = map_cases (row_after_move_all source target) t.posting (suc i) y e in
+          grind (arith, common_steps, moved_key);
+      standing = λ i y e. let r = map_cases (row_after_move_all source target) t.posting (suc i) y e in
+          grind (arith, common_steps, moved_cases);
+      moves = covers.moves;
+    }
 
 -- The indexes have each row of the tables after a change, if they had each row before it and have the rows of the
 -- change.
 pub covers_after_change : (x : Indexes) (c : Change) (t : Tables) (step : ℕ) → length t.move ≡ step
     → CoversChange x c t step → Covers x t → Covers x (tables_after_change c t)
-covers_after_change x (change.AddResource n r) t step len reached covers =
-    record { keys = covers.keys; standing = covers.standing; moves = covers.moves }
-covers_after_change x (change.Retire n) t step len reached covers =
-    record { keys = covers.keys; standing = covers.standing; moves = covers.moves }
-covers_after_change x (change.Replace n by) t step len reached covers =
-    record { keys = covers.keys; standing = covers.standing; moves = covers.moves }
-covers_after_change x (change.AddOutside n iri) t step len reached covers =
-    record { keys = covers.keys; standing = covers.standing; moves = covers.moves }
-covers_after_change x (change.AddLabel l) t step len reached covers =
-    record { keys = covers.keys; standing = covers.standing; moves = covers.moves }
-covers_after_change x (change.DropLabel l) t step len reached covers =
-    record { keys = covers.keys; standing = covers.standing; moves = covers.moves }
-covers_after_change x (change.AddLink l) t step len reached covers =
-    record { keys = covers.keys; standing = covers.standing; moves = covers.moves }
-covers_after_change x (change.DropLink l) t step len reached covers =
-    record { keys = covers.keys; standing = covers.standing; moves = covers.moves }
-covers_after_change x (change.AddHier row) t step len reached covers =
-    record { keys = covers.keys; standing = covers.standing; moves = covers.moves }
-covers_after_change x (change.DropHier row) t step len reached covers =
-    record { keys = covers.keys; standing = covers.standing; moves = covers.moves }
 covers_after_change x (change.AddPosting row) t step len reached covers = record {
-  keys = λ i y e. elim (push_cases t.posting row y (suc i) e) [
-    | inl old ↦ covers.keys i y old
-    | inr new ↦ let at : length t.posting ≡ i = (let n = new.0 in omega (arith, n)) in
-        subst (λ (z : PostingRow). KeyIs x z.key i) (sym new.1) (subst (KeyIs x row.key) at reached.0)
-  ];
-  standing = λ i y e. elim (push_cases t.posting row y (suc i) e) [
-    | inl old ↦ covers.standing i y old
-    | inr new ↦ let at : length t.posting ≡ i = (let n = new.0 in omega (arith, n)) in
-        subst (λ (z : PostingRow). HasPosition x.standing z.place i) (sym new.1)
-        (subst (HasPosition x.standing row.place) at reached.1)
-  ];
+  keys = λ i y e. let p = push_cases t.posting row y (suc i) e in grind (arith, common_steps);
+  standing = λ i y e. let p = push_cases t.posting row y (suc i) e in grind (arith, common_steps);
   moves = covers.moves;
 }
 covers_after_change x (change.Withdraw n) t step len reached covers =
@@ -156,13 +104,10 @@ covers_after_change x (change.MoveAll source target) t step len reached covers =
 covers_after_change x (change.AddMove row) t step len reached covers = record {
   keys = covers.keys;
   standing = covers.standing;
-  moves = λ i y e. elim (push_cases t.move row y (suc i) e) [
-    | inl old ↦ covers.moves i y old
-    | inr new ↦ let at : step ≡ i = (let n = new.0 in omega (arith, n, len)) in
-        subst (λ (z : MoveRow). HasPosition x.moves z.posting i) (sym new.1) (subst (HasPosition x.moves row.posting)
-        at reached)
-  ];
+  moves = λ i y e. let p = push_cases t.move row y (suc i) e in grind (arith, common_steps);
 }
+covers_after_change x c t step len reached covers =
+    record { keys = covers.keys; standing = covers.standing; moves = covers.moves }
 
 set_in : (xs : List PostingRow) (k : ℕ) (row r y : PostingRow) → slice_get xs k ≡ Some r → y.key ≡ r.key → IsIn row xs
     → (z : PostingRow) × IsIn z (slice_set xs k y) × (z.key ≡ row.key)
@@ -188,16 +133,6 @@ with_in f (suc n) rows row key h = go (slice_get rows n) refl
 -- After a change, the table still has a posting with each key that it had.
 key_stays : (c : Change) (t : Tables) (row : PostingRow) → IsIn row t.posting → (z : PostingRow)
     × IsIn z (tables_after_change c t).posting × (z.key ≡ row.key)
-key_stays (change.AddResource n r) t row h = (row, h, refl)
-key_stays (change.Retire n) t row h = (row, h, refl)
-key_stays (change.Replace n by) t row h = (row, h, refl)
-key_stays (change.AddOutside n iri) t row h = (row, h, refl)
-key_stays (change.AddLabel l) t row h = (row, h, refl)
-key_stays (change.DropLabel l) t row h = (row, h, refl)
-key_stays (change.AddLink l) t row h = (row, h, refl)
-key_stays (change.DropLink l) t row h = (row, h, refl)
-key_stays (change.AddHier r) t row h = (row, h, refl)
-key_stays (change.DropHier r) t row h = (row, h, refl)
 key_stays (change.AddPosting r) t row h = (row, append_left row t.posting (r ∷ []) h, refl)
 key_stays (change.Withdraw n) t row h = with_in row_after_withdrawal n t.posting row (λ r. refl) h
 key_stays (change.SetPlace n place) t row h = with_in (row_at_place place) n t.posting row (λ r. refl) h
@@ -206,7 +141,7 @@ key_stays (change.MoveAll source target) t row h = (
   map_in (row_after_move_all source target) row t.posting h,
   moved_key source target row,
 )
-key_stays (change.AddMove r) t row h = (row, h, refl)
+key_stays c t row h = (row, h, refl)
 
 keys_stay : (changes : List Change) (t : Tables) (row : PostingRow) → IsIn row t.posting → (z : PostingRow)
     × IsIn z (tables_after_delta changes t).posting × (z.key ≡ row.key)
@@ -218,21 +153,8 @@ keys_stay (c ∷ changes) t row h =
 
 -- A change that fits the tables inserts no key that a posting of theirs has.
 other_key : (c : Change) (t : Tables) (row : PostingRow) → ChangeFits c t → IsIn row t.posting → IsOtherKey c row.key
-other_key (change.AddResource n r) t row fits h = tt
-other_key (change.Retire n) t row fits h = tt
-other_key (change.Replace n by) t row fits h = tt
-other_key (change.AddOutside n iri) t row fits h = tt
-other_key (change.AddLabel l) t row fits h = tt
-other_key (change.DropLabel l) t row fits h = tt
-other_key (change.AddLink l) t row fits h = tt
-other_key (change.DropLink l) t row fits h = tt
-other_key (change.AddHier r) t row fits h = tt
-other_key (change.DropHier r) t row fits h = tt
 other_key (change.AddPosting r) t row fits h = fits.1 row h
-other_key (change.Withdraw n) t row fits h = tt
-other_key (change.SetPlace n place) t row fits h = tt
-other_key (change.MoveAll source target) t row fits h = tt
-other_key (change.AddMove r) t row fits h = tt
+other_key c t row fits h = tt
 
 pub get_in : (xs : List PostingRow) (i : ℕ) (row : PostingRow) → slice_get xs i ≡ Some row → IsIn row xs
 get_in [] i row e = absurd (cc)
@@ -263,50 +185,17 @@ pub record SoFar (x : Indexes) (changes : List Change) (i : ℕ) (t : Tables) (s
 
 pub so_far_begins : (x : Indexes) (changes : List Change) (t : Tables) (moves : ℕ) → length t.move ≡ moves
     → Covers x t → SoFar x changes 0 t moves
-so_far_begins x changes t moves len covers = record {
-  first = covers;
-  last = covers;
-  standing =
-      λ k least. subst (λ n. IndexesByPlace x.standing (tables_after_delta (take n changes) t).posting) (let e : 0 ≡ k =
-      omega (arith, least) in e) covers.standing;
-  moves = len;
-}
+so_far_begins x changes t moves len covers = grind (arith, common_steps)
 
 -- A change appends `added_move_count` moves.
 moves_grow : (c : Change) (t : Tables) → length (tables_after_change c t).move ≡ length t.move + added_move_count c
-moves_grow (change.AddResource n r) t = omega arith
-moves_grow (change.Retire n) t = omega arith
-moves_grow (change.Replace n by) t = omega arith
-moves_grow (change.AddOutside n iri) t = omega arith
-moves_grow (change.AddLabel l) t = omega arith
-moves_grow (change.DropLabel l) t = omega arith
-moves_grow (change.AddLink l) t = omega arith
-moves_grow (change.DropLink l) t = omega arith
-moves_grow (change.AddHier row) t = omega arith
-moves_grow (change.DropHier row) t = omega arith
-moves_grow (change.AddPosting r) t = omega arith
-moves_grow (change.Withdraw n) t = omega arith
-moves_grow (change.SetPlace n place) t = omega arith
-moves_grow (change.MoveAll source target) t = omega arith
 moves_grow (change.AddMove r) t = length-append t.move (r ∷ [])
+moves_grow c t = omega arith
 
 -- A change appends at most one move.
 pub moves_few : (c : Change) → added_move_count c ≤ 1
-moves_few (change.AddResource n r) = omega arith
-moves_few (change.Retire n) = omega arith
-moves_few (change.Replace n by) = omega arith
-moves_few (change.AddOutside n iri) = omega arith
-moves_few (change.AddLabel l) = omega arith
-moves_few (change.DropLabel l) = omega arith
-moves_few (change.AddLink l) = omega arith
-moves_few (change.DropLink l) = omega arith
-moves_few (change.AddHier row) = omega arith
-moves_few (change.DropHier row) = omega arith
-moves_few (change.AddPosting r) = omega arith
-moves_few (change.Withdraw n) = omega arith
-moves_few (change.SetPlace n place) = omega arith
-moves_few (change.MoveAll source target) = omega arith
 moves_few (change.AddMove r) = omega arith
+moves_few c = omega arith
 
 pub covers_when_stopped : (old new : Indexes) (changes : List Change) (i : ℕ) (c : Change) (t : Tables) (step : ℕ) → i
     < length changes → c ≡ get_or changes i c → DeltaFits changes t → SoFar old changes i t step
@@ -345,16 +234,7 @@ so_far_continues old new changes i c t step next lt is fits so_far grows reaches
 
 pub so_far_ends : (x : Indexes) (changes : List Change) (i : ℕ) (t : Tables) (step : ℕ) → length changes ≤ i
     → SoFar x changes i t step → CoversAll x changes t
-so_far_ends x changes i t step all so_far =
-    let same = take_all i changes all in
-    record {
-      last = subst (λ (l : List Change). Covers x (tables_after_delta l t)) same so_far.last;
-      standing = λ k. elim (cases_lt i k) [
-        | inr least ↦ so_far.standing k least
-        | inl past ↦ subst (λ (l : List Change). IndexesByPlace x.standing (tables_after_delta l t).posting)
-            (same ∙ sym (take_all k changes (omega (arith, all, past)))) so_far.last.standing
-      ];
-    }
+so_far_ends x changes i t step all so_far = grind (arith, common_steps, take_all)
 
 -- The result of `cover_all` in a commit holds of the tables that the caller sees, which are those in memory, since
 -- reserving memory doesn't change them.
@@ -364,5 +244,4 @@ pub covers_both : (x y : Indexes) (changes given : List Change) (moves : ℕ) (r
     → given ≡ changes → room ≡ inside → inside ≡ seen → DeltaFits changes seen → length room.move ≡ moves
     → Covers x inside → CoversBoth y given room result
 covers_both x y changes given moves room inside seen result both same roomy view fits len covers =
-    both room (subst (λ (l : List Change). DeltaFits l room) (sym same)
-    (subst (DeltaFits changes) (sym (roomy ∙ view)) fits)) len (subst (Covers x) (sym roomy) covers)
+    grind (arith, common_steps)

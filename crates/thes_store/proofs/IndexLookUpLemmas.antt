@@ -1,5 +1,6 @@
 -- Look-ups by the indexes find the rows that the tables have.
-use Rattle.std.proofs.Common.{◌≡◌, inl, inr, ◌∙◌, ℕ, suc, List, [], ◌∷◌, true, sym, ap, subst}
+use Rattle.std.proofs.Common.{arith, ◌≡◌, inl, inr, ◌∙◌, ℕ, suc, List, [], ◌∷◌, true, sym, ap, subst}
+use Rattle.std.proofs.lemmas.Grind.{common_steps}
 use Rattle.std.proofs.lemmas.Bool.{eqb-true, and_parts}
 use Rattle.std.specs.Borrow.{Bor}
 use Rattle.std.specs.Option.{option_copied}
@@ -33,12 +34,7 @@ none_found : (x : Keys) (rows : List PostingRow) (key : List ℕ) → ((i : ℕ)
     → ((i : ℕ) (row : PostingRow) → tree.get (slice_cmp nat_cmp) x.rest key ≡ Some i → slice_get rows i ≡ Some row
     → row.key ≡ key → ⊥)
     → (row : PostingRow) → IsIn row rows → row.key ≡ key → ⊥
-none_found x rows key leads position_by_digest position_by_text row h same =
-    let p = in_get rows row h in
-    elim (subst (λ k. KeyHasPosition x k p.0) same (leads p.0 row p.1)) [
-      | inl number ↦ position_by_digest p.0 row number p.1 same
-      | inr text ↦ position_by_text p.0 row text p.1 same
-    ]
+none_found x rows key leads position_by_digest position_by_text row h same = grind (arith, common_steps, in_get)
 
 pub found_by_text : (x : Keys) (rows : List PostingRow) (key : List ℕ) (place : Option ℕ)
     (found : Option (Bor PostingRow)) → place ≡ tree.get (slice_cmp nat_cmp) x.rest key
@@ -58,10 +54,7 @@ place_of_standing concept row e = eqb-true row.place concept (and_parts (not row
 pub standing_all : (x : Indexes) (t : Tables) (concept : ℕ) (places : List ℕ) → Covers x t
     → ArePositions x.standing concept places → rows_at_positions (is_assigned_row concept) t.posting places
     ≡ assigned_posting_rows concept t.posting
-standing_all x t concept places covers are =
-    picked_all (is_assigned_row concept) t.posting places are.rises
-    (λ i row at passes. are.complete i (subst (λ n. HasPosition x.standing n i) (place_of_standing concept row passes)
-    (covers.standing i row at)))
+standing_all x t concept places covers are = grind (arith, common_steps, picked_all, place_of_standing)
 
 pub moves_all : (x : Indexes) (t : Tables) (n : ℕ) (places : List ℕ) → Covers x t → ArePositions x.moves n places
     → rows_at_positions (is_move_of n) t.move places ≡ filter (is_move_of n) t.move

@@ -1,14 +1,14 @@
 -- The rows at an index's positions that pass a test are the rows of the list that pass it.
+use Rattle.std.proofs.lemmas.Grind.{common_steps}
 use Rattle.std.proofs.Common.{◌≡◌, ◌⊎◌, ◌+◌, ◌<◌, ◌≤◌, ◌++◌, ◌∙◌, inl, inr, ℕ, zero, suc, List, [], ◌∷◌, length, Bool}
-use Rattle.std.proofs.Common.{true, false, cond, ◌||◌, Ordering, Less, Equal, Greater, take, get_or, refl, sym, ap}
-use Rattle.std.proofs.Common.{subst, arith, append_assoc, append-nil, length-append, map}
-use Rattle.std.specs.Prelude.{Option, None, Some, slice_get, filter}
-use Rattle.std.specs.Option.{IsSomeAnd}
-use Rattle.std.specs.Ordering.{MatchOrdering, nat_cmp, is_eq}
+use Rattle.std.proofs.Common.{true, false, cond, Less, take, get_or, refl, sym, ap, subst, arith, append_assoc}
+use Rattle.std.proofs.Common.{append-nil, length-append, map}
+use Rattle.std.specs.Prelude.{None, Some, slice_get, filter}
+use Rattle.std.specs.Ordering.{MatchOrdering, nat_cmp}
 use Rattle.std.specs.List.{AllByRecursion, list_any}
 use Rattle.std.specs.List.Sorted.{IsStrictlySortedBy}
 use Rattle.std.specs.BTreeMap.{is_at}
-use Rattle.std.specs.BTreeSet.{BTreeSet, contains}
+use Rattle.std.specs.BTreeSet.{BTreeSet}
 use Rattle.std.proofs.lemmas.Bool.{cases_eq}
 use Rattle.std.proofs.lemmas.Cmp.{ranked}
 use Rattle.std.proofs.lemmas.Map.Keys.{sorted_head, sorted_tail}
@@ -23,14 +23,7 @@ use Rattle.thes_store.specs.RowsAtPositions.{filtered_option, rows_at_positions}
 
 pub in_keys : (ks : List ℕ) (place : ℕ) → list_any (is_at (nat_cmp place)) ks ≡ true → IsIn place ks
 in_keys [] place h = absurd (cc)
-in_keys (k ∷ ks) place h = go (nat_cmp place k) (ranked place k (nat_cmp place k) refl) h (in_keys ks place)
-  where
-    go : (r : Ordering) → MatchOrdering r (place < k) (place ≡ k) (k < place)
-        → (is_eq r || list_any (is_at (nat_cmp place)) ks) ≡ true
-        → (list_any (is_at (nat_cmp place)) ks ≡ true → IsIn place ks) → IsIn place (k ∷ ks)
-    go Less m h later = inr (later h)
-    go Equal m h later = inl m
-    go Greater m h later = inr (later h)
+in_keys (k ∷ ks) place h = grind (arith, common_steps, ranked, in_keys ks place)
 
 sorted_none : IsStrictlySortedBy nat_cmp []
 unfolding IsStrictlySortedBy
@@ -38,21 +31,11 @@ sorted_none = tt
 
 pub some_places : (index : Index) (n : ℕ) (set : BTreeSet ℕ) (places : List ℕ) → slice_get index.sets.items n
     ≡ Some set → places ≡ set.keys → IsStrictlySortedBy nat_cmp set.keys → ArePositions index n places
-some_places index n set places found same rises = record {
-  rises = subst (IsStrictlySortedBy nat_cmp) (sym same) rises;
-  complete = λ place at. subst (IsIn place) (sym same)
-      (in_keys set.keys place (subst (λ (o : Option (BTreeSet ℕ)). IsSomeAnd o (λ s. contains nat_cmp s place ≡ true))
-      found at));
-}
+some_places index n set places found same rises = grind (arith, common_steps, in_keys)
 
 pub no_places : (index : Index) (n : ℕ) (places : List ℕ) → slice_get index.sets.items n ≡ None → places ≡ []
     → ArePositions index n places
-no_places index n places none same = record {
-  rises = subst (IsStrictlySortedBy nat_cmp) (sym same) sorted_none;
-  complete =
-      λ place at. absurd (subst (λ (o : Option (BTreeSet ℕ)). IsSomeAnd o (λ s. contains nat_cmp s place ≡ true)) none
-      at);
-}
+no_places index n places none same = grind (arith, common_steps, sorted_none)
 
 abbrev PositionsAscendFrom : ℕ → List ℕ → Type 0
 PositionsAscendFrom least [] = Unit {0}
@@ -106,48 +89,11 @@ module _ {A : Type 0} (p : A → Bool) where
   pub picked_append : (rows : List A) (places more : List ℕ) → rows_at_positions p rows (places ++ more)
       ≡ rows_at_positions p rows places ++ rows_at_positions p rows more
   picked_append rows [] more = refl
-  picked_append rows (i ∷ places) more = go (slice_get rows i) (picked_append rows places more)
-    where
-      push : (b : Bool) (row : A) → rows_at_positions p rows (places ++ more) ≡ rows_at_positions p rows places
-          ++ rows_at_positions p rows more
-          → cond b (row ∷ rows_at_positions p rows (places ++ more)) (rows_at_positions p rows (places ++ more))
-          ≡ cond b (row ∷ rows_at_positions p rows places) (rows_at_positions p rows places) ++ rows_at_positions p rows
-          more
-      push true row e = ap (λ l. row ∷ l) e
-      push false row e = e
-
-      go : (o : Option A) → rows_at_positions p rows (places ++ more) ≡ rows_at_positions p rows places
-          ++ rows_at_positions p rows more
-          → elim o [
-            | None ↦ rows_at_positions p rows (places ++ more)
-            | Some row ↦ cond (p row)
-                (row ∷ rows_at_positions p rows (places ++ more)) (rows_at_positions p rows (places ++ more))
-          ]
-          ≡ elim o [
-            | None ↦ rows_at_positions p rows places
-            | Some row ↦ cond (p row)
-                (row ∷ rows_at_positions p rows places) (rows_at_positions p rows places)
-          ] ++ rows_at_positions p rows more
-      go None e = e
-      go (Some row) e = push (p row) row e
+  picked_append rows (i ∷ places) more = grind (arith, common_steps, picked_append rows places more)
 
   pub picked_cons : (rows : List A) (i : ℕ) (places : List ℕ) → rows_at_positions p rows (i ∷ places)
       ≡ filtered_option p (slice_get rows i) ++ rows_at_positions p rows places
-  picked_cons rows i places = go (slice_get rows i)
-    where
-      push : (b : Bool) (row : A) → cond b (row ∷ rows_at_positions p rows places) (rows_at_positions p rows places)
-          ≡ cond b (row ∷ []) [] ++ rows_at_positions p rows places
-      push true row = refl
-      push false row = refl
-
-      go : (o : Option A) → elim o [
-        | None ↦ rows_at_positions p rows places
-        | Some row ↦ cond (p row)
-            (row ∷ rows_at_positions p rows places) (rows_at_positions p rows places)
-      ] ≡ filtered_option p o
-          ++ rows_at_positions p rows places
-      go None = refl
-      go (Some row) = push (p row) row
+  picked_cons rows i places = grind (arith, common_steps)
 
   -- The image of the row at one more position follows the images of the rows at the positions before it.
   pub picked_mapped : {B : Type 0} (f : A → B) (rows : List A) (places : List ℕ) (i place : ℕ) → i < length places
@@ -155,34 +101,18 @@ module _ {A : Type 0} (p : A → Bool) where
       → map f (rows_at_positions p rows (take i places)) ++ map f (filtered_option p (slice_get rows place))
       ≡ map f (rows_at_positions p rows (take (i + 1) places))
   picked_mapped f rows places i place lt is =
-      let before = rows_at_positions p rows (take i places) in
-      let one = picked_cons rows place [] ∙ append-nil (filtered_option p (slice_get rows place)) in
-      let whole = ap (rows_at_positions p rows) (take_one places i place lt is)
-      ∙ picked_append rows (take i places) (place ∷ []) ∙ ap (λ (l : List A). before ++ l) one in
-      sym (ap (map f) whole ∙ map-append f before (filtered_option p (slice_get rows place)))
+      grind (arith, common_steps, picked_cons, picked_append, take_one, map-append)
 
   picked_at : (rows : List A) (i : ℕ) (row : A) (places : List ℕ) → slice_get rows i ≡ Some row
       → rows_at_positions p rows (i ∷ places) ≡ cond (p row) (row ∷ rows_at_positions p rows places)
       (rows_at_positions p rows places)
-  picked_at rows i row places e =
-      ap (λ (o : Option A). elim o [
-        | None ↦ rows_at_positions p rows places
-        | Some row ↦ cond (p row)
-            (row ∷ rows_at_positions p rows places) (rows_at_positions p rows places)
-      ]) e
+  picked_at rows i row places e = grind (arith, common_steps)
 
   picked_past : (rows : List A) (places : List ℕ) (least : ℕ) → length rows ≤ least → PositionsAscendFrom least places
       → rows_at_positions p rows places ≡ []
   picked_past rows [] least past r = refl
   picked_past rows (i ∷ places) least past r =
-      let a = r.0 in
-      ap (λ (o : Option A). elim o [
-        | None ↦ rows_at_positions p rows places
-        | Some row ↦ cond (p row)
-            (row ∷ rows_at_positions p rows places) (rows_at_positions p rows places)
-      ])
-      (slice_get_past rows i (omega (arith, past, a)))
-      ∙ picked_past rows places (i + 1) (omega (arith, past, a)) r.1
+      grind (arith, common_steps, slice_get_past, picked_past rows places (i + 1))
 
   -- The positions include that of each row from position `least` on that passes the test.
   abbrev CoversFrom : ℕ → List A → List ℕ → Type 0

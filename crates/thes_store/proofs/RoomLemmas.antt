@@ -1,7 +1,8 @@
 -- Tables that have room for the rows of a list of changes have room for those of its first change.
-use Rattle.std.proofs.Common.{◌≡◌, ◌+◌, ◌<◌, ◌≤◌, ◌∙◌, ℕ, zero, suc, List, [], ◌∷◌, ◌++◌, length, drop, get_or, refl, sym}
-use Rattle.std.proofs.Common.{ap, arith}
-use Rattle.std.specs.Prelude.{Option, None, Some, slice_get, vec_len}
+use Rattle.std.proofs.lemmas.Grind.{common_steps}
+use Rattle.std.proofs.Common.{◌≡◌, ◌+◌, ◌<◌, ◌≤◌, ◌∙◌, ℕ, List, [], ◌∷◌, ◌++◌, length, drop, get_or, refl, sym, ap}
+use Rattle.std.proofs.Common.{arith}
+use Rattle.std.specs.Prelude.{Option, None, Some, vec_len}
 use Rattle.std.specs.List.{cons_option}
 use Rattle.std.specs.Vec.{vec_capacity}
 use Rattle.std.proofs.lemmas.List.{drop_more}
@@ -11,7 +12,6 @@ use Rattle.thes_store.specs.declared.tables.MemTables.{MemTables}
 use Rattle.thes_store.specs.AddedRow.{rows_added_by, added_resource, added_outside, added_label, inserted_link}
 use Rattle.thes_store.specs.AddedRow.{added_hier, added_posting, added_move, changed_label}
 use Rattle.thes_store.specs.Numbers.{owner_of, indexed_end_of, narrower_end_of}
-use Rattle.thes_store.specs.Places.{HasPlace}
 use Rattle.thes_store.specs.Room.{HasRoomForRows}
 use Rattle.thes_store.specs.Slots.{IsReady}
 
@@ -22,17 +22,7 @@ module _ {A : Type 0} where
 
   ready_first : (number : A → ℕ) (s : Slots A) (o : Option A) (rest : List A) → IsReady number s (cons_option o rest)
       → IsReady number s (cons_option o [])
-  ready_first number s None rest ready = record {
-    room = let r = ready.room in omega (arith, r);
-    expected =
-        λ k row e. absurd (cc);
-  }
-  ready_first number s (Some x) rest ready = record { room = let r = ready.room in omega (arith, r); expected = first }
-    where
-      first : (k : ℕ) (row : A) → slice_get (x ∷ []) k ≡ Some row → HasPlace s.places (number row)
-          (vec_len s.rows + k)
-      first zero row e = ready.expected zero row e
-      first (suc k) row e = absurd (cc)
+  ready_first number s o rest ready = grind (arith, common_steps)
 
   -- A list that begins with a value, if there is one, and others begins with that value.
   begins_first : (items : List A) (o : Option A) (more : List A) → (rest : List A) × (items ≡ cons_option o more ++ rest)

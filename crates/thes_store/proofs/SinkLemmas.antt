@@ -1,6 +1,7 @@
 -- Passing a list to a sink in parts has the same outcome as passing it whole.
+use Rattle.std.proofs.lemmas.Grind.{common_steps}
 use Rattle.std.proofs.Common.{◌≡◌, ◌<◌, ◌+◌, ◌++◌, ◌∙◌, inl, inr, ℕ, zero, suc, List, [], ◌∷◌, length, map, take}
-use Rattle.std.proofs.Common.{get_or, refl, sym, ap, subst, arith, append_assoc, append-nil}
+use Rattle.std.proofs.Common.{get_or, refl, sym, ap, subst, arith, append_assoc}
 use Rattle.std.proofs.lemmas.List.{map-append}
 use Rattle.std.proofs.lemmas.List.Elements.{filter_map-append}
 use Rattle.std.specs.List.{filter_map}
@@ -21,8 +22,7 @@ module _ {S A : Type 0} (gives : S → A → Result (Unit {0}) Fault → S → T
   -- Passing one row gives the outcome of a list of one row.
   pub one_sink_row : (old new : S) (x : A) (result : Result (Unit {0}) Fault) → gives old x result new
       → SinkOutcome gives old (x ∷ []) result new
-  one_sink_row old new x (Ok tt) g = (new, g, refl)
-  one_sink_row old new x (Err fault) g = inr (inl g)
+  one_sink_row old new x result g = grind (arith, common_steps)
 
   pub accepts_then : (xs ys : List A) (old mid new : S) → SinkAcceptsAll gives old xs mid → SinkAcceptsAll gives mid
       ys new → SinkAcceptsAll gives old (xs ++ ys) new
@@ -38,37 +38,7 @@ module _ {S A : Type 0} (gives : S → A → Result (Unit {0}) Fault → S → T
       → SinkAcceptsPrefix gives fault old (xs ++ ys) new
   some_more [] [] fault old new t = t
   some_more [] (y ∷ ys) fault old new t = inl t
-  some_more (x ∷ xs) ys fault old new (inl none) = inl none
-  some_more (x ∷ xs) ys fault old new (inr (inl refused)) = inr (inl refused)
-  some_more (x ∷ xs) ys fault old new (inr (inr (mid, g, t))) = inr (inr (mid, g, some_more xs ys fault mid new t))
-
-  -- Assumes a loop that passes the elements of a list to a sink, one by one.
-  module _ {R : Type 0} (f : R → A) where
-    pub accepts_next : (xs : List R) (i : ℕ) (x : R) (old mid new : S) → i < length xs → x ≡ get_or xs i x
-        → SinkAcceptsAll gives old (map f (take i xs)) mid → SinkAcceptsAll gives mid (f x ∷ []) new
-        → SinkAcceptsAll gives old (map f (take (i + 1) xs)) new
-    accepts_next xs i x old mid new lt is t u = subst (λ n. SinkAcceptsAll gives old (map f (take n xs)) new)
-        (let e : suc i ≡ i + 1 = omega arith in e) (go xs i old lt is t)
-      where
-        go : (xs : List R) (i : ℕ) (old : S) → i < length xs → x ≡ get_or xs i x → SinkAcceptsAll gives old
-            (map f (take i xs)) mid → SinkAcceptsAll gives old (map f (take (suc i) xs)) new
-        go [] i old lt is t = absurd (omega arith)
-        go (y ∷ xs) zero old lt is t = subst (λ m. SinkAcceptsAll gives m (f y ∷ []) new) t
-            (subst (λ z. SinkAcceptsAll gives mid (f z ∷ []) new) is u)
-        go (y ∷ xs) (suc i) old lt is t = (t.0, t.1, go xs i t.0 (omega arith) is t.2)
-
-    pub some_next : (xs : List R) (i : ℕ) (x : R) (fault : Fault) (old mid new : S) → i < length xs → x
-        ≡ get_or xs i x → SinkAcceptsAll gives old (map f (take i xs)) mid → SinkAcceptsPrefix gives fault mid
-        (f x ∷ []) new → SinkAcceptsPrefix gives fault old (map f xs) new
-    some_next xs i x fault old mid new lt is t u = go xs i old lt is t
-      where
-        go : (xs : List R) (i : ℕ) (old : S) → i < length xs → x ≡ get_or xs i x → SinkAcceptsAll gives old
-            (map f (take i xs)) mid → SinkAcceptsPrefix gives fault old (map f xs) new
-        go [] i old lt is t = absurd (omega arith)
-        go (y ∷ xs) zero old lt is t = some_more (f y ∷ []) (map f xs) fault old new
-            (subst (λ m. SinkAcceptsPrefix gives fault m (f y ∷ []) new) t
-            (subst (λ z. SinkAcceptsPrefix gives fault mid (f z ∷ []) new) is u))
-        go (y ∷ xs) (suc i) old lt is t = inr (inr (t.0, t.1, go xs i t.0 (omega arith) is t.2))
+  some_more (x ∷ xs) ys fault old new t = grind (arith, common_steps, some_more xs ys fault)
 
 abbrev pub sink_rows_of_slots : {R : Type 0} → Table → (R → List Cell) → List (Option R)
     → List (Table × Option (List Cell))
@@ -76,13 +46,7 @@ sink_rows_of_slots name cells slots = sink_rows_of_table name (Some (map cells (
 
 pub slots_append : {R : Type 0} (name : Table) (cells : R → List Cell) (xs ys : List (Option R))
     → sink_rows_of_slots name cells (xs ++ ys) ≡ sink_rows_of_slots name cells xs ++ sink_rows_of_slots name cells ys
-slots_append {R = R} name cells xs ys =
-    let slot : Option R → Option R = λ slot. slot in
-    ap (λ (l : List R). sink_rows_of_table name (Some (map cells l))) (filter_map-append slot xs ys)
-    ∙ ap (λ (l : List (List Cell)). sink_rows_of_table name (Some l))
-    (map-append cells (filter_map slot xs) (filter_map slot ys))
-    ∙ map-append (λ (row : List Cell). (name, Some row)) (map cells (filter_map slot xs))
-    (map cells (filter_map slot ys))
+slots_append {R = R} name cells xs ys = grind (arith, common_steps, filter_map-append, map-append)
 
 abbrev as_resource : List Cell → Table × Option (List Cell)
 as_resource row = (table.Resource, Some row)
@@ -91,10 +55,7 @@ resources_take : (n : ℕ) (rs : List Resource) (i : ℕ) (r : Resource) → i <
     → resource_rows n (take (suc i) rs) ≡ resource_rows n (take i rs) ++ resource_cells (n + i) r ∷ []
 resources_take n [] i r lt is = absurd (omega arith)
 resources_take n (x ∷ rs) zero r lt is = let e : n ≡ n + 0 = omega arith in λ j. resource_cells (e j) (sym is j) ∷ []
-resources_take n (x ∷ rs) (suc i) r lt is =
-    let e : n + 1 + i ≡ n + suc i = omega arith in
-    ap (λ l. resource_cells n x ∷ l) (resources_take (n + 1) rs i r (omega arith) is
-    ∙ ap (λ m. resource_rows (n + 1) (take i rs) ++ resource_cells m r ∷ []) e)
+resources_take n (x ∷ rs) (suc i) r lt is = grind (arith, common_steps, resources_take (n + 1) rs i r)
 
 resources_split : (n : ℕ) (rs : List Resource) (i : ℕ) (r : Resource) → i < length rs → r ≡ get_or rs i r
     → (rest : List (List Cell)) × (resource_rows n rs ≡ resource_rows n (take i rs) ++ resource_cells (n + i) r
@@ -102,13 +63,7 @@ resources_split : (n : ℕ) (rs : List Resource) (i : ℕ) (r : Resource) → i 
 resources_split n [] i r lt is = absurd (omega arith)
 resources_split n (x ∷ rs) zero r lt is = let e : n ≡ n + 0 = omega arith in
     (resource_rows (n + 1) rs, λ j. resource_cells (e j) (sym is j) ∷ resource_rows (n + 1) rs)
-resources_split n (x ∷ rs) (suc i) r lt is =
-    let h = resources_split (n + 1) rs i r (omega arith) is in
-    let e : n + 1 + i ≡ n + suc i = omega arith in (
-      h.0,
-      ap (λ l. resource_cells n x ∷ l)
-          (h.1 ∙ ap (λ m. resource_rows (n + 1) (take i rs) ++ resource_cells m r ∷ h.0) e),
-    )
+resources_split n (x ∷ rs) (suc i) r lt is = grind (arith, common_steps, resources_split (n + 1) rs i r)
 
 module _ {S : Type 0} (gives : S → Table × Option (List Cell) → Result (Unit {0}) Fault → S → Type 0) where
   pub resource_accepted : (rs : List Resource) (i : ℕ) (r : Resource) (old mid new : S) → i < length rs → r
@@ -150,10 +105,7 @@ module _ {S A X : Type 0} (gives : S → A → Result (Unit {0}) Fault → S →
   pub part_accepted : (xs : List X) (i : ℕ) (x : X) (old mid new : S) (r : Result (Unit {0}) Fault) (done : Unit {0})
       → i < length xs → x ≡ get_or xs i x → SinkAcceptsAll gives old (parts (take i xs)) mid → r ≡ Ok done
       → SinkOutcome gives mid (parts (x ∷ [])) r new → SinkAcceptsAll gives old (parts (take (i + 1) xs)) new
-  part_accepted xs i x old mid new r done lt is t ok h =
-      subst (λ l. SinkAcceptsAll gives old l new) (sym (ap parts (take_one xs i x lt is) ∙ splits (take i xs) (x ∷ [])))
-      (accepts_then gives (parts (take i xs)) (parts (x ∷ [])) old mid new t
-      (subst (λ q. SinkOutcome gives mid (parts (x ∷ [])) q new) ok h))
+  part_accepted xs i x old mid new r done lt is t ok h = grind (arith, common_steps, take_one, accepts_then, splits)
 
   pub part_refused : (xs : List X) (i : ℕ) (x : X) (fault : Fault) (old mid new : S) (r : Result (Unit {0}) Fault) → i
       < length xs → x ≡ get_or xs i x → SinkAcceptsAll gives old (parts (take i xs)) mid → r ≡ Err fault

@@ -1,6 +1,7 @@
 -- Each change of a list with gaps keeps its index correct and its reserved memory.
-use Rattle.std.proofs.Common.{◌≡◌, ◌≢◌, ◌+◌, ◌<◌, ◌∙◌, inl, inr, ℕ, zero, suc, List, [], ◌∷◌, ◌++◌, length, Bool}
-use Rattle.std.proofs.Common.{true, false, cond, refl, sym, ap, subst, arith, ⊎_elim}
+use Rattle.std.proofs.lemmas.Grind.{common_steps}
+use Rattle.std.proofs.Common.{◌≡◌, ◌+◌, ◌<◌, ◌∙◌, ℕ, zero, suc, List, [], ◌∷◌, ◌++◌, length, Bool, true, false, cond}
+use Rattle.std.proofs.Common.{refl, sym, ap, subst, arith, ⊎_elim}
 use Rattle.std.specs.Prelude.{Option, None, Some, slice_get, slice_set, filter, not, vec_len}
 use Rattle.std.specs.List.{filter_map}
 use Rattle.std.specs.Vec.{vec_capacity}
@@ -28,66 +29,33 @@ module _ {A : Type 0} where
     pub found_pushed : (x : A) → new.rows.items ≡ old.rows.items ++ Some x ∷ [] → new.places ≡ old.places
         → HasPlace old.places (number x) (vec_len old.rows) → AreIndexedBy number old → AreIndexedBy number new
     found_pushed x items places at found i row e =
-        subst (λ p. HasPlace p (number row) i) (sym places)
-        (⊎_elim
-        (λ (before : slice_get old.rows.items i ≡ Some (Some row)). found i row before)
-        (λ (last : (suc i ≡ length old.rows.items + 1) × (Some row ≡ Some x)).
-        let here = last.0 in
-        let len = old.rows.ok.0 in
-        let same : vec_len old.rows ≡ i = omega (arith, here, len) in
-        subst (λ n. HasPlace old.places n i) (ap number (sym (same_Some _ _ last.1)))
-        (subst (HasPlace old.places (number x)) same at))
-        (push_cases old.rows.items (Some x) (Some row) (suc i) (sym (ap (λ l. slice_get l i) items) ∙ e)))
+        let p = push_cases old.rows.items (Some x) (Some row) (suc i) (sym (ap (λ l. slice_get l i) items) ∙ e) in
+        grind (arith, common_steps)
 
     pub ready_pushed : (x : A) (rest : List A) → new.places ≡ old.places → vec_len new.rows ≡ vec_len old.rows + 1
         → vec_capacity new.rows ≡ vec_capacity old.rows → IsReady number old (x ∷ rest) → IsReady number new rest
-    ready_pushed x rest places len capacity ready = record {
-      room = let r = ready.room in omega (arith, r, len, capacity);
-      expected = λ k row e.
-          let at : vec_len old.rows + suc k ≡ vec_len new.rows + k = omega (arith, len) in
-          subst (λ p. HasPlace p (number row) (vec_len new.rows + k)) (sym places)
-          (subst (HasPlace old.places (number row)) at (ready.expected (suc k) row e));
-    }
+    ready_pushed x rest places len capacity ready =
+        record {
+          room = let r = ready.room in omega (arith, r, len, capacity);
+          expected = λ k row e. let old_place = ready.expected (suc k) row e in grind (arith, common_steps);
+        }
 
     -- The other rows stay indexed after one is removed.
     pub found_emptied : (i : ℕ) → new.rows.items ≡ rows_after_change_at (λ slot. None) i old.rows.items
         → KeepsOtherPlaces i old.places new.places → AreIndexedBy number old → AreIndexedBy number new
-    found_emptied i items keeps found j row e = go (slice_get old.rows.items i) refl
-        (sym (ap (λ l. slice_get l j) items) ∙ e)
-      where
-        other : j ≢ i → slice_get old.rows.items j ≡ Some (Some row) → HasPlace new.places (number row) j
-        other apart at = keeps (number row) j apart (found j row at)
-
-        go : (o : Option (Option A)) → slice_get old.rows.items i ≡ o
-            → slice_get (elim o [ None ↦ old.rows.items | Some slot ↦ slice_set old.rows.items i None ]) j
-            ≡ Some (Some row) → HasPlace new.places (number row) j
-        go None none at = other (λ same. let no = sym none ∙ ap (slice_get old.rows.items) (sym same) ∙ at in
-            absurd (cc)) at
-        go (Some slot) row_there at = elim (slice_set_cases old.rows.items None (Some row) i j at) [
-          | inl here ↦ let no = here.1 in absurd (cc)
-          | inr apart ↦ other apart.0 apart.1
-        ]
+    found_emptied i items keeps found j row e = grind (arith, common_steps, slice_set_cases)
 
     pub ready_emptied : (i : ℕ) (rest : List A) → i < vec_len old.rows → vec_len new.rows ≡ vec_len old.rows
         → vec_capacity new.rows ≡ vec_capacity old.rows → KeepsOtherPlaces i old.places new.places
         → IsReady number old rest → IsReady number new rest
-    ready_emptied i rest place_in_bounds len capacity keeps ready = record {
-      room = let r = ready.room in omega (arith, r, len, capacity);
-      expected = λ k row e.
-          subst (λ n. HasPlace new.places (number row) (n + k)) (sym len)
-          (keeps (number row) (vec_len old.rows + k) (λ same. absurd (omega (arith, place_in_bounds, same)))
-          (ready.expected k row e));
-    }
+    ready_emptied i rest place_in_bounds len capacity keeps ready = grind (arith, common_steps)
 
   module _ (p : A → Bool) where
     -- A gap in place of a row that fails the test leaves the passing rows unchanged.
     pub filter_emptied : (slots : List (Option A)) (i : ℕ) (x : A) → slice_get slots i ≡ Some (Some x) → p x ≡ false
         → filter p (rows_without_gaps (slice_set slots i None)) ≡ filter p (rows_without_gaps slots)
     filter_emptied [] i x e fails = absurd (cc)
-    filter_emptied (slot ∷ slots) zero x e fails =
-        subst (λ (o : Option A). filter p (rows_without_gaps slots) ≡ filter p (rows_without_gaps (o ∷ slots)))
-        (sym (same_Some _ _ e))
-        (ap (λ b. cond b (x ∷ filter p (rows_without_gaps slots)) (filter p (rows_without_gaps slots))) (sym fails))
+    filter_emptied (slot ∷ slots) zero x e fails = grind (arith, common_steps, same_Some)
     filter_emptied (None ∷ slots) (suc i) x e fails = filter_emptied slots i x e fails
     filter_emptied (Some y ∷ slots) (suc i) x e fails =
         ap (λ l. cond (p y) (y ∷ l) l) (filter_emptied slots i x e fails)
@@ -112,9 +80,7 @@ module _ {A : Type 0} where
   module _ (same : A → A → Bool) (row : A) where
     pub row_there : (o : Option (Option A)) → is_same_row same o row ≡ true → (x : A) × (o ≡ Some (Some x))
         × (same x row ≡ true)
-    row_there None e = absurd (cc)
-    row_there (Some None) e = absurd (cc)
-    row_there (Some (Some x)) e = (x, refl, e)
+    row_there o e = grind (arith, common_steps)
 
     pub differs : (slots : List (Option A)) → ((i : ℕ) → is_same_row same (slice_get slots i) row ≡ false)
         → (i : ℕ) (x : A) → slice_get slots i ≡ Some (Some x) → not (same x row) ≡ true
@@ -143,24 +109,16 @@ module _ {A : Type 0} where
       h = row_there (slice_get old.rows.items place) held
 
       items : new.rows.items ≡ slice_set old.rows.items place None
-      items = emptied
-          ∙ ap (λ (o : Option (Option A)). elim o [
-            | None ↦ old.rows.items
-            | Some slot ↦ slice_set old.rows.items place
-                None
-          ]) h.1
+      items = grind (arith, common_steps, emptied, h)
 
       pub fewer_rows : length (rows_in new) < length (rows_in old)
-      fewer_rows = subst (λ l. length (rows_without_gaps l) < length (rows_in old)) (sym items)
-          (fewer_emptied old.rows.items place h.0 h.1)
+      fewer_rows = grind (arith, common_steps, fewer_emptied, h, items)
 
       pub others_stay : filter (λ x. not (same x row)) (rows_in new) ≡ filter (λ x. not (same x row)) (rows_in old)
-      others_stay = ap (λ l. filter (λ x. not (same x row)) (rows_without_gaps l)) items
-          ∙ filter_emptied (λ x. not (same x row)) old.rows.items place h.0 h.1 (ap not h.2)
+      others_stay = grind (arith, common_steps, filter_emptied, h, items)
 
       pub place_in_bounds : place < vec_len old.rows
-      place_in_bounds = let w = slice_get_within old.rows.items place (Some h.0) h.1 in let len = old.rows.ok.0 in
-          omega (arith, w, len)
+      place_in_bounds = grind (arith, common_steps, slice_get_within, h)
 
     -- If no slot has a row equal to the given one, the rows are those that differ from it.
     pub none_left : (s : Slots A) → ((place : ℕ) → is_same_row same (slice_get s.rows.items place) row ≡ false)

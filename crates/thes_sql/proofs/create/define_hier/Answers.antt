@@ -2,6 +2,6 @@ use Rattle.thes_sql.proofs.SchemaTextLemmas.{does_hier}
 use Rattle.thes_sql.proofs.create.define_hier.Goals as goal
 
 pub returns-clause-does : goal.returns-clause-does
-returns-clause-does g c clean inside = does_hier g.S.Store c.args.tx.now.conn.now
-    c.execute_batch.new.self.conn.now c.execute_batch.result (c.execute_batch.ensures.ran clean)
+returns-clause-does g c clean inside =
+    does_hier g.S.Store _ _ _ (c.execute_batch.ensures.ran clean)
     (c.execute_batch.ensures.inside clean) inside

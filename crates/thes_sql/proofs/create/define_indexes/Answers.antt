@@ -1,5 +1,4 @@
 use Rattle.std.proofs.Common.{arith}
-use Rattle.sqlite.specs.Held.{state}
 use Rattle.thes_sql.proofs.SchemaTextLemmas.{both_indexes}
 use Rattle.thes_sql.proofs.create.define_indexes.Goals as goal
 
@@ -8,5 +7,4 @@ returns-clause-does g c clean inside =
     let second = c.in_ok-try_index-2.ensures in
     let doubt = second.stays.1.clean in
     let first = c.in_ok-try_index.ensures.does (omega (arith, doubt, clean)) inside in
-    both_indexes (state g.S.Store c.args.tx.now.conn.now) (state g.S.Store c.try_index.new.tx.conn.now)
-    (state g.S.Store c.try_index-2.new.tx.conn.now) first (second.does clean first.inside)
+    both_indexes _ _ _ first (second.does clean first.inside)

@@ -1,7 +1,5 @@
-use Rattle.sqlite.specs.Held.{state}
 use Rattle.thes_sql.proofs.MigrationStepLemmas.{does_version}
 use Rattle.thes_sql.proofs.migrate.set_version.Goals as goal
 
 pub returns-clause-does : goal.returns-clause-does
-returns-clause-does g c clean inside = does_version (state g.S.Store c.args.tx.now.conn.now)
-    (state g.S.Store c.execute.new.self.conn.now) c.execute.result (c.execute.ensures.runs clean inside)
+returns-clause-does g c clean inside = does_version _ _ _ (c.execute.ensures.runs clean inside)

@@ -1,5 +1,4 @@
 use Rattle.std.proofs.Common.{[]}
-use Rattle.sqlite.specs.Held.{state}
 use Rattle.thes_base.specs.declared.fault.Table.TheVariants as table
 use Rattle.thes_sql.specs.Reads.{read_text}
 use Rattle.thes_sql.proofs.QueryTextLemmas.{table_is_query}
@@ -7,15 +6,14 @@ use Rattle.thes_sql.proofs.ReadFrameLemmas.{leaves_alone, keeps_database, found_
 use Rattle.thes_sql.proofs.versions.version_rows.Goals as goal
 
 pub returns-clause-finds : goal.returns-clause-finds
-returns-clause-finds g c = λ clean. found_result (read_text table.Meta) (state g.S.Store c.args.conn.now)
-    (state g.S.Store c.query_all.new.self) (table_is_query table.Meta) (λ rows. rows.items) c.query_all.result
-    (c.query_all.ensures.ok clean) (c.query_all.ensures.err clean)
+returns-clause-finds g c = λ clean. found_result (read_text table.Meta) _ _ (table_is_query table.Meta)
+    (λ rows. rows.items) c.query_all.result (c.query_all.ensures.ok clean) (c.query_all.ensures.err clean)
 
 pub returns-clause-kept : goal.returns-clause-kept
-returns-clause-kept g c = keeps_database g.S.Store (read_text table.Meta) [] c.args.conn.now c.query_all.new.self
-    c.query_all.result (λ rows. rows.items) (table_is_query table.Meta).0 c.query_all.ensures.ok
+returns-clause-kept g c = keeps_database g.S.Store (read_text table.Meta) [] c.args.conn.now c.query_all.new.self _
+    (λ rows. rows.items) (table_is_query table.Meta).0 c.query_all.ensures.ok
 
 pub returns-clause-leaves : goal.returns-clause-leaves
-returns-clause-leaves g c = leaves_alone g.S.Store (read_text table.Meta) [] c.args.conn.now c.query_all.new.self
-    c.query_all.result (λ rows. rows.items) (table_is_query table.Meta).0 c.query_all.ensures.ok
-    c.query_all.ensures.mode c.query_all.ensures.err c.query_all.ensures.survives
+returns-clause-leaves g c = leaves_alone g.S.Store (read_text table.Meta) [] _ _ _ (λ rows. rows.items)
+    (table_is_query table.Meta).0 c.query_all.ensures.ok c.query_all.ensures.mode c.query_all.ensures.err
+    c.query_all.ensures.survives

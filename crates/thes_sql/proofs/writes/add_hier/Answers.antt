@@ -1,9 +1,6 @@
-use Rattle.sqlite.specs.Held.{state}
-use Rattle.thes_sql.proofs.UpdateLemmas.{applies_change, makes_hier}
+use Rattle.thes_sql.proofs.InsertLemmas.{makes_hier}
 use Rattle.thes_sql.proofs.writes.add_hier.Goals as goal
 
 pub returns-clause-does : goal.returns-clause-does
-returns-clause-does g c clean inside = applies_change _ _ _ (makes_hier c.args.row.now)
-    (state g.S.Store c.args.tx.now.conn.now)
-    (state g.S.Store c.execute.new.self.conn.now) c.execute.result
-    (rw c.hier_values.ensures at (c.execute.ensures.runs clean inside))
+returns-clause-does g c clean inside =
+    makes_hier c.args.row.now _ _ _ (rw c.hier_values.ensures at (c.execute.ensures.runs clean inside))

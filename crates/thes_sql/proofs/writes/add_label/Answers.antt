@@ -1,8 +1,7 @@
-use Rattle.sqlite.specs.Held.{state}
-use Rattle.thes_sql.proofs.UpdateLemmas.{applies_change, makes_label}
+use Rattle.thes_sql.proofs.InsertLemmas.{makes_label}
 use Rattle.thes_sql.proofs.writes.add_label.Goals as goal
 
 pub returns-clause-does : goal.returns-clause-does
-returns-clause-does g c clean inside = applies_change _ _ _ (makes_label c.args.row.now c.label_values.ensures.spelled)
-    (state g.S.Store c.args.tx.now.conn.now) (state g.S.Store c.execute.new.self.conn.now) c.execute.result
+returns-clause-does g c clean inside =
+    makes_label c.args.row.now c.label_values.ensures.spelled _ _ _
     (rw c.label_values.ensures.cells at (c.execute.ensures.runs clean inside))

@@ -1,10 +1,8 @@
 use Rattle.std.proofs.Common.{rules}
-use Rattle.sqlite.specs.Held.{state}
-use Rattle.thes_sql.proofs.UpdateLemmas.{applies_change, makes_outside}
+use Rattle.thes_sql.proofs.InsertLemmas.{makes_outside}
 use Rattle.thes_sql.proofs.writes.add_outside.Goals as goal
 
 pub returns-clause-does : goal.returns-clause-does
 returns-clause-does g c clean inside =
-    applies_change _ _ _ (makes_outside c.args.n c.args.iri.now (search rules) c.outside_values.ensures.spelled)
-    (state g.S.Store c.args.tx.now.conn.now) (state g.S.Store c.execute.new.self.conn.now) c.execute.result
+    makes_outside c.args.n c.args.iri.now (search rules) c.outside_values.ensures.spelled _ _ _
     (rw c.outside_values.ensures.cells at (c.execute.ensures.runs clean inside))

@@ -1,8 +1,7 @@
-use Rattle.sqlite.specs.Held.{state}
-use Rattle.thes_sql.proofs.UpdateLemmas.{applies_change, makes_resource}
+use Rattle.thes_sql.proofs.InsertLemmas.{makes_resource}
 use Rattle.thes_sql.proofs.writes.add_resource.Goals as goal
 
 pub returns-clause-does : goal.returns-clause-does
-returns-clause-does g c clean inside = applies_change _ _ _ (makes_resource c.args.n c.args.resource.now)
-    (state g.S.Store c.args.tx.now.conn.now) (state g.S.Store c.execute.new.self.conn.now) c.execute.result
+returns-clause-does g c clean inside =
+    makes_resource c.args.n c.args.resource.now _ _ _
     (rw c.resource_values.ensures at (c.execute.ensures.runs clean inside))

@@ -1,8 +1,6 @@
-use Rattle.sqlite.specs.Held.{state}
-use Rattle.thes_sql.proofs.UpdateLemmas.{applies_change, makes_label_gone}
+use Rattle.thes_sql.proofs.UpdateLemmas.{makes_label_gone}
 use Rattle.thes_sql.proofs.writes.drop_label.Goals as goal
 
 pub returns-clause-does : goal.returns-clause-does
-returns-clause-does g c clean inside = applies_change _ _ _ (makes_label_gone c.args.row.now)
-    (state g.S.Store c.args.tx.now.conn.now) (state g.S.Store c.execute.new.self.conn.now) c.execute.result
-    (rw c.label_values.ensures.cells at (c.execute.ensures.runs clean inside))
+returns-clause-does g c clean inside =
+    makes_label_gone c.args.row.now _ _ _ (rw c.label_values.ensures.cells at (c.execute.ensures.runs clean inside))

@@ -1,8 +1,6 @@
-use Rattle.sqlite.specs.Held.{state}
-use Rattle.thes_sql.proofs.UpdateLemmas.{applies_change, makes_link_gone}
+use Rattle.thes_sql.proofs.UpdateLemmas.{makes_link_gone}
 use Rattle.thes_sql.proofs.writes.drop_link.Goals as goal
 
 pub returns-clause-does : goal.returns-clause-does
-returns-clause-does g c clean inside = applies_change _ _ _ (makes_link_gone c.args.link.now)
-    (state g.S.Store c.args.tx.now.conn.now) (state g.S.Store c.execute.new.self.conn.now) c.execute.result
-    (rw c.link_values.ensures at (c.execute.ensures.runs clean inside))
+returns-clause-does g c clean inside =
+    makes_link_gone c.args.link.now _ _ _ (rw c.link_values.ensures at (c.execute.ensures.runs clean inside))

@@ -1,9 +1,8 @@
-use Rattle.sqlite.specs.Held.{state}
-use Rattle.thes_sql.proofs.UpdateLemmas.{applies_change, makes_replaced}
+use Rattle.thes_sql.proofs.UpdateLemmas.{makes_replaced}
 use Rattle.thes_sql.proofs.writes.replace.Goals as goal
 
 pub returns-clause-does : goal.returns-clause-does
-returns-clause-does g c clean inside = applies_change _ _ _ (makes_replaced c.args.n c.args.by)
-    (state g.S.Store c.args.tx.now.conn.now) (state g.S.Store c.execute.new.self.conn.now) c.execute.result
+returns-clause-does g c clean inside =
+    makes_replaced c.args.n c.args.by _ _ _
     (rw (c.params-to_sql.ensures, c.params-to_sql-2.ensures, c.get.ensures.value, c.get-2.ensures.value)
     at (c.execute.ensures.runs clean inside))

@@ -1,9 +1,7 @@
-use Rattle.sqlite.specs.Held.{state}
-use Rattle.thes_sql.proofs.UpdateLemmas.{applies_change, makes_withdrawn}
+use Rattle.thes_sql.proofs.UpdateLemmas.{makes_withdrawn}
 use Rattle.thes_sql.proofs.writes.withdraw.Goals as goal
 
 pub returns-clause-does : goal.returns-clause-does
-returns-clause-does g c clean inside = applies_change _ _ _ (makes_withdrawn c.args.n)
-    (state g.S.Store c.args.tx.now.conn.now)
-    (state g.S.Store c.execute.new.self.conn.now) c.execute.result
+returns-clause-does g c clean inside =
+    makes_withdrawn c.args.n _ _ _
     (rw (c.params-to_sql.ensures, c.get.ensures.value) at (c.execute.ensures.runs clean inside))

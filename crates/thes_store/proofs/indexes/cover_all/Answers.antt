@@ -1,17 +1,13 @@
+use Rattle.std.proofs.lemmas.Grind.{common_steps}
 use Rattle.std.proofs.Common.{arith, rules}
 use Rattle.thes_store.proofs.CoverLemmas.{so_far_begins, so_far_continues, covers_when_stopped, so_far_ends, moves_few}
 use Rattle.thes_store.proofs.indexes.cover_all.Goals as goal
 
 pub loop-change-init : goal.loop-change-init
-loop-change-init c = (
-  omega arith,
-  λ t fits len covers. so_far_begins c.args.indexes.now c.args.changes.now t
-      c.args.moves len covers,
-)
+loop-change-init c = grind (arith, common_steps, so_far_begins)
 
 pub cover-requires : goal.cover-requires
-cover-requires c = let a = c.loop-change.invariant.0 in let b = c.loop-change-test.true in let r = c.requires in
-    omega (arith, a, b, r)
+cover-requires c = grind (arith, common_steps)
 
 pub loop-change-preserved : goal.loop-change-preserved
 loop-change-preserved c =
@@ -36,10 +32,4 @@ returns-in_err-step c =
     )
 
 pub returns : goal.returns
-returns c =
-    λ t fits len covers.
-    let so_far = c.loop-change.invariant.1 t fits len covers in (
-      so_far.first,
-      so_far_ends c.loop-change.indexes c.args.changes.now c.loop-change.change-index t
-          c.loop-change.step c.loop-change-test.false so_far,
-    )
+returns c = grind (arith, common_steps, so_far_ends)

@@ -1,7 +1,8 @@
-use Rattle.std.proofs.Common.{◌∙◌, List, subst}
+use Rattle.std.proofs.Common.{arith, List, subst}
+use Rattle.std.proofs.lemmas.Grind.{common_steps}
 use Rattle.std.specs.Prelude.{Option}
 use Rattle.std.proofs.lemmas.List.{take_all}
-use Rattle.thes_store.specs.Sinks.{SinkAcceptsAll, SinkAcceptsPrefix}
+use Rattle.thes_store.specs.Sinks.{SinkAcceptsPrefix}
 use Rattle.thes_store.proofs.SinkLemmas.{sink_rows_of_slots, slots_append, part_accepted, part_refused}
 use Rattle.thes_store.proofs.row_output.yield_slots.Goals as goal
 
@@ -23,8 +24,4 @@ returns-in-Err-clause-yields g c =
     c.loop-slot-test.true c.slot-item.is c.loop-slot.invariant c.in-Err.is c.yield_slot.ensures.yields)
 
 pub returns-clause-yields : goal.returns-clause-yields
-returns-clause-yields g c =
-    subst (λ (l : List (Option g.row.R.Denot)). SinkAcceptsAll g.S.RowSink.gives c.args.sink.now
-    (sink_rows_of_slots c.args.name g.R.AsCells.cells_of l) c.loop-slot.sink)
-    (take_all c.loop-slot.slot-index c.as_slice-slots.result.now c.loop-slot-test.false ∙ c.as_slice-slots.ensures)
-    c.loop-slot.invariant
+returns-clause-yields g c = grind (arith, common_steps, take_all, sink_rows_of_slots)

@@ -1,11 +1,12 @@
-use Rattle.std.proofs.Common.{List, get_or, ap, sym, subst, append-nil, rules}
+use Rattle.std.proofs.Common.{arith, List, get_or, sym, subst, append-nil, rules}
+use Rattle.std.proofs.lemmas.Grind.{common_steps}
 use Rattle.std.specs.Prelude.{Option}
 use Rattle.std.proofs.lemmas.List.{take_all}
 use Rattle.thes_base.specs.declared.fault.Table.{Table}
 use Rattle.thes_base.specs.declared.fault.Table.TheVariants as table
 use Rattle.thes_tables.specs.declared.cells.Cell.{Cell}
 use Rattle.thes_tables.specs.Cells.{cells_of_tables}
-use Rattle.thes_store.specs.Sinks.{SinkAcceptsAll, SinkOutcome, sink_rows_of_tables}
+use Rattle.thes_store.specs.Sinks.{SinkOutcome, sink_rows_of_tables}
 use Rattle.thes_store.specs.Room.{tables_in_memory}
 use Rattle.thes_store.proofs.SinkLemmas.{tables_append, part_accepted, part_refused}
 use Rattle.thes_store.proofs.row_output.yield_tables.Goals as goal
@@ -31,8 +32,4 @@ returns-in-Err-clause-yields g c =
     c.yield_table.result c.loop-name-test.true (search rules) c.loop-name.invariant c.in-Err.is one
 
 pub returns-clause-yields : goal.returns-clause-yields
-returns-clause-yields g c =
-    let raw = cells_of_tables (tables_in_memory c.args.tables.now) in
-    let all = ap (sink_rows_of_tables raw) (take_all c.loop-name.name-index c.args.names.now c.loop-name-test.false) in
-    subst (λ (l : List (Table × Option (List Cell))). SinkAcceptsAll g.S.RowSink.gives c.args.sink.now l
-    c.loop-name.sink) all c.loop-name.invariant
+returns-clause-yields g c = grind (arith, common_steps, take_all)

@@ -1,8 +1,6 @@
+use Rattle.std.proofs.Common.{arith}
+use Rattle.std.proofs.lemmas.Grind.{common_steps}
 use Rattle.thes_store.proofs.indexes.Indexes.cover_posting.Goals as goal
 
 pub returns-clause-grows : goal.returns-clause-grows
-returns-clause-grows c = record {
-  keys = λ q i apart at. c.insert-2.ensures.keeps q i apart at;
-  standing = c.insert.ensures.keeps;
-  moves = λ n place at. at;
-}
+returns-clause-grows c = grind (arith, common_steps)

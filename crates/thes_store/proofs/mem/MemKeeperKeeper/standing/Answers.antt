@@ -1,4 +1,5 @@
-use Rattle.std.proofs.Common.{◌≡◌, ◌∙◌, ap, subst, List}
+use Rattle.std.proofs.Common.{arith, ◌≡◌, ◌∙◌, ap, subst, List}
+use Rattle.std.proofs.lemmas.Grind.{common_steps}
 use Rattle.thes_tables.specs.declared.rows.PostingRow.{PostingRow}
 use Rattle.thes_tables.specs.Tables.{Tables, is_assigned_row}
 use Rattle.thes_tables.proofs.CellLemmas.{listed_one}
@@ -6,14 +7,12 @@ use Rattle.thes_store.specs.Index.{ArePositions}
 use Rattle.thes_store.specs.Covers.{Covers}
 use Rattle.thes_store.specs.Sinks.{SinkOutcome}
 use Rattle.thes_store.specs.RowsAtPositions.{rows_at_positions}
-use Rattle.thes_store.specs.Reading.{assigned_posting_rows}
 use Rattle.thes_store.proofs.SinkLemmas.{fault_before_first}
 use Rattle.thes_store.proofs.IndexLookUpLemmas.{standing_all}
 use Rattle.thes_store.proofs.mem.MemKeeperKeeper.standing.Goals as goal
 
 pub returns-in_err-places-clause-yields : goal.returns-in_err-places-clause-yields
-returns-in_err-places-clause-yields g c = λ up t same. fault_before_first g.S.PostingSink.gives
-    (assigned_posting_rows c.args.concept t.posting) c.args.sink.now c.from_residual.result c.from_residual.ensures.0
+returns-in_err-places-clause-yields g c = grind (arith, common_steps, fault_before_first)
 
 pub returns-clause-yields : goal.returns-clause-yields
 returns-clause-yields g c = λ up t same.

@@ -1,8 +1,7 @@
-use Rattle.std.proofs.Common.{◌≡◌, ◌∙◌, ◌≤◌, false, get_or, inl, inr, ap, length, sym, subst, rules}
-use Rattle.std.specs.Prelude.{slice_get}
+use Rattle.std.proofs.Common.{arith, ◌≡◌, ◌∙◌, ◌≤◌, false, get_or, ap, length, sym, subst, rules}
+use Rattle.std.proofs.lemmas.Grind.{common_steps}
 use Rattle.std.proofs.lemmas.List.{take_all}
 use Rattle.thes_tables.specs.Tables.{IsIn}
-use Rattle.thes_store.specs.Slots.{is_same_row}
 use Rattle.thes_store.specs.Places.{places_at}
 use Rattle.thes_store.proofs.IndexPositionLemmas.{in_take}
 use Rattle.thes_store.proofs.SlotLemmas.{none_there}
@@ -10,15 +9,10 @@ use Rattle.thes_store.proofs.slots.Slots.place_of.Goals as goal
 
 pub loop-place-preserved : goal.loop-place-preserved
 loop-place-preserved g c =
-    let s = c.args.self.now in
-    let places = places_at s.places (g.T.IndexedRow.number_of c.args.row.now) in
+    let places = places_at c.args.self.now.places (g.T.IndexedRow.number_of c.args.row.now) in
     let i = c.loop-place.place-index in
-    let x = get_or places i 0 in
-    λ place h. elim (in_take places i x place (search rules) (search rules) h) [
-      | inl before ↦ c.loop-place.invariant place before
-      | inr same ↦ subst (λ q. is_same_row g.T.IndexedRow.same (slice_get s.rows.items q) c.args.row.now ≡ false)
-          (sym same) (search rules)
-    ]
+    λ place h. let m = in_take places i (get_or places i 0) place (search rules) (search rules) h in
+    grind (arith, common_steps)
 
 pub returns-clause-none : goal.returns-clause-none
 returns-clause-none g c = λ found.

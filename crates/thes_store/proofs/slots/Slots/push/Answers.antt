@@ -1,13 +1,12 @@
-use Rattle.std.proofs.Common.{◌≡◌, ◌∙◌, ◌+◌, ap, refl, subst, arith}
+use Rattle.std.proofs.lemmas.Grind.{common_steps}
+use Rattle.std.proofs.Common.{◌≡◌, ◌+◌, refl, subst, arith}
 use Rattle.std.specs.Prelude.{vec_len}
-use Rattle.std.specs.List.{filter_map}
 use Rattle.thes_store.specs.Places.{HasPlace}
 use Rattle.thes_store.proofs.SlotLemmas.{rows_pushed, found_pushed, ready_pushed}
 use Rattle.thes_store.proofs.slots.Slots.push.Goals as goal
 
 pub returns-clause-rows : goal.returns-clause-rows
-returns-clause-rows g c = ap (filter_map (λ slot. slot)) c.push_reserved.ensures.items
-    ∙ rows_pushed c.args.self.now.rows.items c.args.row
+returns-clause-rows g c = grind (arith, common_steps, rows_pushed)
 
 pub returns-clause-found : goal.returns-clause-found
 returns-clause-found g c =

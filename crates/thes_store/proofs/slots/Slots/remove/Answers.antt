@@ -1,11 +1,11 @@
-use Rattle.std.proofs.Common.{◌∙◌}
+use Rattle.std.proofs.Common.{arith, ◌∙◌}
+use Rattle.std.proofs.lemmas.Grind.{common_steps}
 use Rattle.thes_store.proofs.SlotLemmas.{fewer_rows, others_stay, place_in_bounds, none_left, found_emptied}
 use Rattle.thes_store.proofs.SlotLemmas.{ready_emptied}
 use Rattle.thes_store.proofs.slots.Slots.remove.Goals as goal
 
 pub removing-smaller : goal.removing-smaller
-removing-smaller g c = fewer_rows g.T.IndexedRow.same c.args.row.now c.removing.self c.empty.new.self c.in-Some.place
-    c.in-Some.ensures.some c.empty.ensures.rows
+removing-smaller g c = grind (arith, common_steps, fewer_rows)
 
 pub removing-preserved : goal.removing-preserved
 removing-preserved g c = record {

@@ -1,4 +1,5 @@
-use Rattle.std.proofs.Common.{List, ◌≡◌, ◌∙◌, ◌+◌, ap, sym, subst, drop, length, length-append, [], ◌∷◌, ◌++◌, refl}
+use Rattle.std.proofs.Common.{arith, List, ◌≡◌, ◌∙◌, ◌+◌, ap, sym, subst, drop, length, length-append, [], ◌∷◌, ◌++◌}
+use Rattle.std.proofs.lemmas.Grind.{common_steps}
 use Rattle.std.proofs.lemmas.Iterator.Adapters.{YieldsList-from_vec}
 use Rattle.std.proofs.lemmas.Iterator.Consumers.{YieldsList-turn, YieldsList-so_far}
 use Rattle.std.proofs.lemmas.List.{map-id}
@@ -12,11 +13,7 @@ use Rattle.thes_store.proofs.RoomLemmas.{drop_none, drop_next, room_first}
 use Rattle.thes_store.proofs.tables.MemTables.apply_changes.Goals as goal
 
 pub loop-change-init : goal.loop-change-init
-loop-change-init c = record {
-  tables = refl;
-  room = subst (λ l. HasRoomForRows l c.args.self.now) (sym (drop_none c.args.changes.items)) c.requires.room;
-  found = c.requires.found;
-}
+loop-change-init c = grind (arith, common_steps, drop_none)
 
 pub apply_change-requires-clause-standing : goal.apply_change-requires-clause-standing
 apply_change-requires-clause-standing c =
