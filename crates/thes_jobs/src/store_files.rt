@@ -26,7 +26,7 @@ fn without_rest<T, L: Drop>(opened: Result<T, (Error, L)>) -> Result<T, Error>
     }
 }
 
-/// Values that stand for the contents of files before they are opened, which code can't read.
+/// What files hold before they are opened, as a value for contracts: code can't read it.
 pub trait Contents {
     /// Creates a value.
     fn new() -> Self;

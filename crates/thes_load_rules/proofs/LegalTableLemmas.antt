@@ -1,4 +1,5 @@
 -- The tables of a legal state load, and encode that state.
+use Rattle.std.proofs.lemmas.Grind.{common_steps}
 use Rattle.std.proofs.Common.{◌≡◌, ◌⊎◌, ◌<◌, ℕ, List, [], ◌∷◌, map, refl, sym, ap, ◌∙◌, subst, arith, inl, inr, cond}
 use Rattle.std.proofs.lemmas.Bool.{cases_Bool}
 use Rattle.std.proofs.lemmas.Option.{same_Some}
@@ -44,8 +45,7 @@ module _ (base : List ℕ) (s : State) (t : Tables) (legal : IsLegalState base s
         key = h.key;
         rec = h.rec;
         first = h.first;
-        moves =
-            each h (inl refl) i;
+        moves = each h (inl refl) i;
         withdrawn = h.withdrawn;
       } ∷ go hs (λ g there. each g (inr there)) i
 
@@ -76,8 +76,7 @@ row_iri above (x ∷ rows) row ascends (inl e) =
     ∙ ap (λ b. cond b (Some x.1) (dict.get (iris_of rows) x.0)) (ap is_eq (tied_itself nat_cmp_total x.0)))
 row_iri above (x ∷ rows) row ascends (inr h) =
     dict.get-insert nat_cmp_total (iris_of rows) x.0 x.1 row.0
-    ∙ ap (λ b. cond b (Some x.1) (dict.get (iris_of rows) row.0))
-    (apart (cases_Bool (eq_by_cmp nat_cmp row.0 x.0)))
+    ∙ ap (λ b. cond b (Some x.1) (dict.get (iris_of rows) row.0)) (apart (cases_Bool (eq_by_cmp nat_cmp row.0 x.0)))
     ∙ row_iri x.0 rows row ascends.1 h
   where
     apart : (eq_by_cmp nat_cmp row.0 x.0 ≡ true) ⊎ (eq_by_cmp nat_cmp row.0 x.0 ≡ false) → eq_by_cmp nat_cmp row.0 x.0
@@ -153,32 +152,15 @@ module _ (t : Tables) (legal : IsLegalState t.base (state_of t)) (are : IsRowsOf
   held_open : IsOpen (cells_of_tables t) t
   held_open = record {
     meta = (refl, forms.base_form);
-    resource = (
-      refl,
-      record {
-        few = legal.resources.few;
-        each = legal.resources.each;
-        no_return =
-            legal.resources.no_return;
-      },
-    );
+    resource = grind (arith, common_steps);
     outside = (refl, held_outside);
-    label = (
-      refl,
-      record {
-        once = are.label.once;
-        forms = λ l h. forms.labels l (are.label.sound l h);
-        legal =
-            legal.labels;
-      },
-    );
+    label = grind (arith, common_steps, forms);
     link = (
       refl,
       record {
         once = are.link.once;
         kinds = λ l h. (are.link.sound l h).1;
-        each =
-            λ l h. legal.links.each l (are.link.sound l h).0;
+        each = λ l h. legal.links.each l (are.link.sound l h).0;
       },
     );
     hier = (refl, record { once = are.hier.once; legal = legal.links });

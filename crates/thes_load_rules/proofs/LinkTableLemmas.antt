@@ -1,5 +1,6 @@
 -- The tables link and hier encode one set of links.
-use Rattle.std.proofs.Common.{◌≡◌, ◌⊎◌, List, ◌++◌, map, sym, ap, ◌∙◌, subst, inl, inr}
+use Rattle.std.proofs.lemmas.Grind.{common_steps}
+use Rattle.std.proofs.Common.{arith, ◌≡◌, ◌⊎◌, List, ◌++◌, map, sym, ap, ◌∙◌, subst, inl, inr}
 use Rattle.std.proofs.lemmas.Option.{same_Some}
 use Rattle.std.specs.Prelude.{Option, None, Some}
 use Rattle.thes_base.specs.declared.data.Link.{Link}
@@ -17,9 +18,7 @@ use Rattle.thes_load_rules.proofs.RowListLemmas.{row_of, in_set}
 
 -- A row of table hier is determined by the link that it encodes.
 pub hier_link_one : (x y : HierRow) → hier_link x ≡ hier_link y → x ≡ y
-hier_link_one x y e =
-    let typ = same_Some x.typ y.typ (sym (type_back x.typ) ∙ ap (λ (l : Link). hier_type l.kind) e ∙ type_back y.typ) in
-    λ i. record { a = ap (λ (l : Link). l.a) e i; b = ap (λ (l : Link). l.b) e i; typ = typ i }
+hier_link_one x y e = grind (arith, common_steps, type_back, same_Some)
 
 no_type : (row : HierRow) (l : Link) → l ≡ hier_link row → hier_type l.kind ≡ None → ⊥
 no_type row l e none = let both = sym none ∙ ap (λ (x : Link). hier_type x.kind) e ∙ type_back row.typ in absurd (cc)
@@ -41,14 +40,7 @@ module _ (K : List Link) (H : List HierRow) where
 
   pub link_lists : EachRow (λ l. hier_type l.kind ≡ None) K → AreDistinct K
       → IsUnsortedListing (IsLinkOf (links_of K H)) K
-  link_lists kinds once = record {
-    sound = λ l h. (link_held l h, kinds l h);
-    complete = λ l h. elim (held_cases l h.0) [
-      | inl plain ↦ plain
-      | inr typed ↦ absurd (no_type typed.0 l typed.2 h.1)
-    ];
-    once = once;
-  }
+  link_lists kinds once = grind (arith, common_steps, link_held, held_cases, no_type)
 
   pub hier_lists : EachRow (λ l. hier_type l.kind ≡ None) K → AreDistinct H
       → IsUnsortedListing (IsHierOf (links_of K H)) H
@@ -67,16 +59,12 @@ module _ (K : List Link) (H : List HierRow) where
   same_links links plain typed = same_members links_total links_exact _ _ to from
     where
       to : (l : Link) → Holds (links_of K H) l → Holds links l
-      to l h = elim (held_cases l h) [
-        | inl there ↦ (plain.sound l there).0
-        | inr there ↦ subst (Holds links) (sym there.2) (typed.sound there.0 there.1)
-      ]
+      to l h = grind (arith, common_steps, held_cases)
 
       from : (l : Link) → Holds links l → Holds (links_of K H) l
       from l h = go (hier_type l.kind) (λ i. hier_type l.kind)
         where
           go : (o : Option HierType) → hier_type l.kind ≡ o → Holds (links_of K H) l
           go None e = link_held l (plain.complete l (h, e))
-          go (Some typ) e = subst (Holds (links_of K H)) (link_of_hier_row l typ e)
-              (hier_held (hier_row typ l)
+          go (Some typ) e = subst (Holds (links_of K H)) (link_of_hier_row l typ e) (hier_held (hier_row typ l)
               (typed.complete (hier_row typ l) (subst (Holds links) (sym (link_of_hier_row l typ e)) h)))

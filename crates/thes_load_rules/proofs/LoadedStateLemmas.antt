@@ -1,4 +1,5 @@
 -- Tables that meet their rules encode a legal state.
+use Rattle.std.proofs.lemmas.Grind.{common_steps}
 use Rattle.std.proofs.Common.{◌≡◌, ◌≢◌, ◌≤◌, ℕ, length, List, [], ◌∷◌, map, refl, sym, ap, ◌∙◌, subst, arith, inl, inr}
 use Rattle.std.proofs.lemmas.Option.{same_Some}
 use Rattle.std.specs.Prelude.{Some, Ok}
@@ -30,13 +31,7 @@ use Rattle.thes_load_rules.proofs.OpenTableLemmas.{IsOpen, open_of, open_listed}
 
 -- Two rows of table move with the same posting and the same move are equal.
 row_one : (x y : MoveRow) → x.posting ≡ y.posting → recorded_move x ≡ recorded_move y → x ≡ y
-row_one x y p e = λ i. record {
-  number = ap (λ (m : Move). m.number) e i;
-  posting = p i;
-  source =
-      ap (λ (m : Move). m.source) e i;
-  target = ap (λ (m : Move). m.target) e i;
-}
+row_one x y p e = grind (arith, common_steps)
 
 -- Consecutive moves that start at a concept are legal if each leads to a concept other than its source.
 pub sources : (rs : List Resource) (above from : ℕ) (moves : List Move) → IsConcept rs from
@@ -96,12 +91,7 @@ module _ (rs : List Resource) (P : List PostingRow) (M : List MoveRow) (posting 
   move_number_bounded : (n : ℕ) (h : History) → entry_at hs n ≡ Some h → AllMoves (λ m. m.number ≤ move_count hs)
       h.moves
   move_number_bounded n h e = subst (AllMoves (λ m. m.number ≤ move_count hs)) (sym (history_moves n h e))
-      (all_of_in _ (moves_of h.number M) (λ m i.
-      let row = row_of_move h.number m M i in
-      let number = ap (λ (x : Move). x.number) row.3 in
-      let b = (numbered_bound M row.0.number row.0 (move_at row.0 row.1)).1 in
-      let c = row_count_of_moves in
-      omega (arith, number, b, c)))
+      (grind (arith, common_steps, all_of_in, row_of_move, numbered_bound, move_at, row_count_of_moves))
 
   number_has_move : (k : ℕ) → 1 ≤ k → k ≤ move_count hs → (n : ℕ) × (h : History) × (entry_at hs n ≡ Some h)
       × HasMove k h.moves
@@ -127,8 +117,7 @@ module _ (rs : List Resource) (P : List PostingRow) (M : List MoveRow) (posting 
       let row = row_of_move h.number m.0 M (subst (IsIn m.0) (history_moves n h e) m.1) in (
         row.0,
         ap (entry_at M) (sym (ap (λ (x : Move). x.number) row.3 ∙ m.2)) ∙ move_at row.0 row.1,
-        row.2
-            ∙ history_number n h e,
+        row.2 ∙ history_number n h e,
       )
 
   move_has_one_posting : (k m n : ℕ) (g h : History) → entry_at hs m ≡ Some g → entry_at hs n ≡ Some h
@@ -163,8 +152,7 @@ module _ (rs : List Resource) (P : List PostingRow) (M : List MoveRow) (posting 
         key = p.key;
         rec = p.rec;
         first = p.first;
-        place =
-            sym (all p (inl refl)) i;
+        place = sym (all p (inl refl)) i;
         withdrawn = p.withdrawn;
       } ∷ go qs (λ q h. all q (inr h)) i
 
@@ -173,8 +161,7 @@ module _ (rs : List Resource) (P : List PostingRow) (M : List MoveRow) (posting 
   moves_of_histories = record {
     rises = rises_of_order M move.numbers;
     sound = sound;
-    complete =
-        λ row is. complete row is.0 is.1 is.2;
+    complete = λ row is. complete row is.0 is.1 is.2;
   }
     where
       sound : (row : MoveRow) → IsIn row M → IsMoveOf hs row
@@ -206,17 +193,11 @@ module _ (raw : Raw) (t : Tables) (all : IsOpen raw t) where
   }
 
   state_is_legal : IsLegalState t.base (state_of t)
-  state_is_legal = legal_of_sound t.base (state_of t) (record {
-    resources = record {
-      few = all.resource.1.few;
-      each = all.resource.1.each;
-      no_return = all.resource.1.no_return;
-      outside = all.outside.1.legal;
-    };
-    labels = all.label.1.legal;
-    links = all.hier.1.legal;
-    postings = postings_legal t.resource t.posting t.move all.posting.1 all.move.1;
-  }) state_has_forms
+  state_is_legal = legal_of_sound t.base (state_of t) (grind (
+    arith,
+    common_steps,
+    postings_legal t.resource t.posting t.move all.posting.1 all.move.1,
+  )) state_has_forms
 
   -- Tables that meet their rules encode the state computed from them.
   tables_hold_state : IsRowsOf t.base (state_of t) t

@@ -1,6 +1,7 @@
 -- The rows of table move correspond one to one to the moves of the histories.
-use Rattle.std.proofs.Common.{◌≡◌, ◌⊎◌, ◌<◌, ◌≤◌, ℕ, suc, ◌+◌, length, List, [], ◌∷◌, refl, sym, ap, ◌∙◌, subst}
-use Rattle.std.proofs.Common.{arith, inl, inr, Bool, true, false, cond, eqb, eqb-true, ne_eqb, map}
+use Rattle.std.proofs.lemmas.Grind.{common_steps}
+use Rattle.std.proofs.Common.{◌≡◌, ◌<◌, ◌≤◌, ℕ, suc, ◌+◌, length, List, [], ◌∷◌, refl, sym, ap, ◌∙◌}
+use Rattle.std.proofs.Common.{arith, inl, inr, true, false, cond, eqb, eqb-true, ne_eqb, map}
 use Rattle.std.proofs.lemmas.Bool.{cases_Bool, eq-eqb, eqb-false}
 use Rattle.std.specs.Prelude.{Some, count_by, sum_by, slice_get, filter, ◌==◌}
 use Rattle.std.proofs.lemmas.List.Sums.{sum_by-cons}
@@ -31,35 +32,14 @@ miss_is n m rows e = ap (λ b. map recorded_move (cond b (m ∷ rows_of_posting 
 pub row_of_move : (n : ℕ) (m : Move) (rows : List MoveRow) → IsIn m (moves_of n rows) → (row : MoveRow)
     × IsIn row rows × (row.posting ≡ n) × (recorded_move row ≡ m)
 row_of_move n m [] h = absurd h
-row_of_move n m (x ∷ rows) h = either (λ g. row_of_move n m rows g) (cases_Bool (eqb x.posting n))
-  where
-    later : (row : MoveRow) × IsIn row rows × (row.posting ≡ n) × (recorded_move row ≡ m) → (row : MoveRow)
-        × IsIn row (x ∷ rows) × (row.posting ≡ n) × (recorded_move row ≡ m)
-    later r = (r.0, inr r.1, r.2, r.3)
-
-    either : (IsIn m (moves_of n rows) → (row : MoveRow) × IsIn row rows × (row.posting ≡ n)
-        × (recorded_move row ≡ m)) → (eqb x.posting n ≡ true) ⊎ (eqb x.posting n ≡ false) → (row : MoveRow)
-        × IsIn row (x ∷ rows) × (row.posting ≡ n) × (recorded_move row ≡ m)
-    either ih (inl hit) = elim (subst (IsIn m) (hit_is n x rows hit) h) [
-      | inl e ↦ (x, inl refl, eqb-true x.posting n hit, sym e)
-      | inr g ↦ later (ih g)
-    ]
-    either ih (inr miss) = later (ih (subst (IsIn m) (miss_is n x rows miss) h))
+row_of_move n m (x ∷ rows) h = grind (arith, common_steps, row_of_move n m rows, hit_is, eqb-true, miss_is)
 
 -- Each row's move is among the moves of the posting that it names.
 pub move_of_row : (rows : List MoveRow) (row : MoveRow) → IsIn row rows → IsIn (recorded_move row)
     (moves_of row.posting rows)
 move_of_row [] row h = absurd h
-move_of_row (x ∷ rows) row (inl e) =
-    subst (IsIn (recorded_move row))
-    (sym (hit_is row.posting x rows (eq-eqb x.posting row.posting (ap (λ (y : MoveRow). y.posting) (sym e)))))
-    (inl (ap recorded_move e))
-move_of_row (x ∷ rows) row (inr h) =
-    let there = move_of_row rows row h in
-    elim (cases_Bool (eqb x.posting row.posting)) [
-      | inl hit ↦ subst (IsIn (recorded_move row)) (sym (hit_is row.posting x rows hit)) (inr there)
-      | inr miss ↦ subst (IsIn (recorded_move row)) (sym (miss_is row.posting x rows miss)) there
-    ]
+move_of_row (x ∷ rows) row (inl e) = grind (arith, common_steps, hit_is, eq-eqb)
+move_of_row (x ∷ rows) row (inr h) = grind (arith, common_steps, move_of_row rows row h, hit_is, miss_is)
 
 pub has_of_in : (m : Move) (moves : List Move) → IsIn m moves → HasMove m.number moves
 has_of_in m [] h = absurd h
@@ -115,19 +95,7 @@ sum_more : (m : MoveRow) (rows : List MoveRow) (hs : List History)
     → sum_by (λ (h : History). length (moves_of h.number (m ∷ rows))) hs ≡ count_by (λ h. eqb m.posting h.number) hs
     + sum_by (λ (h : History). length (moves_of h.number rows)) hs
 sum_more m rows [] = refl
-sum_more m rows (h ∷ hs) =
-    let a = sum_by-cons (λ (x : History). length (moves_of x.number (m ∷ rows))) h hs in
-    let b = sum_by-cons (λ (x : History). length (moves_of x.number rows)) h hs in
-    let c = sum_by-cons (λ (x : History). cond (eqb m.posting x.number) 1 0) h hs in
-    let ih = sum_more m rows hs in
-    let one = split (eqb m.posting h.number) in
-    omega (arith, a, b, c, ih, one)
-  where
-    split : (b : Bool)
-        → length (map recorded_move (cond b (m ∷ rows_of_posting h.number rows) (rows_of_posting h.number rows)))
-        ≡ cond b 1 0 + length (moves_of h.number rows)
-    split true = let e : suc (length (moves_of h.number rows)) ≡ 1 + length (moves_of h.number rows) = omega arith in e
-    split false = let e : length (moves_of h.number rows) ≡ 0 + length (moves_of h.number rows) = omega arith in e
+sum_more m rows (h ∷ hs) = grind (arith, common_steps, sum_by-cons, sum_more m rows hs)
 
 sum_rows : (rows : List MoveRow) (hs : List History) → NumberedFrom 1 hs
     → EachRow (λ (m : MoveRow). (1 ≤ m.posting) × (m.posting ≤ length hs)) rows → length rows

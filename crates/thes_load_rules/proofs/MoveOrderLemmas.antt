@@ -1,8 +1,8 @@
 -- In the tables of a legal state, the rows of table move are numbered without gaps, and each posting's rows are its
 -- moves.
+use Rattle.std.proofs.lemmas.Grind.{common_steps}
 use Rattle.std.proofs.Common.{◌≡◌, ◌⊎◌, ◌<◌, ◌≤◌, ℕ, zero, suc, ◌+◌, length, List, [], ◌∷◌, refl, sym, ap, ◌∙◌, subst}
-use Rattle.std.proofs.Common.{arith, inl, inr, eqb}
-use Rattle.std.proofs.lemmas.Bool.{cases_Bool}
+use Rattle.std.proofs.Common.{arith, inl, inr}
 use Rattle.std.proofs.lemmas.Option.{same_Some}
 use Rattle.std.specs.Prelude.{Some, slice_get}
 use Rattle.thes_base.specs.declared.data.Resource.{Resource}
@@ -40,11 +40,7 @@ run_at k (x ∷ rows) zero row run e = let is = ap (λ (y : MoveRow). y.number) 
 run_at k (x ∷ rows) (suc i) row run e = let q = run_at (k + 1) rows i row run.1 e in omega (arith, q)
 
 pub order_of_run : (rows : List MoveRow) → RunFrom 1 rows → AreInOrder (λ (row : MoveRow). row.number) rows
-order_of_run rows run = go
-  where
-    go : (n : ℕ) (row : MoveRow) → entry_at rows n ≡ Some row → row.number ≡ n
-    go zero row e = absurd (cc)
-    go (suc n) row e = let q = run_at 1 rows n row run e in omega (arith, q)
+order_of_run rows run = grind (arith, common_steps, run_at)
 
 pub rises_of_order : (rows : List MoveRow) → AreInOrder (λ (row : MoveRow). row.number) rows → MoveNumbersAscend 0 rows
 rises_of_order rows order =
@@ -124,11 +120,7 @@ rising_of_rises : (n above : ℕ) (rows : List MoveRow) → MoveNumbersAscend ab
 rising_of_rises n above [] rises = tt
 rising_of_rises n above (row ∷ rows) rises =
     let rest = rising_of_rises n row.number rows rises.1 in
-    elim (cases_Bool (eqb row.posting n)) [
-      | inl hit ↦ subst (AreRisingMoves above) (sym (hit_is n row rows hit)) (rises.0, rest)
-      | inr miss ↦ subst (AreRisingMoves above) (sym (miss_is n row rows miss))
-          (lower above row.number (moves_of n rows) (let r = rises.0 in omega (arith, r)) rest)
-    ]
+    (grind (arith, common_steps, hit_is, miss_is, lower))
 
 -- Two rising lists with the same moves are equal.
 same_moves : (above below : ℕ) (xs ys : List Move) → AreRisingMoves above xs → AreRisingMoves below ys
@@ -140,10 +132,7 @@ same_moves above below (x ∷ xs) (y ∷ ys) cx cy to from = λ i. head i ∷ sa
     rest_to rest_from i
   where
     heads : (x ≡ y) ⊎ IsIn x ys → (y ≡ x) ⊎ IsIn y xs → x ≡ y
-    heads (inl e) other = e
-    heads (inr h) (inl e) = sym e
-    heads (inr h) (inr g) = let a = move_above_start y.number ys x cy.1 h in let b =
-        move_above_start x.number xs y cx.1 g in absurd (omega (arith, a, b))
+    heads one other = grind (arith, common_steps, move_above_start)
 
     head : x ≡ y
     head = heads (to x (inl refl)) (from y (inl refl))
@@ -205,8 +194,7 @@ module _ (rs : List Resource) (hs : List History) (legal : AreLegalPostings rs h
             number = m.0.number;
             posting = reached.0;
             source = m.0.source;
-            target =
-                m.0.target;
+            target = m.0.target;
           } in
           (other, are.complete other (reached.1, reached.2, m.1), m.2)
 

@@ -1,11 +1,12 @@
 -- Rows of cells have at most one verdict.
-use Rattle.std.proofs.Common.{◌≡◌, ◌⊎◌, ℕ, List, sym, ◌∙◌, subst, inl, inr}
-use Rattle.std.specs.Prelude.{Result, Ok, Err}
+use Rattle.std.proofs.lemmas.Grind.{common_steps}
+use Rattle.std.proofs.Common.{arith, ◌≡◌, ℕ, List, sym, ◌∙◌}
+use Rattle.std.specs.Prelude.{Result, Ok}
 use Rattle.std.proofs.lemmas.Option.{same_Some}
 use Rattle.thes_base.specs.declared.fault.Table.{Table}
 use Rattle.thes_base.specs.declared.fault.Table.TheVariants as table
 use Rattle.thes_base.specs.declared.fault.Fault.{Fault}
-use Rattle.thes_base.specs.declared.fault.Fault.TheVariants.{BadStore, NewerStore, OlderStore}
+use Rattle.thes_base.specs.declared.fault.Fault.TheVariants.{NewerStore, OlderStore}
 use Rattle.thes_tables.specs.declared.cells.Cell.{Cell}
 use Rattle.thes_tables.specs.Tables.{Tables}
 use Rattle.thes_tables.specs.Cells.{Raw, RawTable, outside_cells, label_cells, link_cells, hier_cells, posting_cells}
@@ -21,28 +22,12 @@ pub record IsSingle (verdict : Verdict) : Type 0 where
 
 stopped_single : (condition : Type 0) (fault : Fault) (rest : Verdict) → IsSingle rest
     → IsSingle (stopped_if condition fault rest)
-stopped_single condition fault rest one = record { same = both }
-  where
-    both : (a b : Result Tables Fault) → (condition × (a ≡ Err fault)) ⊎ ((condition → ⊥) × rest a)
-        → (condition × (b ≡ Err fault)) ⊎ ((condition → ⊥) × rest b) → a ≡ b
-    both a b (inl (holds, is)) (inl (holds2, js)) = is ∙ sym js
-    both a b (inl (holds, is)) (inr (fails, then)) = absurd (fails holds)
-    both a b (inr (fails, then)) (inl (holds, is)) = absurd (fails holds)
-    both a b (inr (fails, then)) (inr (fails2, then2)) = one.same a b then then2
+stopped_single condition fault rest one = grind (arith, common_steps)
 
 faulty_single : {A : Type 0} (passes : A → Type 0) (t : Table) (rest : A → Verdict)
     → ((x y : A) → passes x → passes y → x ≡ y) → ((x : A) → IsSingle (rest x))
     → IsSingle (faulty_unless passes t rest)
-faulty_single {A} passes t rest one each = record { same = both }
-  where
-    both : (a b : Result Tables Fault)
-        → (((x : A) → passes x → ⊥) × (a ≡ Err (BadStore t))) ⊎ ((x : A) × passes x × rest x a)
-        → (((x : A) → passes x → ⊥) × (b ≡ Err (BadStore t))) ⊎ ((x : A) × passes x × rest x b) → a ≡ b
-    both a b (inl (none, is)) (inl (none2, js)) = is ∙ sym js
-    both a b (inl (none, is)) (inr (y, right, then)) = absurd (none y right)
-    both a b (inr (x, right, then)) (inl (none, is)) = absurd (none x right)
-    both a b (inr (x, right, then)) (inr (y, right2, then2)) =
-        (each x).same a b then (subst (λ z. rest z b) (one y x right2 right) then2)
+faulty_single {A} passes t rest one each = grind (arith, common_steps)
 
 table_one : {A : Type 0} (cells_of : List A → List (List Cell)) (Rule : List A → Type 0) (raw : RawTable)
     → ((xs ys : List A) → cells_of xs ≡ cells_of ys → xs ≡ ys) → (xs ys : List A) → IsTable cells_of Rule raw xs

@@ -1,5 +1,6 @@
 -- Proves that the files of a store are opened as this store, and hold it again once they are closed.
-use Rattle.std.proofs.Common.{◌≡◌, ◌∙◌, sym, ap, subst}
+use Rattle.std.proofs.lemmas.Grind.{common_steps}
+use Rattle.std.proofs.Common.{arith, ◌≡◌, ◌∙◌, sym, subst}
 use Rattle.std.proofs.Math.Logic.{∥∥₁_elim}
 use Rattle.std.specs.Prelude.{Result, Ok, Err, IfOk}
 use Rattle.sqlite_disk.specs.declared.Disk as disk
@@ -29,9 +30,7 @@ one_schema a b db x y =
     read_once _ a b first.tables first.indexes first.views (reads (db catalog_tree) b y.lists)
 
 same_database : (a b : Database) → IsDatabase a → IsDatabase b → a.trees ≡ b.trees → a ≡ b
-same_database a b x y trees =
-    let schema = one_schema a.schema b.schema b.trees (subst (IsSound a.schema) trees x) y in
-    λ i. record { schema = schema i; trees = trees i }
+same_database a b x y trees = grind (arith, common_steps, one_schema)
 
 -- A store that files hold is found by opening them.
 pub opens_files : (image : Image) (s : State) → FindsIn image s → Opens s → IsLive s → OpensFiles image s
@@ -39,7 +38,8 @@ opens_files image s found opened live = record {
   finds = found;
   settled = opened.clean;
   serves = λ t store.
-      let trees : s.committed.trees ≡ store.database.trees = ∥∥₁_elim store.files_hold (Trees-set _ _) (found.holds _) in
+      let trees : s.committed.trees ≡ store.database.trees = ∥∥₁_elim store.files_hold (Trees-set _ _) (found.holds _)
+      in
       subst (λ (d : Database). Keeps d t)
       (sym (opened.clean ∙ same_database s.committed store.database (live opened.is_open).1 store.sound trees))
       store.keeps;

@@ -1,5 +1,7 @@
 -- Proves that a load passes the rows that it finds, in a database that may hold anything.
-use Rattle.std.proofs.Common.{◌≡◌, ◌<◌, ◌+◌, ◌∙◌, ℕ, List, [], ◌∷◌, ◌++◌, length, take, get_or, append-nil, append_assoc}
+use Rattle.std.proofs.lemmas.Grind.{common_steps}
+use Rattle.std.proofs.Common.{◌≡◌, ◌<◌, ◌+◌, ◌∙◌, ℕ, List, [], ◌∷◌, ◌++◌, length, take, get_or, append-nil}
+use Rattle.std.proofs.Common.{append_assoc}
 use Rattle.std.proofs.Common.{Option, None, Result, Ok, Err, OnOk, refl, sym, ap, subst, arith, IsTrue}
 use Rattle.sqlite.specs.Effect.{Database}
 use Rattle.sqlite.specs.Held.{Held, state}
@@ -16,7 +18,7 @@ use Rattle.thes_tables.specs.TableOrder.{raw_rows_of, table_order}
 use Rattle.thes_store.proofs.IndexPositionLemmas.{take_one}
 use Rattle.thes_store.proofs.SinkLemmas.{accepts_then}
 use Rattle.thes_sqlite.specs.KeeperView.{KeeperView, IsUp}
-use Rattle.thes_sqlite.specs.FoundRows.{FindsTable, FindsTables, AreFoundRows, PassesTable, PassesNamed, PassesTables}
+use Rattle.thes_sqlite.specs.FoundRows.{FindsTable, AreFoundRows, PassesTable, PassesNamed, PassesTables}
 use Rattle.thes_sqlite.specs.FoundRows.{FindsInKeeper, IsKeeperOpen}
 use Rattle.thes_sqlite.specs.MigrationEffects.{LeavesUnwritten}
 use Rattle.thes_sqlite.proofs.KeeperLemmas.{before_read, tables_then}
@@ -27,14 +29,11 @@ found_more : (db : Database) (names : List Table) (p : Table) (items : List (Tab
     → AreFoundRows db (names ++ p ∷ []) (items ++ sink_rows_of_table p found)
 found_more db [] p items found none is =
     (found, is, ([], refl, ap (λ l. l ++ sink_rows_of_table p found) none ∙ sym (append-nil _)))
-found_more db (q ∷ names) p items found h is = (
-  h.0,
-  h.1,
-  (
-    h.2.0 ++ sink_rows_of_table p found,
-    found_more db names p h.2.0 found h.2.1 is,
-    ap (λ l. l ++ sink_rows_of_table p found) h.2.2 ∙ append_assoc (sink_rows_of_table q h.0) h.2.0 _,
-  ),
+found_more db (q ∷ names) p items found h is = grind (
+  arith,
+  common_steps,
+  found_more db names p h.2.0 found h.2.1 is,
+  append_assoc,
 )
 
 -- These are the rows that were found of each table.
@@ -77,7 +76,8 @@ module _ {R : Type 0} (gives : R → Table × Option (List Cell) → Result (Uni
         posting = posting.0;
         move = move.0;
       } in
-      let items = found_rows db raw table_order h.0 h.1 (refl, (refl, (refl, (refl, (refl, (refl, (refl, (refl, tt)))))))) in (
+      let items = found_rows db raw table_order h.0 h.1
+      (refl, (refl, (refl, (refl, (refl, (refl, (refl, (refl, tt)))))))) in (
         raw,
         found raw (meta.1, (resource.1, (outside.1, (label.1, (link.1, (hier.1, (posting.1, move.1))))))),
         subst (λ l. SinkAcceptsAll gives old l new) items h.2,
@@ -88,20 +88,12 @@ module _ {R : Type 0} (gives : R → Table × Option (List Cell) → Result (Uni
           × (FindsTable table.Link db raw.link × (FindsTable table.Hier db raw.hier
           × (FindsTable table.Posting db raw.posting × FindsTable table.Move db raw.move)))))) → (p : Table)
           → FindsTable p db (raw_rows_of p raw)
-      found raw each table.Meta = each.0
-      found raw each table.Resource = each.1.0
-      found raw each table.Outside = each.1.1.0
-      found raw each table.Label = each.1.1.1.0
-      found raw each table.Link = each.1.1.1.1.0
-      found raw each table.Hier = each.1.1.1.1.1.0
-      found raw each table.Posting = each.1.1.1.1.1.1.0
-      found raw each table.Move = each.1.1.1.1.1.1.1
+      found raw each p = grind (arith, common_steps)
 
   -- A load passes the tables in their order.
   pub tables_passed : (names : List Table) → names ≡ table_order → (db : Database) (old new : R)
       → PassesNamed gives names db old new → PassesTables gives db old new
-  tables_passed names is db old new h = passed_in_order db old new
-      (subst (λ l. PassesNamed gives l db old new) is h)
+  tables_passed names is db old new h = passed_in_order db old new (subst (λ l. PassesNamed gives l db old new) is h)
 
   -- The tables `names` were passed, and the database is unchanged.
   pub record FoundProgress {S : Type 0} (g : Ghosts S) (names : List Table) (start now : Held S) (before after : R)
@@ -112,15 +104,7 @@ module _ {R : Type 0} (gives : R → Table × Option (List Cell) → Result (Uni
 
   pub found_begun : {S : Type 0} (g : Ghosts S) (start : Held S) (before : R)
       → FoundProgress g [] start start before before
-  found_begun g start before = record {
-    leaves = record {
-      mode = λ idle. idle;
-      was = λ clean still_open. still_open;
-      clean = omega arith;
-      same = λ clean still_open settled. (refl, refl);
-    };
-    passes = λ up settled. ([], refl, refl);
-  }
+  found_begun g start before = grind (arith, common_steps)
 
   pub found_next : {S : Type 0} (g : Ghosts S) (names : List Table) (i : ℕ) (name : Table) (start mid new : Held S)
       (before between after : R) → i < length names → name ≡ get_or names i name
@@ -145,9 +129,7 @@ module _ {R : Type 0} (gives : R → Table × Option (List Cell) → Result (Uni
 -- A call that leaves a database of committed rows unchanged leaves it unwritten.
 pub unwritten : {S : Type 0} (g : Ghosts S) (old new : Held S) → LeavesTables g old new
     → (IsTrue (state g old).is_open → (state g old).now ≡ (state g old).committed) → LeavesUnwritten g old new
-unwritten g old new leaves settled up =
-    let was = before_read g old new leaves up in
-    (was, leaves.same up.0 up.1 (settled was.1))
+unwritten g old new leaves settled up = grind (arith, common_steps, before_read)
 
 module _ {S R : Type 0} (g : Ghosts S)
     (gives : R → Table × Option (List Cell) → Result (Unit {0}) Fault → R → Type 0) where
@@ -156,8 +138,4 @@ module _ {S R : Type 0} (g : Ghosts S)
       → LeavesUnwritten g old.conn new.conn
       → OnOk result (IsUp (state g new.conn) → PassesTables gives (state g old.conn).now before after)
       → PassesFound (IsKeeperOpen g) (FindsInKeeper g) gives old new before result after
-  database_passed old new before result after leaves passes = record {
-    was = λ up. (leaves up).0;
-    stays = λ up raw. subst (λ (d : Database). FindsTables d raw) (sym (leaves up).1.0);
-    passes = passes;
-  }
+  database_passed old new before result after leaves passes = grind (arith, common_steps)

@@ -1,7 +1,8 @@
 -- Proves that each call of the storage keeps its invariant, and that a commit applies its changes
 -- to the rows.
-use Rattle.std.proofs.Common.{arith, inl, inr, ◌≡◌, ℕ, ◌+◌, List, [], ◌∷◌, map, Bool, Option, None, Some, Result}
-use Rattle.std.proofs.Common.{false, Ok, Err, OnErr, refl, sym, ap, subst, ◌∙◌, IsTrue}
+use Rattle.std.proofs.lemmas.Grind.{common_steps}
+use Rattle.std.proofs.Common.{arith, ◌≡◌, ℕ, ◌+◌, List, [], ◌∷◌, map, Bool, Option, None, Some, Result}
+use Rattle.std.proofs.Common.{false, Ok, Err, refl, sym, ap, subst, ◌∙◌, IsTrue}
 use Rattle.std.specs.Prelude.{IsUtf8}
 use Rattle.std.specs.List.{AllByRecursion}
 use Rattle.sqlite.specs.Order.{Row, column}
@@ -11,16 +12,13 @@ use Rattle.sqlite.specs.Effect.{Database}
 use Rattle.sqlite.specs.State.{State, HasCleanDisk, Survives}
 use Rattle.sqlite.specs.Held.{Held, state}
 use Rattle.sqlite.specs.declared.error.Error.{Error}
-use Rattle.sqlite_trees.specs.Tree.{IsTable}
 use Rattle.sqlite_trees.specs.declared.store.Store.{Ghosts}
-use Rattle.thes_base.specs.declared.fault.Table.{Table}
 use Rattle.thes_base.specs.declared.fault.Table.TheVariants as table
 use Rattle.thes_base.specs.declared.data.Resource.{Resource}
 use Rattle.thes_base.specs.Labels.{Label, label_kind_no}
 use Rattle.thes_tables.specs.declared.cells.Cell.{Cell}
 use Rattle.thes_tables.specs.declared.change.Change.{Change}
 use Rattle.thes_tables.specs.declared.rows.PostingRow.{PostingRow}
-use Rattle.thes_tables.specs.declared.rows.MoveRow.{MoveRow}
 use Rattle.thes_tables.specs.Tables.{Tables}
 use Rattle.thes_tables.specs.Rows.{DeltaFits, tables_after_delta}
 use Rattle.thes_tables.specs.Cells.{cells_of_tables, number_cell, flag_cell, resource_kind_no, optional_cell}
@@ -31,14 +29,12 @@ use Rattle.thes_sql.specs.StoredRows.{Keeps, Hold, AreHidden, hidden_row, value_
 use Rattle.thes_sql.specs.StoredRows.{stored_outside, stored_posting, stored_move, label_values, link_values}
 use Rattle.thes_sql.specs.StoredRows.{hier_values, stored_meta, IsSpelledOutside, IsSpelledLabel, IsSpelledPosting}
 use Rattle.thes_sql.specs.TransactionEffects.{IsOwnTransaction}
-use Rattle.thes_sql.specs.Reads.{tree_of, places_of, IsReadable, LeavesTables}
+use Rattle.thes_sql.specs.Reads.{places_of, IsReadable, LeavesTables}
 use Rattle.thes_sql.proofs.KeyedRowLemmas.{is_table}
 use Rattle.thes_sqlite.specs.KeeperView.{raw_in, raw_of_keeper, KeeperView, IsKeeperUp, IsUp, HasCommittedTables}
-use Rattle.thes_sqlite.specs.KeeperView.{IsStore}
+use Rattle.thes_sqlite.specs.KeeperView.{IsStore, IsKeeperState, LeavesEither, LeavesAfter}
 use Rattle.thes_store.specs.Storage.{RawAfterChanges}
-use Rattle.thes_sqlite.specs.KeeperView.{IsKeeperState, LeavesEither, LeavesAfter}
 use Rattle.thes_sqlite.specs.Commits.{DatabaseFrame}
-use Rattle.thes_sqlite.specs.MigrationEffects.{IsUnwritten}
 use Rattle.thes_sqlite.specs.ValueCells.{cell_of}
 use Rattle.thes_sqlite.proofs.ValueLemmas.{text_cell}
 
@@ -50,8 +46,7 @@ optional_back None = refl
 optional_back (Some n) = refl
 
 resources_back : (n : ℕ) (rs : List Resource) → tree_columns (places_of table.Resource)
-    (map stored_resource (numbered_from n rs))
-    ≡ resource_rows n rs
+    (map stored_resource (numbered_from n rs)) ≡ resource_rows n rs
 resources_back n [] = refl
 resources_back n (r ∷ rs) = λ i. (number_cell n ∷ number_cell (resource_kind_no r.kind) ∷ optional_back r.scheme i
     ∷ flag_cell r.live ∷ optional_back r.replaced i ∷ []) ∷ resources_back (n + 1) rs i
@@ -109,14 +104,11 @@ raw_of db t h =
     ∙ map_back (places_of table.Outside) stored_outside outside_cells IsSpelledOutside outside_back t.outside
     spelled.1.0 in
     let label = hidden_tree_back (places_of table.Label) label_values label_cells IsSpelledLabel label_back t.label
-    (db 4)
-    h.label spelled.1.1.0 in
+    (db 4) h.label spelled.1.1.0 in
     let link = hidden_tree_back (places_of table.Link) link_values link_cells (λ x. Unit {0}) (λ x _. refl) t.link
-    (db 6)
-    h.link (all_trivial t.link) in
+    (db 6) h.link (all_trivial t.link) in
     let hier = hidden_tree_back (places_of table.Hier) hier_values hier_cells (λ x. Unit {0}) (λ x _. refl) t.hier
-    (db 11)
-    h.hier (all_trivial t.hier) in
+    (db 11) h.hier (all_trivial t.hier) in
     let posting = ap (tree_columns (places_of table.Posting)) h.posting.rows
     ∙ map_back (places_of table.Posting) stored_posting posting_cells IsSpelledPosting posting_back t.posting
     spelled.1.1.1 in
@@ -136,24 +128,7 @@ raw_of db t h =
 
 -- A database that is a store is readable.
 pub readable_of : (db : Database) (t : Tables) → Keeps db t → IsReadable db
-readable_of db t k = record { schema = k.schema; ordered = ordered }
-  where
-    ordered : (p : Table) → IsTable (db.trees (tree_of p))
-    ordered table.Meta = subst IsTable (sym k.hold.meta) (tt, tt)
-    ordered table.Resource = subst IsTable (sym k.hold.resource.rows) (is_table (λ (row : ℕ × Resource). row.0)
-        stored_resource (λ x. refl) 0 (numbered_from 1 t.resource) k.hold.resource.rises)
-    ordered table.Outside = subst IsTable (sym k.hold.outside.rows) (is_table (λ (row : ℕ × List ℕ). row.0)
-        stored_outside (λ x. refl) 0 t.outside k.hold.outside.rises)
-    ordered table.Label = subst IsTable (sym k.hold.label.held.rows) (is_table (λ row. row.0)
-        (hidden_row label_values) (λ x. refl) 0 k.hold.label.given k.hold.label.held.rises)
-    ordered table.Link = subst IsTable (sym k.hold.link.held.rows) (is_table (λ row. row.0)
-        (hidden_row link_values) (λ x. refl) 0 k.hold.link.given k.hold.link.held.rises)
-    ordered table.Hier = subst IsTable (sym k.hold.hier.held.rows) (is_table (λ row. row.0)
-        (hidden_row hier_values) (λ x. refl) 0 k.hold.hier.given k.hold.hier.held.rises)
-    ordered table.Posting = subst IsTable (sym k.hold.posting.rows) (is_table (λ (row : PostingRow). row.number)
-        stored_posting (λ x. refl) 0 t.posting k.hold.posting.rises)
-    ordered table.Move = subst IsTable (sym k.hold.move.rows) (is_table (λ (row : MoveRow). row.number)
-        stored_move (λ x. refl) 0 t.move k.hold.move.rises)
+readable_of db t k = grind (arith, common_steps, is_table)
 
 pub before_read : {S : Type 0} (g : Ghosts S) (old new : Held S) → LeavesTables g old new → IsUp (state g new)
     → IsUp (state g old)
@@ -162,30 +137,22 @@ before_read g old new leaves up = (omega (arith, leaves.clean, up.0), leaves.was
 -- Two calls of which each leaves the tables unchanged leave them unchanged together.
 pub tables_then : {S : Type 0} (g : Ghosts S) (old mid new : Held S) → LeavesTables g old mid → LeavesTables g mid new
     → LeavesTables g old new
-tables_then g old mid new first second = record {
-  mode = λ idle. second.mode (first.mode idle);
-  was = λ clean still_open. first.was (clean_before clean) (second.was clean still_open);
-  clean = (let a = first.clean in let b = second.clean in omega (arith, a, b));
-  same = λ clean still_open settled.
-      let here = first.same (clean_before clean) (second.was clean still_open) settled in
-      let there = second.same clean still_open (here.0 ∙ settled ∙ sym here.1) in
-      (there.0 ∙ here.0, there.1 ∙ here.1);
-}
-  where
-    clean_before : HasCleanDisk (state g new) → HasCleanDisk (state g mid)
-    clean_before clean = let less = second.clean in omega (arith, less, clean)
+tables_then g old mid new first second = grind (arith, common_steps)
 
--- A property of the tables of a store holds for the tables whose cells its rows are.
-pub holds_of_raw : {S : Type 0} (g : Ghosts S) (first : State) (start old new : Held S) → start ≡ old
-    → IsKeeperState first (state g start) → LeavesTables g start new → {P : Tables → Type 0}
-    → ((t : Tables) → Keeps (state g start).now t → (state g start).now ≡ (state g start).committed → P t)
-    → IsStore first → IsUp (state g new) → (t : Tables) → raw_in (state g old).now.trees ≡ cells_of_tables t → P t
-holds_of_raw g first start old new same kept leaves {P} holds known up t is =
-    let s = kept.served known (before_read g start new leaves up) in
-    let k = s.keeps in
-    let shown : raw_in (state g start).now.trees ≡ cells_of_tables t =
-    ap (λ h. raw_in (state g h).now.trees) same ∙ is in
-    subst P (listed_one k.0 t (sym (raw_of (state g start).now.trees k.0 k.1.hold) ∙ shown)) (holds k.0 k.1 s.settled)
+-- An open store has the tables whose cells its rows are.
+holds_shown : (s : State) → HasCommittedTables s → (t : Tables) → raw_in s.now.trees ≡ cells_of_tables t → Keeps s.now t
+holds_shown s served t is =
+    let k = served.keeps in
+    subst (Keeps s.now) (listed_one k.0 t (sym (raw_of s.now.trees k.0 k.1.hold) ∙ is)) k.1
+
+-- Storage whose rows are the cells of tables keeps these tables, and has committed them.
+pub kept_of_raw : {S : Type 0} (g : Ghosts S) (view old : KeeperView S) (new : Held S) → view ≡ old
+    → IsKeeperState (state g view.first) (state g view.conn) → LeavesTables g view.conn new
+    → IsStore (state g view.first) → IsUp (state g new) → (t : Tables) → raw_of_keeper g old ≡ cells_of_tables t
+    → Keeps (state g view.conn).now t × ((state g view.conn).now ≡ (state g view.conn).committed)
+kept_of_raw g view old new same kept leaves known up t is =
+    let s = kept.served known (before_read g view.conn new leaves up) in
+    (holds_shown (state g view.conn) s t (ap (λ k. raw_of_keeper g k) same ∙ is), s.settled)
 
 pub up_before : (old new : State) {C : Trees → Type 0} → Survives old new C
     → (HasCleanDisk new → IsTrue new.is_open → IsTrue old.is_open) → IsUp new → IsUp old
@@ -211,20 +178,12 @@ pub keeper_state_after_commit : (first : State) (old new : State) (changes : Lis
     → (IsUp new → new.now ≡ new.committed)
     → IsKeeperState first new × (IsStore first → IsUp new → RawAfterChanges changes (raw_in old.now.trees)
     (raw_in new.now.trees))
-keeper_state_after_commit first old new changes kept before mode fits did settled = (
-  record {
-    autocommit = mode ∙ kept.autocommit;
-    served = λ known up.
-        let k = (kept.served known (before up)).keeps in
-        record { settled = settled up; keeps = (tables_after_delta changes k.0, made known up k.0 k.1) };
-  },
-  λ known up.
-      let k = (kept.served known (before up)).keeps in
-      raw_after_changes old k.0 changes new.now.trees k.1 (made known up k.0 k.1).hold,
+keeper_state_after_commit first old new changes kept before mode fits did settled = grind (
+  arith,
+  common_steps,
+  raw_after_changes,
+  raw_of,
 )
-  where
-    made : IsStore first → IsUp new → (t : Tables) → Keeps old.now t → Keeps new.now (tables_after_delta changes t)
-    made known up t keeps = did up t keeps (fits known (before up) t (raw_of old.now.trees t keeps.hold))
 
 abbrev pub IsSettled : State → Type 0
 IsSettled s = (db : Trees) → IsTrue s.is_open → s.may_leave db → db ≡ s.committed.trees
@@ -232,26 +191,17 @@ IsSettled s = (db : Trees) → IsTrue s.is_open → s.may_leave db → db ≡ s.
 left_trees : (s : State) → s.now ≡ s.committed → IsUp s → IsSettled s → (db : Trees) → s.may_leave db → db ≡ s.now.trees
 left_trees s settled up law db may = law db up.1 may ∙ sym (ap (λ (d : Database). d.trees) settled)
 
--- An open store has the tables whose cells its rows are.
-holds_shown : (s : State) → HasCommittedTables s → (t : Tables) → raw_in s.now.trees ≡ cells_of_tables t → Keeps s.now t
-holds_shown s served t is =
-    let k = served.keeps in
-    subst (Keeps s.now) (listed_one k.0 t (sym (raw_of s.now.trees k.0 k.1.hold) ∙ is)) k.1
-
 -- A crash during a commit leaves the tables without the changes, or those with all changes.
 pub leaves_either : (first : State) (old new : State) (changes : List Change) → IsKeeperState first old
-    → IsSettled old → FitsKeeper first changes old
-    → Survives old new
+    → IsSettled old → FitsKeeper first changes old → Survives old new
     (λ trees. (t : Tables) → Keeps old.now t → DeltaFits changes t → Hold trees (tables_after_delta changes t))
     → IsStore first → LeavesEither changes old new
-leaves_either first old new changes kept law fits s known clean opened t is db may =
-    let up : IsUp old = (omega (arith, s.clean, clean), opened) in
-    let served = kept.served known up in
-    let keeps = holds_shown old served t is in
-    elim (s.crash clean db may) [
-      | inl was ↦ inl (subst (λ trees. Hold trees t) (sym (left_trees old served.settled up law db was)) keeps.hold)
-      | inr made ↦ inr (made t keeps (fits known up t is))
-    ]
+leaves_either first old new changes kept law fits s known clean opened t is db may = grind (
+  arith,
+  common_steps,
+  holds_shown,
+  left_trees,
+)
 
 pub leaves_after : (first : State) (old new : State) (changes : List Change) → IsKeeperState first new → IsSettled new
     → (IsStore first → IsUp new → RawAfterChanges changes (raw_in old.now.trees) (raw_in new.now.trees))
@@ -274,21 +224,21 @@ module _ {S : Type 0} (g : Ghosts S) (view old : KeeperView S) (same : view ≡ 
     (fits : IsKeeperUp g old → (t : Tables) → raw_of_keeper g old ≡ cells_of_tables t → DeltaFits changes t)
     (crash : Survives (state g view.conn) (state g new)
     (λ trees. (t : Tables) → Keeps (state g view.conn).now t → DeltaFits changes t
-    → Hold trees (tables_after_delta changes t)))
-    (law : (h : Held S) → IsSettled (state g h)) where
+    → Hold trees (tables_after_delta changes t))) (law : (h : Held S) → IsSettled (state g h)) where
   fits_keeper : FitsKeeper (state g view.first) changes (state g view.conn)
   fits_keeper = subst (λ (k : KeeperView S). FitsKeeper (state g k.first) changes (state g k.conn)) (sym same)
       (λ known up. fits (known, up))
 
   -- A successful transaction keeps the invariant and applies the changes, durably.
-  pub is_done : {r : Result Bool Error} → IsOwnTransaction g view.conn new r
-      → (HasCleanDisk (state g new) → (t : Tables) → Keeps (state g view.conn).now t → DeltaFits changes t
-      → Keeps (state g new).now (tables_after_delta changes t))
-      → IsDone g view old changes new
-  is_done own did =
+  pub is_done : {done : Bool} → IsOwnTransaction {E = Error} g view.conn new (Ok done)
+      → (HasCleanDisk (state g new) → IsTrue done → (t : Tables) → Keeps (state g view.conn).now t
+      → DeltaFits changes t → Keeps (state g new).committed (tables_after_delta changes t)
+      × Keeps (state g new).now (tables_after_delta changes t)) → IsDone g view old changes new
+  is_done own all =
       let both = keeper_state_after_commit (state g view.first) (state g view.conn) (state g new) changes kept
       (up_before (state g view.conn) (state g new) crash own.was)
-      own.mode fits_keeper (λ up. did up.0) (λ up. own.settled up.0 up.1 kept.autocommit) in
+      own.mode fits_keeper (λ up t keeps fit. (all up.0 (own.begins kept.autocommit) t keeps fit).1)
+      (λ up. own.settled up.0 up.1 kept.autocommit) in
       subst (λ (k : KeeperView S). IsDone g view k changes new) same (record {
         kept = both.0;
         ok = both.1;
@@ -309,20 +259,8 @@ module _ {S : Type 0} (g : Ghosts S) (start old new : Held S) (same : start ≡ 
   before_commit = up_before (state g start) (state g new) survives own.was
 
   pub frame_of_success : {T E : Type 0} (value : T) → DatabaseFrame {E = E} g old new (Ok value)
-  frame_of_success {T} {E} value = subst (λ h. DatabaseFrame {E = E} g h new (Ok value)) same (record {
-    was = before_commit;
-    settled = λ up. own.settled up.0 up.1 idle;
-    none = tt;
-  })
+  frame_of_success {T} {E} value = grind (arith, common_steps, before_commit)
 
   pub frame_of_fault : {T E : Type 0} (error : Error) (fault : E) → r ≡ Err error
       → DatabaseFrame {T = T} g old new (Err fault)
-  frame_of_fault {T} {E} error fault is = subst (λ h. DatabaseFrame {T = T} g h new (Err fault)) same (record {
-    was = before_commit;
-    settled = λ up. own.settled up.0 up.1 idle;
-    none = λ up. (
-      before_commit up,
-      subst (λ (end : Result Bool Error). OnErr end (IsUnwritten (state g start) (state g new))) is
-          (own.none up.0 up.1),
-    );
-  })
+  frame_of_fault {T} {E} error fault is = grind (arith, common_steps, before_commit)

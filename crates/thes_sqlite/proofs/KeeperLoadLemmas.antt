@@ -1,8 +1,10 @@
 -- Proves that a load passes the rows of all tables to the sink, table after table.
-use Rattle.std.proofs.Common.{◌≡◌, ◌<◌, ◌+◌, ℕ, List, [], ◌∷◌, length, take, get_or, append-nil, Option, Result, Ok}
-use Rattle.std.proofs.Common.{Err, refl, sym, ap, subst, ◌∙◌}
+use Rattle.std.proofs.lemmas.Grind.{common_steps}
+use Rattle.std.proofs.Common.{arith, ◌≡◌, ◌<◌, ◌+◌, ℕ, List, [], ◌∷◌, length, take, get_or, append-nil, Option}
+use Rattle.std.proofs.Common.{Result, Ok}
+use Rattle.std.proofs.Common.{Err, subst, ◌∙◌}
 use Rattle.sqlite.specs.Tree.{Trees}
-use Rattle.sqlite.specs.State.{State, HasCleanDisk}
+use Rattle.sqlite.specs.State.{HasCleanDisk}
 use Rattle.sqlite.specs.Held.{Held, state}
 use Rattle.sqlite_trees.specs.declared.store.Store.{Ghosts}
 use Rattle.thes_base.specs.declared.fault.Fault.{Fault}
@@ -10,7 +12,8 @@ use Rattle.thes_base.specs.declared.fault.Table.{Table}
 use Rattle.thes_base.specs.declared.fault.Table.TheVariants as table
 use Rattle.thes_tables.specs.declared.cells.Cell.{Cell}
 use Rattle.thes_sql.specs.Reads.{IsReadable, LeavesTables}
-use Rattle.thes_store.specs.Sinks.{SinkAcceptsAll, SinkAcceptsPrefix, SinkOutcome, sink_rows_of_table, sink_rows_of_tables}
+use Rattle.thes_store.specs.Sinks.{SinkAcceptsAll, SinkAcceptsPrefix, SinkOutcome, sink_rows_of_table}
+use Rattle.thes_store.specs.Sinks.{sink_rows_of_tables}
 use Rattle.thes_store.specs.Storage.{KeepsStorage, QueryFrame}
 use Rattle.thes_tables.specs.TableOrder.{raw_rows_of}
 use Rattle.thes_store.proofs.SinkLemmas.{tables_append, part_accepted, part_refused}
@@ -20,28 +23,22 @@ use Rattle.thes_sqlite.specs.KeeperView.{IsKeeperState, storage_view}
 use Rattle.thes_sqlite.proofs.KeeperLemmas.{before_read, readable_of}
 
 pub raw_at : (p : Table) (db : Trees) → raw_rows_of p (raw_in db) ≡ raw_table p db
-raw_at table.Meta db = refl
-raw_at table.Resource db = refl
-raw_at table.Outside db = refl
-raw_at table.Label db = refl
-raw_at table.Link db = refl
-raw_at table.Hier db = refl
-raw_at table.Posting db = refl
-raw_at table.Move db = refl
+raw_at p db = grind (arith, common_steps)
 
 -- A sink that receives the rows of a readable table receives the rows of that table of the storage.
-pub table_yielded : {S R : Type 0} (g : Ghosts S) (first : State) (start old new : Held S) → start ≡ old
-    → IsKeeperState first (state g start) → LeavesTables g start new
-    → (gives : R → Table × Option (List Cell) → Result (Unit {0}) Fault → R → Type 0) (p : Table)
-    (before after : R) (r : Result (Unit {0}) Fault)
-    → (HasCleanDisk (state g new) → IsReadable (state g start).now
-    → SinkOutcome gives before (sink_rows_of_table p (raw_table p (state g start).now.trees)) r after)
-    → IsStore first → IsUp (state g new)
-    → SinkOutcome gives before (sink_rows_of_table p (raw_table p (state g old).now.trees)) r after
-table_yielded g first start old new same kept leaves gives p before after r yields known up =
-    let s = kept.served known (before_read g start new leaves up) in
-    subst (λ h. SinkOutcome gives before (sink_rows_of_table p (raw_table p (state g h).now.trees)) r after) same
-    (yields up.0 (readable_of (state g start).now s.keeps.0 s.keeps.1))
+pub table_yielded : {S R : Type 0} (g : Ghosts S) (gives : R → Table × Option (List Cell)
+    → Result (Unit {0}) Fault → R → Type 0) (view old : KeeperView S) (new : Held S) → view ≡ old
+    → IsKeeperState (state g view.first) (state g view.conn) → LeavesTables g view.conn new → (p : Table)
+    (before after : R) {q r : Result (Unit {0}) Fault} → q ≡ r
+    → (HasCleanDisk (state g new) → IsReadable (state g view.conn).now
+    → SinkOutcome gives before (sink_rows_of_table p (raw_table p (state g view.conn).now.trees)) q after)
+    → IsStore (state g view.first) → IsUp (state g new)
+    → SinkOutcome gives before (sink_rows_of_table p (raw_table p (state g old.conn).now.trees)) r after
+table_yielded g gives view old new same kept leaves p before after is yields known up =
+    let s = kept.served known (before_read g view.conn new leaves up) in
+    subst (λ (k : KeeperView _ × Result (Unit {0}) Fault). SinkOutcome gives before
+    (sink_rows_of_table p (raw_table p (state g k.0.conn).now.trees)) k.1 after) (λ i. (same i, is i))
+    (yields up.0 (readable_of (state g view.conn).now s.keeps.0 s.keeps.1))
 
 -- The state of a load after the tables `names`: the storage is unchanged, and the sink has their rows.
 pub record LoadProgress {S R : Type 0} (g : Ghosts S) (gives : R → Table × Option (List Cell)
@@ -60,10 +57,7 @@ module _ {S R : Type 0} (g : Ghosts S) (gives : R → Table × Option (List Cell
     (sink_rows_of_table name (raw_table name (state g mid.conn).now.trees)) r after)
     (asks : QueryFrame (storage_view g mid) (storage_view g new) r) (known : new.first ≡ mid.first) where
   one : IsKeeperUp g new → SinkOutcome gives between (sink_rows_of_tables (raw_of_keeper g start) (name ∷ [])) r after
-  one up = subst (λ l. SinkOutcome gives between l r after)
-      (ap (sink_rows_of_table name) (sym (raw_at name (state g mid.conn).now.trees)
-      ∙ ap (raw_rows_of name) (p.keeps.same (asks.was up)))
-      ∙ sym (append-nil _)) (yields up)
+  one up = grind (arith, common_steps, raw_at, append-nil)
 
   pub load_progress_next : (done : Unit {0}) → r ≡ Ok done → LoadProgress g gives (take (i + 1) names) start new
       before after
@@ -79,12 +73,10 @@ module _ {S R : Type 0} (g : Ghosts S) (gives : R → Table × Option (List Cell
   -- A fault at one table ends the load with a prefix of the rows in the sink.
   pub load_progress_fault : (fault : Fault) → r ≡ Err fault
       → (IsKeeperUp g new → SinkAcceptsPrefix gives fault before (sink_rows_of_tables (raw_of_keeper g start) names)
-      after)
-      × QueryFrame {T = Unit {0}} (storage_view g start) (storage_view g new) (Err fault)
+      after) × QueryFrame {T = Unit {0}} (storage_view g start) (storage_view g new) (Err fault)
   load_progress_fault fault err = (
     λ up. part_refused gives (sink_rows_of_tables (raw_of_keeper g start)) (tables_append (raw_of_keeper g start))
-        names i name
-        fault before between after r lt is (p.sink_accepts (asks.was up)) err (one up),
+        names i name fault before between after r lt is (p.sink_accepts (asks.was up)) err (one up),
     query_after (storage_view g start) (storage_view g mid) (storage_view g new) p.keeps (Err fault)
         (subst (QueryFrame (storage_view g mid) (storage_view g new)) err asks),
   )

@@ -1,20 +1,15 @@
 -- Proves the verdict of a migration on a database, and the state that the migration leaves.
-use Rattle.std.proofs.Common.{◌<◌, IsTrue, arith, inl, inr, ◌≡◌, ◌⊎◌, ◌≤◌, ℕ, List, [], ◌∷◌, map, refl, sym, ap, subst}
-use Rattle.std.proofs.Common.{◌∙◌}
-use Rattle.std.proofs.Common.{Result, Ok, Err, OnOk, IfOk, IfErr, IsErrAnd, Bool, true, false, Some, None, Option}
-use Rattle.std.proofs.Common.{IsSome}
-use Rattle.std.proofs.lemmas.Bool.{cases_Bool}
+use Rattle.std.proofs.lemmas.Grind.{common_steps}
+use Rattle.std.proofs.Common.{◌<◌, IsTrue, arith, inl, inr, ◌≡◌, ◌⊎◌, ◌≤◌, ℕ, List, [], ◌∷◌, refl, sym}
+use Rattle.std.proofs.Common.{subst, ◌∙◌, Result, Ok, Err, OnOk, Bool, true, false, Some, Option}
 use Rattle.sqlite.specs.Order.{Row}
 use Rattle.sqlite.specs.Tree.{Trees}
 use Rattle.sqlite.specs.Effect.{Database}
-use Rattle.sqlite.specs.Schema.{Schema}
 use Rattle.sqlite.specs.State.{State, HasCleanDisk, Survives}
 use Rattle.sqlite.specs.Held.{Held, state}
 use Rattle.sqlite.specs.declared.error.Error.{Error}
-use Rattle.sqlite.specs.declared.types.Value.TheVariants as values
 use Rattle.sqlite.proofs.StateLemmas.{survives_then, survives_weaker}
 use Rattle.sqlite_trees.specs.View.{doubt}
-use Rattle.sqlite_trees.specs.declared.error.StoreError.TheVariants as cause
 use Rattle.sqlite_trees.specs.declared.store.Store.{Ghosts}
 use Rattle.thes_base.specs.declared.fault.Fault.{Fault}
 use Rattle.thes_base.specs.declared.fault.Fault.TheVariants as faults
@@ -28,24 +23,21 @@ use Rattle.thes_load_rules.specs.Rules.{state_of}
 use Rattle.thes_load_rules.specs.Verdicts.{HasVerdict}
 use Rattle.thes_load_rules.proofs.LegalTableLemmas.{held_loads}
 use Rattle.thes_sql.specs.StoredRows.{Keeps, Hold}
-use Rattle.thes_sql.specs.OldStore.{KeepsOld, version_row, links_text, hier_text}
-use Rattle.thes_sql.specs.Queries.{compiles, Finds, IsStoreFault, FailsToFind}
+use Rattle.thes_sql.specs.OldStore.{KeepsOld, version_row}
+use Rattle.thes_sql.specs.Queries.{Finds, IsStoreFault, FailsToFind}
 use Rattle.thes_tables.specs.OldRows.{tables_after_migration}
 use Rattle.thes_sql.specs.Reads.{read_text, LeavesAlone}
 use Rattle.thes_sql.specs.TransactionEffects.{IsOwnTransaction}
 use Rattle.thes_sql.proofs.SelectLemmas.{version_found}
 use Rattle.thes_sql.proofs.KnownSchemaLemmas.{knows_links, misses_hier}
 use Rattle.thes_tables.proofs.OldRowLemmas.{migration_law}
-use Rattle.thes_sqlite.specs.Faults.{IsKeeperFault, HasFailed, HasDeviceFailed, error_fault}
+use Rattle.thes_sqlite.specs.Faults.{IsKeeperFault, HasFailed, error_fault}
 use Rattle.thes_sqlite.specs.KeeperView.{IsUp, raw_in, IsStore}
-use Rattle.thes_sqlite.specs.MigrationEffects.{IsMigrateFault, HasMetaVersion, IsMetaVerdict, IsLinkVerdict}
-use Rattle.thes_sqlite.specs.MigrationEffects.{IsVerdictOn}
+use Rattle.thes_sqlite.specs.MigrationEffects.{IsMigrateFault, HasMetaVersion, IsMetaVerdict, IsVerdictOn}
 use Rattle.thes_sqlite.specs.MigrationEffects.{IsVersionVerdict, IsMigrationVerdict, Judges, meta_fault_of}
-use Rattle.thes_sqlite.specs.MigrationEffects.{links_verdict_of}
-use Rattle.thes_sqlite.specs.MigrationEffects.{hier_verdict_of, IsUnwritten, Migrates}
+use Rattle.thes_sqlite.specs.MigrationEffects.{IsUnwritten, Migrates}
 use Rattle.thes_sqlite.specs.MigrationLaws.{HoldsOldState, HoldsState, MigratesState, MigratesStates}
-use Rattle.thes_sqlite.specs.ValueCells.{cell_of}
-use Rattle.thes_sqlite.proofs.KeeperLemmas.{raw_of, tables_then}
+use Rattle.thes_sqlite.proofs.KeeperLemmas.{raw_of}
 
 -- The verdict on a store of version 1 is that it is to be migrated; on one of version 2, that it is current.
 
@@ -53,15 +45,10 @@ module _ (version : ℕ) (base : List ℕ) (found : Option (List Row))
     (is : found ≡ Some (version_row version base ∷ [])) where
   -- A row of table meta with this version states no other version.
   version_is : (Is : ℕ → Type 0) → HasMetaVersion Is found → Is version
-  version_is Is had =
-      let h = subst (HasMetaVersion Is) is had in
-      let cells = ap (map cell_of) (head_one h.1) ∙ h.4.1 in
-      subst Is (sym (number_one (head_one (tail_one cells)))) h.3
+  version_is Is had = grind (arith, common_steps, head_one, number_one, tail_one)
 
   has_version : (Is : ℕ → Type 0) → Is version → HasMetaVersion Is found
-  has_version Is so =
-      subst (HasMetaVersion Is) (sym is)
-      (version_row version base, refl, version, so, (cell_of (values.Text base), refl))
+  has_version Is so = grind (arith, common_steps)
 
 module _ (db : Database) (t : Tables) where
   pub verdict_of_old : KeepsOld db t → (verdict : Result Bool Fault) → IsMigrationVerdict db verdict → verdict ≡ Ok true
@@ -109,30 +96,19 @@ module _ (db : Database) (t : Tables) where
 -- The error of a store that failed becomes a fault that says so.
 
 failed_so : (old new : State) (e : Error) → IsStoreFault old new e → HasFailed old new (error_fault e)
-failed_so old new e (cause.OutOfMemory, is, why) = inl (ap error_fault is)
-failed_so old new e (cause.Io, is, why) = inr (ap error_fault is, inl why)
-failed_so old new e (cause.Corrupt, is, why) = inr (ap error_fault is, inl why)
-failed_so old new e (cause.Full, is, why) = inr (ap error_fault is, inl why)
-failed_so old new e (cause.Broken, is, why) = inr (ap error_fault is, inr (inl why))
-failed_so old new e (cause.Unstorable, is, why) = absurd why
+failed_so old new e fails = grind (arith, common_steps)
 
 module _ {S : Type 0} (g : Ghosts S) (old new : Held S) where
   -- The rows of table meta determine the verdict on the version.
   pub rows_judged : (rows : List Row) (r : Result Bool Fault)
       → (HasCleanDisk (state g new) → Finds (read_text table.Meta) (state g old).now (Some rows))
       → (r ≡ Err faults.OutOfMemory) ⊎ IsMetaVerdict (Some rows) r → Judges g IsVersionVerdict old new r
-  rows_judged rows r finds (inl spent) clean =
-      inl (subst (λ k. IsErrAnd k (HasFailed (state g old) (state g new))) (sym spent) (inl refl))
-  rows_judged rows r finds (inr is) clean = inr (Some rows, finds clean, is)
+  rows_judged rows r finds judged clean = grind (arith, common_steps)
 
   unread : (e : Error) → FailsToFind (read_text table.Meta) (state g old) (state g new) e
       → HasFailed (state g old) (state g new) (meta_fault_of e)
       ⊎ IsVersionVerdict (state g old).now (Err (meta_fault_of e))
-  unread e (inl nothing) = rw nothing.0 (inr (None, nothing.1, λ h. h))
-  unread e (inr failed) = rw failed.0 (inl (elim failed.1 [
-    | inl store ↦ failed_so (state g old) (state g new) e store
-    | inr limit ↦ inr (ap error_fault limit.0, inr (inr limit.1))
-  ]))
+  unread e fails = grind (arith, common_steps, failed_so)
 
   -- If table meta can't be read, the verdict is a fault, unless the store has failed.
   pub meta_unread : (e : Error) (fault : Fault) → fault ≡ meta_fault_of e
@@ -141,89 +117,11 @@ module _ {S : Type 0} (g : Ghosts S) (old new : Held S) where
   meta_unread e fault is fails clean = subst (λ f. HasFailed (state g old) (state g new) f
       ⊎ IsVersionVerdict (state g old).now (Err f)) (sym is) (unread e (fails clean))
 
--- A failure of the second of two calls is a failure of both together.
-module _ {S : Type 0} (g : Ghosts S) (old mid new : Held S) (first : LeavesAlone g old mid)
-    (second : LeavesAlone g mid new) where
-  pub clean_before : HasCleanDisk (state g new) → HasCleanDisk (state g mid)
-  clean_before clean = let less = second.tables.clean in omega (arith, less, clean)
-
-  device_failed : HasCleanDisk (state g new) → HasDeviceFailed (state g mid) (state g new)
-      → HasDeviceFailed (state g old) (state g new)
-  device_failed clean (inl more) = let up = first.crash.counts in inl (omega (arith, more, up))
-  device_failed clean (inr (inl shut)) = elim (cases_Bool (state g old).is_open) [
-    | inl opened ↦ elim (first.crash.closes (clean_before clean) opened) [
-      | inl still ↦ absurd (let e = sym shut ∙ still in cc)
-      | inr more ↦ let up = second.crash.counts in inl (omega (arith, more, up))
-    ]
-    | inr was_shut ↦ inr (inl was_shut)
-  ]
-  device_failed clean (inr (inr limit)) = inr (inr (subst IsSome first.crash.limit limit))
-
-  pub failed_since : HasCleanDisk (state g new) → (fault : Fault) → HasFailed (state g mid) (state g new) fault
-      → HasFailed (state g old) (state g new) fault
-  failed_since clean fault (inl spent) = inl spent
-  failed_since clean fault (inr h) = inr (h.0, device_failed clean h.1)
-
-  pub failed_before : HasCleanDisk (state g new) → (fault : Fault) → HasFailed (state g old) (state g mid) fault
-      → HasFailed (state g old) (state g new) fault
-  failed_before clean fault (inl spent) = inl spent
-  failed_before clean fault (inr (is, inl more)) = let up = second.crash.counts in inr
-      (is, inl (omega (arith, more, up)))
-  failed_before clean fault (inr (is, inr other)) = inr (is, inr other)
-
-  pub leaves_then : LeavesAlone g old new
-  leaves_then = record {
-    tables = tables_then g old mid new first.tables second.tables;
-    crash = survives_then (state g old) (state g mid) (state g new) _ _ (λ _. ⊥) (λ _ db none. none)
-        (λ _ db none. none) first.crash second.crash;
-  }
-
--- The fault of a result, or another fault if the result is a value.
-
-abbrev fault_or : {V : Type 0} → Fault → Result V Fault → Fault
-fault_or other (Ok v) = other
-fault_or other (Err fault) = fault
-
--- The answers of two queries determine the verdict on the tables of links.
-module _ (old new : State) (schema : Schema) where
-  abbrev IsAnswer : List ℕ → Result Bool Error → Type 0
-  IsAnswer text there = IfOk there (λ b. b ≡ compiles schema text) × IfErr there (IsStoreFault old new)
-
-  -- A fault means that table link can't be queried, or that the store has failed.
-  pub links_stop : (there : Result Bool Error) → IsAnswer links_text there → (fault : Fault)
-      → links_verdict_of there ≡ Err fault → HasFailed old new fault ⊎ IsLinkVerdict schema (Err fault)
-  links_stop (Ok true) is fault e = absurd (cc)
-  links_stop (Ok false) is fault e =
-      inr (subst (λ f. IsLinkVerdict schema (Err f)) (ap (fault_or fault) e) (sym is.0))
-  links_stop (Err error) is fault e =
-      inl (subst (HasFailed old new) (ap (fault_or fault) e) (failed_so old new error is.1))
-
-  pub links_there : (there : Result Bool Error) → IsAnswer links_text there → (done : Unit {0})
-      → links_verdict_of there ≡ Ok done → compiles schema links_text ≡ true
-  links_there (Ok true) is done e = sym is.0
-  links_there (Ok false) is done e = absurd (cc)
-  links_there (Err error) is done e = absurd (cc)
-
-  -- The answer on table hier gives the verdict on the tables of links, unless the store has failed.
-  pub hier_judged : compiles schema links_text ≡ true → (there : Result Bool Error) → IsAnswer hier_text there
-      → IsErrAnd (hier_verdict_of there) (HasFailed old new) ⊎ IsLinkVerdict schema (hier_verdict_of there)
-  hier_judged links (Ok true) is = inr (links, sym is.0)
-  hier_judged links (Ok false) is = inr (links, sym is.0)
-  hier_judged links (Err error) is = inl (failed_so old new error is.1)
-
 -- The verdicts on the version and on the tables of links give the verdict on the database.
 
 module _ (db : Database) where
   pub newer_or_other : (fault : Fault) → IsVersionVerdict db (Err fault) → IsMigrationVerdict db (Err fault)
-  newer_or_other faults.NewerStore h = h
-  newer_or_other (faults.BadStore table.Meta) h = h
-  newer_or_other fault h = absurd (h.2)
-
-  pub links_decide : IsVersionVerdict db (Ok true) → (fault : Fault) → IsLinkVerdict db.schema (Err fault)
-      → IsMigrationVerdict db (Err fault)
-  links_decide h (faults.BadStore table.Link) links = (h.0, h.1, (h.2, links))
-  links_decide h (faults.BadStore table.Hier) links = (h.0, h.1, (h.2, links))
-  links_decide h fault links = absurd links
+  newer_or_other fault h = grind (arith, common_steps)
 
 pub migrate_fault_of_keeper : (fault : Fault) → IsKeeperFault fault → IsMigrateFault fault
 migrate_fault_of_keeper fault (inl spent) = inl spent
@@ -238,9 +136,7 @@ module _ {S : Type 0} (g : Ghosts S) (old new : Held S) (idle : old.in_transacti
   unwritten up = leaves.tables.same up.0 up.1 (settled (leaves.tables.was up.0 up.1))
 
   still_settled : IsUp (state g new) → (state g new).now ≡ (state g new).committed
-  still_settled up =
-      let same = unwritten up in
-      same.0 ∙ settled (leaves.tables.was up.0 up.1) ∙ sym same.1
+  still_settled up = grind (arith, common_steps, unwritten)
 
   no_crash : {P : Trees → Type 0} → Survives (state g old) (state g new) P
   no_crash = survives_weaker (state g old) (state g new) _ _ (λ _ db none. absurd none) leaves.crash
@@ -298,11 +194,9 @@ module _ {S : Type 0} (g : Ghosts S) (old new : Held S) (idle : old.in_transacti
 -- Assumes a migration that is to be made, and that succeeds or fails at a statement.
 
 module _ {S : Type 0} (g : Ghosts S) (old mid new : Held S) (idle : old.in_transaction ≡ false)
-    (leaves : LeavesAlone g old mid)
-    (kept : HasCleanDisk (state g mid) → IsUnwritten (state g old) (state g mid))
+    (leaves : LeavesAlone g old mid) (kept : HasCleanDisk (state g mid) → IsUnwritten (state g old) (state g mid))
     (judged : Judges {V = Bool} g IsMigrationVerdict old mid (Ok true))
-    (less : doubt (state g mid).is_clean ≤ doubt (state g new).is_clean)
-    (crash : Survives (state g mid) (state g new)
+    (less : doubt (state g mid).is_clean ≤ doubt (state g new).is_clean) (crash : Survives (state g mid) (state g new)
     (λ trees. (t : Tables) → KeepsOld (state g mid).now t → Hold trees (tables_after_migration t))) where
   clean_mid : HasCleanDisk (state g new) → HasCleanDisk (state g mid)
   clean_mid clean = omega (arith, less, clean)
@@ -368,13 +262,7 @@ pub serves_migrated : {S : Type 0} (g : Ghosts S) (old new first : Held S) → f
     → (IsStore (state g first) × IsUp (state g new))
     × (raw_in (state g new).now.trees ≡ cells_of_tables (tables_after_migration t))
 serves_migrated g old new first is version m up t was = (
-  (
-    subst (λ h. IsStore (state g h)) (sym is) (λ open_now. record {
-      settled = m.settled open_now;
-      keeps = (tables_after_migration t, (m.made open_now.0 t was).1);
-    }),
-    up,
-  ),
+  (grind (arith, common_steps)),
   raw_of (state g new).now.trees (tables_after_migration t) (m.made up.0 t was).1.hold,
 )
 
@@ -404,14 +292,7 @@ module _ {S : Type 0} (g : Ghosts S) (base : List ℕ) (s : Content) (old new : 
       (t, subst (λ raw. HasVerdict raw (Ok t)) (sym (raw_of (state g new).now.trees t both.1.hold)) told.0, told.1)
 
   pub state_migrated : (r : Result ℕ Fault) → Migrates g old new r → MigratesState g base s old new r
-  state_migrated r m = record {
-    holds = holds r m.made;
-    loads = loads r m.made;
-    crash = λ db may. elim (m.crash.crash clean db may) [
-      | inl before ↦ inl before
-      | inr made ↦ inr (t, made.1 was.0 was.1, rows)
-    ];
-  }
+  state_migrated r m = grind (arith, common_steps, holds, loads, rows)
 
 pub migrates_states : {S : Type 0} (g : Ghosts S) → MigratesStates g
 migrates_states g base s old new r m clean was = state_migrated g base s old new clean was r m

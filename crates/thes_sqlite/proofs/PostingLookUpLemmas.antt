@@ -1,6 +1,7 @@
 -- Proves that look-ups in the database return the postings and moves of the tables.
+use Rattle.std.proofs.lemmas.Grind.{common_steps}
 use Rattle.std.proofs.Common.{◌≡◌, inl, inr, ℕ, List, [], ◌∷◌, ◌++◌, ◌<◌, length, map, filter, take, suc, Bool, true}
-use Rattle.std.proofs.Common.{false, cond, None, Some, slice_get, get_or, refl, sym, ap, subst, ◌∙◌, arith, zero, ◌+◌}
+use Rattle.std.proofs.Common.{cond, None, Some, slice_get, get_or, refl, sym, ap, subst, ◌∙◌, arith, zero, ◌+◌}
 use Rattle.std.proofs.Common.{◌-◌, ◌≤◌, ◌==◌}
 use Rattle.std.proofs.Math.Seq.{take-suc}
 use Rattle.std.proofs.lemmas.List.{map-append}
@@ -46,10 +47,7 @@ cell_of_value (Blob b) = cells.Bytes b
 cell_of_value (Real x) = cells.Null
 
 value_back : (c : Cell) → cell_of_value (value_of c) ≡ c
-value_back (cells.Int n) = refl
-value_back (cells.Text text) = refl
-value_back (cells.Bytes bytes) = refl
-value_back cells.Null = refl
+value_back c = grind (arith, common_steps)
 
 pub posting_of_values : (x y : PostingRow) → values (posting_cells x) ≡ values (posting_cells y) → x ≡ y
 posting_of_values x y e = posting_one x y (map_one value_of (λ a b same. sym (value_back a) ∙ ap cell_of_value same
@@ -83,8 +81,7 @@ found_first key ps items row x is first told = go (filter (has_key key) ps) (fil
         let head : values (posting_cells q) ≡ row = cc in
         let same : q ≡ x = posting_of_values q x (head ∙ told) in
         let there = from q (inl refl) in
-        subst (λ (z : PostingRow). IsIn z ps × (z.key ≡ key)) same
-        (in_has ps q there.0, key_same key q there.1)
+        subst (λ (z : PostingRow). IsIn z ps × (z.key ≡ key)) same (in_has ps q there.0, key_same key q there.1)
 
 pub found_none : (key : List ℕ) (ps : List PostingRow) (items : List Row)
     → items ≡ map values (map posting_cells (filter (has_key key) ps)) → slice_get items 0 ≡ None
@@ -108,31 +105,13 @@ numbered_head n k (p ∷ ps) num le = go (numbered_head n (k + 1) ps num.1) (p.n
 
     go : (k + 1 ≤ n → slice_get rest 0 ≡ slice_get ps (n - (k + 1))) → (b : Bool) → (p.number == n) ≡ b
         → slice_get (cond b (p ∷ rest) rest) 0 ≡ slice_get (p ∷ ps) (n - k)
-    go later true e =
-        let here = eqb-true p.number n e in
-        let own = num.0 in
-        let none : 0 ≡ n - k = omega (arith, here, own) in
-        ap (slice_get (p ∷ ps)) none
-    go later false e =
-        let own = num.0 in
-        let apart : p.number ≡ n → ⊥ = λ same. absurd (let yes = ap (λ m. m == n) same ∙ num_same n in let no =
-        sym e ∙ yes in cc) in
-        let less : k + 1 ≤ n = omega (arith, own, apart, le) in
-        let after : suc (n - (k + 1)) ≡ n - k = omega (arith, less) in
-        later less ∙ ap (slice_get (p ∷ ps)) after
+    go later b e = grind (arith, common_steps, eqb-true, num_same)
 
 -- No posting has number 0 if the numbers start above it.
 none_below : (k : ℕ) (ps : List PostingRow) → ArePostingsNumbered k ps → 0 < k
     → slice_get (filter (λ (x : PostingRow). x.number == 0) ps) 0 ≡ None
 none_below k [] num some = refl
-none_below k (p ∷ ps) num some = go (none_below (k + 1) ps num.1 (omega arith)) (p.number == 0) refl
-  where
-    rest : List PostingRow
-    rest = filter (λ (x : PostingRow). x.number == 0) ps
-
-    go : slice_get rest 0 ≡ None → (b : Bool) → (p.number == 0) ≡ b → slice_get (cond b (p ∷ rest) rest) 0 ≡ None
-    go later true e = absurd (let here = eqb-true p.number 0 e in let own = num.0 in omega (arith, here, own, some))
-    go later false e = later
+none_below k (p ∷ ps) num some = grind (arith, common_steps, none_below (k + 1) ps num.1 (omega arith), eqb-true)
 
 -- The first posting with a number is the one at its position.
 numbered_first : (n : ℕ) (ps : List PostingRow) → ArePostingsNumbered 1 ps
@@ -150,9 +129,7 @@ some_head : (qs : List PostingRow) (items : List Row) (row : Row) (x : PostingRo
     → items ≡ map values (map posting_cells qs) → slice_get items 0 ≡ Some row → row ≡ values (posting_cells x)
     → slice_get qs 0 ≡ Some x
 some_head [] items row x is first told = absurd (let no = sym (ap (λ l. slice_get l 0) is) ∙ first in cc)
-some_head (q ∷ qs) items row x is first told =
-    let head = same_Some _ _ (sym (ap (λ l. slice_get l 0) is) ∙ first) in
-    ap Some (posting_of_values q x (head ∙ told))
+some_head (q ∷ qs) items row x is first told = grind (arith, common_steps, posting_of_values, same_Some)
 
 abbrev number_of : ℕ → Tables → List PostingRow
 number_of n t = filter (λ (x : PostingRow). x.number == n) t.posting
@@ -181,11 +158,7 @@ move_of_values x y e = move_one x y (map_one value_of (λ a b same. sym (value_b
 
 pub same_length : {A : Type 0} (cells : A → List Cell) (xs : List A) (rows : List Row)
     → rows ≡ map values (map cells xs) → length rows ≡ length xs
-same_length cells xs rows is = ap length is ∙ go xs
-  where
-    go : (ys : List _) → length (map values (map cells ys)) ≡ length ys
-    go [] = refl
-    go (y ∷ ys) = ap suc (go ys)
+same_length cells xs rows is = grind (arith, common_steps)
 
 -- The row at a position is that of the element at this position.
 pub row_at : {A : Type 0} (cells : A → List Cell) (xs : List A) (rows : List Row) (i : ℕ) (row : Row)

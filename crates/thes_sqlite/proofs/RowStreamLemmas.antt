@@ -1,8 +1,8 @@
 -- Proves that the rows of a query reach a sink as they are read.
-use Rattle.std.proofs.Common.{◌≡◌, ◌⊎◌, inl, inr, ℕ, List, [], ◌∷◌, ◌++◌, Some, None, Result, false}
+use Rattle.std.proofs.Common.{◌≡◌, ℕ, List, [], ◌∷◌, ◌++◌, Option, Some, None, Result, false}
 use Rattle.std.proofs.Common.{refl, sym, ap, subst, ◌∙◌, arith, append_assoc}
 use Rattle.sqlite.specs.Order.{Row}
-use Rattle.sqlite.specs.State.{State, HasCleanDisk, IsUnchanged, IsRolledBack, Survives, Shown, Begins, CommitsShowing}
+use Rattle.sqlite.specs.State.{State, HasCleanDisk, IsUnchanged, Survives, Shown, Begins, CommitsShowing}
 use Rattle.sqlite.specs.Held.{Held, state}
 use Rattle.sqlite.specs.Given.{HasGiven, HasBegun, Advances}
 use Rattle.sqlite_trees.specs.declared.store.Store.{Ghosts}
@@ -10,8 +10,7 @@ use Rattle.sqlite.proofs.StateLemmas.{survives_then, unchanged}
 use Rattle.sqlite.proofs.Callers.{unchanged_then, given_begin}
 use Rattle.thes_base.specs.declared.fault.Fault.{Fault}
 use Rattle.thes_sql.specs.Queries.{IsQuery}
-use Rattle.thes_sql.specs.Reads.{LeavesTables}
-use Rattle.thes_sql.proofs.ReadFrameLemmas.{query_begins, query_survives, prepared_leaves}
+use Rattle.thes_sql.proofs.ReadFrameLemmas.{query_begins, query_survives}
 use Rattle.thes_store.specs.Sinks.{SinkAcceptsAll, SinkAcceptsPrefix}
 use Rattle.thes_store.proofs.SinkLemmas.{accepts_then, some_then, some_more, none_accepted}
 
@@ -39,8 +38,7 @@ module _ {A : Type 0} (Is : Row → A → Type 0) where
 
   -- Each answer of the query has the rows of these items, and rows that begin an answer are the first of them.
   pub record Wants (sql : List ℕ) (params : Row) (db : State) (all : List A) : Type 1 where
-    pub whole : (s new : State) (rows : List Row) → s.now ≡ db.now → Shown sql params s new rows
-        → AreRowsOf rows all
+    pub whole : (s new : State) (rows : List Row) → s.now ≡ db.now → Shown sql params s new rows → AreRowsOf rows all
     pub part : (s : State) (rows : List Row) → s.now ≡ db.now → IsUnchanged s s → Begins sql params s rows
         → (tail : List Row) × AreRowsOf (rows ++ tail) all
 
@@ -71,8 +69,7 @@ module _ {S R A : Type 0} (g : Ghosts S) (gives : R → A → Result (Unit {0}) 
   accepts_one before between after rows row so one xs h =
       let parts = rows_split Is rows (row ∷ []) xs h in
       let last = one_row Is row parts.1 parts.4 in
-      subst (λ l. SinkAcceptsAll gives before l after)
-      (sym (parts.2 ∙ ap (λ l. parts.0 ++ l) last.1))
+      subst (λ l. SinkAcceptsAll gives before l after) (sym (parts.2 ∙ ap (λ l. parts.0 ++ l) last.1))
       (accepts_then gives parts.0 (last.0 ∷ []) before between after (so parts.0 parts.3) (one last.0 last.2))
 
   pub streams_begin : IsQuery sql → (first now : Held S) (sink : R)
@@ -89,7 +86,8 @@ module _ {S R A : Type 0} (g : Ghosts S) (gives : R → A → Result (Unit {0}) 
 
   module _ (first mid new : Held S) (before between : R) (so : Streams first mid before between)
       (s : Survives (state g mid) (state g new) (λ _. ⊥))
-      (mode : mid.in_transaction ≡ false → new.in_transaction ≡ false) where
+      (mode : mid.in_transaction ≡ false → new.in_transaction ≡ false)
+      (got : Option Row) (ok : HasCleanDisk (state g new) → Advances g mid new got) where
     clean_before : HasCleanDisk (state g new) → HasCleanDisk (state g mid)
     clean_before clean = let le = s.clean in omega (arith, le, clean)
 
@@ -97,70 +95,48 @@ module _ {S R A : Type 0} (g : Ghosts S) (gives : R → A → Result (Unit {0}) 
     survives_both = survives_then (state g first) (state g mid) (state g new) (λ _. ⊥) (λ _. ⊥) (λ _. ⊥)
         (λ _ db none. none) (λ _ db none. none) so.survives s
 
-    pub streams_next : (after : R) (row : Row) → (HasCleanDisk (state g new) → Advances g mid new (Some row))
-        → (HasCleanDisk (state g new) → IsUnchanged (state g mid) (state g new))
+    advanced : (next : Option Row) → next ≡ got → HasCleanDisk (state g new) → Advances g mid new next
+    advanced next is clean = subst (Advances g mid new) (sym is) (ok clean)
+
+    pub streams_next : (after : R) (row : Row) → Some row ≡ got →
+        (HasCleanDisk (state g new) → IsUnchanged (state g mid) (state g new))
         → ((x : A) → Is row x → SinkAcceptsAll gives between (x ∷ []) after) → Streams first new before after
-    streams_next after row next same one = record {
+    streams_next after row is same one = record {
       survives = survives_both;
       mode = λ idle. mode (so.mode idle);
       progress = λ clean.
           let was = so.progress (clean_before clean) in (
             was.0 ++ row ∷ [],
-            next clean sql params was.0 was.1,
+            advanced (Some row) is clean sql params was.0 was.1,
             unchanged_then (state g first) (state g mid) (state g new) was.2 (same clean),
             accepts_one before between after was.0 row was.3 one,
           );
     }
 
-    rolled_then : IsUnchanged (state g first) (state g mid) → IsRolledBack (state g mid) (state g new)
-        → IsRolledBack (state g first) (state g new)
-    rolled_then h back = record {
-      was_open = λ now. h.0.was_open;
-      undone = λ now. let it = back.undone now in (it.0 ∙ h.0.committed_is, it.1 ∙ h.0.committed_is);
-      autocommit = back.autocommit;
-      unmarked = back.unmarked;
-      counts = record {
-        changes = back.counts.changes ∙ h.1.changes;
-        last_rowid = back.counts.last_rowid ∙ h.1.last_rowid;
-      };
-    }
-
-    -- Reading that ends leaves the database unchanged, or rolled back to what was committed.
-    pub streams_leave : (HasCleanDisk (state g new)
-        → IsUnchanged (state g mid) (state g new) ⊎ IsRolledBack (state g mid) (state g new))
-        → LeavesTables g first new
-    streams_leave left = (prepared_leaves g sql first new (λ idle. mode (so.mode idle)) survives_both (λ clean.
-        let was = so.progress (clean_before clean) in
-        elim (left clean) [
-          | inl same ↦ inl (unchanged_then (state g first) (state g mid) (state g new) was.2 same)
-          | inr back ↦ inr (rolled_then was.2 back)
-        ])).tables
-
     -- At the end of the rows they are an answer, and the sink has accepted the items of all of them.
-    pub streams_end : (HasCleanDisk (state g new) → Advances g mid new None) → HasCleanDisk (state g new)
-        → (rows : List Row) × ((state g mid).now ≡ (state g first).now)
+    pub streams_end : None ≡ got → HasCleanDisk (state g new) → (rows : List Row) ×
+        ((state g mid).now ≡ (state g first).now)
         × Shown sql params (state g mid) (state g new) rows × Accepts before rows between
-    streams_end last clean =
+    streams_end is clean =
         let was = so.progress (clean_before clean) in
-        (was.0, was.2.0.now_is, last clean sql params was.0 was.1, was.3)
+        (was.0, was.2.0.now_is, advanced None is clean sql params was.0 was.1, was.3)
 
     pub streams_whole : (all : List A) → Wants Is sql params (state g first) all
-        → (HasCleanDisk (state g new) → Advances g mid new None) → HasCleanDisk (state g new)
-        → SinkAcceptsAll gives before all between
-    streams_whole all wants last clean =
-        let it = streams_end last clean in
+        → None ≡ got → HasCleanDisk (state g new) → SinkAcceptsAll gives before all between
+    streams_whole all wants is clean =
+        let it = streams_end is clean in
         it.3 all (wants.whole (state g mid) (state g new) it.0 it.1 it.2)
 
     -- A sink that rejects the item of a row has accepted the items before it.
-    pub streams_refused : (all : List A) → Wants Is sql params (state g first) all → (after : R) (row : Row) (fault : Fault)
-        → (HasCleanDisk (state g new) → Advances g mid new (Some row))
-        → (HasCleanDisk (state g new) → IsUnchanged (state g mid) (state g new))
+    pub streams_refused : (all : List A) → Wants Is sql params (state g first) all → (after : R) (row : Row)
+        (fault : Fault) → Some row ≡ got → (HasCleanDisk (state g new) → IsUnchanged (state g mid) (state g new))
         → ((x : A) → Is row x → SinkAcceptsPrefix gives fault between (x ∷ []) after) → HasCleanDisk (state g new)
         → SinkAcceptsPrefix gives fault before all after
-    streams_refused all wants after row fault next same one clean =
+    streams_refused all wants after row fault got_is same one clean =
         let was = so.progress (clean_before clean) in
         let is = unchanged_then (state g first) (state g mid) (state g new) was.2 (same clean) in
-        let begun = given_begin g sql params new (was.0 ++ row ∷ []) (next clean sql params was.0 was.1) in
+        let begun = given_begin g sql params new (was.0 ++ row ∷ [])
+        (advanced (Some row) got_is clean sql params was.0 was.1) in
         let more = wants.part (state g new) (was.0 ++ row ∷ []) is.0.now_is (unchanged (state g new) is.0.is_open)
         begun in
         let parts = rows_split Is was.0 (row ∷ more.0) all

@@ -1,5 +1,6 @@
 -- Proves which items a sink receives for a table, and for the postings of a concept.
-use Rattle.std.proofs.Common.{◌≡◌, inl, inr, ℕ, pos, List, [], ◌∷◌, ◌++◌, map, Option, Some, None, Result, Ok, Err, true}
+use Rattle.std.proofs.lemmas.Grind.{common_steps}
+use Rattle.std.proofs.Common.{arith, ◌≡◌, ℕ, pos, List, [], ◌∷◌, ◌++◌, map, Option, Some, None, Result, Ok, Err, true}
 use Rattle.std.proofs.Common.{sym, refl, subst, ap, ◌∙◌, append_assoc, append-nil}
 use Rattle.sqlite.specs.declared.types.Value.TheVariants.{Int}
 use Rattle.sqlite.specs.Order.{Row}
@@ -18,8 +19,7 @@ use Rattle.thes_store.specs.Sinks.{SinkAcceptsAll, sink_rows_of_table}
 use Rattle.thes_sql.specs.StoredRows.{Keeps, values}
 use Rattle.thes_sql.specs.Declarations.{declares}
 use Rattle.thes_sql.specs.Queries.{Finds}
-use Rattle.thes_sql.specs.Reads.{read_text, assigned_text, assigned_numbers_text, number_cells_at_concept}
-use Rattle.thes_sql.specs.Reads.{rows_in_trees, IsReadable}
+use Rattle.thes_sql.specs.Reads.{read_text, assigned_text, assigned_numbers_text, number_cells_at_concept, IsReadable}
 use Rattle.thes_sql.proofs.QueryTextLemmas.{table_is_query}
 use Rattle.thes_sql.proofs.ReadFrameLemmas.{found_result, fails_to_find, is_understood}
 use Rattle.thes_sql.proofs.SelectLemmas.{rows_of_any_table, rows_at_concept, numbers_at_concept, table_query_text}
@@ -48,20 +48,7 @@ posting_items (x ∷ xs) = (refl, posting_items xs)
 
 pub table_wants : (p : Table) (db : State) → IsReadable db.now
     → Wants (IsTableRow p) (read_text p) [] db (sink_rows_of_table p (raw_table p db.now.trees))
-table_wants p db is = record {
-  whole = λ s new rows same shown. items s rows same
-      (rows_of_any_table p s new rows (subst IsReadable (sym same) is) shown);
-  part = λ s rows same still begun.
-      let more = rows_begin_table p s rows (subst IsReadable (sym same) is) still begun in
-      (more.0, items s (rows ++ more.0) same more.1);
-}
-  where
-    items : (s : State) (rows : List Row) → s.now ≡ db.now → rows ≡ rows_in_trees p s.now.trees
-        → AreRowsOf (IsTableRow p) rows (sink_rows_of_table p (raw_table p db.now.trees))
-    items s rows same e = subst (λ (d : Database). AreRowsOf (IsTableRow p) rows
-        (sink_rows_of_table p (raw_table p d.trees))) same
-        (subst (λ l. AreRowsOf (IsTableRow p) rows (sink_rows_of_table p (Some (map (map cell_of) l)))) e
-        (table_items p rows))
+table_wants p db is = grind (arith, common_steps, rows_of_any_table, rows_begin_table, table_items)
 
 pub assigned_wants : (concept : ℕ) (db : State) (t : Tables) → Keeps db.now t
     → Wants IsPostingRow assigned_text (Int (pos concept) ∷ []) db (assigned_posting_rows concept t.posting)
@@ -119,10 +106,10 @@ pub table_passed : {R : Type 0} (gives : R → Table × Option (List Cell) → R
     (p : Table) (first mid new : State) (before after : R) (rows : List Row) → declares first.now.schema p ≡ true
     → mid.now ≡ first.now → Shown (read_text p) [] mid new rows
     → ((xs : List (Table × Option (List Cell))) → AreRowsOf (IsTableRow p) rows xs
-    → SinkAcceptsAll gives before xs after)
-    → PassesTable gives p first.now before after
+    → SinkAcceptsAll gives before xs after) → PassesTable gives p first.now before after
 table_passed gives p first mid new before after rows declared same shown accepts =
-    let found = (found_result (read_text p) mid new (table_is_query p) {V = List Row} (λ l. l) (Ok rows) shown tt).0 in (
+    let found = (found_result (read_text p) mid new (table_is_query p) {V = List Row} (λ l. l) (Ok rows) shown tt).0
+    in (
       Some (map (map cell_of) rows),
       (declared, (rows, subst (λ (d : Database). Finds (read_text p) d (Some rows)) same found, refl)),
       accepts (sink_rows_of_table p (Some (map (map cell_of) rows))) (table_items p rows),
@@ -131,15 +118,9 @@ table_passed gives p first mid new before after rows declared same shown accepts
 -- A query that doesn't compile finds nothing.
 pub input_finds_none : (p : Table) (old new : State) (fault : CompileError)
     → FailsToQuery (read_text p) [] old new (SqlInputError fault) → Finds (read_text p) old.now None
-input_finds_none p old new fault h = elim (fails_to_find (read_text p) old new (table_is_query p)
-    (SqlInputError fault) h) [
-      | inl none ↦ none.1
-      | inr other ↦ absurd (let e = other.0 in cc)
-    ]
+input_finds_none p old new fault h = grind (arith, common_steps, fails_to_find, table_is_query)
 
 -- The query of a table compiles in the schema of a store.
 pub never_input : (p : Table) (old new : State) → IsReadable old.now → (fault : CompileError)
     → FailsToQuery (read_text p) [] old new (SqlInputError fault) → ⊥
-never_input p old new is fault h =
-    let asks = table_query_text p in
-    is_understood (read_text p) [] old new _ asks.0 is.schema asks.1 asks.3 (SqlInputError fault) fault h refl
+never_input p old new is fault h = grind (arith, common_steps, table_query_text p, is_understood)

@@ -36,6 +36,7 @@ pub(crate) fn find_posting<S: Alter>(
 }
 
 /// Returns the row of the posting that has the number, if there is one.
+#[tactic(auto, using(crate::proofs::PostingLookUpLemmas::finds_no_row, crate::proofs::PostingLookUpLemmas::finds_row))]
 pub(crate) fn find_row<S: Alter>(
     alloc: Global,
     conn: &mut Connection<S>,
@@ -53,6 +54,7 @@ pub(crate) fn find_row<S: Alter>(
 }
 
 /// Returns the posting that has the number with its moves, if there is one.
+#[tactic(auto, using(crate::proofs::PostingLookUpLemmas::finds_posting_with_moves))]
 pub(crate) fn find_with_moves<S: Alter>(
     alloc: Global,
     conn: &mut Connection<S>,

@@ -10,6 +10,7 @@ use thes_tables::cells::{Cell, CellText};
 
 // Returns a value as a cell. A value that no row of a store has becomes -1, which no column
 // accepts.
+#[tactic(auto, using(crate::proofs::ValueLemmas::text_cell, crate::proofs::ValueLemmas::no_text))]
 fn any_cell_of(alloc: Global, value: ValueRef<'_>) -> Result<Cell, AllocError>
     ensures { IfOk result (λ cell. cell ≡ cell_of (owned value.entry)) }
 {

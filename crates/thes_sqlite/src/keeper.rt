@@ -137,6 +137,7 @@ impl<S: Alter> SqlKeeper<S> {
     }
 
     /// Queries the database to check whether a failure has shut it.
+    #[tactic(auto, using(crate::proofs::FoundRowLemmas::unwritten))]
     pub(crate) fn is_shut(&mut self) -> bool
         ensures keeps { KeepsStorage (storage_view S.Store self.old)
             (storage_view S.Store self.new) }
@@ -270,6 +271,7 @@ impl<S: Alter> Keeper for SqlKeeper<S> {
         self.commit_changes(delta.as_slice())
     }
 
+    #[tactic(auto, using(crate::proofs::KeeperLemmas::kept_of_raw))]
     fn find(&mut self, key: &Key) -> Result<Option<PostingRow>, Fault>
         ensures ok { IfOk result (λ found. IsKeeperUp S.Store self.new → (t : Tables)
             → raw_of_keeper S.Store self.old ≡ cells_of_tables t
@@ -284,6 +286,7 @@ impl<S: Alter> Keeper for SqlKeeper<S> {
         }
     }
 
+    #[tactic(auto, using(crate::proofs::KeeperLemmas::kept_of_raw))]
     fn posting(&mut self, number: PostNo) -> Result<Option<Posting>, Fault>
         ensures ok { IfOk result (λ told. IsKeeperUp S.Store self.new → (t : Tables)
             → raw_of_keeper S.Store self.old ≡ cells_of_tables t → IsPostingOfNumber number t told) }
@@ -297,6 +300,7 @@ impl<S: Alter> Keeper for SqlKeeper<S> {
         }
     }
 
+    #[tactic(auto, using(crate::proofs::KeeperLemmas::kept_of_raw))]
     fn row(&mut self, number: PostNo) -> Result<Option<PostingRow>, Fault>
         ensures ok { IfOk result (λ row. IsKeeperUp S.Store self.new → (t : Tables)
             → raw_of_keeper S.Store self.old ≡ cells_of_tables t → row ≡ entry_at t.posting number) }
@@ -310,6 +314,7 @@ impl<S: Alter> Keeper for SqlKeeper<S> {
         }
     }
 
+    #[tactic(auto, using(crate::proofs::KeeperLemmas::kept_of_raw))]
     fn standing<P: PostingSink>(&mut self, concept: ResNo, sink: &mut P) -> Result<(), Fault>
         ensures yields { IsKeeperUp S.Store self.new
             → (t : Tables) → raw_of_keeper S.Store self.old ≡ cells_of_tables t
@@ -325,6 +330,7 @@ impl<S: Alter> Keeper for SqlKeeper<S> {
         }
     }
 
+    #[tactic(auto, using(crate::proofs::KeeperLemmas::kept_of_raw))]
     fn standing_numbers(&mut self, concept: ResNo) -> Result<Vec<PostNo>, Fault>
         ensures ok { IfOk result (λ numbers. IsKeeperUp S.Store self.new → (t : Tables)
             → raw_of_keeper S.Store self.old ≡ cells_of_tables t

@@ -6,7 +6,6 @@ ghost use Rattle.thes_sqlite.specs.MigrationEffects.{IsMigrateFault, IsMetaVerdi
 ghost use Rattle.thes_sqlite.specs.MigrationEffects.{meta_fault_of, links_verdict_of, hier_verdict_of};
 ghost use Rattle.thes_sqlite.specs.Versions.{SpellsVersion};
 ghost use Rattle.sqlite.specs.Effect.{Database};
-ghost use Rattle.sqlite.specs.Held.{state};
 
 use crate::faults::fault_of;
 use crate::found::any_cells_of;

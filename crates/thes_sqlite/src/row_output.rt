@@ -30,6 +30,7 @@ use thes_sql::reads::{assigned_numbers_query, assigned_query, table_query};
 use thes_store::sink::{PostingSink, RowSink};
 
 // Passes a row to a sink as a row of this table.
+#[tactic(auto, using(thes_store::proofs::SinkLemmas::one_sink_row))]
 fn yield_row<R: RowSink>(alloc: Global, name: Table, row: &Row, sink: &mut R) -> Result<(), Fault>
     ensures yields { SinkOutcome R.gives sink.old
         ((name, Some (map cell_of row.now)) ∷ []) result sink.new }
@@ -78,6 +79,7 @@ fn yield_rows<S: Alter, R: RowSink>(
 
 /// Passes the rows of a table to a sink. If the table can't be queried, or isn't declared as in a
 /// store, reports that to the sink instead.
+#[tactic(auto, using(crate::proofs::FoundRowLemmas::none_passed, thes_sql::proofs::DeclarationLemmas::store_declares))]
 pub(crate) fn yield_table_rows<S: Alter, R: RowSink>(
     alloc: Global,
     conn: &mut Connection<S>,

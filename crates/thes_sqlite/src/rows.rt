@@ -88,6 +88,7 @@ fn read_move(alloc: Global, row: &Row) -> Result<MoveRow, Error>
 }
 
 /// Parses rows of table move as the moves of a posting, in their order.
+#[tactic(auto, using(crate::proofs::PostingLookUpLemmas::one_step, crate::proofs::PostingLookUpLemmas::same_length, std::proofs::lemmas::List::take_all))]
 pub(crate) fn read_moves(alloc: Global, rows: &[Row]) -> Result<Moves, Error>
     ensures { IfOk result (λ moves. (steps : List MoveRow)
         → rows.now ≡ map values (map move_cells steps) → moves ≡ map recorded_move steps) }

@@ -1,5 +1,6 @@
 -- Typed rows, and whole tables, are determined by their cells.
-use Rattle.std.proofs.Common.{◌≡◌, ℕ, List, [], ◌∷◌, ◌+◌, map, Bool, true, false, Option, None, Some, refl, sym, ap}
+use Rattle.std.proofs.lemmas.Grind.{common_steps}
+use Rattle.std.proofs.Common.{arith, ◌≡◌, ℕ, List, [], ◌∷◌, ◌+◌, map, Bool, Option, refl, sym, ap}
 use Rattle.std.proofs.Common.{◌∙◌, if◌then◌else◌, ◌==◌}
 use Rattle.std.proofs.lemmas.Option.{same_Some}
 use Rattle.thes_base.specs.declared.data.Resource.{Resource}
@@ -7,8 +8,6 @@ use Rattle.thes_base.specs.declared.data.ResourceKind.{ResourceKind}
 use Rattle.thes_base.specs.declared.data.ResourceKind.TheVariants as rk
 use Rattle.thes_base.specs.declared.data.Link.{Link}
 use Rattle.thes_base.specs.Labels.{Label}
-use Rattle.thes_base.proofs.LabelSetLemmas as labels
-use Rattle.thes_base.proofs.LinkSetLemmas as links
 use Rattle.thes_tables.specs.declared.cells.Cell.{Cell}
 use Rattle.thes_tables.specs.declared.cells.Cell.TheVariants.{Text}
 use Rattle.thes_tables.specs.declared.rows.HierRow.{HierRow}
@@ -17,7 +16,7 @@ use Rattle.thes_tables.specs.declared.rows.HierType.TheVariants as ht
 use Rattle.thes_tables.specs.declared.rows.PostingRow.{PostingRow}
 use Rattle.thes_tables.specs.declared.rows.MoveRow.{MoveRow}
 use Rattle.thes_tables.specs.Tables.{Tables}
-use Rattle.thes_tables.specs.Cells.{Raw, number_cell, flag_cell, optional_cell, resource_kind_no, resource_cells}
+use Rattle.thes_tables.specs.Cells.{number_cell, flag_cell, optional_cell, resource_kind_no, resource_cells}
 use Rattle.thes_tables.specs.Cells.{resource_rows, outside_cells, label_cells, link_cells, hier_type_no, hier_cells}
 use Rattle.thes_tables.specs.Cells.{posting_cells, move_cells, cells_of_tables}
 
@@ -41,16 +40,10 @@ pub text_one : {x y : List ℕ} → ◌≡◌ {A = Cell} (Text x) (Text y) → x
 text_one e = cc
 
 flag_one : (a b : Bool) → flag_cell a ≡ flag_cell b → a ≡ b
-flag_one true true e = refl
-flag_one false false e = refl
-flag_one true false e = absurd (cc)
-flag_one false true e = absurd (cc)
+flag_one a b e = grind (arith, common_steps)
 
 optional_one : (a b : Option ℕ) → optional_cell a ≡ optional_cell b → a ≡ b
-optional_one None None e = refl
-optional_one None (Some n) e = absurd (cc)
-optional_one (Some m) None e = absurd (cc)
-optional_one (Some m) (Some n) e = ap (λ k. Some k) (number_one e)
+optional_one a b e = grind (arith, common_steps, number_one)
 
 resource_kind : ℕ → ResourceKind
 resource_kind n = if n == 1 then rk.Scheme else if n == 2 then rk.Concept else if n == 3 then rk.Collection else
@@ -58,10 +51,7 @@ resource_kind n = if n == 1 then rk.Scheme else if n == 2 then rk.Concept else i
 
 resource_kind_is : (k : ResourceKind) → resource_kind (resource_kind_no k) ≡ k
 unfolding resource_kind
-resource_kind_is rk.Scheme = refl
-resource_kind_is rk.Concept = refl
-resource_kind_is rk.Collection = refl
-resource_kind_is rk.Outside = refl
+resource_kind_is k = grind (arith, common_steps)
 
 resource_one : (m n : ℕ) (r q : Resource) → resource_cells m r ≡ resource_cells n q → r ≡ q
 resource_one m n r q e =
@@ -83,19 +73,10 @@ pub outside_one : (x y : ℕ × List ℕ) → outside_cells x ≡ outside_cells 
 outside_one x y e = λ i. (number_one (head_one e) i, text_one (head_one (tail_one e)) i)
 
 pub label_one : (x y : Label) → label_cells x ≡ label_cells y → x ≡ y
-label_one x y e =
-    let owner = number_one (head_one e) in
-    let kind = labels.same_kind x.kind y.kind (number_one (head_one (tail_one e))) in
-    let tag = text_one (head_one (tail_one (tail_one e))) in
-    let text = text_one (head_one (tail_one (tail_one (tail_one e)))) in
-    λ i. record { owner = owner i; kind = kind i; tag = tag i; text = text i }
+label_one x y e = grind (arith, common_steps, number_one, head_one, tail_one, text_one)
 
 pub link_one : (x y : Link) → link_cells x ≡ link_cells y → x ≡ y
-link_one x y e =
-    let kind = links.same_kind x.kind y.kind (number_one (head_one e)) in
-    let a = number_one (head_one (tail_one e)) in
-    let b = number_one (head_one (tail_one (tail_one e))) in
-    λ i. record { kind = kind i; a = a i; b = b i }
+link_one x y e = grind (arith, common_steps, number_one, head_one, tail_one)
 
 hier_typ : ℕ → HierType
 hier_typ n = if n == 0 then ht.Untyped else if n == 1 then ht.Generic else if n == 2 then ht.Partitive else
@@ -103,67 +84,32 @@ hier_typ n = if n == 0 then ht.Untyped else if n == 1 then ht.Generic else if n 
 
 hier_typ_is : (typ : HierType) → hier_typ (hier_type_no typ) ≡ typ
 unfolding hier_typ
-hier_typ_is ht.Untyped = refl
-hier_typ_is ht.Generic = refl
-hier_typ_is ht.Partitive = refl
-hier_typ_is ht.Instantial = refl
+hier_typ_is typ = grind (arith, common_steps)
 
 pub hier_one : (x y : HierRow) → hier_cells x ≡ hier_cells y → x ≡ y
-hier_one x y e =
-    let a = number_one (head_one e) in
-    let b = number_one (head_one (tail_one e)) in
-    let typ = sym (hier_typ_is x.typ) ∙ ap hier_typ (number_one (head_one (tail_one (tail_one e))))
-    ∙ hier_typ_is y.typ in
-    λ i. record { a = a i; b = b i; typ = typ i }
+hier_one x y e = grind (arith, common_steps, number_one, head_one, tail_one, hier_typ_is, hier_typ)
 
 pub posting_one : (x y : PostingRow) → posting_cells x ≡ posting_cells y → x ≡ y
-posting_one x y e =
-    let number = number_one (head_one e) in
-    let key = text_one (head_one (tail_one e)) in
-    let rec = text_one (head_one (tail_one (tail_one e))) in
-    let first = number_one (head_one (tail_one (tail_one (tail_one e)))) in
-    let place = number_one (head_one (tail_one (tail_one (tail_one (tail_one e))))) in
-    let withdrawn =
-    flag_one x.withdrawn y.withdrawn (head_one (tail_one (tail_one (tail_one (tail_one (tail_one e)))))) in
-    λ i. record {
-      number = number i;
-      key = key i;
-      rec = rec i;
-      first = first i;
-      place = place i;
-      withdrawn =
-          withdrawn i;
-    }
+posting_one x y e = grind (arith, common_steps, number_one, head_one, text_one, tail_one, flag_one)
 
 pub move_one : (x y : MoveRow) → move_cells x ≡ move_cells y → x ≡ y
-move_one x y e =
-    let number = number_one (head_one e) in
-    let posting = number_one (head_one (tail_one e)) in
-    let source = number_one (head_one (tail_one (tail_one e))) in
-    let target = number_one (head_one (tail_one (tail_one (tail_one e)))) in
-    λ i. record { number = number i; posting = posting i; source = source i; target = target i }
+move_one x y e = grind (arith, common_steps, number_one, head_one, tail_one)
 
 -- Tables are determined by their rows of cells.
 pub listed_one : (t u : Tables) → cells_of_tables t ≡ cells_of_tables u → t ≡ u
-listed_one t u e =
-    let base = text_one (head_one (tail_one (tail_one (head_one (same_Some _ _ (ap (λ (r : Raw). r.meta) e)))))) in
-    let resource = resources_one 1 1 t.resource u.resource (same_Some _ _ (ap (λ (r : Raw). r.resource) e)) in
-    let outside = map_one outside_cells outside_one t.outside u.outside
-    (same_Some _ _ (ap (λ (r : Raw). r.outside) e)) in
-    let label = map_one label_cells label_one t.label u.label (same_Some _ _ (ap (λ (r : Raw). r.label) e)) in
-    let link = map_one link_cells link_one t.link u.link (same_Some _ _ (ap (λ (r : Raw). r.link) e)) in
-    let hier = map_one hier_cells hier_one t.hier u.hier (same_Some _ _ (ap (λ (r : Raw). r.hier) e)) in
-    let posting = map_one posting_cells posting_one t.posting u.posting
-    (same_Some _ _ (ap (λ (r : Raw). r.posting) e)) in
-    let move = map_one move_cells move_one t.move u.move (same_Some _ _ (ap (λ (r : Raw). r.move) e)) in
-    λ i. record {
-      base = base i;
-      resource = resource i;
-      outside = outside i;
-      label = label i;
-      link = link i;
-      hier =
-          hier i;
-      posting = posting i;
-      move = move i;
-    }
+listed_one t u e = grind (
+  arith,
+  common_steps,
+  text_one,
+  head_one,
+  tail_one,
+  resources_one,
+  map_one,
+  outside_one,
+  label_one,
+  link_one,
+  hier_one,
+  posting_one,
+  move_one,
+  same_Some,
+)

@@ -1,11 +1,12 @@
 -- The law of row changes: the changes of an accepted request turn the rows of the state before it into those of the
 -- next state.
+use Rattle.std.proofs.lemmas.Grind.{common_steps}
 use Rattle.std.proofs.Common.{◌≡◌, ◌≢◌, ◌<◌, ◌≤◌, inl, inr, ℕ, suc, ◌+◌, ◌-◌, length, List, [], ◌∷◌, ◌++◌, refl, sym}
 use Rattle.std.proofs.Common.{ap, ◌∙◌, subst, arith, true, false, Bool, cond, map, append_assoc}
 use Rattle.std.proofs.lemmas.List.{map-append, append-nil, map-set}
 use Rattle.std.specs.Prelude.{Some, None, Option, slice_get, if◌then◌else◌}
-use Rattle.std.specs.Ordering.{nat_cmp, eq_by_cmp, is_eq}
-use Rattle.std.specs.Cmp.{nat_cmp_total, tied_itself}
+use Rattle.std.specs.Ordering.{nat_cmp, eq_by_cmp}
+use Rattle.std.specs.Cmp.{nat_cmp_total}
 use Rattle.std.specs.FinSet as set
 use Rattle.std.specs.FinSet.{nat_cmp-IsAntisymmetric}
 use Rattle.std.specs.FinMap as dict
@@ -15,7 +16,7 @@ use Rattle.thes_base.specs.declared.data.Link.{Link}
 use Rattle.thes_base.specs.declared.data.LabelKind.TheVariants.{Pref, Alt}
 use Rattle.thes_base.specs.declared.request.Command.{Command}
 use Rattle.thes_base.specs.declared.request.Command.TheVariants as request
-use Rattle.thes_base.specs.Resources.{entry_at, set_entry_at, scheme_of, replacements, is_outside, CanOwn}
+use Rattle.thes_base.specs.Resources.{entry_at, set_entry_at, scheme_of, replacements, is_outside}
 use Rattle.thes_base.specs.Labels.{Label, Labels, label_cmp, preferred_label_in, HasLabel}
 use Rattle.thes_base.specs.Links.{Links, normal_form, links_after_deprecation, links_after_merge, Holds}
 use Rattle.thes_base.specs.Postings.{is_assigned_to, move_count, history_after_withdrawal}
@@ -40,8 +41,7 @@ use Rattle.thes_tables.specs.declared.rows.MoveRow.{MoveRow}
 use Rattle.thes_tables.specs.declared.change.Change.{Change}
 use Rattle.thes_tables.specs.declared.change.Change.TheVariants as change
 use Rattle.thes_tables.specs.Tables.{Tables, IsRowsOf, IsIn, IsUnsortedListing, IsLabelOf, AreIris, AreMoves}
-use Rattle.thes_tables.specs.Tables.{IriNumbersAscend}
-use Rattle.thes_tables.specs.Tables.{MoveNumbersAscend, posting_row}
+use Rattle.thes_tables.specs.Tables.{IriNumbersAscend, MoveNumbersAscend, posting_row}
 use Rattle.thes_tables.specs.Rows.{tables_after_change, tables_after_delta, DeltaFits, without_row, with_posting}
 use Rattle.thes_tables.specs.Rows.{row_after_withdrawal, row_at_place, row_after_move_all}
 use Rattle.thes_tables.specs.Changes.{changes_of, changes_of_new_resource, changes_of_relabel, new_moves, move_row}
@@ -73,12 +73,7 @@ found_row : (rows : List (ℕ × List ℕ)) (row : ℕ × List ℕ) → IsIn row
 found_row [] row h = absurd h
 found_row (r ∷ rows) row h = elim (cases_Bool (eq_by_cmp nat_cmp row.0 r.0)) [
   | inl tie ↦ (r.1, ap (λ b. cond b (Some r.1) (dict.find nat_cmp row.0 rows)) tie)
-  | inr apart ↦ elim h [
-    | inl e ↦ clash (eq_by_cmp nat_cmp row.0 r.0) (ap (λ (x : ℕ × List ℕ). eq_by_cmp nat_cmp row.0 x.0) (sym e)
-        ∙ ap is_eq (tied_itself nat_cmp_total row.0)) apart
-    | inr later ↦ let f = found_row rows row later in
-        (f.0, ap (λ b. cond b (Some r.1) (dict.find nat_cmp row.0 rows)) apart ∙ f.1)
-  ]
+  | inr apart ↦ grind (arith, common_steps, clash, found_row rows row)
 ]
 
 labels_added_all : (ls : List Label) (t : Tables) → tables_after_delta (map change.AddLabel ls) t
@@ -122,8 +117,7 @@ fit_moves : (bound : ℕ) (rows : List MoveRow) (t : Tables) → ((row : MoveRow
 fit_moves bound [] t below rises = tt
 fit_moves bound (row ∷ rows) t below rises = (
   λ other m. (let b = below other m in let lt = rises.0 in omega (arith, b, lt)),
-  fit_moves row.number rows
-      (record t { move = t.move ++ row ∷ [] }) more rises.1,
+  fit_moves row.number rows (record t { move = t.move ++ row ∷ [] }) more rises.1,
 )
   where
     more : (other : MoveRow) → IsIn other (t.move ++ row ∷ []) → other.number ≤ row.number
@@ -139,56 +133,28 @@ fit_moves bound (row ∷ rows) t below rises = (
 with_histories : (base : List ℕ) (s : State) (t : Tables) → IsRowsOf base s t
     → (hs : List History) (posting : List PostingRow) (move : List MoveRow) → posting ≡ map posting_row hs
     → AreMoves hs move → IsRowsOf base (record s { histories = hs }) (record t { posting = posting; move = move })
-with_histories base s t is hs posting move same moves = record {
-  base_is = is.base_is;
-  resource = is.resource;
-  outside = is.outside;
-  label = is.label;
-  link = is.link;
-  hier = is.hier;
-  posting = same;
-  move = moves;
-}
+with_histories base s t is hs posting move same moves = grind (arith, common_steps)
 
 module _ (base : List ℕ) (s : State) (legal : IsLegalState base s) where
   number_free : (l : Label) → l.owner ≡ next_number s → set.contains s.labels l ≡ false
-  number_free l own = absent_of_never labels_total labels_exact s.labels l (λ h. go (legal.labels.owners l h))
-    where
-      go : CanOwn s.resources l.owner → ⊥
-      go (inl (r, at, _)) = let b = numbered_bound s.resources l.owner r at in omega (arith, own, b)
-      go (inr (inl (r, at, _))) = let b = numbered_bound s.resources l.owner r at in omega (arith, own, b)
-      go (inr (inr (r, at, _))) = let b = numbered_bound s.resources l.owner r at in omega (arith, own, b)
+  number_free l own = grind (arith, common_steps, absent_of_never, labels_total, labels_exact, numbered_bound)
 
   -- The death of a resource changes only its row in table resource.
   dead_rows : (n : ℕ) (by : Option ℕ) (t : Tables) → IsRowsOf base s t
       → IsRowsOf base (record s { resources = resources_after_death n by s.resources })
       (record t { resource = resources_after_death n by t.resource })
-  dead_rows n by t is = record {
-    base_is = is.base_is;
-    resource = ap (resources_after_death n by) is.resource;
-    outside = is.outside;
-    label = is.label;
-    link = is.link;
-    hier = is.hier;
-    posting = is.posting;
-    move = is.move;
-  }
+  dead_rows n by t is = grind (arith, common_steps)
 
   -- The changes of a new scheme, concept or collection lead to the state after its creation.
   pub leads_new_resource : (r : Resource) (tag text : List ℕ) → AreChangesBetween base
       (changes_of_new_resource r tag text s) s (state_after_creation r tag text s)
   leads_new_resource r tag text = record {
-    rows = λ t is. record {
-      base_is = is.base_is;
-      resource = ap (λ l. l ++ r ∷ []) is.resource;
-      outside = is.outside;
-      label = listed_push labels_total labels_exact s.labels t.label (label (next_number s) Pref tag text) is.label
-          (number_free (label (next_number s) Pref tag text) refl);
-      link = is.link;
-      hier = is.hier;
-      posting = is.posting;
-      move = is.move;
-    };
+    rows = λ t is. grind (
+      arith,
+      common_steps,
+      listed_push labels_total labels_exact s.labels t.label (label (next_number s) Pref tag text) is.label
+          (number_free (label (next_number s) Pref tag text) refl),
+    );
     fit = λ t is. (
       ap (λ (l : List Resource). length l + 1) (sym is.resource),
       (
@@ -243,35 +209,12 @@ module _ (base : List ℕ) (s : State) (legal : IsLegalState base s) where
       (f t.label))
       → ((t : Tables) → IsUnsortedListing (IsLabelOf s.labels) t.label → DeltaFits changes t) → AreChangesBetween base
       changes s (record s { labels = labels })
-  with_labels changes labels f is_done lists fits = record {
-    rows = λ t is. subst (IsRowsOf base (record s { labels = labels })) (sym (is_done t))
-        (record {
-          base_is = is.base_is;
-          resource = is.resource;
-          outside = is.outside;
-          label = lists t is.label;
-          link =
-              is.link;
-          hier = is.hier;
-          posting = is.posting;
-          move = is.move;
-        });
-    fit = λ t is. fits t is.label;
-  }
+  with_labels changes labels f is_done lists fits = grind (arith, common_steps)
 
   -- Replacing the links of a state changes only the tables link and hier.
   relinked_rows : (z : State) (t u : Tables) (held : Links) → IsRowsOf base z t → u ≡ with_link_tables t u
       → LinkRows held u → IsRowsOf base (record z { links = held }) u
-  relinked_rows z t u held is only rows = subst (IsRowsOf base (record z { links = held })) (sym only) (record {
-    base_is = is.base_is;
-    resource = is.resource;
-    outside = is.outside;
-    label = is.label;
-    link = rows.link;
-    hier = rows.hier;
-    posting = is.posting;
-    move = is.move;
-  })
+  relinked_rows z t u held is only rows = grind (arith, common_steps)
 
   pub leads_label : (l : Label) → (¬ (set.contains s.labels l ≡ true)) → AreChangesBetween base
       (change.AddLabel l ∷ []) s (state_after_add_label l s)
@@ -341,8 +284,7 @@ module _ (base : List ℕ) (s : State) (legal : IsLegalState base s) where
     renamed_done old false t = refl
 
     one_more : (old : List ℕ) → HasLabel s.labels owner Pref tag old → (rows : List Label)
-        → IsUnsortedListing (IsLabelOf s.labels) rows
-        → IsUnsortedListing
+        → IsUnsortedListing (IsLabelOf s.labels) rows → IsUnsortedListing
         (IsLabelOf (set.insert (set.remove s.labels (label owner Pref tag old)) (label owner Pref tag text)))
         (without_row label_cmp (label owner Pref tag old) rows ++ label owner Pref tag text ∷ [])
     one_more old has rows are = listed_push labels_total labels_exact _ _ (label owner Pref tag text)
@@ -357,27 +299,16 @@ module _ (base : List ℕ) (s : State) (legal : IsLegalState base s) where
 
     renamed_fits : (old : List ℕ) → HasLabel s.labels owner Pref tag old → (k : Bool) (t : Tables)
         → IsUnsortedListing (IsLabelOf s.labels) t.label → DeltaFits (renamed_changes old k) t
-    renamed_fits old has true t are = (
-      tt,
-      (
-        row_new labels_total labels_exact _ _ (label owner Pref tag text)
-            (listed_drop labels_total labels_exact s.labels t.label (label owner Pref tag old) are)
-            (preferred_free old has),
-        (
-          row_new labels_total labels_exact _ _ (label owner Alt tag old) (one_more old has t.label are)
-              (kept_free old has),
-          tt,
-        ),
-      ),
-    )
-    renamed_fits old has false t are = (
-      tt,
-      (
-        row_new labels_total labels_exact _ _ (label owner Pref tag text)
-            (listed_drop labels_total labels_exact s.labels t.label (label owner Pref tag old) are)
-            (preferred_free old has),
-        tt,
-      ),
+    renamed_fits old has k t are = grind (
+      arith,
+      common_steps,
+      row_new,
+      labels_total,
+      labels_exact,
+      listed_drop labels_total labels_exact s.labels t.label (label owner Pref tag old) are,
+      preferred_free old has,
+      one_more old has t.label are,
+      kept_free old has,
     )
 
     pub leads_relabel : AreChangesBetween base (changes_of_relabel owner tag text keep s.labels) s
@@ -385,8 +316,7 @@ module _ (base : List ℕ) (s : State) (legal : IsLegalState base s) where
     leads_relabel = go (preferred_label_in s.labels owner tag) refl
       where
         go : (o : Option (List ℕ)) → preferred_label_in s.labels owner tag ≡ o → AreChangesBetween base
-            (elim o [ None ↦ [] | Some old ↦ renamed_changes old keep ]) s
-            (record s
+            (elim o [ None ↦ [] | Some old ↦ renamed_changes old keep ]) s (record s
             { labels = elim o [ None ↦ s.labels | Some old ↦ replace_preferred owner tag text keep old s.labels ] })
         go None e = record { rows = λ t is. is; fit = λ t is. tt }
         go (Some old) e = let has = preferred_found s.labels owner tag old e in with_labels (renamed_changes old keep)
@@ -396,8 +326,7 @@ module _ (base : List ℕ) (s : State) (legal : IsLegalState base s) where
   -- Assumes a deprecation, and the lists of links that it deletes and inserts.
   module _ (concept : ℕ) (go come : List Link) (absent_all : Absent links_total links.links_exact come
       (without_elements go s.links)) (same : set_with_list links_total links.links_exact come
-      (without_elements go s.links)
-      ≡ links_after_deprecation concept s.links) where
+      (without_elements go s.links) ≡ links_after_deprecation concept s.links) where
     pub leads_deprecate : AreChangesBetween base (change.Retire concept ∷ drops_then_adds go come) s
         (state_after_deprecation concept s)
     leads_deprecate = record {
@@ -434,17 +363,11 @@ module _ (base : List ℕ) (s : State) (legal : IsLegalState base s) where
         (state_after_merge source target s)
     leads_merge = record {
       rows = λ t is. subst (IsRowsOf base (state_after_merge source target s)) (sym (done t)) (moved_rows t is);
-      fit = λ t is.
-          fit_append head tail t
-          (fit_append (change.Replace source target ∷ adds) turns t (
-            tt,
-            fit_labels taken s.labels (dead t) is.label
-                taken_absent,
-          )
+      fit = λ t is. fit_append head tail t
+          (fit_append (change.Replace source target ∷ adds) turns t (grind (arith, common_steps, fit_labels))
           (subst (DeltaFits turns) (sym (labels_added_all taken (dead t)))
           (drops_then_adds_fit s.links links_after go come absent_all same (labelled t)
-          (link_rows_of_tables (labelled_rows t is)))))
-          (subst (DeltaFits tail) (sym (head_done t)) (
+          (link_rows_of_tables (labelled_rows t is))))) (subst (DeltaFits tail) (sym (head_done t)) (
             tt,
             fit_moves (move_count s.histories) rows
                 (record (linked t) { posting = map (row_after_move_all source target) (linked t).posting })
@@ -484,22 +407,15 @@ module _ (base : List ℕ) (s : State) (legal : IsLegalState base s) where
         state_labelled : State
         state_labelled = record s {
           resources = resources_after_death source (Some target) s.resources;
-          labels =
-              set.union s.labels (copied_labels source target s.labels);
+          labels = set.union s.labels (copied_labels source target s.labels);
         }
 
         labelled_rows : (t : Tables) → IsRowsOf base s t → IsRowsOf base state_labelled (labelled t)
-        labelled_rows t is = let d = dead_rows source (Some target) t is in record {
-          base_is = d.base_is;
-          resource = d.resource;
-          outside = d.outside;
-          label = subst (λ x. IsUnsortedListing (IsLabelOf x) (t.label ++ taken)) taken_same
-              (listed_all labels_total labels_exact taken s.labels t.label is.label taken_absent);
-          link = d.link;
-          hier = d.hier;
-          posting = d.posting;
-          move = d.move;
-        }
+        labelled_rows t is = let d = dead_rows source (Some target) t is in grind (
+          arith,
+          common_steps,
+          listed_all labels_total labels_exact taken s.labels t.label is.label taken_absent,
+        )
 
         linked_rows : (t : Tables) → IsRowsOf base s t → IsRowsOf base (record state_labelled { links = links_after })
             (linked t)
@@ -511,8 +427,7 @@ module _ (base : List ℕ) (s : State) (legal : IsLegalState base s) where
         moved_rows : (t : Tables) → IsRowsOf base s t → IsRowsOf base (state_after_merge source target s)
             (record (linked t) {
               posting = map (row_after_move_all source target) (linked t).posting;
-              move =
-                  (linked t).move ++ rows;
+              move = (linked t).move ++ rows;
             })
         moved_rows t is =
             let l = linked_rows t is in
@@ -525,14 +440,11 @@ module _ (base : List ℕ) (s : State) (legal : IsLegalState base s) where
         head_done : (t : Tables) → tables_after_delta head t ≡ linked t
         head_done t = all_append adds turns (dead t) ∙ ap (tables_after_delta turns) (labels_added_all taken (dead t))
 
-        done : (t : Tables) → tables_after_delta (head ++ tail) t
-            ≡ record (linked t) {
-              posting = map (row_after_move_all source target) (linked t).posting;
-              move =
-                  (linked t).move ++ rows;
-            }
-        done t = all_append head tail t ∙ ap (tables_after_delta tail) (head_done t)
-            ∙ moves_added_all rows
+        done : (t : Tables) → tables_after_delta (head ++ tail) t ≡ record (linked t) {
+          posting = map (row_after_move_all source target) (linked t).posting;
+          move = (linked t).move ++ rows;
+        }
+        done t = all_append head tail t ∙ ap (tables_after_delta tail) (head_done t) ∙ moves_added_all rows
             (record (linked t) { posting = map (row_after_move_all source target) (linked t).posting })
 
   numbers : NumberedFrom 1 s.histories
@@ -542,16 +454,14 @@ module _ (base : List ℕ) (s : State) (legal : IsLegalState base s) where
   pub leads_split : (source : ℕ) (tag text : List ℕ) (postings : List ℕ) → AreChangesBetween base
       (changes_of (request.Split source tag text postings) s) s (state_after_split source tag text postings s)
   leads_split source tag text postings = record {
-    rows = λ t is.
-        subst (IsRowsOf base (state_after_split source tag text postings s)) (sym (done t))
+    rows = λ t is. subst (IsRowsOf base (state_after_split source tag text postings s)) (sym (done t))
         (with_histories base (state_after_creation new tag text s) (with_new t)
         ((leads_new_resource new tag text).rows t is) (state_after_split source tag text postings s).histories
         (placed_all rows t.posting) (t.move ++ rows)
         (ap (placed_all rows) is.posting ∙ rows_placed (is_listed postings) (next_number s) first_move [] s.histories
         numbers)
         (moves_more s.resources s.histories legal.postings (is_listed postings) (next_number s) t.move is.move));
-    fit = λ t is.
-        fit_append (makes ++ sets) moves t
+    fit = λ t is. fit_append (makes ++ sets) moves t
         (fit_append makes sets t ((leads_new_resource new tag text).fit t is)
         (fit_places rows (tables_after_delta makes t)))
         (subst (DeltaFits moves) (sym (places_set_all rows (with_new t)))
@@ -579,8 +489,7 @@ module _ (base : List ℕ) (s : State) (legal : IsLegalState base s) where
       with_new : Tables → Tables
       with_new t = record t {
         resource = t.resource ++ new ∷ [];
-        label = t.label ++ label (next_number s) Pref tag
-            text ∷ [];
+        label = t.label ++ label (next_number s) Pref tag text ∷ [];
       }
 
       done : (t : Tables) → tables_after_delta ((makes ++ sets) ++ moves) t
@@ -606,8 +515,7 @@ module _ (base : List ℕ) (s : State) (legal : IsLegalState base s) where
   pub leads_post : (key rec : List ℕ) (concept : ℕ) → ((h : History) → ¬ IsOfKey key s.histories h)
       → AreChangesBetween base (changes_of (request.Post key rec concept) s) s (state_after_post key rec concept s)
   leads_post key rec concept fresh = record {
-    rows = λ t is.
-        subst (IsRowsOf base (state_after_post key rec concept s)) (sym (moves_added_all rows (entered t)))
+    rows = λ t is. subst (IsRowsOf base (state_after_post key rec concept s)) (sym (moves_added_all rows (entered t)))
         (with_histories base s t is (s.histories ++ new ∷ []) (entered t).posting (t.move ++ rows)
         (ap (λ l. l ++ posting_row new ∷ []) is.posting ∙ sym (map-append posting_row s.histories (new ∷ [])))
         (moves_posted s.resources s.histories legal.postings new refl t.move rising is.move));
@@ -642,8 +550,7 @@ module _ (base : List ℕ) (s : State) (legal : IsLegalState base s) where
       (change.Withdraw n ∷ []) s (state_after_withdrawal n s)
   leads_withdraw n h e = subst (AreChangesBetween base (change.Withdraw n ∷ []) s) (sym (withdrawn_at s n h e))
       (record {
-        rows = λ t is.
-            with_histories base s t is (set_entry_at s.histories n (history_after_withdrawal h))
+        rows = λ t is. with_histories base s t is (set_entry_at s.histories n (history_after_withdrawal h))
             (with_posting row_after_withdrawal n t.posting) t.move
             (ap (with_posting row_after_withdrawal n) is.posting ∙ with_at row_after_withdrawal n
             (map posting_row s.histories) (posting_row h) (map_numbered posting_row s.histories n h e)
@@ -685,8 +592,7 @@ changes_of_request_lead setting s (request.Merge source target) legal fresh row 
     leads_merge setting.base s legal source target (missing_items s.labels (set.items taken))
     (coming_absent labels_total labels_exact (set.items taken) s.labels)
     (coming_same labels_total labels_exact (set.items taken) s.labels ∙ inserted_union labels_total labels_exact
-    s.labels taken)
-    (links_to_remove s.links new) (links_to_add s.links new) (links_to_add_absent s.links new)
+    s.labels taken) (links_to_remove s.links new) (links_to_add s.links new) (links_to_add_absent s.links new)
     (links_to_add_suffice s.links new)
 changes_of_request_lead setting s (request.Split source tag text postings) legal fresh row =
     leads_split setting.base s legal source tag text postings

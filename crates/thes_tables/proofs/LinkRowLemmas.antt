@@ -1,5 +1,7 @@
 -- The tables link and hier after insertions and deletions of links.
-use Rattle.std.proofs.Common.{◌≡◌, ◌⊎◌, ℕ, List, [], ◌∷◌, ◌++◌, refl, sym, ap, ◌∙◌, subst, inl, inr, false, not, map}
+use Rattle.std.proofs.lemmas.Grind.{common_steps}
+use Rattle.std.proofs.Common.{arith, ◌≡◌, ◌⊎◌, ℕ, List, [], ◌∷◌, ◌++◌, refl, sym, ap, ◌∙◌, subst, inl, inr, false}
+use Rattle.std.proofs.Common.{not, map}
 use Rattle.std.proofs.lemmas.Option.{same_Some}
 use Rattle.std.specs.Prelude.{Option, None, Some}
 use Rattle.std.specs.Ordering.{eq_by_cmp, is_eq}
@@ -7,13 +9,11 @@ use Rattle.std.specs.Cmp.{tied_itself}
 use Rattle.std.specs.FinSet as set
 use Rattle.thes_base.specs.declared.data.Link.{Link}
 use Rattle.thes_base.specs.declared.data.LinkKind.{LinkKind}
-use Rattle.thes_base.specs.declared.data.LinkKind.TheVariants as kinds
 use Rattle.thes_base.specs.Links.{Links, Holds, link_cmp}
 use Rattle.thes_base.specs.State.{State}
 use Rattle.thes_base.proofs.LinkSetLemmas.{links_total, links_exact}
 use Rattle.thes_tables.specs.declared.rows.HierRow.{HierRow}
 use Rattle.thes_tables.specs.declared.rows.HierType.{HierType}
-use Rattle.thes_tables.specs.declared.rows.HierType.TheVariants as ht
 use Rattle.thes_tables.specs.declared.change.Change.{Change}
 use Rattle.thes_tables.specs.declared.change.Change.TheVariants as change
 use Rattle.thes_tables.specs.Tables.{Tables, IsRowsOf, IsUnsortedListing, IsHierOf, IsLinkOf, hier_kind, hier_link}
@@ -27,24 +27,11 @@ use Rattle.thes_tables.proofs.RowSetLemmas.{turn_into, lists_push, lists_filter,
 use Rattle.thes_tables.proofs.DeltaAppendLemmas.{all_append, fit_append}
 
 pub type_back : (typ : HierType) → hier_type (hier_kind typ) ≡ Some typ
-type_back ht.Untyped = refl
-type_back ht.Generic = refl
-type_back ht.Partitive = refl
-type_back ht.Instantial = refl
+type_back typ = grind (arith, common_steps)
 
 -- The kind of link for the type of a hierarchical kind is that kind.
 kind_back : (kind : LinkKind) (typ : HierType) → hier_type kind ≡ Some typ → hier_kind typ ≡ kind
-kind_back kinds.Broader typ e = ap hier_kind (sym (same_Some ht.Untyped typ e))
-kind_back kinds.BroaderGeneric typ e = ap hier_kind (sym (same_Some ht.Generic typ e))
-kind_back kinds.BroaderPartitive typ e = ap hier_kind (sym (same_Some ht.Partitive typ e))
-kind_back kinds.BroaderInstantial typ e = ap hier_kind (sym (same_Some ht.Instantial typ e))
-kind_back kinds.Related typ e = absurd (cc)
-kind_back kinds.Exact typ e = absurd (cc)
-kind_back kinds.Close typ e = absurd (cc)
-kind_back kinds.Broad typ e = absurd (cc)
-kind_back kinds.Narrow typ e = absurd (cc)
-kind_back kinds.RelMatch typ e = absurd (cc)
-kind_back kinds.Member typ e = absurd (cc)
+kind_back kind typ e = grind (arith, common_steps, same_Some)
 
 -- The row of a hierarchical link encodes it, and no other row does.
 pub link_of_hier_row : (l : Link) (typ : HierType) → hier_type l.kind ≡ Some typ → hier_link (hier_row typ l) ≡ l
@@ -52,11 +39,7 @@ link_of_hier_row l typ e = λ i. record { kind = kind_back l.kind typ e i; a = l
 
 only_row : (l : Link) (typ : HierType) (row : HierRow) → hier_type l.kind ≡ Some typ → hier_link row ≡ l → row
     ≡ hier_row typ l
-only_row l typ row e same =
-    let kind = same_Some row.typ typ (sym (type_back row.typ) ∙ ap (λ (x : Link). hier_type x.kind) same ∙ e) in
-    let a = ap (λ (x : Link). x.a) same in
-    let b = ap (λ (x : Link). x.b) same in
-    λ i. record { a = a i; b = b i; typ = kind i }
+only_row l typ row e same = grind (arith, common_steps, type_back, same_Some)
 
 -- No row of table hier encodes a link that isn't hierarchical.
 no_hier_row : (l : Link) (row : HierRow) → hier_type l.kind ≡ None → hier_link row ≡ l → ⊥
@@ -116,13 +99,7 @@ module _ (l : Link) (links : Links) (t : Tables) where
       other q same none = let both = sym none ∙ ap (λ (x : Link). hier_type x.kind) same ∙ e in absurd (cc)
 
   pub link_in : set.contains links l ≡ false → LinkRows links t → LinkRows more (tables_after_change (add_link l) t)
-  link_in out are = go (hier_type l.kind) refl
-    where
-      go : (o : Option HierType) → hier_type l.kind ≡ o
-          → LinkRows more
-          (tables_after_change (elim o [ None ↦ change.AddLink l | Some typ ↦ change.AddHier (hier_row typ l) ]) t)
-      go None e = link_plain e out are
-      go (Some typ) e = link_hier typ e out are
+  link_in out are = grind (arith, common_steps, link_plain, link_hier)
 
   pub link_fits : set.contains links l ≡ false → LinkRows links t → ChangeFits (add_link l) t
   link_fits out are = go (hier_type l.kind) refl
@@ -163,63 +140,35 @@ module _ (l : Link) (links : Links) (t : Tables) where
     hier = lists_filter (λ x. not (eq_by_cmp link_cmp (hier_link x) (hier_link (hier_row typ l)))) t.hier
         (λ row h. let c = less_cases (hier_link row) h in (
           c.1,
-          not_from_false _
-              (elim (cases_Bool (eq_by_cmp link_cmp (hier_link row) (hier_link (hier_row typ l)))) [
-                | inl same ↦ absurd (c.0 (equal_of_tie links_total links_exact _ _ same ∙ link_of_hier_row l typ e))
-                | inr ne ↦ ne
-              ]),
-        ))
-        (λ row h passes. less_kept (hier_link row)
+          not_from_false _ (elim (cases_Bool (eq_by_cmp link_cmp (hier_link row) (hier_link (hier_row typ l)))) [
+            | inl same ↦ absurd (c.0 (equal_of_tie links_total links_exact _ _ same ∙ link_of_hier_row l typ e))
+            | inr ne ↦ ne
+          ]),
+        )) (λ row h passes. less_kept (hier_link row)
         (λ same. clash (eq_by_cmp link_cmp (hier_link row) (hier_link (hier_row typ l)))
         (ap (eq_by_cmp link_cmp (hier_link row)) (link_of_hier_row l typ e ∙ sym same)
-        ∙ ap is_eq (tied_itself links_total (hier_link row))) (not-true _ passes)) h)
-        are.hier;
+        ∙ ap is_eq (tied_itself links_total (hier_link row))) (not-true _ passes)) h) are.hier;
   }
     where
       other : (q : Link) → hier_type q.kind ≡ None → q ≡ l → ⊥
       other q none same = let both = sym none ∙ ap (λ (x : Link). hier_type x.kind) same ∙ e in absurd (cc)
 
   pub link_out : LinkRows links t → LinkRows less (tables_after_change (drop_link l) t)
-  link_out are = go (hier_type l.kind) refl
-    where
-      go : (o : Option HierType) → hier_type l.kind ≡ o
-          → LinkRows less
-          (tables_after_change (elim o [ None ↦ change.DropLink l | Some typ ↦ change.DropHier (hier_row typ l) ]) t)
-      go None e = drop_plain e are
-      go (Some typ) e = drop_hier typ e are
+  link_out are = grind (arith, common_steps, drop_plain, drop_hier)
 
 abbrev pub with_link_tables : Tables → Tables → Tables
 with_link_tables t u = record t { link = u.link; hier = u.hier }
 
 pub added_only : (l : Link) (t : Tables) → tables_after_change (add_link l) t
     ≡ with_link_tables t (tables_after_change (add_link l) t)
-added_only l t = go (hier_type l.kind)
-  where
-    go : (o : Option HierType)
-        → tables_after_change (elim o [ None ↦ change.AddLink l | Some typ ↦ change.AddHier (hier_row typ l) ]) t
-        ≡ with_link_tables t
-        (tables_after_change (elim o [ None ↦ change.AddLink l | Some typ ↦ change.AddHier (hier_row typ l) ]) t)
-    go None = refl
-    go (Some typ) = refl
+added_only l t = grind (arith, common_steps)
 
 pub dropped_only : (l : Link) (t : Tables) → tables_after_change (drop_link l) t
     ≡ with_link_tables t (tables_after_change (drop_link l) t)
-dropped_only l t = go (hier_type l.kind)
-  where
-    go : (o : Option HierType)
-        → tables_after_change (elim o [ None ↦ change.DropLink l | Some typ ↦ change.DropHier (hier_row typ l) ]) t
-        ≡ with_link_tables t
-        (tables_after_change (elim o [ None ↦ change.DropLink l | Some typ ↦ change.DropHier (hier_row typ l) ]) t)
-    go None = refl
-    go (Some typ) = refl
+dropped_only l t = grind (arith, common_steps)
 
 pub drop_fits : (l : Link) (t : Tables) → ChangeFits (drop_link l) t
-drop_fits l t = go (hier_type l.kind)
-  where
-    go : (o : Option HierType)
-        → ChangeFits (elim o [ None ↦ change.DropLink l | Some typ ↦ change.DropHier (hier_row typ l) ]) t
-    go None = tt
-    go (Some typ) = tt
+drop_fits l t = grind (arith, common_steps)
 
 all_added_only : (ls : List Link) (t : Tables) → tables_after_delta (map add_link ls) t
     ≡ with_link_tables t (tables_after_delta (map add_link ls) t)
@@ -247,8 +196,7 @@ added_fit : (ls : List Link) (links : Links) (t : Tables) → Absent links_total
 added_fit [] links t a are = tt
 added_fit (l ∷ ls) links t a are = (
   link_fits l links t a.0 are,
-  added_fit ls (set.insert links l) (tables_after_change (add_link l) t) a.1
-      (link_in l links t a.0 are),
+  added_fit ls (set.insert links l) (tables_after_change (add_link l) t) a.1 (link_in l links t a.0 are),
 )
 
 dropped_rows : (ls : List Link) (links : Links) (t : Tables) → LinkRows links t → LinkRows (without_elements ls links)
@@ -276,10 +224,7 @@ module _ (old new : Links) (go come : List Link) (absent_all : Absent links_tota
 
   pub drops_then_adds_only : tables_after_delta (drops_then_adds go come) t
       ≡ with_link_tables t (tables_after_delta (drops_then_adds go come) t)
-  drops_then_adds_only = subst (λ u. u ≡ with_link_tables t u) (sym split_drops_and_adds)
-      (all_added_only come tables_after_drops
-      ∙ ap (λ u. with_link_tables u (tables_after_delta (map add_link come) tables_after_drops))
-      (all_dropped_only go t))
+  drops_then_adds_only = grind (arith, common_steps, split_drops_and_adds, all_added_only, all_dropped_only)
 
   pub drops_then_adds_rows : LinkRows old t → LinkRows new (tables_after_delta (drops_then_adds go come) t)
   drops_then_adds_rows are = subst (LinkRows new) (sym split_drops_and_adds)

@@ -1,5 +1,6 @@
 -- The rows of the tables move and posting after requests.
-use Rattle.std.proofs.Common.{◌≡◌, ◌<◌, ◌≤◌, ◌⊎◌, inl, inr, ℕ, zero, suc, ◌+◌, ◌-◌, length, List, [], ◌∷◌, ◌++◌, refl}
+use Rattle.std.proofs.lemmas.Grind.{common_steps}
+use Rattle.std.proofs.Common.{◌≡◌, ◌<◌, ◌≤◌, ◌⊎◌, inl, inr, ℕ, zero, suc, ◌+◌, length, List, [], ◌∷◌, ◌++◌, refl}
 use Rattle.std.proofs.Common.{sym, ap, ◌∙◌, subst, arith, true, false, Bool, cond, map, length-append, append_assoc}
 use Rattle.std.specs.Prelude.{Some, None, slice_get, slice_set}
 use Rattle.thes_base.specs.declared.data.History.{History}
@@ -40,15 +41,11 @@ module _ (passes : History → Bool) (target : ℕ) where
 
   rows_yes : (number : ℕ) (h : History) (hs : List History) → passes h ≡ true → new_moves passes target number
       (h ∷ hs) ≡ row_at number h ∷ new_moves passes target (number + 1) hs
-  rows_yes number h hs e =
-      ap (λ b. cond b (row_at number h ∷ new_moves passes target (number + 1) hs) (new_moves passes target number hs))
-      e
+  rows_yes number h hs e = grind (arith, common_steps)
 
   rows_no : (number : ℕ) (h : History) (hs : List History) → passes h ≡ false → new_moves passes target number
       (h ∷ hs) ≡ new_moves passes target number hs
-  rows_no number h hs e =
-      ap (λ b. cond b (row_at number h ∷ new_moves passes target (number + 1) hs) (new_moves passes target number hs))
-      e
+  rows_no number h hs e = grind (arith, common_steps)
 
   pub rises_new : (number bound : ℕ) (hs : List History) → bound < number
       → MoveNumbersAscend bound (new_moves passes target number hs)
@@ -72,8 +69,7 @@ module _ (passes : History → Bool) (target : ℕ) where
         r.1,
         r.2,
         r.3,
-        r.4 ∙ ap (λ n. row_at n r.1) (let c = ap {B = ℕ} (λ b. cond b 1 0) hit in
-            omega (arith, c)),
+        r.4 ∙ ap (λ n. row_at n r.1) (let c = ap {B = ℕ} (λ b. cond b 1 0) hit in omega (arith, c)),
       )
     ]
     | inr miss ↦ let r = new_cases number hs row (subst (IsIn row) (rows_no number h hs miss) m) in (
@@ -81,18 +77,14 @@ module _ (passes : History → Bool) (target : ℕ) where
       r.1,
       r.2,
       r.3,
-      r.4 ∙ ap (λ n. row_at n r.1) (let c = ap {B = ℕ} (λ b. cond b 1 0) miss in
-          omega (arith, c)),
+      r.4 ∙ ap (λ n. row_at n r.1) (let c = ap {B = ℕ} (λ b. cond b 1 0) miss in omega (arith, c)),
     )
   ]
 
   pub new_at : (number : ℕ) (hs : List History) (i : ℕ) (h : History) → slice_get hs i ≡ Some h → passes h ≡ true
       → IsIn (row_at (number + rank passes hs i) h) (new_moves passes target number hs)
   new_at number [] i h e hit = absurd (cc)
-  new_at number (x ∷ hs) zero h e hit =
-      let same : x ≡ h = cc in
-      subst (IsIn (row_at (number + 0) h)) (sym (rows_yes number x hs (ap passes same ∙ hit)))
-      (inl (λ j. row_at ((let q : number + 0 ≡ number = omega arith in q) j) (sym same j)))
+  new_at number (x ∷ hs) zero h e hit = grind (arith, common_steps, rows_yes)
   new_at number (x ∷ hs) (suc i) h e hit = elim (cases_Bool (passes x)) [
     | inl picks ↦ subst (IsIn (row_at (number + rank passes (x ∷ hs) (suc i)) h)) (sym (rows_yes number x hs picks))
         (inr (subst (λ n. IsIn (row_at n h) (new_moves passes target (number + 1) hs))
@@ -122,8 +114,7 @@ module _ (rs : List _) (hs : List History) (legal : AreLegalPostings rs hs) wher
       record {
         rises = rises_append 0 (move_count hs) rows (new_moves passes target first hs) are.rises (omega arith)
             (number_within_count rows are) (rises_new passes target first (move_count hs) hs (omega arith));
-        sound =
-            sound;
+        sound = sound;
         complete = complete;
       }
     where
@@ -142,8 +133,7 @@ module _ (rs : List _) (hs : List History) (legal : AreLegalPostings rs hs) wher
       sound : (row : MoveRow) → IsIn row (rows ++ new_moves passes target first hs) → IsMoveOf after row
       sound row h = elim (in_append row rows (new_moves passes target first hs) h) [
         | inl old ↦ from_old row (are.sound row old)
-        | inr new ↦ from_new row
-            (new_cases passes target first hs row new)
+        | inr new ↦ from_new row (new_cases passes target first hs row new)
       ]
         where
           from_old : (row : MoveRow) → IsMoveOf hs row → IsMoveOf after row
@@ -166,11 +156,7 @@ module _ (rs : List _) (hs : List History) (legal : AreLegalPostings rs hs) wher
             where
               there : (new : History) → IsAfterMoveAt passes target first hs i g new → IsIn (recorded_move row)
                   new.moves
-              there new (inl (_, k, at, same)) = subst (λ (x : History). IsIn (recorded_move row) x.moves) (sym same)
-                  (append_right (recorded_move row) g.moves _
-                  (inl (ap recorded_move is
-                  ∙ (λ j. record { number = sym at j; source = place g; target = target }))))
-              there new (inr (miss, same)) = clash (passes g) hit miss
+              there new after_move = grind (arith, common_steps, append_right, clash)
 
       complete : (row : MoveRow) → IsMoveOf after row → IsIn row (rows ++ new_moves passes target first hs)
       complete row (new, at, there) = go row.posting refl at
@@ -202,22 +188,18 @@ module _ (rs : List _) (hs : List History) (legal : AreLegalPostings rs hs) wher
                             let whole : row_at passes target (first + rank passes hs i) g ≡ row =
                             λ j. record {
                               number = (sym num ∙ sym (ap (λ (m : Move). m.number) mine)) j;
-                              posting =
-                                  (n ∙ sym p) j;
+                              posting = (n ∙ sym p) j;
                               source = sym (ap (λ (m : Move). m.source) mine) j;
-                              target =
-                                  sym (ap (λ (m : Move). m.target) mine) j;
+                              target = sym (ap (λ (m : Move). m.target) mine) j;
                             } in
                             append_right row rows _ (subst (λ r. IsIn r (new_moves passes target first hs)) whole
                             (new_at passes target first hs i g eg hit))
                       ]
                   each (inr (miss, is)) =
-                      append_left row rows _
-                      (are.complete row (
+                      append_left row rows _ (are.complete row (
                         g,
                         at_old,
-                        subst (λ (y : History). IsIn (recorded_move row) y.moves)
-                            (same ∙ is) there,
+                        subst (λ (y : History). IsIn (recorded_move row) y.moves) (same ∙ is) there,
                       ))
 
 -- The rows of the moves along a path have rising numbers.
@@ -244,8 +226,7 @@ module _ (rs : List _) (hs : List History) (legal : AreLegalPostings rs hs) (h :
       | inr new ↦ let from = in_map (move_row h.number) row h.moves new in (
         h,
         here row (ap (λ (r : MoveRow). r.posting) from.2),
-        subst (λ (m : Move). IsIn m h.moves)
-            (sym (ap recorded_move from.2)) from.1,
+        subst (λ (m : Move). IsIn m h.moves) (sym (ap recorded_move from.2)) from.1,
       )
     ];
     complete = λ row is. elim (push_cases hs h is.0 row.posting is.1) [
@@ -281,23 +262,14 @@ moves_set hs n h new rows e same are = record {
           let is : g ≡ h = same_Some _ _ (sym at ∙ ap (entry_at hs) here ∙ e) in (
             new,
             ap (entry_at (set_entry_at hs n new)) here ∙ set_same hs new h n e,
-            subst (IsIn (recorded_move row))
-                (ap (λ (x : History). x.moves) is ∙ sym same) there,
+            subst (IsIn (recorded_move row)) (ap (λ (x : History). x.moves) is ∙ sym same) there,
           )
       | inr other ↦ (g, set_other hs new g n row.posting least other at, there)
     ]
 
     complete : (row : MoveRow) (g : History) → entry_at (set_entry_at hs n new) row.posting ≡ Some g
         → IsIn (recorded_move row) g.moves → IsIn row rows
-    complete row g at there = elim (set_cases hs new g n row.posting least at) [
-      | inl here ↦ are.complete row (
-        h,
-        ap (entry_at hs) here.0 ∙ e,
-        subst (IsIn (recorded_move row))
-            (ap (λ (x : History). x.moves) here.1 ∙ same) there,
-      )
-      | inr other ↦ are.complete row (g, other.1, there)
-    ]
+    complete row g at there = grind (arith, common_steps, set_cases)
 
 pub map_get : {A B : Type 0} (f : A → B) (xs : List A) (i : ℕ) (x : A) → slice_get xs i ≡ Some x
     → slice_get (map f xs) i ≡ Some (f x)
@@ -321,13 +293,11 @@ rows_moved source target number [] = refl
 rows_moved source target number (h ∷ hs) = elim (cases_Bool (is_assigned_to source h)) [
   | inl hit ↦ (λ i. (ap (λ b. cond b (row_at_place target (posting_row h)) (posting_row h)) hit
       ∙ ap (λ (p : ℕ). record (posting_row h) { place = p }) (sym (place_moved number target h))) i
-      ∷ rows_moved source target (number + 1) hs i)
-      ∙ sym (ap (map posting_row)
+      ∷ rows_moved source target (number + 1) hs i) ∙ sym (ap (map posting_row)
       (ap (λ b. cond b (history_after_move number target h ∷ histories_after_moves (is_assigned_to source) target
       (number + 1) hs) (h ∷ histories_after_moves (is_assigned_to source) target number hs)) hit))
   | inr miss ↦ (λ i. ap (λ b. cond b (row_at_place target (posting_row h)) (posting_row h)) miss i
-      ∷ rows_moved source target number hs i)
-      ∙ sym (ap (map posting_row)
+      ∷ rows_moved source target number hs i) ∙ sym (ap (map posting_row)
       (ap (λ b. cond b (history_after_move number target h ∷ histories_after_moves (is_assigned_to source) target
       (number + 1) hs) (h ∷ histories_after_moves (is_assigned_to source) target number hs)) miss))
 ]
@@ -347,12 +317,7 @@ set_at (z ∷ pre) x y rest = ap (λ l. z ∷ l) (set_at pre x y rest)
 
 with_here : (f : PostingRow → PostingRow) (n : ℕ) (pre : List PostingRow) (row : PostingRow) (rest : List PostingRow)
     → n ≡ length pre + 1 → with_posting f n (pre ++ row ∷ rest) ≡ pre ++ f row ∷ rest
-with_here f n pre row rest e =
-    with_at f n (pre ++ row ∷ rest) row
-    (ap (entry_at (pre ++ row ∷ rest)) (e ∙ (let q : length pre + 1 ≡ suc (length pre) = omega arith in q))
-    ∙ get_at pre row rest)
-    ∙ ap (λ i. slice_set (pre ++ row ∷ rest) i (f row)) (let q : n - 1 ≡ length pre = omega (arith, e) in q)
-    ∙ set_at pre row (f row) rest
+with_here f n pre row rest e = grind (arith, common_steps, with_at, get_at pre row rest, set_at pre row (f row) rest)
 
 module _ (passes : History → Bool) (target : ℕ) where
   -- Setting the place of each listed row gives the rows of the histories after the postings that pass the test have
@@ -361,32 +326,15 @@ module _ (passes : History → Bool) (target : ℕ) where
       → placed_all (new_moves passes target number hs) (pre ++ map posting_row hs) ≡ pre
       ++ map posting_row (histories_after_moves passes target number hs)
   rows_placed number pre [] from = refl
-  rows_placed number pre (h ∷ hs) from = elim (cases_Bool (passes h)) [
-    | inl hit ↦
-        ap (λ ms. placed_all ms (pre ++ posting_row h ∷ map posting_row hs)) (rows_yes passes target number h hs hit)
-        ∙ ap (placed_all (new_moves passes target (number + 1) hs))
-        (with_here (row_at_place target) h.number pre (posting_row h) (map posting_row hs) from.0
-        ∙ sym (append_assoc pre (row_at_place target (posting_row h) ∷ []) (map posting_row hs)))
-        ∙ rows_placed (number + 1) (pre ++ row_at_place target (posting_row h) ∷ []) hs
-        (onward (row_at_place target (posting_row h)))
-        ∙ append_assoc pre (row_at_place target (posting_row h) ∷ [])
-        (map posting_row (histories_after_moves passes target (number + 1) hs))
-        ∙ ap (λ (p : ℕ). let r : PostingRow = record (posting_row h) { place = p } in
-        pre ++ r ∷ map posting_row (histories_after_moves passes target (number + 1) hs))
-        (sym (place_moved number target h))
-        ∙ sym (ap (λ l. pre ++ map posting_row l)
-        (ap (λ b. cond b (history_after_move number target h ∷ histories_after_moves passes target (number + 1)
-        hs) (h ∷ histories_after_moves passes target number hs)) hit))
-    | inr miss ↦
-        ap (λ ms. placed_all ms (pre ++ posting_row h ∷ map posting_row hs)) (rows_no passes target number h hs miss)
-        ∙ ap (placed_all (new_moves passes target number hs))
-        (sym (append_assoc pre (posting_row h ∷ []) (map posting_row hs)))
-        ∙ rows_placed number (pre ++ posting_row h ∷ []) hs (onward (posting_row h))
-        ∙ append_assoc pre (posting_row h ∷ []) (map posting_row (histories_after_moves passes target number hs))
-        ∙ sym (ap (λ l. pre ++ map posting_row l)
-        (ap (λ b. cond b (history_after_move number target h ∷ histories_after_moves passes target (number + 1)
-        hs) (h ∷ histories_after_moves passes target number hs)) miss))
-  ]
-    where
-      onward : (row : PostingRow) → NumberedFrom (length (pre ++ row ∷ []) + 1) hs
-      onward row = subst (λ n. NumberedFrom n hs) (let l = length-append pre (row ∷ []) in omega (arith, l)) from.1
+  rows_placed number pre (h ∷ hs) from = grind (
+    arith,
+    common_steps,
+    rows_yes,
+    with_here,
+    append_assoc,
+    rows_placed (number + 1) (pre ++ row_at_place target (posting_row h) ∷ []) hs,
+    rows_placed number (pre ++ posting_row h ∷ []) hs,
+    place_moved,
+    rows_no,
+    length-append,
+  )

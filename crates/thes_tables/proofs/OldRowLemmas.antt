@@ -1,6 +1,7 @@
 -- The law of the migration from version 1 of the schema to version 2.
-use Rattle.std.proofs.Common.{arith, inl, inr, ◌≡◌, ◌≤◌, ◌↔◌, ℕ, List, [], ◌∷◌, map, filter, Bool, true, false, not}
-use Rattle.std.proofs.Common.{cond, ◌==◌, Option, None, Some, refl, sym, ap, subst, ◌∙◌}
+use Rattle.std.proofs.lemmas.Grind.{common_steps}
+use Rattle.std.proofs.Common.{arith, inl, inr, ◌≡◌, ◌≤◌, ◌↔◌, ℕ, List, [], ◌∷◌, map, filter, Bool, true, not}
+use Rattle.std.proofs.Common.{◌==◌, Option, None, Some, refl, sym, ap, subst, ◌∙◌}
 use Rattle.std.proofs.lemmas.Bool.{cases_Bool}
 use Rattle.thes_base.specs.declared.data.Link.{Link}
 use Rattle.thes_base.specs.declared.data.LinkKind.{LinkKind}
@@ -11,8 +12,7 @@ use Rattle.thes_tables.specs.declared.rows.HierRow.{HierRow}
 use Rattle.thes_tables.specs.declared.rows.HierType.{HierType}
 use Rattle.thes_tables.specs.declared.rows.HierType.TheVariants as ht
 use Rattle.thes_tables.specs.Tables.{Tables, IsIn, AreDistinct, IsUnsortedListing, IsRowsOf, IsHierOf, IsLinkOf}
-use Rattle.thes_tables.specs.Tables.{hier_link}
-use Rattle.thes_tables.specs.Tables.{hier_kind, hier_type}
+use Rattle.thes_tables.specs.Tables.{hier_link, hier_kind, hier_type}
 use Rattle.thes_tables.specs.Changes.{hier_row}
 use Rattle.thes_tables.proofs.LinkRowLemmas.{link_of_hier_row}
 use Rattle.thes_tables.proofs.RowSetLemmas.{in_filter, filter_in, in_map, map_in, lists_filter, once_map}
@@ -25,67 +25,23 @@ once_unmap f (x ∷ xs) once = (λ h. once.0 (map_in f x xs h), once_unmap f xs 
 once_parts : {A : Type 0} (test : A → Bool) (xs : List A) → AreDistinct (filter test xs)
     → AreDistinct (filter (λ x. not (test x)) xs) → AreDistinct xs
 once_parts test [] those others = tt
-once_parts {A} test (x ∷ xs) those others = go (once_parts test xs) (test x) refl those others
-  where
-    go : (AreDistinct (filter test xs) → AreDistinct (filter (λ y. not (test y)) xs) → AreDistinct xs) → (b : Bool)
-        → test x ≡ b
-        → AreDistinct (cond b (x ∷ filter test xs) (filter test xs))
-        → AreDistinct (cond (not b) (x ∷ filter (λ y. not (test y)) xs) (filter (λ y. not (test y)) xs))
-        → AreDistinct (x ∷ xs)
-    go rest true is those others = (λ h. those.0 (filter_in test x xs h is), rest those.1 others)
-    go rest false is those others = (
-      λ h. others.0 (filter_in (λ y. not (test y)) x xs h (ap not is)),
-      rest those others.1,
-    )
+once_parts {A} test (x ∷ xs) those others = grind (arith, common_steps, once_parts test xs, filter_in)
 
 -- A kind with number 1 is broader.
 broader_kind : (kind : LinkKind) → (link_kind_no kind == 1) ≡ true → kind ≡ kinds.Broader
-broader_kind kinds.Broader e = refl
-broader_kind kinds.Related e = absurd (cc)
-broader_kind kinds.Exact e = absurd (cc)
-broader_kind kinds.Close e = absurd (cc)
-broader_kind kinds.Broad e = absurd (cc)
-broader_kind kinds.Narrow e = absurd (cc)
-broader_kind kinds.RelMatch e = absurd (cc)
-broader_kind kinds.Member e = absurd (cc)
-broader_kind kinds.BroaderGeneric e = absurd (cc)
-broader_kind kinds.BroaderPartitive e = absurd (cc)
-broader_kind kinds.BroaderInstantial e = absurd (cc)
+broader_kind kind e = grind (arith, common_steps)
 
 -- A kind that isn't hierarchical has a number of version 1 other than 1.
 plain_kind : (kind : LinkKind) → hier_type kind ≡ None → (not (link_kind_no kind == 1) ≡ true) × (link_kind_no kind ≤ 8)
-plain_kind kinds.Broader e = absurd (cc)
-plain_kind kinds.Related e = (refl, omega arith)
-plain_kind kinds.Exact e = (refl, omega arith)
-plain_kind kinds.Close e = (refl, omega arith)
-plain_kind kinds.Broad e = (refl, omega arith)
-plain_kind kinds.Narrow e = (refl, omega arith)
-plain_kind kinds.RelMatch e = (refl, omega arith)
-plain_kind kinds.Member e = (refl, omega arith)
-plain_kind kinds.BroaderGeneric e = absurd (cc)
-plain_kind kinds.BroaderPartitive e = absurd (cc)
-plain_kind kinds.BroaderInstantial e = absurd (cc)
+plain_kind kind e = grind (arith, common_steps)
 
 -- A kind of version 1 whose number isn't 1 isn't hierarchical.
 old_plain : (kind : LinkKind) → link_kind_no kind ≤ 8 → not (link_kind_no kind == 1) ≡ true → hier_type kind ≡ None
-old_plain kinds.Broader le e = absurd (cc)
-old_plain kinds.Related le e = refl
-old_plain kinds.Exact le e = refl
-old_plain kinds.Close le e = refl
-old_plain kinds.Broad le e = refl
-old_plain kinds.Narrow le e = refl
-old_plain kinds.RelMatch le e = refl
-old_plain kinds.Member le e = refl
-old_plain kinds.BroaderGeneric le e = absurd (omega (arith, le))
-old_plain kinds.BroaderPartitive le e = absurd (omega (arith, le))
-old_plain kinds.BroaderInstantial le e = absurd (omega (arith, le))
+old_plain kind le e = grind (arith, common_steps)
 
 -- A type of hierarchical relationship whose kind of link has a number of version 1 is `Untyped`.
 old_type : (typ : HierType) → link_kind_no (hier_kind typ) ≤ 8 → typ ≡ ht.Untyped
-old_type ht.Untyped le = refl
-old_type ht.Generic le = absurd (omega (arith, le))
-old_type ht.Partitive le = absurd (omega (arith, le))
-old_type ht.Instantial le = absurd (omega (arith, le))
+old_type typ le = grind (arith, common_steps)
 
 -- The row of table hier for a link of kind broader encodes it.
 untyped_tells : (l : Link) → is_broader l ≡ true → hier_link (untyped_row l) ≡ l
@@ -110,8 +66,7 @@ module _ (links : Links) (ls : List Link) where
 
   module _ (are : IsUnsortedListing (Holds links) ls) (old : (l : Link) → Holds links l → link_kind_no l.kind ≤ 8) where
     links_renewed : IsUnsortedListing (IsLinkOf links) links_not_broader
-    links_renewed = lists_filter (λ l. not (is_broader l)) ls
-        (λ l h. (h.0, (plain_kind l.kind h.1).0))
+    links_renewed = lists_filter (λ l. not (is_broader l)) ls (λ l h. (h.0, (plain_kind l.kind h.1).0))
         (λ l h e. (h, old_plain l.kind (old l h) e)) are
 
     -- After the migration, table hier has exactly the links of kind broader.
@@ -139,10 +94,7 @@ module _ (links : Links) (ls : List Link) where
     in_table_link l h = go (hier_type l.kind) refl
       where
         go : (o : Option HierType) → hier_type l.kind ≡ o → IsIn l ls × (link_kind_no l.kind ≤ 8)
-        go None e = (
-          (in_filter (λ x. not (is_broader x)) l ls (link.complete l (h, e))).0,
-          (plain_kind l.kind e).1,
-        )
+        go None e = ((in_filter (λ x. not (is_broader x)) l ls (link.complete l (h, e))).0, (plain_kind l.kind e).1)
         go (Some typ) e =
             let at = in_map untyped_row (hier_row typ l) (filter is_broader ls)
             (hier.complete (hier_row typ l) (subst (Holds links) (sym (link_of_hier_row l typ e)) h)) in
@@ -160,34 +112,17 @@ module _ (links : Links) (ls : List Link) where
     ]
 
     links_were : IsUnsortedListing (Holds links) ls
-    links_were = record {
-      sound = member_is_held;
-      complete = λ l h. (in_table_link l h).0;
-      once = once_parts is_broader ls (once_unmap untyped_row (filter is_broader ls) hier.once) link.once;
-    }
+    links_were = grind (arith, common_steps, member_is_held, in_table_link, once_parts, once_unmap)
 
 -- Tables encode a state in version 1 exactly when the migrated tables encode it in version 2.
 pub migration_law : (base : List ℕ) (s : State) (t : Tables) → IsOldRowsOf base s t
     ↔ IsRowsOf base s (tables_after_migration t)
 migration_law base s t = (
-  λ old. record {
-    base_is = old.base_is;
-    resource = old.resource;
-    outside = old.outside;
-    label = old.label;
-    link = links_renewed s.links t.link old.link old.kinds;
-    hier = hier_renewed s.links t.link old.link old.kinds;
-    posting = old.posting;
-    move = old.move;
-  },
-  λ new. record {
-    base_is = new.base_is;
-    resource = new.resource;
-    outside = new.outside;
-    label = new.label;
-    link = links_were s.links t.link new.link new.hier;
-    kinds = λ l h. (in_table_link s.links t.link new.link new.hier l h).1;
-    posting = new.posting;
-    move = new.move;
-  },
+  λ old. grind (
+    arith,
+    common_steps,
+    links_renewed s.links t.link old.link old.kinds,
+    hier_renewed s.links t.link old.link old.kinds,
+  ),
+  λ new. grind (arith, common_steps, links_were s.links t.link new.link new.hier, in_table_link),
 )

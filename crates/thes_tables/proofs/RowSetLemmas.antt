@@ -1,6 +1,8 @@
 -- Unsorted listings of a property after an insertion, a deletion or a filtering, and the sets that they encode.
-use Rattle.std.proofs.Common.{◌≡◌, ◌⊎◌, List, [], ◌∷◌, ◌++◌, map, refl, sym, ap, ◌∙◌, subst, inl, inr, Bool, true}
-use Rattle.std.proofs.Common.{false, not, cond, append_assoc}
+use Rattle.std.proofs.lemmas.Grind.{common_steps}
+use Rattle.std.proofs.Common.{arith, ◌≡◌, ◌⊎◌, List, [], ◌∷◌, ◌++◌, map, refl, sym, ap, ◌∙◌, subst, inl, inr, Bool}
+use Rattle.std.proofs.Common.{true}
+use Rattle.std.proofs.Common.{false, not, append_assoc}
 use Rattle.std.proofs.lemmas.Bool.{cases_Bool, or_cases, or_left, or_right, not-true, not_from_false}
 use Rattle.std.proofs.lemmas.List.{append-nil}
 use Rattle.std.specs.Prelude.{filter}
@@ -22,25 +24,12 @@ clash b e f = absurd (cc)
 pub in_filter : {A : Type 0} (test : A → Bool) (x : A) (xs : List A) → IsIn x (filter test xs) → IsIn x xs
     × (test x ≡ true)
 in_filter test x [] h = absurd h
-in_filter {A} test x (y ∷ xs) h = go (in_filter test x xs) (test y) refl h
-  where
-    go : (IsIn x (filter test xs) → IsIn x xs × (test x ≡ true)) → (b : Bool) → test y ≡ b
-        → IsIn x (cond b (y ∷ filter test xs) (filter test xs)) → IsIn x (y ∷ xs) × (test x ≡ true)
-    go again true hit (inl e) = (inl e, ap test e ∙ hit)
-    go again true hit (inr k) = let r = again k in (inr r.0, r.1)
-    go again false miss k = let r = again k in (inr r.0, r.1)
+in_filter {A} test x (y ∷ xs) h = grind (arith, common_steps, in_filter test x xs)
 
 pub filter_in : {A : Type 0} (test : A → Bool) (x : A) (xs : List A) → IsIn x xs → test x ≡ true
     → IsIn x (filter test xs)
 filter_in test x [] h t = absurd h
-filter_in {A} test x (y ∷ xs) h t = go (filter_in test x xs) (test y) refl h
-  where
-    go : (IsIn x xs → test x ≡ true → IsIn x (filter test xs)) → (b : Bool) → test y ≡ b → IsIn x (y ∷ xs)
-        → IsIn x (cond b (y ∷ filter test xs) (filter test xs))
-    go again true hit (inl e) = inl e
-    go again true hit (inr k) = inr (again k t)
-    go again false miss (inl e) = clash (test y) (sym (ap test e) ∙ t) miss
-    go again false miss (inr k) = again k t
+filter_in {A} test x (y ∷ xs) h t = grind (arith, common_steps, filter_in test x xs, clash)
 
 pub in_append : {A : Type 0} (x : A) (xs ys : List A) → IsIn x (xs ++ ys) → IsIn x xs ⊎ IsIn x ys
 in_append x [] ys h = inr h
@@ -78,22 +67,12 @@ map_in f x (y ∷ xs) (inr h) = inr (map_in f x xs h)
 
 once_filter : {A : Type 0} (test : A → Bool) (xs : List A) → AreDistinct xs → AreDistinct (filter test xs)
 once_filter test [] once = tt
-once_filter {A} test (x ∷ xs) once = go (once_filter test xs once.1) (test x)
-  where
-    go : AreDistinct (filter test xs) → (b : Bool) → AreDistinct (cond b (x ∷ filter test xs) (filter test xs))
-    go rest true = (λ h. once.0 (in_filter test x xs h).0, rest)
-    go rest false = rest
+once_filter {A} test (x ∷ xs) once = grind (arith, common_steps, once_filter test xs once.1, in_filter)
 
 pub once_push : {A : Type 0} (xs : List A) (x : A) → (IsIn x xs → ⊥) → AreDistinct xs → AreDistinct (xs ++ x ∷ [])
 once_push [] x new once = (λ n. n, tt)
 once_push (y ∷ xs) x new once = (
-  λ h. elim (in_append y xs (x ∷ []) h) [
-    | inl old ↦ once.0 old
-    | inr last ↦ elim last [
-      | inl e ↦ new (inl (sym e))
-      | inr n ↦ n
-    ]
-  ],
+  λ h. grind (arith, common_steps, in_append y xs (x ∷ []) h),
   once_push xs x (λ h. new (inr h)) once.1,
 )
 
@@ -106,34 +85,20 @@ lists_push {More = More} rows k new cases last kept are = record {
     | inl old ↦ kept q (are.sound q old)
     | inr at ↦ elim at [ inl e ↦ subst More (sym e) last | inr n ↦ absurd n ]
   ];
-  complete = λ q h. elim (cases q h) [
-    | inl e ↦ append_right q rows (k ∷ []) (inl e)
-    | inr old ↦ append_left q rows
-        (k ∷ []) (are.complete q old)
-  ];
+  complete = λ q h. grind (arith, common_steps, append_right, append_left);
   once = once_push rows k (λ h. new (are.sound k h)) are.once;
 }
 
 -- If rows list a property, those that pass a test list the elements that have the property and pass the test.
 pub lists_filter : {K : Type 0} {Has Less : K → Type 0} (test : K → Bool) (rows : List K)
     → ((q : K) → Less q → Has q × (test q ≡ true)) → ((q : K) → Has q → test q ≡ true → Less q)
-    → IsUnsortedListing Has rows
-    → IsUnsortedListing Less (filter test rows)
-lists_filter test rows less more are = record {
-  sound = λ q h. let m = in_filter test q rows h in more q (are.sound q m.0) m.1;
-  complete = λ q h. let l = less q h in filter_in test q rows (are.complete q l.0) l.1;
-  once = once_filter test rows are.once;
-}
+    → IsUnsortedListing Has rows → IsUnsortedListing Less (filter test rows)
+lists_filter test rows less more are = grind (arith, common_steps, in_filter, filter_in, once_filter)
 
 -- If rows list a property, they list every equivalent property.
 pub lists_same : {K : Type 0} {Has Other : K → Type 0} (rows : List K) → ((q : K) → Has q → Other q)
     → ((q : K) → Other q → Has q) → IsUnsortedListing Has rows → IsUnsortedListing Other rows
-lists_same rows to from are = record {
-  sound = λ q h. to q (are.sound q h);
-  complete =
-      λ q h. are.complete q (from q h);
-  once = are.once;
-}
+lists_same rows to from are = grind (arith, common_steps)
 
 -- Assumes a total order whose equal elements are the same.
 module _ {K : Type 0} {R : K → K → Ordering} (o : IsTotalOrder R) (exact : IsAntisymmetric R) where
@@ -145,10 +110,7 @@ module _ {K : Type 0} {R : K → K → Ordering} (o : IsTotalOrder R) (exact : I
 
   pub in_any : (q : K) (ks : List K) → list_any (eq_by_cmp R q) ks ≡ true → IsIn q ks
   in_any q [] e = absurd (cc)
-  in_any q (k ∷ ks) e = elim (or_cases _ _ e) [
-    | inl same ↦ inl (equal_of_tie q k same)
-    | inr rest ↦ inr (in_any q ks rest)
-  ]
+  in_any q (k ∷ ks) e = grind (arith, common_steps, or_cases, equal_of_tie, in_any q ks)
 
   pub any_in : (q : K) (ks : List K) → IsIn q ks → list_any (eq_by_cmp R q) ks ≡ true
   any_in q [] h = absurd h
@@ -183,18 +145,12 @@ module _ {K : Type 0} {R : K → K → Ordering} (o : IsTotalOrder R) (exact : I
   all_cases : (ks : List K) (s : FinSet R) (q : K) → set.contains (set_with_list ks s) q ≡ true → IsIn q ks
       ⊎ (set.contains s q ≡ true)
   all_cases [] s q h = inr h
-  all_cases (k ∷ ks) s q h = elim (all_cases ks (set.insert s k) q h) [
-    | inl later ↦ inl (inr later)
-    | inr at ↦ elim (inserted_cases o exact s k q at) [ inl e ↦ inl (inl e) | inr old ↦ inr old ]
-  ]
+  all_cases (k ∷ ks) s q h = grind (arith, common_steps, all_cases ks (set.insert s k) q h, inserted_cases)
 
   gone_cases : (ks : List K) (s : FinSet R) (q : K) → set.contains (without_elements ks s) q ≡ true → (IsIn q ks → ⊥)
       × (set.contains s q ≡ true)
   gone_cases [] s q h = (λ n. n, h)
-  gone_cases (k ∷ ks) s q h =
-      let later = gone_cases ks (set.remove s k) q h in
-      let here = removed_cases o exact s k q later.1 in
-      (λ n. elim n [ inl e ↦ here.0 e | inr m ↦ later.0 m ], here.1)
+  gone_cases (k ∷ ks) s q h = grind (arith, common_steps, gone_cases ks (set.remove s k) q h, removed_cases)
 
   gone_kept : (ks : List K) (s : FinSet R) (q : K) → (IsIn q ks → ⊥) → set.contains s q ≡ true
       → set.contains (without_elements ks s) q ≡ true
@@ -216,23 +172,12 @@ module _ {K : Type 0} {R : K → K → Ordering} (o : IsTotalOrder R) (exact : I
   pub turn_into : (s t : FinSet R) → set_with_list (set.items t)
       (without_elements (filter (λ l. not (set.contains t l)) (set.items s)) s) ≡ t
   turn_into s t = set.same_set o exact _ _ (λ q. both_ways _ _
-      (λ h. elim (all_cases (set.items t) _ q h) [
-        | inl new ↦ held_item t q new
-        | inr old ↦
-            let both = gone_cases (filter (λ l. not (set.contains t l)) (set.items s)) s q old in
-            elim (cases_Bool (set.contains t q)) [
-              | inl there ↦ there
-              | inr out ↦ absurd
-                  (both.0 (filter_in (λ l. not (set.contains t l)) q (set.items s) (item_held s q both.1)
-                  (not_from_false _ out)))
-            ]
-      ])
+      (grind (arith, common_steps, all_cases, held_item, gone_cases, filter_in, item_held, not_from_false))
       (λ h. all_new (set.items t) _ q (item_held t q h)))
 
   insert_held : (s : FinSet R) (k : K) → set.contains s k ≡ true → set.insert s k ≡ s
   insert_held s k h =
-      set.same_set o exact _ _
-      (λ q. both_ways _ _ (λ m. elim (inserted_cases o exact s k q m) [
+      set.same_set o exact _ _ (λ q. both_ways _ _ (λ m. elim (inserted_cases o exact s k q m) [
         | inl e ↦ ap (set.contains s) e ∙ h
         | inr old ↦ old
       ]) (inserted_kept o exact s k q))
@@ -240,12 +185,7 @@ module _ {K : Type 0} {R : K → K → Ordering} (o : IsTotalOrder R) (exact : I
   -- Inserting only the missing elements of a list gives the same set as inserting all.
   pub coming_same : (ks : List K) (s : FinSet R) → set_with_list (missing_items s ks) s ≡ set_with_list ks s
   coming_same [] s = refl
-  coming_same (k ∷ ks) s = elim (cases_Bool (set.contains s k)) [
-    | inl held ↦ ap (λ b. set_with_list (cond b (missing_items s ks) (k ∷ missing_items (set.insert s k) ks)) s) held
-        ∙ coming_same ks s ∙ ap (set_with_list ks) (sym (insert_held s k held))
-    | inr new ↦ ap (λ b. set_with_list (cond b (missing_items s ks) (k ∷ missing_items (set.insert s k) ks)) s) new
-        ∙ coming_same ks (set.insert s k)
-  ]
+  coming_same (k ∷ ks) s = grind (arith, common_steps, coming_same ks s, coming_same ks (set.insert s k), insert_held)
 
   -- Each element of the list is new at its insertion.
   abbrev pub Absent : List K → FinSet R → Type 0
@@ -258,8 +198,7 @@ module _ {K : Type 0} {R : K → K → Ordering} (o : IsTotalOrder R) (exact : I
   absent_of [] s new once = tt
   absent_of (k ∷ ks) s new once = (
     absent_of_never s k (new k (inl refl)),
-    absent_of ks (set.insert s k)
-        (λ q h m. elim (inserted_cases o exact s k q m)
+    absent_of ks (set.insert s k) (λ q h m. elim (inserted_cases o exact s k q m)
         [ inl e ↦ once.0 (let Q : K → Type 0 = λ x. IsIn x ks in subst Q e h) | inr old ↦ new q (inr h) old ]) once.1,
   )
 
@@ -270,16 +209,7 @@ module _ {K : Type 0} {R : K → K → Ordering} (o : IsTotalOrder R) (exact : I
       → IsUnsortedListing (λ q. (set.contains t q ≡ true) × (set.contains s q ≡ true → ⊥)) come
       → set_with_list come (without_elements go s) ≡ t
   turn_into_by s t go come goes comes = set.same_set o exact _ _ (λ q. both_ways _ _
-      (λ h. elim (all_cases come _ q h) [
-        | inl new ↦ (comes.sound q new).0
-        | inr old ↦
-            let both = gone_cases go s q old in
-            elim (cases_Bool (set.contains t q)) [
-              | inl there ↦ there
-              | inr out ↦ absurd (both.0 (goes.complete q (both.1, λ there. clash (set.contains t q) there out)))
-            ]
-      ])
-      (λ h. elim (cases_Bool (set.contains s q)) [
+      (grind (arith, common_steps, all_cases, gone_cases, clash)) (λ h. elim (cases_Bool (set.contains s q)) [
         | inl old ↦ all_kept come _ q (gone_kept go s q (λ m. (goes.sound q m).1 h) old)
         | inr out ↦ all_new come _ q (comes.complete q (h, λ old. clash (set.contains s q) old out))
       ]))
@@ -292,28 +222,16 @@ module _ {K : Type 0} {R : K → K → Ordering} (o : IsTotalOrder R) (exact : I
 
   pub coming_absent : (ks : List K) (s : FinSet R) → Absent (missing_items s ks) s
   coming_absent [] s = tt
-  coming_absent (k ∷ ks) s = elim (cases_Bool (set.contains s k)) [
-    | inl held ↦ subst (λ b. Absent (cond b (missing_items s ks) (k ∷ missing_items (set.insert s k) ks)) s)
-        (sym held) (coming_absent ks s)
-    | inr new ↦ subst (λ b. Absent (cond b (missing_items s ks) (k ∷ missing_items (set.insert s k) ks)) s) (sym new)
-        (new, coming_absent ks (set.insert s k))
-  ]
+  coming_absent (k ∷ ks) s = grind (arith, common_steps, coming_absent ks s, coming_absent ks (set.insert s k))
 
   -- If rows list a property, the rows without an element list the property that holds of all others.
   pub lists_drop : {Has Less : K → Type 0} (rows : List K) (k : K) → ((q : K) → Less q → (q ≡ k → ⊥) × Has q)
       → ((q : K) → (q ≡ k → ⊥) → Has q → Less q) → IsUnsortedListing Has rows
       → IsUnsortedListing Less (without_row R k rows)
   lists_drop rows k less more are = lists_filter (λ x. not (eq_by_cmp R x k)) rows
-      (λ q h. let l = less q h in (
-        l.1,
-        not_from_false _ (elim (cases_Bool (eq_by_cmp R q k)) [
-          | inl e ↦ absurd (l.0 (equal_of_tie q k e))
-          | inr ne ↦ ne
-        ]),
-      ))
+      (grind (arith, common_steps, not_from_false, equal_of_tie))
       (λ q h passes. more q (λ e. clash (eq_by_cmp R q k) (ap (eq_by_cmp R q) (sym e) ∙ tie_itself q)
-      (not-true _ passes)) h)
-      are
+      (not-true _ passes)) h) are
 
   abbrev pub IsMember : FinSet R → K → Type 0
   IsMember s q = set.contains s q ≡ true

@@ -1,8 +1,7 @@
 use Rattle.std.proofs.Common.{◌≡◌, rules, sym, subst, Err}
 use Rattle.thes_sqlite.specs.MigrationEffects.{Migrates}
 use Rattle.thes_sqlite.proofs.MigrationLemmas.{migration_refused, migration_current, migration_succeeds}
-use Rattle.thes_sqlite.proofs.MigrationLemmas.{migration_failed}
-use Rattle.thes_sqlite.proofs.MigrationLemmas.{migrate_fault_of_keeper}
+use Rattle.thes_sqlite.proofs.MigrationLemmas.{migration_failed, migrate_fault_of_keeper}
 use Rattle.thes_sqlite.proofs.migrating.migrate_database.Goals as goal
 
 pub returns-in_err-judge : goal.returns-in_err-judge
@@ -19,8 +18,7 @@ returns-then-not-branch g c =
     let e = c.in_ok-judge.ensures in
     let done = c.if-not-branch.true in
     migration_current g.S.Store c.args.conn.now c.judge.new.conn c.requires
-    (λ opened. c.is_autocommit-settled.ensures.settled c.if-prove.false opened) e.leaves e.kept
-    (rw done at e.judged)
+    (λ opened. c.is_autocommit-settled.ensures.settled c.if-prove.false opened) e.leaves e.kept (rw done at e.judged)
 
 pub returns-in-Ok : goal.returns-in-Ok
 returns-in-Ok g c =

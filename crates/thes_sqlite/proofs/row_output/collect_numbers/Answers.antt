@@ -1,9 +1,8 @@
-use Rattle.std.proofs.Common.{◌≡◌, ◌∙◌, ℕ, pos, List, [], ◌∷◌, Option, Err, refl, rules, sym, subst}
+use Rattle.std.proofs.Common.{◌≡◌, ◌∙◌, ℕ, pos, List, [], ◌∷◌, Err, refl, rules, sym, subst}
 use Rattle.sqlite.specs.declared.types.Value.TheVariants.{Int}
 use Rattle.sqlite.specs.Order.{Row, column}
 use Rattle.sqlite.specs.State.{HasCleanDisk}
 use Rattle.sqlite.specs.Held.{state}
-use Rattle.sqlite.specs.Given.{Advances}
 use Rattle.thes_sql.specs.Reads.{assigned_numbers_text}
 use Rattle.thes_sql.proofs.ReadFrameLemmas.{leaves_alone}
 use Rattle.thes_sql.proofs.SelectLemmas.{standing_numbers_is_query}
@@ -21,7 +20,8 @@ returns-in-Err-clause-leaves g c =
 
 pub numbers-init : goal.numbers-init
 numbers-init g c =
-    let made = rw (c.assigned_numbers_query.ensures, c.params-to_sql.ensures, c.get.ensures.value) at c.in-Ok.ensures in (
+    let made = rw (c.assigned_numbers_query.ensures, c.params-to_sql.ensures, c.get.ensures.value) at c.in-Ok.ensures
+    in (
       refl,
       subst (λ (l : List ℕ). Streams g.S.Store AppendsNumber IsNumberRow assigned_numbers_text
           (Int (pos c.args.concept) ∷ []) c.args.conn.now c.in-Ok.rows.conn.now [] l) (sym c.new-numbers.ensures.items)
@@ -31,30 +31,22 @@ numbers-init g c =
 
 pub returns-in_default-get-clause-ok : goal.returns-in_default-get-clause-ok
 returns-in_default-get-clause-ok g c clean t keeps =
-    let mid = c.numbers.rows.conn.now in
-    let new = c.advance.new.self.conn.now in
-    let late : HasCleanDisk (state g.S.Store new) = search rules in
+    let late : HasCleanDisk (state g.S.Store c.advance.new.self.conn.now) = search rules in
     numbers_appended [] c.numbers.numbers.items _
-    (streams_whole g.S.Store AppendsNumber IsNumberRow assigned_numbers_text (Int (pos c.args.concept) ∷ [])
-    c.args.conn.now mid new [] c.numbers.numbers.items c.numbers.invariant.1 c.advance.ensures.survives
-    c.advance.ensures.mode _ (numbers_wanted c.args.concept (state g.S.Store c.args.conn.now) t keeps)
-    (λ now. subst (λ (r : Option Row). Advances g.S.Store mid new r) (sym c.in_default-get.ensures)
-    (c.in_default.ensures.ok now)) late)
+    (streams_whole _ _ _ _ _ _ _ c.advance.new.self.conn.now _ _ c.numbers.invariant.1 c.advance.ensures.survives
+    c.advance.ensures.mode
+    _ c.in_default.ensures.ok _ (numbers_wanted c.args.concept _ t keeps) c.in_default-get.ensures late)
 
 pub numbers-preserved : goal.numbers-preserved
-numbers-preserved g c =
-    let mid = c.numbers.rows.conn.now in
-    let new = c.advance.new.self.conn.now in (
-      c.advance.ensures.same_reference ∙ c.numbers.invariant.0,
-      streams_next g.S.Store AppendsNumber IsNumberRow assigned_numbers_text (Int (pos c.args.concept) ∷ [])
-          c.args.conn.now mid new [] c.numbers.numbers.items c.numbers.invariant.1 c.advance.ensures.survives
-          c.advance.ensures.mode c.push_number.new.numbers.items c.in-Some.row.now
-          (λ now. subst (λ (r : Option Row). Advances g.S.Store mid new r) (sym c.in-Some.ensures)
-          (c.in_default.ensures.ok now)) c.in_default.ensures.same
-          (λ n is. (
-            c.push_number.new.numbers.items,
-            c.in_default-push_number.ensures.ok n
-                (let first : column c.in-Some.row.now 0 ≡ Int (pos n) = rw is refl in first),
-            refl,
-          )),
-    )
+numbers-preserved g c = (
+  c.advance.ensures.same_reference ∙ c.numbers.invariant.0,
+  streams_next _ _ _ _ _ _ _ c.advance.new.self.conn.now _ _ c.numbers.invariant.1 c.advance.ensures.survives
+      c.advance.ensures.mode _
+      c.in_default.ensures.ok c.push_number.new.numbers.items c.in-Some.row.now c.in-Some.ensures
+      c.in_default.ensures.same (λ n is. (
+        c.push_number.new.numbers.items,
+        c.in_default-push_number.ensures.ok n
+            (let first : column c.in-Some.row.now 0 ≡ Int (pos n) = rw is refl in first),
+        refl,
+      )),
+)

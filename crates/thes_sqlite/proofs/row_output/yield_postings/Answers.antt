@@ -1,15 +1,15 @@
-use Rattle.std.proofs.Common.{◌∙◌, pos, List, [], ◌∷◌, Option, Err, refl, rules, arith, sym, subst}
+use Rattle.std.proofs.Common.{◌∙◌, pos, List, [], ◌∷◌, Err, refl, rules, arith}
 use Rattle.sqlite.specs.declared.types.Value.TheVariants.{Int}
 use Rattle.sqlite.specs.Order.{Row}
 use Rattle.sqlite.specs.State.{HasCleanDisk}
 use Rattle.sqlite.specs.Held.{state}
-use Rattle.sqlite.specs.Given.{Advances}
 use Rattle.thes_store.specs.Reading.{assigned_posting_rows}
 use Rattle.thes_store.proofs.SinkLemmas.{none_accepted}
 use Rattle.thes_sql.specs.Reads.{assigned_text}
 use Rattle.thes_sql.proofs.ReadFrameLemmas.{leaves_alone}
 use Rattle.thes_sql.proofs.SelectLemmas.{standing_is_query}
-use Rattle.thes_sqlite.proofs.RowStreamLemmas.{streams_begin, streams_next, streams_part, streams_refused, streams_whole}
+use Rattle.thes_sqlite.proofs.RowStreamLemmas.{streams_begin, streams_next, streams_part, streams_refused}
+use Rattle.thes_sqlite.proofs.RowStreamLemmas.{streams_whole}
 use Rattle.thes_sqlite.proofs.TableStreamLemmas.{IsPostingRow, assigned_wants}
 use Rattle.thes_sqlite.proofs.row_output.yield_postings.Goals as goal
 
@@ -37,55 +37,36 @@ postings-init g c =
 
 pub returns-in-Err-advance-clause-yields : goal.returns-in-Err-advance-clause-yields
 returns-in-Err-advance-clause-yields g c clean t keeps =
-    let mid = c.postings.postings.conn.now in
     let late : HasCleanDisk (state g.S.Store c.advance.new.self.conn.now) = search rules in
     let le = c.advance.ensures.survives.clean in
-    let early : HasCleanDisk (state g.S.Store mid) = omega (arith, le, late) in
-    streams_part g.S.Store g.P.PostingSink.gives IsPostingRow assigned_text (Int (pos c.args.concept) ∷ []) c.args.conn.now mid
-    c.args.sink.now c.postings.sink c.postings.invariant.1 _ (assigned_wants c.args.concept (state g.S.Store c.args.conn.now) t keeps)
-    c.fault_of-in-Err-advance.result early
+    streams_part _ _ _ _ _ _ _ _ _ c.postings.invariant.1 _ (assigned_wants c.args.concept _ t keeps) _
+    (omega (arith, le, late))
 
 pub returns-in_default-get-clause-yields : goal.returns-in_default-get-clause-yields
 returns-in_default-get-clause-yields g c clean t keeps =
-    let mid = c.postings.postings.conn.now in
-    let new = c.advance.new.self.conn.now in
-    let late : HasCleanDisk (state g.S.Store new) = search rules in
-    streams_whole g.S.Store g.P.PostingSink.gives IsPostingRow assigned_text (Int (pos c.args.concept) ∷ []) c.args.conn.now mid
-    new c.args.sink.now c.postings.sink c.postings.invariant.1 c.advance.ensures.survives c.advance.ensures.mode _
-    (assigned_wants c.args.concept (state g.S.Store c.args.conn.now) t keeps)
-    (λ now. subst (λ (r : Option Row). Advances g.S.Store mid new r) (sym c.in_default-get.ensures)
-    (c.in_default.ensures.ok now)) late
+    let late : HasCleanDisk (state g.S.Store c.advance.new.self.conn.now) = search rules in
+    streams_whole _ _ _ _ _ _ _ c.advance.new.self.conn.now _ _ c.postings.invariant.1 c.advance.ensures.survives
+    c.advance.ensures.mode
+    _ c.in_default.ensures.ok _ (assigned_wants c.args.concept _ t keeps) c.in_default-get.ensures late
 
 pub returns-in-Err-yield_posting-clause-yields : goal.returns-in-Err-yield_posting-clause-yields
 returns-in-Err-yield_posting-clause-yields g c clean t keeps =
-    let mid = c.postings.postings.conn.now in
-    let new = c.advance.new.self.conn.now in
-    let late : HasCleanDisk (state g.S.Store new) = search rules in
-    streams_refused g.S.Store g.P.PostingSink.gives IsPostingRow assigned_text (Int (pos c.args.concept) ∷ []) c.args.conn.now mid
-    new c.args.sink.now c.postings.sink c.postings.invariant.1 c.advance.ensures.survives c.advance.ensures.mode _
-    (assigned_wants c.args.concept (state g.S.Store c.args.conn.now) t keeps) c.yield_posting.new.sink c.in-Some.row.now
-    c.in-Err-yield_posting.fault
-    (λ now. subst (λ (r : Option Row). Advances g.S.Store mid new r) (sym c.in-Some.ensures)
-    (c.in_default.ensures.ok now)) c.in_default.ensures.same
+    let late : HasCleanDisk (state g.S.Store c.advance.new.self.conn.now) = search rules in
+    streams_refused _ _ _ _ _ _ _ c.advance.new.self.conn.now _ _ c.postings.invariant.1 c.advance.ensures.survives
+    c.advance.ensures.mode _ c.in_default.ensures.ok _ (assigned_wants c.args.concept _ t keeps)
+    c.yield_posting.new.sink c.in-Some.row.now
+    c.in-Err-yield_posting.fault c.in-Some.ensures c.in_default.ensures.same
     (λ x e. c.in-Err-yield_posting.ensures.yields x e) late
 
 pub postings-preserved : goal.postings-preserved
-postings-preserved g c =
-    let mid = c.postings.postings.conn.now in
-    let new = c.advance.new.self.conn.now in (
-      c.advance.ensures.same_reference ∙ c.postings.invariant.0,
-      streams_next g.S.Store g.P.PostingSink.gives IsPostingRow assigned_text (Int (pos c.args.concept) ∷ []) c.args.conn.now mid
-          new c.args.sink.now c.postings.sink c.postings.invariant.1 c.advance.ensures.survives c.advance.ensures.mode
-          c.yield_posting.new.sink c.in-Some.row.now
-          (λ now. subst (λ (r : Option Row). Advances g.S.Store mid new r) (sym c.in-Some.ensures)
-          (c.in_default.ensures.ok now)) c.in_default.ensures.same
-          (λ x e. c.in_default-yield_posting.ensures.yields x e),
-    )
+postings-preserved g c = (
+  c.advance.ensures.same_reference ∙ c.postings.invariant.0,
+  streams_next _ _ _ _ _ _ _ c.advance.new.self.conn.now _ _ c.postings.invariant.1 c.advance.ensures.survives
+      c.advance.ensures.mode _ c.in_default.ensures.ok c.yield_posting.new.sink c.in-Some.row.now c.in-Some.ensures
+      c.in_default.ensures.same (λ x e. c.in_default-yield_posting.ensures.yields x e),
+)
 
 pub returns-clause-yields : goal.returns-clause-yields
 returns-clause-yields g c clean t keeps =
-    let now = c.postings.postings.conn.now in
-    let late : HasCleanDisk (state g.S.Store now) = search rules in
-    streams_part g.S.Store g.P.PostingSink.gives IsPostingRow assigned_text (Int (pos c.args.concept) ∷ []) c.args.conn.now now
-    c.args.sink.now c.postings.sink c.postings.invariant.1 _ (assigned_wants c.args.concept (state g.S.Store c.args.conn.now) t keeps)
-    _ late
+    let late : HasCleanDisk (state g.S.Store c.postings.postings.conn.now) = search rules in
+    streams_part _ _ _ _ _ _ _ _ _ c.postings.invariant.1 _ (assigned_wants c.args.concept _ t keeps) _ late

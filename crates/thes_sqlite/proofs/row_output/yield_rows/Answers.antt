@@ -2,7 +2,6 @@ use Rattle.std.proofs.Common.{◌∙◌, inr, [], ◌∷◌, List, Option, Err, 
 use Rattle.sqlite.specs.Order.{Row}
 use Rattle.sqlite.specs.State.{HasCleanDisk}
 use Rattle.sqlite.specs.Held.{state}
-use Rattle.sqlite.specs.Given.{Advances}
 use Rattle.thes_base.specs.declared.fault.Table.{Table}
 use Rattle.thes_tables.specs.declared.cells.Cell.{Cell}
 use Rattle.thes_sql.specs.Reads.{read_text}
@@ -62,24 +61,15 @@ rows-init g c =
 
 pub returns-in-Err-advance-clause-yields : goal.returns-in-Err-advance-clause-yields
 returns-in-Err-advance-clause-yields g c clean is =
-    let mid = c.rows.rows.conn.now in
     let late : HasCleanDisk (state g.S.Store c.advance.new.self.conn.now) = search rules in
     let le = c.advance.ensures.survives.clean in
-    let early : HasCleanDisk (state g.S.Store mid) = omega (arith, le, late) in
-    streams_part g.S.Store g.R.RowSink.gives (IsTableRow c.args.name) (read_text c.args.name) [] c.args.conn.now mid
-    c.args.sink.now c.rows.sink c.rows.invariant.1 _ (table_wants c.args.name (state g.S.Store c.args.conn.now) is)
-    c.fault_of-in-Err-advance.result early
+    streams_part _ _ _ _ _ _ _ _ _ c.rows.invariant.1 _ (table_wants c.args.name _ is) _ (omega (arith, le, late))
 
 pub returns-in_default-get-clause-yields : goal.returns-in_default-get-clause-yields
 returns-in_default-get-clause-yields g c clean is =
-    let mid = c.rows.rows.conn.now in
-    let new = c.advance.new.self.conn.now in
-    let late : HasCleanDisk (state g.S.Store new) = search rules in
-    streams_whole g.S.Store g.R.RowSink.gives (IsTableRow c.args.name) (read_text c.args.name) [] c.args.conn.now mid
-    new c.args.sink.now c.rows.sink c.rows.invariant.1 c.advance.ensures.survives c.advance.ensures.mode _
-    (table_wants c.args.name (state g.S.Store c.args.conn.now) is)
-    (λ now. subst (λ (r : Option Row). Advances g.S.Store mid new r) (sym c.in_default-get.ensures)
-    (c.in_default.ensures.ok now)) late
+    let late : HasCleanDisk (state g.S.Store c.advance.new.self.conn.now) = search rules in
+    streams_whole _ _ _ _ _ _ _ c.advance.new.self.conn.now _ _ c.rows.invariant.1 c.advance.ensures.survives
+    c.advance.ensures.mode _ c.in_default.ensures.ok _ (table_wants c.args.name _ is) c.in_default-get.ensures late
 
 pub returns-in_default-get-clause-passes : goal.returns-in_default-get-clause-passes
 returns-in_default-get-clause-passes g c clean =
@@ -88,44 +78,31 @@ returns-in_default-get-clause-passes g c clean =
     let late : HasCleanDisk (state g.S.Store new) = search rules in
     let it = streams_end g.S.Store g.R.RowSink.gives (IsTableRow c.args.name) (read_text c.args.name) []
     c.args.conn.now mid new c.args.sink.now c.rows.sink c.rows.invariant.1 c.advance.ensures.survives
-    c.advance.ensures.mode
-    (λ now. subst (λ (r : Option Row). Advances g.S.Store mid new r) (sym c.in_default-get.ensures)
-    (c.in_default.ensures.ok now)) late in
+    c.advance.ensures.mode _ c.in_default.ensures.ok c.in_default-get.ensures late in
     table_passed g.R.RowSink.gives c.args.name (state g.S.Store c.args.conn.now) (state g.S.Store mid)
     (state g.S.Store new) c.args.sink.now c.rows.sink it.0 c.requires it.1 it.2 it.3
 
 pub returns-in-Err-yield_row-clause-yields : goal.returns-in-Err-yield_row-clause-yields
 returns-in-Err-yield_row-clause-yields g c clean is =
-    let mid = c.rows.rows.conn.now in
-    let new = c.advance.new.self.conn.now in
-    let late : HasCleanDisk (state g.S.Store new) = search rules in
-    streams_refused g.S.Store g.R.RowSink.gives (IsTableRow c.args.name) (read_text c.args.name) [] c.args.conn.now mid
-    new c.args.sink.now c.rows.sink c.rows.invariant.1 c.advance.ensures.survives c.advance.ensures.mode _
-    (table_wants c.args.name (state g.S.Store c.args.conn.now) is) c.yield_row.new.sink c.in-Some.row.now
-    c.in-Err-yield_row.fault
-    (λ now. subst (λ (r : Option Row). Advances g.S.Store mid new r) (sym c.in-Some.ensures)
-    (c.in_default.ensures.ok now)) c.in_default.ensures.same
+    let late : HasCleanDisk (state g.S.Store c.advance.new.self.conn.now) = search rules in
+    streams_refused _ _ _ _ _ _ _ c.advance.new.self.conn.now _ _ c.rows.invariant.1 c.advance.ensures.survives
+    c.advance.ensures.mode _
+    c.in_default.ensures.ok _ (table_wants c.args.name _ is) c.yield_row.new.sink c.in-Some.row.now
+    c.in-Err-yield_row.fault c.in-Some.ensures c.in_default.ensures.same
     (λ x e. subst (λ (y : Table × Option (List Cell)). SinkAcceptsPrefix g.R.RowSink.gives c.in-Err-yield_row.fault
     c.rows.sink (y ∷ []) c.yield_row.new.sink) (sym e) c.in-Err-yield_row.ensures.yields) late
 
 pub rows-preserved : goal.rows-preserved
-rows-preserved g c =
-    let mid = c.rows.rows.conn.now in
-    let new = c.advance.new.self.conn.now in (
-      c.advance.ensures.same_reference ∙ c.rows.invariant.0,
-      streams_next g.S.Store g.R.RowSink.gives (IsTableRow c.args.name) (read_text c.args.name) [] c.args.conn.now mid
-          new c.args.sink.now c.rows.sink c.rows.invariant.1 c.advance.ensures.survives c.advance.ensures.mode
-          c.yield_row.new.sink c.in-Some.row.now
-          (λ now. subst (λ (r : Option Row). Advances g.S.Store mid new r) (sym c.in-Some.ensures)
-          (c.in_default.ensures.ok now)) c.in_default.ensures.same
-          (λ x e. subst (λ (y : Table × Option (List Cell)). SinkAcceptsAll g.R.RowSink.gives c.rows.sink (y ∷ [])
-          c.yield_row.new.sink) (sym e) c.in_default-yield_row.ensures.yields),
-    )
+rows-preserved g c = (
+  c.advance.ensures.same_reference ∙ c.rows.invariant.0,
+  streams_next _ _ _ _ _ _ _ c.advance.new.self.conn.now _ _ c.rows.invariant.1 c.advance.ensures.survives
+      c.advance.ensures.mode _
+      c.in_default.ensures.ok c.yield_row.new.sink c.in-Some.row.now c.in-Some.ensures c.in_default.ensures.same
+      (λ x e. subst (λ (y : Table × Option (List Cell)). SinkAcceptsAll g.R.RowSink.gives c.rows.sink (y ∷ [])
+      c.yield_row.new.sink) (sym e) c.in_default-yield_row.ensures.yields),
+)
 
 pub returns-clause-yields : goal.returns-clause-yields
 returns-clause-yields g c clean is =
-    let now = c.rows.rows.conn.now in
-    let late : HasCleanDisk (state g.S.Store now) = search rules in
-    streams_part g.S.Store g.R.RowSink.gives (IsTableRow c.args.name) (read_text c.args.name) [] c.args.conn.now now
-    c.args.sink.now c.rows.sink c.rows.invariant.1 _ (table_wants c.args.name (state g.S.Store c.args.conn.now) is)
-    _ late
+    let late : HasCleanDisk (state g.S.Store c.rows.rows.conn.now) = search rules in
+    streams_part _ _ _ _ _ _ _ _ _ c.rows.invariant.1 _ (table_wants c.args.name _ is) _ late

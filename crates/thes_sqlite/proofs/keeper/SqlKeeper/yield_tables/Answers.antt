@@ -24,34 +24,28 @@ loop-name-init g c = (
 pub loop-name-preserved : goal.loop-name-preserved
 loop-name-preserved g c =
     let name = get_or c.args.names.now c.loop-name.name-index table.Meta in (
-      load_progress_next g.S.Store g.R.RowSink.gives c.args.names.now c.loop-name.name-index name c.args.self.now
-          c.loop-name.self
-          c.yield_table.new.self c.args.sink.now c.loop-name.sink c.yield_table.new.sink c.yield_table.result
-          c.loop-name-test.true
-          (search rules) c.loop-name.invariant.0 c.yield_table.ensures.yields c.yield_table.ensures.asks c.yield_table.ensures.first c.in_default.field-0 c.in_default.is,
-      found_next g.R.RowSink.gives g.S.Store c.args.names.now c.loop-name.name-index name c.args.self.now.conn
-          c.loop-name.self.conn c.yield_table.new.self.conn c.args.sink.now c.loop-name.sink c.yield_table.new.sink
-          c.loop-name-test.true (search rules) c.loop-name.invariant.1 c.yield_table.ensures.leaves
-          (rw c.in_default.is at c.yield_table.ensures.passes),
+      load_progress_next _ _ c.args.names.now c.loop-name.name-index name _ _ c.yield_table.new.self _ _
+          c.yield_table.new.sink c.yield_table.result c.loop-name-test.true (search rules) c.loop-name.invariant.0
+          c.yield_table.ensures.yields c.yield_table.ensures.asks c.yield_table.ensures.first
+          c.in_default.field-0 c.in_default.is,
+      found_next _ _ c.args.names.now c.loop-name.name-index name _ _ c.yield_table.new.self.conn _ _
+          c.yield_table.new.sink c.loop-name-test.true (search rules) c.loop-name.invariant.1
+          c.yield_table.ensures.leaves (rw c.in_default.is at c.yield_table.ensures.passes),
     )
 
 pub returns-in-Err-clause-yields : goal.returns-in-Err-clause-yields
 returns-in-Err-clause-yields g c =
     let name = get_or c.args.names.now c.loop-name.name-index table.Meta in
-    (load_progress_fault g.S.Store g.R.RowSink.gives c.args.names.now c.loop-name.name-index name c.args.self.now
-    c.loop-name.self
-    c.yield_table.new.self c.args.sink.now c.loop-name.sink c.yield_table.new.sink c.yield_table.result
-    c.loop-name-test.true
-    (search rules) c.loop-name.invariant.0 c.yield_table.ensures.yields c.yield_table.ensures.asks c.yield_table.ensures.first c.in-Err.fault c.in-Err.is).0
+    (load_progress_fault _ _ c.args.names.now c.loop-name.name-index name _ _ c.yield_table.new.self _ _
+    c.yield_table.new.sink c.yield_table.result c.loop-name-test.true (search rules) c.loop-name.invariant.0
+    c.yield_table.ensures.yields c.yield_table.ensures.asks c.yield_table.ensures.first c.in-Err.fault c.in-Err.is).0
 
 pub returns-in-Err-clause-asks : goal.returns-in-Err-clause-asks
 returns-in-Err-clause-asks g c =
     let name = get_or c.args.names.now c.loop-name.name-index table.Meta in
-    (load_progress_fault g.S.Store g.R.RowSink.gives c.args.names.now c.loop-name.name-index name c.args.self.now
-    c.loop-name.self
-    c.yield_table.new.self c.args.sink.now c.loop-name.sink c.yield_table.new.sink c.yield_table.result
-    c.loop-name-test.true
-    (search rules) c.loop-name.invariant.0 c.yield_table.ensures.yields c.yield_table.ensures.asks c.yield_table.ensures.first c.in-Err.fault c.in-Err.is).1
+    (load_progress_fault _ _ c.args.names.now c.loop-name.name-index name _ _ c.yield_table.new.self _ _
+    c.yield_table.new.sink c.yield_table.result c.loop-name-test.true (search rules) c.loop-name.invariant.0
+    c.yield_table.ensures.yields c.yield_table.ensures.asks c.yield_table.ensures.first c.in-Err.fault c.in-Err.is).1
 
 pub returns-in-Err-clause-first : goal.returns-in-Err-clause-first
 returns-in-Err-clause-first g c = c.yield_table.ensures.first ∙ c.loop-name.invariant.0.first
@@ -64,8 +58,7 @@ pub returns-clause-first : goal.returns-clause-first
 returns-clause-first g c = c.loop-name.invariant.0.first
 
 pub returns-clause-yields : goal.returns-clause-yields
-returns-clause-yields g c = λ up.
-    subst (λ (l : List Table). SinkAcceptsAll g.R.RowSink.gives c.args.sink.now
+returns-clause-yields g c = λ up. subst (λ (l : List Table). SinkAcceptsAll g.R.RowSink.gives c.args.sink.now
     (sink_rows_of_tables (raw_of_keeper g.S.Store c.args.self.now) l) c.loop-name.sink)
     (take_all c.loop-name.name-index c.args.names.now c.loop-name-test.false) (c.loop-name.invariant.0.sink_accepts up)
 
@@ -79,6 +72,5 @@ returns-clause-leaves g c = c.loop-name.invariant.1.leaves
 pub returns-clause-passes : goal.returns-clause-passes
 returns-clause-passes g c = λ up settled.
     subst (λ (l : List Table). PassesNamed g.R.RowSink.gives l (state g.S.Store c.args.self.now.conn).now
-    c.args.sink.now c.loop-name.sink)
-    (take_all c.loop-name.name-index c.args.names.now c.loop-name-test.false)
+    c.args.sink.now c.loop-name.sink) (take_all c.loop-name.name-index c.args.names.now c.loop-name-test.false)
     (c.loop-name.invariant.1.passes up settled)
