@@ -4,7 +4,7 @@ pub mod PostingLoadLemmas
 pub mod MoveLoadLemmas
 pub mod SixLemmas
 pub mod ReplacementLemmas
-pub mod LinkLoadLemmas
+pub mod LinkedVocabLemmas
 pub mod ReadResultLemmas
 pub mod RowFormLemmas
 pub mod NameLoadLemmas

@@ -15,7 +15,7 @@ use Rattle.thes_post.specs.PostingCounts.{PostingCounts, ArePostingCounts}
 use Rattle.thes_load_rules.specs.Rules.{MoveRule, history_of}
 use Rattle.thes_load_rules.proofs.VerdictByTableLemmas.{verdict_by_table}
 use Rattle.thes_load_rows.specs.declared.stage.Stage.TheVariants as stage
-use Rattle.thes_load_rows.specs.declared.linked_vocab.LinkedVocab.{LinkedVocab}
+use Rattle.thes_load_rows.specs.declared.links.LinkedVocab.{LinkedVocab}
 use Rattle.thes_load_rows.specs.declared.postings.PlacedPostings.{PlacedPostings}
 use Rattle.thes_load_rows.specs.declared.moves.MoveLoad.{MoveLoad}
 use Rattle.thes_load_rows.specs.RowsSoFar.{HasMoves}

@@ -21,7 +21,7 @@ use Rattle.thes_load_rows.specs.ReadResults.{IsFaulty, ReadResult}
 use Rattle.thes_load_rows.specs.Progress.{Grows, raw_with_row, HasRead, HasNames, NoneAfterOutside, NoneAfterLabel}
 use Rattle.thes_load_rows.specs.Progress.{NoneAfterLink, NoneAfterHier, NoneAfterPosting}
 use Rattle.thes_load_rows.specs.declared.names.OutsideLoad.{OutsideLoad}
-use Rattle.thes_load_rows.specs.declared.linked_vocab.LinkedVocab.{LinkedVocab}
+use Rattle.thes_load_rows.specs.declared.links.LinkedVocab.{LinkedVocab}
 use Rattle.thes_load_rows.specs.declared.postings.PostingLoad.{PostingLoad}
 use Rattle.thes_load_rows.specs.NamesSoFar.{HasOutside, HasLabels}
 use Rattle.thes_load_rows.specs.LinksSoFar.{HasLinks}
@@ -166,7 +166,7 @@ label_taken raw t cells new passes read (x, e, has) after = (
 -- The stage is right after a row of table link is added.
 pub link_taken : (raw : Raw) (t : Tables) (cells : List Cell) (new : LinkedVocab) → LabelPasses raw t
     → HasNames new.vocab t → raw.link ≡ Some (map link_cells t.link) → ReadResult (map link_cells)
-    (λ rows. HasLinks t.resource new.links.graph rows []) (LinkRule t.resource) t.link cells true → NoneAfterLink raw
+    (λ rows. HasLinks t.resource new.graph rows []) (LinkRule t.resource) t.link cells true → NoneAfterLink raw
     → HasRead (stage.Link new) (raw_with_row table.Link cells raw)
 link_taken raw t cells new passes names read (x, e, has) after = (
   record t { link = t.link ++ x ∷ [] },
@@ -181,7 +181,7 @@ link_taken raw t cells new passes names read (x, e, has) after = (
 -- The stage is right after a row of table hier is added.
 pub hier_taken : (raw : Raw) (t : Tables) (cells : List Cell) (new : LinkedVocab) → LinkPasses raw t
     → HasNames new.vocab t → raw.hier ≡ Some (map hier_cells t.hier) → ReadResult (map hier_cells)
-    (HasLinks t.resource new.links.graph t.link) (HierRule t.resource t.link) t.hier cells true → NoneAfterHier raw
+    (HasLinks t.resource new.graph t.link) (HierRule t.resource t.link) t.hier cells true → NoneAfterHier raw
     → HasRead (stage.Hier new) (raw_with_row table.Hier cells raw)
 hier_taken raw t cells new passes names read (x, e, has) after = (
   record t { hier = t.hier ++ x ∷ [] },
@@ -195,7 +195,7 @@ hier_taken raw t cells new passes names read (x, e, has) after = (
 
 -- The stage is right after a row of table posting is added.
 pub posting_taken : (raw : Raw) (t : Tables) (cells : List Cell) (linked_vocab : LinkedVocab) (new : PostingLoad)
-    → HierPasses raw t → HasNames linked_vocab.vocab t → HasLinks t.resource linked_vocab.links.graph t.link t.hier
+    → HierPasses raw t → HasNames linked_vocab.vocab t → HasLinks t.resource linked_vocab.graph t.link t.hier
     → raw.posting ≡ Some (map posting_cells t.posting) → ReadResult (map posting_cells)
     (HasPostings t.resource new.keys.keys new.firsts.items new.stored_places.items new.tally) (PostingRule t.resource)
     t.posting cells true → NoneAfterPosting raw → HasRead (stage.Posting linked_vocab new)

@@ -23,7 +23,7 @@ use Rattle.thes_load_rows.specs.declared.stage.Stage.TheVariants as stage
 use Rattle.thes_load_rows.specs.declared.meta.MetaRow.TheVariants.{Base}
 use Rattle.thes_load_rows.specs.declared.resources.ResourceLoad.{ResourceLoad}
 use Rattle.thes_load_rows.specs.declared.names.OutsideLoad.{OutsideLoad}
-use Rattle.thes_load_rows.specs.declared.linked_vocab.LinkedVocab.{LinkedVocab}
+use Rattle.thes_load_rows.specs.declared.links.LinkedVocab.{LinkedVocab}
 use Rattle.thes_load_rows.specs.declared.postings.PlacedPostings.{PlacedPostings}
 use Rattle.thes_load_rows.specs.declared.postings.PostingLoad.{PostingLoad}
 use Rattle.thes_load_rows.specs.declared.moves.MoveLoad.{MoveLoad}
@@ -120,7 +120,7 @@ label_without vocab broken = (
 
 -- If table label meets its rule, table link begins without rows.
 pub label_good : (old : Vocabulary) (new : LinkedVocab) → AreLabelsSoFar old.resources old.labels
-    → EachHasPreferred old.resources old.labels → new.vocab ≡ old → HasLinks new.vocab.resources new.links.graph [] []
+    → EachHasPreferred old.resources old.labels → new.vocab ≡ old → HasLinks new.vocab.resources new.graph [] []
     → Closes (stage.Label old) (stage.Link new)
 label_good old new so_far named same links = (
   refl,
@@ -142,7 +142,7 @@ label_good old new so_far named same links = (
         (passes, (read, rule)),
         names,
         after.0,
-        subst (λ (rs : List Resource). HasLinks rs new.links.graph [] []) (ap (λ (v : Vocabulary). v.resources) names)
+        subst (λ (rs : List Resource). HasLinks rs new.graph [] []) (ap (λ (v : Vocabulary). v.resources) names)
             links,
         after.1,
       ),
@@ -156,7 +156,7 @@ link_good linked_vocab = (
 )
 
 pub hier_bad : (linked_vocab : LinkedVocab)
-    → ((t : Tables) → HasLinks t.resource linked_vocab.links.graph t.link t.hier → HierRule t.resource t.link t.hier
+    → ((t : Tables) → HasLinks t.resource linked_vocab.graph t.link t.hier → HierRule t.resource t.link t.hier
     → ⊥) → Closes (stage.Hier linked_vocab) (stage.Stopped (BadStore table.Hier) table.Posting)
 hier_bad linked_vocab broken = (
   refl,
@@ -168,7 +168,7 @@ hier_bad linked_vocab broken = (
 )
 
 pub hier_good : (linked_vocab : LinkedVocab) (new : PostingLoad)
-    → ((t : Tables) → HasLinks t.resource linked_vocab.links.graph t.link t.hier → HierRule t.resource t.link t.hier)
+    → ((t : Tables) → HasLinks t.resource linked_vocab.graph t.link t.hier → HierRule t.resource t.link t.hier)
     → ((rs : List Resource) → HasPostings rs new.keys.keys new.firsts.items new.stored_places.items new.tally [])
     → Closes (stage.Hier linked_vocab) (stage.Posting linked_vocab new)
 hier_good linked_vocab new rule none = (

@@ -28,7 +28,7 @@ use Rattle.thes_load_rows.specs.declared.meta.MetaRow.{MetaRow}
 use Rattle.thes_load_rows.specs.declared.stage.Stage.TheVariants as stage
 use Rattle.thes_load_rows.specs.declared.resources.ResourceLoad.{ResourceLoad}
 use Rattle.thes_load_rows.specs.declared.names.OutsideLoad.{OutsideLoad}
-use Rattle.thes_load_rows.specs.declared.linked_vocab.LinkedVocab.{LinkedVocab}
+use Rattle.thes_load_rows.specs.declared.links.LinkedVocab.{LinkedVocab}
 use Rattle.thes_load_rows.specs.declared.postings.PlacedPostings.{PlacedPostings}
 use Rattle.thes_load_rows.specs.declared.postings.PostingLoad.{PostingLoad}
 use Rattle.thes_load_rows.specs.declared.moves.MoveLoad.{MoveLoad}
@@ -128,124 +128,85 @@ label_row old new cells false reads = λ raw (t, passes, read, has, after). labe
     (reads t.base t.resource t.outside t.label passes.0.1.1.few has)
 
 -- The resources of the vocabulary are those of the table.
-same_resources : (vocab : Vocabulary) (rs : List Resource) (t : Tables) → rs ≡ vocab.resources → HasNames vocab t → rs
-    ≡ t.resource
-same_resources vocab rs t e names = e ∙ ap (λ (v : Vocabulary). v.resources) names
+same_resources : (vocab : Vocabulary) (t : Tables) → HasNames vocab t → vocab.resources ≡ t.resource
+same_resources vocab t names = ap (λ (v : Vocabulary). v.resources) names
 
-module _ (rs : List Resource) (cells : List Cell) where
-  pub link_row : (old new : LinkedVocab) (good : Bool) → rs ≡ old.vocab.resources → new.vocab ≡ old.vocab
-      → ((rows : List Link) → HasLinks rs old.links.graph rows [] → ReadResult (map link_cells)
-      (λ more. HasLinks rs new.links.graph more []) (LinkRule rs) rows cells good)
+module _ (old new : LinkedVocab) (cells : List Cell) (same : new.vocab ≡ old.vocab) where
+  abbrev pub ReadsLink : Bool → List Link → List Resource → Type 0
+  ReadsLink good rows rs = HasLinks rs old.graph rows [] → ReadResult (map link_cells)
+      (λ more. HasLinks rs new.graph more []) (LinkRule rs) rows cells good
+
+  pub link_row : (good : Bool) → ((rows : List Link) → ReadsLink good rows old.vocab.resources)
       → ReadsRow (stage.Link old) (stage.Link new) cells good
-  link_row old new good is same reads = by good reads
-    where
-      of_table : (g : Bool) (r : (rows : List Link) → HasLinks rs old.links.graph rows []
-          → ReadResult (map link_cells) (λ more. HasLinks rs new.links.graph more []) (LinkRule rs) rows cells g)
-          (t : Tables) → HasNames old.vocab t → HasLinks t.resource old.links.graph t.link []
-          → ReadResult (map link_cells) (λ more. HasLinks t.resource new.links.graph more []) (LinkRule t.resource)
-          t.link cells g
-      of_table g r t names has = grind (arith, common_steps, same_resources)
+  link_row true reads = (
+    refl,
+    λ raw (t, passes, names, read, has, after). link_taken raw t cells new passes (same ∙ names) read
+        (subst (ReadsLink true t.link) (same_resources old.vocab t names) (reads t.link) has) after,
+  )
+  link_row false reads = λ raw (t, passes, names, read, has, after). link_fault raw t cells passes read
+      (subst (ReadsLink false t.link) (same_resources old.vocab t names) (reads t.link) has)
 
-      by : (g : Bool) → ((rows : List Link) → HasLinks rs old.links.graph rows [] → ReadResult (map link_cells)
-          (λ more. HasLinks rs new.links.graph more []) (LinkRule rs) rows cells g) → ReadsRow (stage.Link old)
-          (stage.Link new) cells g
-      by true r = (
-        refl,
-        λ raw (t, passes, names, read, has, after). link_taken raw t cells new passes (same ∙ names)
-            read (of_table true r t names has) after,
-      )
-      by false r = λ raw (t, passes, names, read, has, after). link_fault raw t cells passes read
-          (of_table false r t names has)
+  abbrev pub ReadsHier : Bool → List Link → List HierRow → List Resource → Type 0
+  ReadsHier good links rows rs = HasLinks rs old.graph links rows → ReadResult (map hier_cells)
+      (HasLinks rs new.graph links) (HierRule rs links) rows cells good
 
-  pub hier_row : (old new : LinkedVocab) (good : Bool) → rs ≡ old.vocab.resources → new.vocab ≡ old.vocab
-      → ((links : List Link) (rows : List HierRow) → HasLinks rs old.links.graph links rows
-      → ReadResult (map hier_cells) (HasLinks rs new.links.graph links) (HierRule rs links) rows cells good)
-      → ReadsRow (stage.Hier old) (stage.Hier new) cells good
-  hier_row old new good is same reads = by good reads
-    where
-      of_table : (g : Bool) (r : (links : List Link) (rows : List HierRow) → HasLinks rs old.links.graph links rows
-          → ReadResult (map hier_cells) (HasLinks rs new.links.graph links) (HierRule rs links) rows cells g)
-          (t : Tables) → HasNames old.vocab t → HasLinks t.resource old.links.graph t.link t.hier
-          → ReadResult (map hier_cells) (HasLinks t.resource new.links.graph t.link) (HierRule t.resource t.link)
-          t.hier cells g
-      of_table g r t names has = grind (arith, common_steps, same_resources)
-
-      by : (g : Bool) → ((links : List Link) (rows : List HierRow) → HasLinks rs old.links.graph links rows
-          → ReadResult (map hier_cells) (HasLinks rs new.links.graph links) (HierRule rs links) rows cells g)
-          → ReadsRow (stage.Hier old) (stage.Hier new) cells g
-      by true r = (
-        refl,
-        λ raw (t, passes, names, read, has, after). hier_taken raw t cells new passes (same ∙ names)
-            read (of_table true r t names has) after,
-      )
-      by false r = λ raw (t, passes, names, read, has, after). hier_fault raw t cells passes read
-          (of_table false r t names has)
+  pub hier_row : (good : Bool) → ((links : List Link) (rows : List HierRow) → ReadsHier good links rows
+      old.vocab.resources) → ReadsRow (stage.Hier old) (stage.Hier new) cells good
+  hier_row true reads = (
+    refl,
+    λ raw (t, passes, names, read, has, after). hier_taken raw t cells new passes (same ∙ names) read
+        (subst (ReadsHier true t.link t.hier) (same_resources old.vocab t names) (reads t.link t.hier) has) after,
+  )
+  hier_row false reads = λ raw (t, passes, names, read, has, after). hier_fault raw t cells passes read
+      (subst (ReadsHier false t.link t.hier) (same_resources old.vocab t names) (reads t.link t.hier) has)
 
 module _ (linked_vocab : LinkedVocab) (rs : List Resource) (is : rs ≡ linked_vocab.vocab.resources)
     (cells : List Cell) where
-  pub posting_row : (old new : PostingLoad) (good : Bool)
-      → ((rows : List PostingRow) → HasPostings rs old.keys.keys old.firsts.items old.stored_places.items old.tally
-      rows → ReadResult (map posting_cells) (HasPostings rs new.keys.keys new.firsts.items new.stored_places.items
-      new.tally) (PostingRule rs) rows cells good)
-      → ReadsRow (stage.Posting linked_vocab old) (stage.Posting linked_vocab new) cells good
-  posting_row old new good reads = by good reads
-    where
-      of_table : (g : Bool) (r : (rows : List PostingRow) → HasPostings rs old.keys.keys old.firsts.items
-          old.stored_places.items old.tally rows → ReadResult (map posting_cells)
-          (HasPostings rs new.keys.keys new.firsts.items new.stored_places.items new.tally) (PostingRule rs) rows
-          cells g) (t : Tables) → HasNames linked_vocab.vocab t → HasPostings t.resource old.keys.keys
-          old.firsts.items old.stored_places.items old.tally t.posting → ReadResult (map posting_cells)
-          (HasPostings t.resource new.keys.keys new.firsts.items new.stored_places.items new.tally)
-          (PostingRule t.resource) t.posting cells g
-      of_table g r t names has = grind (arith, common_steps, same_resources)
+  abbrev pub HasPostingsOf : PostingLoad → List Resource → List PostingRow → Type 0
+  HasPostingsOf load known = HasPostings known load.keys.keys load.firsts.items load.stored_places.items load.tally
 
-      by : (g : Bool) → ((rows : List PostingRow) → HasPostings rs old.keys.keys old.firsts.items
-          old.stored_places.items old.tally rows → ReadResult (map posting_cells)
-          (HasPostings rs new.keys.keys new.firsts.items new.stored_places.items new.tally) (PostingRule rs) rows
-          cells g) → ReadsRow (stage.Posting linked_vocab old) (stage.Posting linked_vocab new) cells g
-      by true r = (
-        refl,
-        λ raw (t, passes, names, links, read, has, after). posting_taken raw t cells linked_vocab new
-            passes names links read (of_table true r t names has) after,
-      )
-      by false r = λ raw (t, passes, names, links, read, has, after). posting_fault raw t cells passes read
-          (of_table false r t names has)
+  abbrev pub ReadsPosting : PostingLoad → PostingLoad → Bool → List PostingRow → List Resource → Type 0
+  ReadsPosting old new good rows known = HasPostingsOf old known rows → ReadResult (map posting_cells)
+      (HasPostingsOf new known) (PostingRule known) rows cells good
+
+  pub posting_row : (old new : PostingLoad) (good : Bool) → ((rows : List PostingRow) → ReadsPosting old new good rows
+      rs) → ReadsRow (stage.Posting linked_vocab old) (stage.Posting linked_vocab new) cells good
+  posting_row old new true reads = (
+    refl,
+    λ raw (t, passes, names, links, read, has, after). posting_taken raw t cells linked_vocab new passes names links
+        read (subst (ReadsPosting old new true t.posting) (is ∙ same_resources linked_vocab.vocab t names)
+        (reads t.posting) has) after,
+  )
+  posting_row old new false reads = λ raw (t, passes, names, links, read, has, after). posting_fault raw t cells passes
+      read (subst (ReadsPosting old new false t.posting) (is ∙ same_resources linked_vocab.vocab t names)
+      (reads t.posting) has)
+
+  abbrev pub ReadsMove : MoveLoad → MoveLoad → Bool → List PostingRow → List MoveRow → List Resource → Type 0
+  ReadsMove old new good postings rows known = PostingRule known postings → HasMoves known postings old.taken
+      old.places.items rows → ReadResult (map move_cells) (HasMoves known postings new.taken new.places.items)
+      (MoveRule known postings) rows cells good
 
   -- The stage is right after a row of table move.
   pub move_row : (placed : PlacedPostings) (old new : MoveLoad) (good : Bool)
-      → ((postings : List PostingRow) (rows : List MoveRow) → PostingRule rs postings → HasMoves rs postings old.taken
-      old.places.items rows → ReadResult (map move_cells) (HasMoves rs postings new.taken new.places.items)
-      (MoveRule rs postings) rows cells good)
+      → ((postings : List PostingRow) (rows : List MoveRow) → ReadsMove old new good postings rows rs)
       → ReadsRow (stage.Move linked_vocab placed old) (stage.Move linked_vocab placed new) cells good
-  move_row placed old new good reads = by good reads
-    where
-      of_table : (g : Bool) (r : (postings : List PostingRow) (rows : List MoveRow) → PostingRule rs postings
-          → HasMoves rs postings old.taken old.places.items rows → ReadResult (map move_cells)
-          (HasMoves rs postings new.taken new.places.items) (MoveRule rs postings) rows cells g) (t : Tables)
-          → HasNames linked_vocab.vocab t → PostingRule t.resource t.posting → HasMoves t.resource t.posting old.taken
-          old.places.items t.move → ReadResult (map move_cells)
-          (HasMoves t.resource t.posting new.taken new.places.items) (MoveRule t.resource t.posting) t.move cells g
-      of_table g r t names rule has = grind (arith, common_steps, same_resources)
-
-      by : (g : Bool) → ((postings : List PostingRow) (rows : List MoveRow) → PostingRule rs postings
-          → HasMoves rs postings old.taken old.places.items rows → ReadResult (map move_cells)
-          (HasMoves rs postings new.taken new.places.items) (MoveRule rs postings) rows cells g)
-          → ReadsRow (stage.Move linked_vocab placed old) (stage.Move linked_vocab placed new) cells g
-      by true r = (
-        refl,
-        λ raw (t, passes, names, links, are, read, has).
-            let (x, e, next) = of_table true r t names passes.1.1 has in (
-              record t { move = t.move ++ x ∷ [] },
-              passes,
-              names,
-              links,
-              are,
-              ap (with_cells cells) read ∙ ap (λ (rows : List (List Cell)). Some rows) (sym e),
-              next,
-            ),
-      )
-      by false r = λ raw (t, passes, names, links, are, read, has). move_fault raw t cells passes read
-          (of_table false r t names passes.1.1 has)
+  move_row placed old new true reads = (
+    refl,
+    λ raw (t, passes, names, links, are, read, has).
+        let (x, e, next) = subst (ReadsMove old new true t.posting t.move)
+        (is ∙ same_resources linked_vocab.vocab t names) (reads t.posting t.move) passes.1.1 has in (
+          record t { move = t.move ++ x ∷ [] },
+          passes,
+          names,
+          links,
+          are,
+          ap (with_cells cells) read ∙ ap (λ (rows : List (List Cell)). Some rows) (sym e),
+          next,
+        ),
+  )
+  move_row placed old new false reads = λ raw (t, passes, names, links, are, read, has). move_fault raw t cells passes
+      read (subst (ReadsMove old new false t.posting t.move) (is ∙ same_resources linked_vocab.vocab t names)
+      (reads t.posting t.move) passes.1.1 has)
 
 less_grown : (cells : List Cell) (rows queried : RawTable) → Grows (with_cells cells rows) queried → Grows rows queried
 less_grown cells rows queried grows = grind (arith, common_steps, append_assoc)

@@ -14,6 +14,6 @@ use Rattle.thes_load_rows.specs.LinksSoFar.{HasLinks}
 abbrev pub LoadResult : Raw → Result LoadedParts Fault → Type 0
 LoadResult raw (Ok parts) =
     (t : Tables) × HasVerdict raw (Ok t) × HasNames parts.linked_vocab.vocab t
-    × HasLinks t.resource parts.linked_vocab.links.graph t.link t.hier
+    × HasLinks t.resource parts.linked_vocab.graph t.link t.hier
     × ArePostingCounts (state_of t).histories parts.book
 LoadResult raw (Err fault) = HasVerdict raw (Err fault)

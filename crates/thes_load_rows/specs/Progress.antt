@@ -1,5 +1,5 @@
 -- The progress of a load through rows of cells, table by table.
-use Rattle.std.specs.Prelude.{◌≡◌, ◌⊎◌, ℕ, List, [], ◌∷◌, ◌++◌, map, Bool, true, false, Option, None, Some}
+use Rattle.std.specs.Prelude.{◌≡◌, ◌⊎◌, List, [], ◌∷◌, ◌++◌, map, Bool, true, false, Option, None, Some}
 use Rattle.std.specs.Prelude.{option_map, Err}
 use Rattle.thes_base.specs.declared.fault.Fault.TheVariants.{BadStore}
 use Rattle.thes_base.specs.declared.fault.Table.{Table}
@@ -110,18 +110,18 @@ HasRead (stage.Label vocab) raw =
     × HasLabels t.base t.resource t.outside vocab t.label × NoneAfterLabel raw
 HasRead (stage.Link linked_vocab) raw =
     (t : Tables) × LabelPasses raw t × HasNames linked_vocab.vocab t × (raw.link ≡ Some (map link_cells t.link))
-    × HasLinks t.resource linked_vocab.links.graph t.link [] × NoneAfterLink raw
+    × HasLinks t.resource linked_vocab.graph t.link [] × NoneAfterLink raw
 HasRead (stage.Hier linked_vocab) raw =
     (t : Tables) × LinkPasses raw t × HasNames linked_vocab.vocab t × (raw.hier ≡ Some (map hier_cells t.hier))
-    × HasLinks t.resource linked_vocab.links.graph t.link t.hier × NoneAfterHier raw
+    × HasLinks t.resource linked_vocab.graph t.link t.hier × NoneAfterHier raw
 HasRead (stage.Posting linked_vocab load) raw =
-    (t : Tables) × HierPasses raw t × HasNames linked_vocab.vocab t × HasLinks t.resource linked_vocab.links.graph
+    (t : Tables) × HierPasses raw t × HasNames linked_vocab.vocab t × HasLinks t.resource linked_vocab.graph
     t.link t.hier
     × (raw.posting ≡ Some (map posting_cells t.posting))
     × HasPostings t.resource load.keys.keys load.firsts.items load.stored_places.items load.tally t.posting
     × NoneAfterPosting raw
 HasRead (stage.Move linked_vocab placed load) raw =
-    (t : Tables) × PostingPasses raw t × HasNames linked_vocab.vocab t × HasLinks t.resource linked_vocab.links.graph
+    (t : Tables) × PostingPasses raw t × HasNames linked_vocab.vocab t × HasLinks t.resource linked_vocab.graph
     t.link t.hier
     × ArePlaced placed t.posting × (raw.move ≡ Some (map move_cells t.move))
     × HasMoves t.resource t.posting load.taken load.places.items t.move

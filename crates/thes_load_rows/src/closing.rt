@@ -1,9 +1,11 @@
 //! The checks of a table after its last row.
-ghost use Rattle.std.specs.Prelude.{IfOk};
+ghost use Rattle.std.specs.Prelude.{◌≡◌, IfOk};
+ghost use Rattle.thes_base.specs.declared.fault.Fault.TheVariants.{BadStore};
+ghost use Rattle.thes_tables.specs.TableOrder.{next_table};
 ghost use Rattle.thes_load_rows.specs.declared.stage.Stage.TheVariants as stage;
 ghost use Rattle.thes_load_rows.specs.Progress.{Closes};
 
-use crate::linked_vocab::LinkedVocab;
+use crate::links::LinkedVocab;
 use crate::meta::MetaRow;
 use crate::names::OutsideLoad;
 use crate::postings::PostingLoad;
@@ -12,7 +14,16 @@ use crate::stage::Stage;
 use std::alloc::{AllocError, Global};
 use thes_base::fault::{Fault, Table};
 use thes_base::text::Base;
+use thes_tables::order::next_table;
 use thes_vocab::VocabLoad;
+
+// Returns the stage after a table that doesn't meet its rule: stopped with `BadStore`, at the next
+// table.
+fn stage_after_fault(table: Table) -> Stage
+    ensures { result ≡ stage.Stopped (BadStore table) (next_table table) }
+{
+    Stage::Stopped(Fault::BadStore(table), next_table(table))
+}
 
 /// Begins table resource if table meta has a row of the current version. Stops with `OlderStore` or
 /// `NewerStore` for another version, and with `BadStore` if there is no row.
@@ -21,9 +32,9 @@ pub fn close_meta(alloc: Global, row: Option<MetaRow>) -> Stage
 {
     match row {
         Some(MetaRow::Base(base)) => Stage::Resource(base, ResourceLoad::new(alloc)),
-        Some(MetaRow::Newer) => Stage::Stopped(Fault::NewerStore, Table::Resource),
-        Some(MetaRow::Older) => Stage::Stopped(Fault::OlderStore, Table::Resource),
-        None => Stage::Stopped(Fault::BadStore(Table::Meta), Table::Resource),
+        Some(MetaRow::Newer) => Stage::Stopped(Fault::NewerStore, next_table(Table::Meta)),
+        Some(MetaRow::Older) => Stage::Stopped(Fault::OlderStore, next_table(Table::Meta)),
+        None => stage_after_fault(Table::Meta),
     }
 }
 
@@ -36,7 +47,7 @@ pub fn close_resource(alloc: Global, base: Base, load: ResourceLoad) -> Result<S
         let vocab = VocabLoad::new(alloc, base, load.resources)?;
         Ok(Stage::Outside(OutsideLoad::new(vocab)))
     } else {
-        Ok(Stage::Stopped(Fault::BadStore(Table::Resource), Table::Outside))
+        Ok(stage_after_fault(Table::Resource))
     }
 }
 
@@ -47,7 +58,7 @@ pub fn close_outside(load: OutsideLoad) -> Stage
     if load.close() {
         Stage::Label(load.vocab)
     } else {
-        Stage::Stopped(Fault::BadStore(Table::Outside), Table::Label)
+        stage_after_fault(Table::Outside)
     }
 }
 
@@ -64,10 +75,10 @@ pub fn close_label(alloc: Global, vocab: VocabLoad) -> Result<Stage, AllocError>
                 let linked_vocab = LinkedVocab::new(alloc, vocab)?;
                 Ok(Stage::Link(linked_vocab))
             }
-            None => Ok(Stage::Stopped(Fault::BadStore(Table::Label), Table::Link)),
+            None => Ok(stage_after_fault(Table::Label)),
         }
     } else {
-        Ok(Stage::Stopped(Fault::BadStore(Table::Label), Table::Link))
+        Ok(stage_after_fault(Table::Label))
     }
 }
 
@@ -76,10 +87,9 @@ pub fn close_label(alloc: Global, vocab: VocabLoad) -> Result<Stage, AllocError>
 pub fn close_hier(alloc: Global, linked_vocab: LinkedVocab) -> Result<Stage, AllocError>
     ensures { IfOk result (Closes (stage.Hier linked_vocab)) }
 {
-    if linked_vocab.links.close(alloc)? {
-        Ok(Stage::Posting(linked_vocab, PostingLoad::new(alloc)))
-    } else {
-        Ok(Stage::Stopped(Fault::BadStore(Table::Hier), Table::Posting))
+    match linked_vocab.graph.check_whole(alloc)? {
+        None => Ok(Stage::Posting(linked_vocab, PostingLoad::new(alloc))),
+        Some(_) => Ok(stage_after_fault(Table::Hier)),
     }
 }
 

@@ -4,7 +4,6 @@
 mod cells;
 mod closing;
 mod ends;
-mod linked_vocab;
 mod links;
 mod meta;
 mod moves;

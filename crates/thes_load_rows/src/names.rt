@@ -4,7 +4,7 @@ ghost use Rattle.thes_base.specs.declared.data.Resource.{Resource};
 ghost use Rattle.thes_base.specs.Labels.{Label};
 ghost use Rattle.thes_tables.specs.Cells.{outside_cells, label_cells};
 ghost use Rattle.thes_load_rules.specs.Rules.{ResourceRule, OutsideRule, LabelRule};
-ghost use Rattle.thes_load_rows.specs.Forms.{HasOutsideForm, HasLabelForm};
+ghost use Rattle.thes_load_rows.specs.Forms.{HasOutsideForm};
 ghost use Rattle.thes_load_rows.specs.RowsSoFar.{TakeResult};
 ghost use Rattle.thes_load_rows.specs.ReadResults.{ReadResult};
 ghost use Rattle.thes_load_rows.specs.NamesSoFar.{HasOutside, HasLabels, vocabulary_of_rows};
@@ -12,7 +12,7 @@ ghost use Rattle.thes_load_rows.specs.NamesSoFar.{HasOutside, HasLabels, vocabul
 use crate::rows::{label_in, outside_in};
 use std::alloc::{AllocError, Global};
 use thes_tables::cells::Cell;
-use thes_tables::rows::{LabelRow, OutsideRow};
+use thes_tables::rows::OutsideRow;
 use thes_vocab::{Vocab, VocabLoad};
 
 /// The rows of table outside read so far: a vocabulary with their IRIs, and the number of the last
@@ -88,22 +88,6 @@ impl OutsideLoad {
     }
 }
 
-/// Adds the label of the next row of table label; returns false if `VocabLoad::take_label` doesn't
-/// allow it, for example a duplicate.
-#[tactic(auto, using(crate::proofs::NameLoadLemmas::label_step))]
-pub fn take_label(vocab: &mut VocabLoad, row: LabelRow) -> Result<bool, AllocError>
-    requires { HasLabelForm row }
-    ensures { IfOk result (λ good.
-        (base : List ℕ) (resources : List Resource) (outside : List (ℕ × List ℕ))
-        (rows : List Label)
-        → HasLabels base resources outside vocab.old rows
-        → TakeResult (HasLabels base resources outside vocab.new)
-        (LabelRule resources) rows row good) }
-{
-    let good = vocab.take_label(row.owner, row.label)?;
-    Ok(good)
-}
-
 /// Parses the next row of table label and adds its label; returns false if the row can't follow the
 /// rows read so far in a table that meets its rule.
 pub fn read_label(vocab: &mut VocabLoad, alloc: Global, cells: &[Cell]) -> Result<bool, AllocError>
@@ -116,7 +100,7 @@ pub fn read_label(vocab: &mut VocabLoad, alloc: Global, cells: &[Cell]) -> Resul
 {
     match label_in(alloc, cells)? {
         Some(row) => {
-            let good = take_label(vocab, row)?;
+            let good = vocab.take_label(row.owner, row.label)?;
             Ok(good)
         }
         None => Ok(false),

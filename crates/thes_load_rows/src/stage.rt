@@ -7,7 +7,7 @@ ghost use Rattle.thes_load_rows.specs.Progress.{stage_table, is_stopped, ReadsRo
 use crate::closing::{
     close_hier, close_label, close_meta, close_outside, close_posting, close_resource,
 };
-use crate::linked_vocab::LinkedVocab;
+use crate::links::LinkedVocab;
 use crate::meta::{MetaRow, meta_in};
 use crate::moves::MoveLoad;
 use crate::names::{OutsideLoad, read_label};

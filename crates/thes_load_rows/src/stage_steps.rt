@@ -8,7 +8,7 @@ ghost use Rattle.thes_tables.specs.TableOrder.{table_no};
 ghost use Rattle.thes_load_rows.specs.Progress.{stage_table, HasRead, HasRow, HasUnqueried, ReachesTable};
 ghost use Rattle.thes_load_rows.specs.LoadResults.{LoadResult};
 
-use crate::linked_vocab::LinkedVocab;
+use crate::links::LinkedVocab;
 use crate::moves::MoveLoad;
 use crate::postings::PlacedPostings;
 use crate::stage::Stage;

@@ -22,9 +22,9 @@ use Rattle.thes_office.specs.LoadedCore.{IsLoaded}
 
 -- The state that the rows encode has these parts, and is legal.
 parts_of_state : (raw : Raw) (parts : LoadedParts) (t : Tables) → HasVerdict raw (Ok t)
-    → HasNames parts.linked_vocab.vocab t → HasLinks t.resource parts.linked_vocab.links.graph t.link t.hier
+    → HasNames parts.linked_vocab.vocab t → HasLinks t.resource parts.linked_vocab.graph t.link t.hier
     → ArePostingCounts (state_of t).histories parts.book
-    → ArePartsOf (state_of t) parts.linked_vocab.vocab parts.linked_vocab.links.graph.links parts.book
+    → ArePartsOf (state_of t) parts.linked_vocab.vocab parts.linked_vocab.graph.links parts.book
     × IsLegalState parts.linked_vocab.vocab.base (state_of t)
 parts_of_state raw parts t loads names links posting_counts = (
   record {
@@ -41,7 +41,7 @@ parts_of_state raw parts t loads names links posting_counts = (
 -- A stage that has read rows and ends without a fault has the parts of a legal state.
 pub parts_legal : (read : Stage) (parts : LoadedParts) → IsOfRows read → is_stopped read ≡ false
     → ((raw : Raw) → HasRead read raw → LoadResult raw (Ok parts))
-    → (s : State) × ArePartsOf s parts.linked_vocab.vocab parts.linked_vocab.links.graph.links parts.book
+    → (s : State) × ArePartsOf s parts.linked_vocab.vocab parts.linked_vocab.graph.links parts.book
     × IsLegalState parts.linked_vocab.vocab.base s
 parts_legal read parts rows reads ends =
     let r = rows reads in
@@ -50,7 +50,7 @@ parts_legal read parts rows reads ends =
     (state_of e.0, told.0, told.1)
 
 pub core_is_loaded : (raw : Raw) (parts : LoadedParts) (core : CoreView)
-    → ((s : State) → ArePartsOf s parts.linked_vocab.vocab parts.linked_vocab.links.graph.links parts.book
+    → ((s : State) → ArePartsOf s parts.linked_vocab.vocab parts.linked_vocab.graph.links parts.book
     → IsLegalState parts.linked_vocab.vocab.base s → IsViewOf core s)
     → core.setting.base ≡ parts.linked_vocab.vocab.base → LoadResult raw (Ok parts) → IsLoaded raw core
 core_is_loaded raw parts core holds base (t, loads, names, links, posting_counts) =

@@ -91,11 +91,10 @@ impl Loader {
             stage => match stage.finish(self.alloc)? {
                 Ok(parts) => {
                     let linked_vocab = parts.linked_vocab;
-                    let graph = linked_vocab.links.graph;
                     let core = Core::of_parts(
                         self.alloc,
                         linked_vocab.vocab,
-                        graph,
+                        linked_vocab.graph,
                         parts.book,
                         self.limits,
                     );

@@ -75,8 +75,7 @@ pub fn check_at<L: Links>(
     pivot: ResNo,
 ) -> Result<Option<Refusal>, AllocError>
     requires { BreakNone (HeldAwayFrom (Holds (L.net links.old).links) pivot) }
-    ensures held { (L.net links.new).links ≡ (L.net links.old).links }
-    ensures outside { is_marked (L.net links.new) ≡ is_marked (L.net links.old) }
+    ensures net { L.net links.new ≡ L.net links.old }
     ensures first { IfOk result (IsFirstBroken (Holds (L.net links.old).links)) }
     ensures count { OnOk result (AreFewVisits (is_marked (L.net links.old)) (Recheck pivot)
         (L.net links.old).links (L.count links.old) (L.count links.new)) }
@@ -96,8 +95,7 @@ pub fn judge_add<L: Links>(
 ) -> Result<Option<Refusal>, AllocError>
     requires ends { link.now.a ≢ link.now.b }
     requires unbroken { BreakNone (Holds (L.net links.old).links) }
-    ensures held { (L.net links.new).links ≡ (L.net links.old).links }
-    ensures outside { is_marked (L.net links.new) ≡ is_marked (L.net links.old) }
+    ensures net { L.net links.new ≡ L.net links.old }
     ensures answer { IfOk result
         (checks_of_add (L.net links.old).links
         (normal_form (is_marked (L.net links.old)) link.now)) }
@@ -146,8 +144,7 @@ pub fn judge_contract<L: Links>(
 ) -> Result<Option<Refusal>, AllocError>
     requires ends { source ≢ target }
     requires unbroken { BreakNone (Holds (L.net links.old).links) }
-    ensures held { (L.net links.new).links ≡ (L.net links.old).links }
-    ensures outside { is_marked (L.net links.new) ≡ is_marked (L.net links.old) }
+    ensures net { L.net links.new ≡ L.net links.old }
     ensures first { IfOk result (IsFirstBroken
         (Holds (links_after_merge (is_marked (L.net links.old)) source target
         (L.net links.old).links))) }

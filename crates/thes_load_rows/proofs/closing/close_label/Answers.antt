@@ -9,13 +9,14 @@ pub returns-in_ok-linked_vocab-in-Some : goal.returns-in_ok-linked_vocab-in-Some
 returns-in_ok-linked_vocab-in-Some c =
     let linked_vocab = c.in_ok-linked_vocab-in-Some.linked_vocab in
     let same = c.in_ok-linked_vocab-in-Some.ensures.same in
-    let links = subst (λ (rs : List Resource). HasLinks rs linked_vocab.links.graph [] [])
+    let links = subst (λ (rs : List Resource). HasLinks rs linked_vocab.graph [] [])
     (ap (λ (v : Vocabulary). v.resources) (sym same)) c.in_ok-linked_vocab-in-Some.ensures.none in
     label_good c.args.vocab linked_vocab c.so_far.ensures.labels c.in-Some.ensures.0 (same ∙ c.in-Some.ensures.1) links
 
 pub returns-in-None : goal.returns-in-None
-returns-in-None c = label_bad c.args.vocab c.in-None.ensures
+returns-in-None c = rw c.stage_after_fault.ensures (label_bad c.args.vocab c.in-None.ensures)
 
 pub returns-else-has_all_iris : goal.returns-else-has_all_iris
 returns-else-has_all_iris c =
-    label_without c.args.vocab (λ all. true≢false (sym (c.has_all_iris.ensures.1 all) ∙ c.if-has_all_iris.false))
+    rw c.stage_after_fault-else-has_all_iris.ensures (label_without c.args.vocab
+    (λ all. true≢false (sym (c.has_all_iris.ensures.1 all) ∙ c.if-has_all_iris.false)))

@@ -8,5 +8,5 @@ returns-then-close c =
 
 pub returns-else-close : goal.returns-else-close
 returns-else-close c =
-    outside_bad c.args.load (λ base rs rows has rule. true≢false (sym ((c.close.ensures base rs rows has).1 rule)
-    ∙ c.if-close.false))
+    rw c.stage_after_fault.ensures (outside_bad c.args.load
+    (λ base rs rows has rule. true≢false (sym ((c.close.ensures base rs rows has).1 rule) ∙ c.if-close.false)))

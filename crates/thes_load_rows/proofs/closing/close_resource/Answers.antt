@@ -13,5 +13,5 @@ returns-in_ok-vocab c =
     (c.new-then-branch.ensures c.args.base c.args.load.resources.items c.in_ok-vocab.ensures)
 
 pub returns-else-branch : goal.returns-else-branch
-returns-else-branch c = resource_bad c.args.base c.args.load
-    (λ rule. true≢false (sym (c.in_ok-close.ensures.1 rule) ∙ c.if-branch.false))
+returns-else-branch c = rw c.stage_after_fault.ensures (resource_bad c.args.base c.args.load
+    (λ rule. true≢false (sym (c.in_ok-close.ensures.1 rule) ∙ c.if-branch.false)))

@@ -7,15 +7,18 @@ use Rattle.thes_load_rows.specs.Forms.{HasLabelForm}
 use Rattle.thes_load_rows.specs.CellSpelling.{Spells}
 use Rattle.thes_load_rows.proofs.NextRowLemmas.{in_next}
 use Rattle.thes_load_rows.proofs.RowFormLemmas.{label_form}
+use Rattle.thes_load_rows.proofs.NameLoadLemmas.{label_step}
 use Rattle.thes_load_rows.proofs.ReadResultLemmas.{reads_row, reads_none}
 use Rattle.thes_load_rows.proofs.names.read_label.Goals as goal
 
 pub returns-in_ok-good-in-Some : goal.returns-in_ok-good-in-Some
 returns-in_ok-good-in-Some c = λ base rs outside rows few has.
-    reads_row label_cells label_one (HasLabels base rs outside c.take_label.new.vocab) (LabelRule rs) rows
-    c.args.cells.now c.in-Some.row
-    ((subst (Spells label_cells HasLabelForm c.args.cells.now) c.in-Some.is c.in_ok-row.ensures)).1
-    c.in_ok-good-in-Some.good (c.in_ok-good-in-Some.ensures base rs outside rows has)
+    let new = c.take_label.new.self in
+    let spelled = subst (Spells label_cells HasLabelForm c.args.cells.now) c.in-Some.is c.in_ok-row.ensures in
+    reads_row label_cells label_one (HasLabels base rs outside new) (LabelRule rs) rows c.args.cells.now c.in-Some.row
+    spelled.1 c.in_ok-good-in-Some.good
+    (label_step base rs outside c.args.vocab.now new rows c.in-Some.row has c.in_ok-good-in-Some.good spelled.0
+    (rw c.row.view_is at c.in_ok-good-in-Some.ensures))
 
 pub returns-in-None : goal.returns-in-None
 returns-in-None c = λ base rs outside rows few has.

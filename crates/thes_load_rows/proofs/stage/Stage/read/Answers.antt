@@ -1,4 +1,4 @@
-use Rattle.std.proofs.Common.{◌≡◌, refl, sym, subst, true, false}
+use Rattle.std.proofs.Common.{◌≡◌, sym, subst, true, false}
 use Rattle.std.specs.Prelude.{Option, None, Some}
 use Rattle.std.proofs.lemmas.Result.{IfOk-weaker}
 use Rattle.thes_load_rows.specs.declared.meta.MetaRow.{MetaRow}
@@ -46,14 +46,14 @@ returns-in-Label c = IfOk-weaker c.read_label.result _ _ (λ good reads.
 pub returns-in-Link : goal.returns-in-Link
 returns-in-Link c = IfOk-weaker c.read_link.result _ _ (λ good reads.
     subst (λ (old : Stage). ReadsRow old (stage.Link c.read_link.new.self) c.args.cells.now good) (sym c.in-Link.is)
-    (link_row c.in-Link.linked_vocab.vocab.resources c.args.cells.now c.in-Link.linked_vocab c.read_link.new.self good
-    refl c.read_link.ensures.same reads)) c.read_link.ensures.reads
+    (link_row c.in-Link.linked_vocab c.read_link.new.self c.args.cells.now c.read_link.ensures.same good reads))
+    c.read_link.ensures.reads
 
 pub returns-in-Hier : goal.returns-in-Hier
 returns-in-Hier c = IfOk-weaker c.read_hier.result _ _ (λ good reads.
     subst (λ (old : Stage). ReadsRow old (stage.Hier c.read_hier.new.self) c.args.cells.now good) (sym c.in-Hier.is)
-    (hier_row c.in-Hier.linked_vocab.vocab.resources c.args.cells.now c.in-Hier.linked_vocab c.read_hier.new.self good
-    refl c.read_hier.ensures.same reads)) c.read_hier.ensures.reads
+    (hier_row c.in-Hier.linked_vocab c.read_hier.new.self c.args.cells.now c.read_hier.ensures.same good reads))
+    c.read_hier.ensures.reads
 
 pub returns-in-Posting : goal.returns-in-Posting
 returns-in-Posting c = IfOk-weaker c.read-in-Posting.result _ _ (λ good reads.

@@ -13,12 +13,12 @@ use Rattle.thes_base.specs.declared.data.Link.{Link}
 use Rattle.thes_base.specs.declared.fault.Refusal.{Refusal}
 use Rattle.thes_base.specs.declared.fault.Refusal.TheVariants as no
 use Rattle.thes_base.specs.Resources.{is_outside}
-use Rattle.thes_base.specs.Links.{Links, Holds, link_cmp, normal_form, NoCycle, S27, S46, IsFirstBroken}
+use Rattle.thes_base.specs.Links.{Links, Holds, link_cmp, NoCycle, S27, S46, IsFirstBroken}
 use Rattle.thes_base.specs.Legal.{IsLegalLink}
 use Rattle.thes_base.proofs.LinkSetLemmas.{links_total, links_exact}
 use Rattle.thes_base.proofs.SetMemberLemmas.{inserted_cases, inserted_new, inserted_kept}
 use Rattle.thes_base.proofs.NumberedLemmas.{numbered_bound}
-use Rattle.thes_links.specs.GraphView.{GraphView, is_marked, MarksOutside}
+use Rattle.thes_links.specs.GraphView.{GraphView, MarksOutside}
 use Rattle.thes_tables.specs.declared.rows.HierRow.{HierRow}
 use Rattle.thes_tables.specs.Tables.{hier_link, hier_type}
 use Rattle.thes_tables.proofs.RowSetLemmas.{once_push}
@@ -28,13 +28,6 @@ use Rattle.thes_load_rows.specs.Forms.{HasLinkForm}
 use Rattle.thes_load_rows.specs.RowsSoFar.{TakeResult}
 use Rattle.thes_load_rows.specs.LinksSoFar.{IsFitLink, MarksFirst, AddLinkResult, HasLinks}
 use Rattle.thes_load_rows.proofs.NextRowLemmas.{in_next, each_push, once_twice}
-
-module _ (rs : List Resource) (graph : GraphView) (l : Link) (marked : MarksOutside rs graph) where
-  same_norm : normal_form (is_marked graph) l ≡ normal_form (is_outside rs) l
-  same_norm = ap (λ (f : ℕ → Bool). normal_form f l) (λ i n. marked n i)
-
-  pub legal_of : IsFitLink rs l → normal_form (is_marked graph) l ≡ l → IsLegalLink rs l
-  legal_of fit ordered = grind (arith, common_steps, same_norm)
 
 pub fit_of : (rs : List Resource) (l : Link) → IsLegalLink rs l → IsFitLink rs l
 fit_of rs l legal = record { ends = legal.ends; live = legal.live; two = legal.two; schemes = legal.schemes }

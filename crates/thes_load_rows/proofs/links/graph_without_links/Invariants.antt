@@ -1,5 +1,5 @@
 use Rattle.thes_load_rows.specs.LinksSoFar.{MarksFirst}
-use Rattle.thes_load_rows.proofs.links.LinkLoad.new.Given as goal
+use Rattle.thes_load_rows.proofs.links.graph_without_links.Given as goal
 
 -- The outside concepts read so far are marked.
 abbrev pub invariant-loop-i : goal.invariant-loop-i

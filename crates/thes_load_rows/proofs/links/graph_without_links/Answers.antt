@@ -3,9 +3,9 @@ use Rattle.std.specs.FinSet.{contains-empty, insert}
 use Rattle.thes_base.specs.Resources.{is_outside}
 use Rattle.thes_links.specs.GraphView.{GraphView}
 use Rattle.thes_load_rows.specs.LinksSoFar.{MarksFirst}
-use Rattle.thes_load_rows.proofs.LinkLoadLemmas.{marks_none, marks_skip, marks_more, marked_all}
-use Rattle.thes_load_rows.proofs.links.LinkLoad.new.Goals as goal
-use Rattle.thes_load_rows.proofs.links.LinkLoad.new.Goals.{then-is_outside+in_ok-mark_outside, else-is_outside}
+use Rattle.thes_load_rows.proofs.LinkedVocabLemmas.{marks_none, marks_skip, marks_more, marked_all}
+use Rattle.thes_load_rows.proofs.links.graph_without_links.Goals as goal
+use Rattle.thes_load_rows.proofs.links.graph_without_links.Goals.{then-is_outside+in_ok-mark_outside, else-is_outside}
 
 pub loop-i-init : goal.loop-i-init
 loop-i-init c = subst (λ (g : GraphView). MarksFirst c.args.resources.now 0 g) (sym c.new-graph.ensures)
