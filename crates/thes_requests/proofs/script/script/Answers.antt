@@ -10,19 +10,19 @@ use Rattle.thes_requests.proofs.ScriptLemmas.{progress_start, progress_line, com
 use Rattle.thes_requests.proofs.ScriptLemmas.{stops_at_line, stops_at_read, stops_before_lines}
 use Rattle.thes_requests.proofs.script.script.Goals as goal
 
-pub returns-in_err-lines-clause-stopped : goal.returns-in_err-lines-clause-stopped
-returns-in_err-lines-clause-stopped g c =
+pub returns-in_err-lines-clause-ends : goal.returns-in_err-lines-clause-ends
+returns-in_err-lines-clause-ends g c =
     let p = err_from_is_err_and c.from_residual.result c.from_residual.ensures.1 in
     rw (p.1, p.2) (stops_before_lines g.R.Read.remaining g.W.Write.contents
     (Serves g.D.RequestHandler.requests) g.D.RequestHandler.is_open
-    c.args.reader.now c.args.writer.now c.args.handler.now c.requires.reader.0 c.requires.writer.0)
+    c.args.reader.now c.args.writer.now c.args.handler.now c.requires.fresh.reader.0 c.requires.fresh.writer.0)
 
 pub loop-ended-init : goal.loop-ended-init
 loop-ended-init g c = let fresh = c.in_ok-lines.ensures in record {
   served = progress_start g.R.Read.remaining g.W.Write.contents
       (Serves g.D.RequestHandler.requests) g.D.RequestHandler.is_open
       c.args.reader.now c.args.writer.now c.args.handler.now c.in_ok-lines.lines.line_buffer c.in_ok-lines.lines.count
-      c.new-ended.result c.requires.reader.1 fresh.0 fresh.1 c.new-ended.ensures;
+      c.new-ended.result c.requires.fresh.reader.1 fresh.0 fresh.1 c.new-ended.ensures;
   reader = search rules;
   writer = search rules;
   stays_open = search rules;
@@ -30,36 +30,38 @@ loop-ended-init g c = let fresh = c.in_ok-lines.ensures in record {
   calls = all_left c.args.reader.now c.args.writer.now c.new-budget.result c.new-budget.ensures;
 }
 
-pub returns-in-Err-clause-stopped : goal.returns-in-Err-clause-stopped
-returns-in-Err-clause-stopped g c =
+pub returns-in-Err-clause-ends : goal.returns-in-Err-clause-ends
+returns-in-Err-clause-ends g c =
     let goes : ended_of c.loop-ended.reader ≡ false = search rules in
     rw c.reader_fault.ensures (stops_at_read g.R.Read.remaining g.W.Write.contents
     (Serves g.D.RequestHandler.requests) g.D.RequestHandler.is_open
     c.loop-ended.invariant.served c.next_line.new.reader c.next_line.new.self.line_buffer c.in-Err.stop goes
-    (c.in-Err.ensures.broken, c.in-Err.ensures.failed, c.in-Err.ensures.too_long) c.loop-ended.invariant.writer.0)
+    c.in-Err.ensures.finds.stops c.in-Err.ensures.frame c.loop-ended.invariant.writer.0)
 
 pub returns-in-Err-clause-calls : goal.returns-in-Err-clause-calls
-returns-in-Err-clause-calls g c = keeps_to_limit (left_after_reads c.loop-ended.invariant.calls c.in-Err.ensures.paid)
+returns-in-Err-clause-calls g c =
+    keeps_to_limit (left_after_reads c.loop-ended.invariant.calls c.in-Err.ensures.frame.calls)
 
-pub returns-then-eq-clause-completed : goal.returns-then-eq-clause-completed
-returns-then-eq-clause-completed g c =
+pub returns-then-eq-clause-ends : goal.returns-then-eq-clause-ends
+returns-then-eq-clause-ends g c =
     let at_end : c.in-Ok.found ≡ End = search rules in
     let fine : failed_of c.next_line.new.reader ≡ false = search rules in
     completes_at_end g.R.Read.remaining g.W.Write.contents
     (Serves g.D.RequestHandler.requests) g.D.RequestHandler.is_open
-    c.loop-ended.invariant.served c.next_line.new.reader c.next_line.new.self.line_buffer (c.in-Ok.ensures.end at_end)
-    fine
+    c.loop-ended.invariant.served c.next_line.new.reader c.next_line.new.self.line_buffer
+    (c.in-Ok.ensures.finds.found.end at_end) fine
     c.loop-ended.invariant.writer.0 c.loop-ended.invariant.stays_open
 
 pub returns-then-eq-clause-calls : goal.returns-then-eq-clause-calls
-returns-then-eq-clause-calls g c = keeps_to_limit (left_after_reads c.loop-ended.invariant.calls c.in-Ok.ensures.paid)
+returns-then-eq-clause-calls g c =
+    keeps_to_limit (left_after_reads c.loop-ended.invariant.calls c.in-Ok.ensures.frame.calls)
 
 pub loop-ended-preserved : goal.loop-ended-preserved
 loop-ended-preserved g c =
     let goes : ended_of c.loop-ended.reader ≡ false = search rules in
     let some : c.in-Ok.found ≢ End = search rules in
-    let taken = c.in-Ok.ensures.line some in
-    let count = c.in-Ok.ensures.count some in
+    let taken = c.in-Ok.ensures.finds.found.line some in
+    let count = c.in-Ok.ensures.finds.count some in
     let few : c.loop-ended.lines.count < lines_limit = omega (arith, count.0, count.1) in
     let step =
     c.serve_line-outcome.ensures (line_content taken.0 (ended_of c.next_line.new.reader))
@@ -76,17 +78,17 @@ loop-ended-preserved g c =
       writer = written.fresh;
       stays_open = written.stays_open;
       within = count.1;
-      calls = left_after_writes (left_after_reads c.loop-ended.invariant.calls c.in-Ok.ensures.paid)
+      calls = left_after_writes (left_after_reads c.loop-ended.invariant.calls c.in-Ok.ensures.frame.calls)
           c.in_ok-write_outcome.ensures.paid;
     }
 
-pub returns-in_err-write_outcome-clause-stopped : goal.returns-in_err-write_outcome-clause-stopped
-returns-in_err-write_outcome-clause-stopped g c =
+pub returns-in_err-write_outcome-clause-ends : goal.returns-in_err-write_outcome-clause-ends
+returns-in_err-write_outcome-clause-ends g c =
     let goes : ended_of c.loop-ended.reader ≡ false = search rules in
     let some : c.in-Ok.found ≢ End = search rules in
     let fine : failed_of c.next_line.new.reader ≡ false = search rules in
-    let taken = c.in-Ok.ensures.line some in
-    let count = c.in-Ok.ensures.count some in
+    let taken = c.in-Ok.ensures.finds.found.line some in
+    let count = c.in-Ok.ensures.finds.count some in
     let few : c.loop-ended.lines.count < lines_limit = omega (arith, count.0, count.1) in
     let p = err_from_is_err_and c.from_residual-in_err-write_outcome.result c.from_residual-in_err-write_outcome.ensures.1 in
     rw (p.1, p.2) (stops_at_line g.R.Read.remaining g.W.Write.contents
@@ -99,11 +101,11 @@ returns-in_err-write_outcome-clause-stopped g c =
 
 pub returns-in_err-write_outcome-clause-calls : goal.returns-in_err-write_outcome-clause-calls
 returns-in_err-write_outcome-clause-calls g c =
-    keeps_to_limit (left_after_writes (left_after_reads c.loop-ended.invariant.calls c.in-Ok.ensures.paid)
+    keeps_to_limit (left_after_writes (left_after_reads c.loop-ended.invariant.calls c.in-Ok.ensures.frame.calls)
     c.in_err-write_outcome.ensures.paid)
 
-pub returns-clause-completed : goal.returns-clause-completed
-returns-clause-completed g c =
+pub returns-clause-ends : goal.returns-clause-ends
+returns-clause-ends g c =
     let at_end : ended_of c.loop-ended.reader ≡ true = search rules in
     completes_after_last g.R.Read.remaining g.W.Write.contents
     (Serves g.D.RequestHandler.requests) g.D.RequestHandler.is_open
