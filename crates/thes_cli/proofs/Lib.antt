@@ -1,4 +1,3 @@
-pub mod ScriptLemmas
 pub mod ReadyLemmas
 pub mod NewStoreLemmas
 pub mod ServedLemmas

@@ -19,7 +19,7 @@ use Rattle.thes_office.proofs.StateTableLemmas.{faulty_has_no_state}
 use Rattle.thes_office.specs.TablesOfState.{TablesOfState}
 use Rattle.thes_cli.specs.Checking.{no_sizes, sizes_of}
 use Rattle.thes_command_line.specs.Printing.{Prints, fault_line}
-use Rattle.thes_cli.specs.Opening.{IsUnopened}
+use Rattle.thes_office.specs.Opening.{IsUnopened}
 use Rattle.thes_cli.specs.declared.streams.Streams.{Streams}
 use Rattle.thes_cli.specs.Stores.{WorksInMemory, storage_in_memory}
 use Rattle.thes_cli.specs.Work.{WorksOverKeeper}
@@ -75,7 +75,7 @@ only_memory : (base : List ℕ) (fault : Fault) (tables_after : Tables)
     ≡ faults.OutOfMemory
 only_memory base fault tables_after shows un = elim (un.verdict tt) [
   | inl memory ↦ memory
-  | inr (inl store) ↦ absurd (no_failure (un.store store))
+  | inr (inl store) ↦ absurd (no_failure (un.keeps.store store))
   | inr (inr faulty) ↦ absurd (faulty_has_no_state (cells_of_tables (empty_tables base)) fault faulty base empty_state
       shows)
 ]

@@ -94,7 +94,7 @@ module _ {S : Type 0} (g : Ghosts S) where
         let finds = found (open_first opened.old_office.keeper.first up_first) in
         let at_start = serves finds.1.0 t holds in
         let run = reached.goes_on up_last in
-        let rows_first = opened.opens.same up_first
+        let rows_first = opened.opens.keeps.same up_first
         ∙ raw_of (state g job.conn).now.trees t at_start.1.hold in
         let rows_last = ap (rows_still g) (sym opened.back_is) ∙ rows in (
           run.0,

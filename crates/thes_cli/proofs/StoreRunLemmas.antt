@@ -25,7 +25,7 @@ use Rattle.thes_jobs.specs.declared.work.OutputWork.TheVariants.{Check, Export, 
 use Rattle.thes_jobs.specs.declared.work.Work.{Work}
 use Rattle.thes_jobs.specs.declared.work.Work.TheVariants.{Script, Output}
 use Rattle.thes_cli.specs.Importing.{ImportsPipe}
-use Rattle.thes_cli.specs.Opening.{IsOpened}
+use Rattle.thes_office.specs.Opening.{IsOpened}
 use Rattle.thes_cli.specs.Work.{DoesOutputWork, DoesWork}
 use Rattle.thes_cli.specs.declared.streams.Streams.{Streams}
 

@@ -5,7 +5,7 @@ use Rattle.thes_base.specs.declared.fault.FormFault.TheVariants.{BadShape}
 use Rattle.thes_base.specs.declared.pipe.Pipe.{Pipe}
 use Rattle.thes_store.specs.Storage.{StorageView}
 use Rattle.thes_office.specs.Office.{OfficeView}
-use Rattle.thes_import.specs.ImportEngine.{ImportsFile, StopsImport, import_streams}
+use Rattle.thes_import.specs.ImportEngine.{EndsFileImport, import_streams}
 use Rattle.thes_import.specs.declared.import.ImportEnd.{ImportEnd}
 use Rattle.thes_import.specs.declared.import.ImportEnd.TheVariants.{Rows, Malformed}
 use Rattle.thes_import.specs.declared.import.ImportStop.{ImportStop}
@@ -32,12 +32,9 @@ module _ {K F W : Type 0} (view : K → StorageView)
   -- The file was imported and its outcomes were written, or a fault stopped the import.
   abbrev pub ImportsPipe : Pipe F → OfficeView K → Pipe W → Result ImportEnd ImportStop → Pipe F → OfficeView K
       → Pipe W → Type 0
-  ImportsPipe file old_office output (Ok ended) file' new_office output' =
-      ImportsFile given out view (import_streams file output old_office)
-      (import_streams file' output' new_office) (Ok ended)
-  ImportsPipe file old_office output (Err stopped) file' new_office output' =
-      StopsImport given out view (import_streams file output old_office)
-      (import_streams file' output' new_office) stopped
+  ImportsPipe file old_office output result file' new_office output' =
+      EndsFileImport given out view (import_streams file output old_office)
+      (import_streams file' output' new_office) result
 
   -- The command `import`: the file is imported, and the result determines the status.
   pub record ImportsStore {E : Type 0} (err : E → Option (List ℕ)) (prints_it : Bool) (file : F)

@@ -1,11 +1,11 @@
 -- The command `script`: the answers to a script over the store.
-use Rattle.std.specs.Prelude.{◌≡◌, ℕ, List, Option, MatchResult, MatchOption, Result}
+use Rattle.std.specs.Prelude.{◌≡◌, ℕ, List, Option, MatchOption, Result}
 use Rattle.thes_base.specs.Pipe.{KeepsSharedCallLimit}
 use Rattle.thes_base.specs.declared.fault.PipeFault.{PipeFault}
 use Rattle.thes_base.specs.declared.pipe.Pipe.{Pipe}
 use Rattle.thes_store.specs.Storage.{StorageView}
 use Rattle.thes_office.specs.Office.{OfficeView}
-use Rattle.thes_requests.specs.Script.{session, Completes, Stops}
+use Rattle.thes_requests.specs.Script.{session, EndsScript}
 use Rattle.thes_requests.specs.declared.script.ScriptEnd.{ScriptEnd}
 use Rattle.thes_service.specs.OfficeRequests.{OfficeServes, is_always_open, IsReachedByRun}
 use Rattle.thes_command_line.specs.Printing.{Prints, fault_line}
@@ -27,11 +27,8 @@ module _ {K R W E : Type 0} (view : K → StorageView)
   pub record AnswersScript (old_office : OfficeView K) (old : Streams R W E) (status : ℕ) (new_office : OfficeView K)
       (new : Streams R W E) : Type 0 where
     pub result : Result ScriptEnd PipeFault
-    pub script : MatchResult result
-        (Completes remaining out (OfficeServes view) is_always_open
-        (session old.input old.output old_office) (session new.input new.output new_office))
-        (Stops remaining out (OfficeServes view) is_always_open (session old.input old.output old_office)
-        (session new.input new.output new_office))
+    pub script : EndsScript remaining out (OfficeServes view) is_always_open
+        (session old.input old.output old_office) (session new.input new.output new_office) result
     pub reached : IsReachedByRun view old_office new_office
     pub calls : KeepsSharedCallLimit old.input new.input old.output new.output
     pub closes : ReportsScriptEnd err old.errors new.errors result status

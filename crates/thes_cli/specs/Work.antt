@@ -8,12 +8,12 @@ use Rattle.thes_tables.specs.Cells.{Raw}
 use Rattle.thes_store.specs.Storage.{StorageView}
 use Rattle.thes_office.specs.FoundStates.{FindsLegalState, IsFaultOfFound}
 use Rattle.thes_office.specs.Office.{OfficeView}
+use Rattle.thes_office.specs.Opening.{IsOpened, IsUnopened}
 use Rattle.thes_cli.specs.Checking.{ChecksStore}
 use Rattle.thes_cli.specs.Displaying.{DisplaysStore}
 use Rattle.thes_command_line.specs.Printing.{Prints, fault_lines}
 use Rattle.thes_cli.specs.Exporting.{ExportsStore}
 use Rattle.thes_cli.specs.Importing.{ImportsStore}
-use Rattle.thes_cli.specs.Opening.{IsOpened, IsUnopened}
 use Rattle.thes_cli.specs.Scripting.{AnswersScript}
 use Rattle.thes_cli.specs.Serving.{ServesStore}
 use Rattle.thes_cli.specs.declared.streams.Streams.{Streams}

@@ -2,7 +2,7 @@
 ghost use Rattle.std.specs.Prelude.{◌≡◌, ◌≤◌, ◌⊎◌, true, ℕ, List, length, drop, Ok, Err, IfOk, IfErr, OnOk, OnErr, IsErrOf};
 ghost use Rattle.std.specs.Io.KnownBytes.{Consumes, IsAtEnd};
 ghost use Rattle.thes_base.specs.Pipe.{failed_of, ended_of, denied_of, IsFresh, PaysCalls, KeepsSharedCallLimit, unread_bytes, written_bytes};
-ghost use Rattle.thes_requests.specs.Script.{session};
+ghost use Rattle.thes_requests.specs.Script.{session, IsFreshSession};
 ghost use Rattle.thes_http_request.specs.Inbox.{HasStopped};
 ghost use Rattle.thes_http.specs.Connection.{IsConnectionAnswer, IsCutOff, EndsAs};
 
@@ -88,8 +88,7 @@ pub fn serve_one<R: Read, W: Write, S: Service>(
     writer: &mut Pipe<W>,
     service: &mut S,
 ) -> ConnectionEnd
-    requires reader { IsFresh reader.old }
-    requires writer { IsFresh writer.old }
+    requires fresh { IsFreshSession (session reader.old writer.old service.old) }
     requires open { S.is_open service.old ≡ true }
     ensures outcome { EndsAs R.remaining W.contents S.behaviour
         (session reader.old writer.old service.old) (session reader.new writer.new service.new)

@@ -143,3 +143,9 @@ module _ {R W K : Type 0} (remaining : R → Option (List ℕ)) (contents : W �
   -- The import stopped while it read the file, or after it had read all of it.
   abbrev pub StopsImport : ImportStop → Type 0
   StopsImport stopped = ReadsNone stopped ⊎ ImportsFile (Err stopped)
+
+  -- The end of an import: the whole file was read, its rows or those before a fault were performed, and the outcomes,
+  -- or a prefix of them if the writer failed, were written; or the file wasn't read, and nothing was performed.
+  abbrev pub EndsFileImport : Result ImportEnd ImportStop → Type 0
+  EndsFileImport (Ok ended) = ImportsFile (Ok ended)
+  EndsFileImport (Err stopped) = StopsImport stopped

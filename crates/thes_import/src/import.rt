@@ -1,7 +1,7 @@
 //! Imports a posting file from a reader, and writes the outcomes to a writer.
 ghost use Rattle.std.specs.Prelude.{◌≡◌, [], IfErr, OnOk};
 ghost use Rattle.thes_base.specs.Pipe.{IsFresh, KeepsSharedCallLimit, PaysCalls};
-ghost use Rattle.thes_import.specs.ImportEngine.{ImportsBytes, ImportsFile, IsReportCut, StopsImport, WritesWhole, import_streams};
+ghost use Rattle.thes_import.specs.ImportEngine.{EndsFileImport, ImportsBytes, IsReportCut, WritesWhole, import_streams};
 ghost use Rattle.thes_posting_files.specs.Outcomes.{no_counts};
 
 use crate::perform::import_block;
@@ -131,12 +131,9 @@ pub fn import<R: Read, W: Write, K: Keeper>(
 ) -> Result<ImportEnd, ImportStop>
     requires reader { IsFresh reader.old }
     requires writer { IsFresh writer.old }
-    ensures imports { OnOk result (ImportsFile R.remaining W.contents K.view
+    ensures ends { EndsFileImport R.remaining W.contents K.view
         (import_streams reader.old writer.old office.old)
-        (import_streams reader.new writer.new office.new) result) }
-    ensures stops { IfErr result (StopsImport R.remaining W.contents K.view
-        (import_streams reader.old writer.old office.old)
-        (import_streams reader.new writer.new office.new)) }
+        (import_streams reader.new writer.new office.new) result }
     ensures calls { KeepsSharedCallLimit reader.old reader.new writer.old writer.new }
 {
     let mut budget = Budget::new();

@@ -23,8 +23,8 @@ use Rattle.thes_store.specs.Storage.{StorageView}
 use Rattle.thes_load_rules.specs.Verdicts.{HasVerdict}
 use Rattle.thes_office.specs.QueryFrames.{LoadFrame}
 use Rattle.thes_office.specs.Office.{ChangesNothing, FaultBehaviour, TablesAfterRun, IsConsistent, IsCopy, OfficeView}
-use Rattle.thes_office.specs.Office.{PerformResult, CompleteRun, PartialRun, ReadyResult, SameTables, TablesAfterStep}
-use Rattle.thes_office.specs.Office.{setting}
+use Rattle.thes_office.specs.Office.{OfficeQueryFrame, PerformResult, CompleteRun, PartialRun, ReadyResult}
+use Rattle.thes_office.specs.Office.{TablesAfterStep, setting}
 use Rattle.thes_office.specs.TablesOfState.{TablesOfState}
 use Rattle.thes_office.proofs.StateTableLemmas.{faulty_has_no_state, state_is_unique, same_tables_same_state}
 use Rattle.thes_office.proofs.StepLemmas.{copies_over}
@@ -93,28 +93,32 @@ module _ {K : Type 0} (view : K → StorageView) where
 
   -- A load that fails has run out of memory or reports a Store fault, since the tables encode a
   -- state.
-  pub behaviour_of_load_fault : (old new : K) (copy : core.CoreView) (limits : Limits) (stale : Bool) (fault : Fault)
+  pub frame_of_load_fault : (old new : K) (copy : core.CoreView) (limits : Limits) (stale : Bool) (fault : Fault)
       (office_view : OfficeView K) → LoadFrame (view old) (view new) (let x : Result core.CoreView Fault =
       Err fault in x)
       → ((view new).is_up → (fault ≡ faults.OutOfMemory) ⊎ ((fault ≡ faults.Store)
       ⊎ HasVerdict (view old).rows (Err fault)))
       → IsConsistent view old copy limits stale → stale ≡ true
       → record { keeper = old; limits = limits; stale = stale } ≡ office_view
-      → FaultBehaviour view office_view (record { keeper = new; limits = limits; stale = stale })
+      → OfficeQueryFrame view office_view (record { keeper = new; limits = limits; stale = stale })
       (let x : Result (Unit {0}) Fault = Err fault in x)
-  behaviour_of_load_fault old new copy limits stale fault office_view read none kept is same =
-      subst (λ (d : OfficeView K). FaultBehaviour view d
+  frame_of_load_fault old new copy limits stale fault office_view read none kept is same =
+      subst (λ (d : OfficeView K). OfficeQueryFrame view d
       (record { keeper = new; limits = limits; stale = stale }) (let x : Result (Unit {0}) Fault = Err fault in
       x)) same
       record {
-        limits = refl;
-        was = read.was;
-        later = read.later;
-        count = tt;
-        store = read.store;
-        other_faults = read.other_faults;
-        stale = λ e. is;
-        fault = λ up. only up (none up);
+        fault_behaviour = record {
+          limits = refl;
+          was = read.was;
+          later = read.later;
+          count = tt;
+          store = read.store;
+          other_faults = read.other_faults;
+          stale = λ e. is;
+          fault = λ up. only up (none up);
+        };
+        same = read.same;
+        fresh = tt;
       }
     where
       only : (view new).is_up → (fault ≡ faults.OutOfMemory) ⊎ ((fault ≡ faults.Store)
@@ -134,14 +138,13 @@ module _ {K : Type 0} (view : K → StorageView) where
   pub ready_core : (old : OfficeView K) (keeper : K) (copy : core.CoreView) (limits : Limits) (stale : Bool)
       (office_view : OfficeView K) (lent : Bor core.CoreView) → IsConsistent view keeper copy limits
       stale → record { keeper = keeper; limits = limits; stale = stale } ≡ office_view
-      → FaultBehaviour view old office_view (let x : Result (Unit {0}) Fault = Ok tt in x)
-      → SameTables view old office_view → office_view.stale ≡ false → lent.now ≡ copy
+      → OfficeQueryFrame view old office_view (let x : Result (Unit {0}) Fault = Ok tt in x) → lent.now ≡ copy
       → ReadyResult view old (Ok lent) (record { keeper = keeper; limits = limits; stale = stale })
-  ready_core old keeper copy limits stale office_view lent kept is fault_behaviour same fresh lends =
+  ready_core old keeper copy limits stale office_view lent kept is frame lends =
       subst (ReadyResult view old (Ok lent)) (sym is) record {
-        fault_behaviour = behaviour_with_value old office_view tt lent fault_behaviour;
-        same = same;
-        fresh = fresh;
+        fault_behaviour = behaviour_with_value old office_view tt lent frame.fault_behaviour;
+        same = frame.same;
+        fresh = frame.fresh;
         shown = record {
           unspent = ap (λ (k : core.CoreView). k.spent) lends ∙ kept.unspent now;
           copies = λ up.
@@ -152,7 +155,7 @@ module _ {K : Type 0} (view : K → StorageView) where
       }
     where
       now : stale ≡ false
-      now = ap (λ (d : OfficeView K). d.stale) is ∙ fresh
+      now = ap (λ (d : OfficeView K). d.stale) is ∙ frame.fresh
 
 -- A property of all elements of two joined lists holds for all elements of each.
 

@@ -1,5 +1,5 @@
 -- Groups of posts with different keys, which are performed in one transaction.
-use Rattle.std.specs.Prelude.{◌≡◌, ◌++◌, ℕ, List, [], Result, Ok, Err, Some, All, take, slice_get}
+use Rattle.std.specs.Prelude.{◌≡◌, ◌++◌, ℕ, false, List, [], Result, Ok, Err, Some, All, length, take, slice_get}
 use Rattle.std.specs.List.{AllByRecursion}
 use Rattle.thes_base.specs.Types.{Key, Number, RecordName}
 use Rattle.thes_base.specs.declared.data.Limits.{Limits}
@@ -19,7 +19,7 @@ use Rattle.thes_core.specs.CoreView.{CoreView, IsViewOf}
 use Rattle.thes_core.specs.Facts.{AreFacts}
 use Rattle.thes_office.specs.QueryFrames.{FactsInTables}
 use Rattle.thes_office.specs.TablesOfState.{TablesOfState}
-use Rattle.thes_office.specs.Office.{ChangesNothing, CompleteRun, OfficeView, SameTables, TablesAfterRun}
+use Rattle.thes_office.specs.Office.{ChangesNothing, CompleteRun, IsCopy, OfficeView, SameTables, TablesAfterRun}
 
 -- The request is a Post with this key.
 abbrev pub IsPostOf : Key → Command → Type 0
@@ -73,6 +73,20 @@ pub record TablesAfterGroup (limits : Limits) (old : Raw) (commands : List Comma
     (new : Raw) : Type 0 where
   pub goes_on : TablesAfterRun limits old commands answers new
   pub same : AllByRecursion ChangesNothing answers → new ≡ old
+
+-- The core may decide a group of requests over the storage: it is usable, and holds the state that the tables encode.
+pub record MayDecideGroup (storage : StorageView) (copy : CoreView) (commands : List Command) : Type 0 where
+  pub unspent : copy.spent ≡ false
+  pub copies : storage.is_up → IsCopy storage.rows copy.setting.limits copy
+  pub group : IsGroup commands
+
+-- The requests of a group are performed, each has an answer, and the core is usable and holds the state after them.
+pub record PerformsGroup (old new : StorageView) (limits : Limits) (commands : List Command) (answers : List Answer)
+    (copy : CoreView) : Type 0 where
+  pub performs : new.is_up → TablesAfterGroup limits old.rows commands answers new.rows
+  pub each : length answers ≡ length commands
+  pub unspent : copy.spent ≡ false
+  pub copies : new.is_up → IsCopy new.rows limits copy
 
 -- All requests of a group are performed and answered, or none.
 abbrev pub GroupResult : {K : Type 0} → (K → StorageView) → OfficeView K → List Command → List Answer

@@ -3,6 +3,7 @@ pub mod QueryFrames
 pub mod AssignedPostings
 pub mod Office
 pub mod FoundStates
+pub mod Opening
 pub mod Groups
 pub mod LoaderView
 pub mod LoadedCore

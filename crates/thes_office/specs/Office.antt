@@ -67,6 +67,14 @@ pub record FaultBehaviour {K T : Type 0} (view : K → StorageView)
 abbrev pub SameTables : {K : Type 0} → (K → StorageView) → OfficeView K → OfficeView K → Type 0
 SameTables view old new = (view new.keeper).is_up → (view new.keeper).rows ≡ (view old.keeper).rows
 
+-- The effect of every query of an office: its faults are those of every call, the tables are unchanged, and after a
+-- result the copy isn't stale.
+pub record OfficeQueryFrame {K T : Type 0} (view : K → StorageView)
+    (old new : OfficeView K) (result : Result T Fault) : Type 0 where
+  pub fault_behaviour : FaultBehaviour view old new result
+  pub same : SameTables view old new
+  pub fresh : OnOk result (new.stale ≡ false)
+
 -- The answer is a refusal, or the number that a posting with the same key has already.
 abbrev pub ChangesNothing : Answer → Type 0
 ChangesNothing (reply.No refusal) = Unit {0}

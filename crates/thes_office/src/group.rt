@@ -8,8 +8,7 @@ ghost use Rattle.thes_core.specs.CoreView.{IsViewOf};
 ghost use Rattle.thes_core.specs.Facts.{AreFacts};
 ghost use Rattle.thes_store.specs.Storage.{CommitFrame, DeltaFitsStorage, QueryFrame, RawAfterChanges};
 ghost use Rattle.thes_office.specs.Groups.{GroupDecided, HasFactsOf, IsDecided, IsGroup, IsNewPost};
-ghost use Rattle.thes_office.specs.Groups.{IsPostOf, TablesAfterGroup};
-ghost use Rattle.thes_office.specs.Office.{IsCopy};
+ghost use Rattle.thes_office.specs.Groups.{IsPostOf, MayDecideGroup, PerformsGroup};
 
 use crate::facts::facts_of;
 use std::alloc::{AllocError, Global};
@@ -173,16 +172,12 @@ fn decide_group<K: Keeper>(
     core: &mut Core,
     group: &[Command],
 ) -> Result<Decided, Fault>
-    requires unspent { core.old.spent ≡ false }
-    requires copies { (K.view keeper.old).is_up
-        → IsCopy (K.view keeper.old).rows core.old.setting.limits core.old }
-    requires group { IsGroup group.now }
+    requires { MayDecideGroup (K.view keeper.old) core.old group.now }
     ensures decides { IfOk result (λ decided. (K.view keeper.new).is_up
         → GroupDecided (K.view keeper.old).rows core.old.setting group.now decided.answers.items
         decided.delta core.new) }
-    ensures each { IfOk result (λ decided. length decided.answers.items ≡ length group.now) }
-    ensures usable { OnOk result ((core.new.spent ≡ false)
-        × (core.new.setting ≡ core.old.setting)) }
+    ensures usable { IfOk result (λ decided. (length decided.answers.items ≡ length group.now)
+        × (core.new.spent ≡ false) × (core.new.setting ≡ core.old.setting)) }
     ensures asks { QueryFrame (K.view keeper.old) (K.view keeper.new) result }
 {
     let mut decided = Decided {
@@ -220,17 +215,10 @@ pub fn perform_group<K: Keeper>(
     core: &mut Core,
     group: &[Command],
 ) -> Result<Vec<Answer>, Fault>
-    requires unspent { core.old.spent ≡ false }
-    requires copies { (K.view keeper.old).is_up
-        → IsCopy (K.view keeper.old).rows core.old.setting.limits core.old }
-    requires group { IsGroup group.now }
-    ensures performed { let limits = core.old.setting.limits in IfOk result (λ answers.
-        (K.view keeper.new).is_up → TablesAfterGroup limits (K.view keeper.old).rows group.now
-        answers.items (K.view keeper.new).rows) }
-    ensures each { IfOk result (λ answers. length answers.items ≡ length group.now) }
-    ensures unspent { OnOk result (core.new.spent ≡ false) }
-    ensures copies { OnOk result ((K.view keeper.new).is_up
-        → IsCopy (K.view keeper.new).rows core.old.setting.limits core.new) }
+    requires { MayDecideGroup (K.view keeper.old) core.old group.now }
+    ensures ok { let limits = core.old.setting.limits in
+        IfOk result (λ answers. PerformsGroup (K.view keeper.old) (K.view keeper.new) limits
+        group.now answers.items core.new) }
     ensures spent { OnErr result (core.new.spent ≡ true) }
     ensures keeps { CommitFrame (K.view keeper.old) (K.view keeper.new) result }
 {

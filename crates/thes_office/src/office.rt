@@ -1,13 +1,11 @@
 //! The office, which performs requests and answers queries.
-ghost use Rattle.std.specs.Prelude.{⊤, ◌≡◌, ◌≢◌, ◌⊎◌, ◌<◌, ◌∷◌, [], false, Err, OnOk, IfOk, IfErr, List};
-ghost use Rattle.std.specs.Prelude.{length, ℕ, MatchResult};
+ghost use Rattle.std.specs.Prelude.{⊤, ◌≡◌, ◌⊎◌, ◌∷◌, [], false, IfOk, List, length, ℕ, MatchResult};
 ghost use Rattle.thes_base.specs.Headline.{IsConsistentState};
 ghost use Rattle.thes_base.specs.State.{State};
-ghost use Rattle.thes_store.specs.Causes.{max_failures};
-ghost use Rattle.thes_load_rules.specs.Verdicts.{HasVerdict};
-ghost use Rattle.thes_office.specs.Office.{FaultBehaviour, PerformResult, RunResult, SameTables};
+ghost use Rattle.thes_office.specs.Office.{FaultBehaviour, OfficeQueryFrame, PerformResult, RunResult};
 ghost use Rattle.thes_office.specs.FoundStates.{FindsLegalState, IsFaultOfFound};
 ghost use Rattle.thes_office.specs.Groups.{GroupResult, IsGroup};
+ghost use Rattle.thes_office.specs.Opening.{IsOpened, IsUnopened};
 ghost use Rattle.thes_office.specs.QueryFrames.{FactsInTables};
 ghost use Rattle.thes_office.specs.TablesOfState.{TablesOfState};
 
@@ -56,26 +54,11 @@ impl<K: Keeper> Office<K> {
     /// Opens an office over a storage whose tables encode a state. Returns a fault with the
     /// storage; any but OutOfMemory and Store is the verdict on the rows.
     pub fn start(alloc: Global, mut keeper: K, limits: Limits) -> Result<Office<K>, (Fault, K)>
-        ensures limits { IfOk result (λ o. o.limits ≡ limits) }
-        ensures fresh { IfOk result (λ o. o.stale ≡ false) }
-        ensures same { IfOk result (λ o. (K.view o.keeper).is_up
-            → (K.view o.keeper).rows ≡ (K.view keeper).rows) }
-        ensures back { IfErr result (λ e. (K.view e.1).is_up
-            → (K.view e.1).rows ≡ (K.view keeper).rows) }
-        ensures shows { IfOk result (λ o. (K.view o.keeper).is_up
-            → (base : List ℕ) × (s : State) × TablesOfState (K.view o.keeper).rows base s) }
-        ensures verdict { IfErr result (λ e. (K.view e.1).is_up
-            → (e.0 ≡ Fault.OutOfMemory) ⊎ (e.0 ≡ Fault.Store)
-            ⊎ HasVerdict (K.view keeper).rows (Err e.0)) }
+        ensures opened { MatchResult result (IsOpened K.view limits keeper)
+            (λ e. IsUnopened K.view keeper e.0 e.1) }
         ensures found { MatchResult result
             (λ o. K.is_open o.keeper → FindsLegalState (K.finds keeper))
             (λ e. K.is_open e.1 → IsFaultOfFound (K.finds keeper) e.0) }
-        ensures store { IfErr result (λ e. e.0 ≡ Fault.Store
-            → ((K.view keeper).failures < (K.view e.1).failures)
-            ⊎ ((K.view keeper).failures ≡ max_failures)) }
-        ensures counts { MatchResult result
-            (λ o. (K.view o.keeper).failures ≡ (K.view keeper).failures)
-            (λ e. e.0 ≢ Fault.Store → (K.view e.1).failures ≡ (K.view keeper).failures) }
     {
         match load(alloc, &mut keeper, limits) {
             Ok(core) => Ok(Office {
@@ -116,9 +99,7 @@ impl<K: Keeper> Office<K> {
 
     // Reloads the copy from the tables if it is stale; after a fault it is still stale.
     pub(crate) fn refresh(&mut self) -> Result<(), Fault>
-        ensures fault_behaviour { FaultBehaviour K.view self.old self.new result }
-        ensures same { SameTables K.view self.old self.new }
-        ensures fresh { OnOk result (self.new.stale ≡ false) }
+        ensures { OfficeQueryFrame K.view self.old self.new result }
     {
         if !self.stale {
             return Ok(());
@@ -134,9 +115,7 @@ impl<K: Keeper> Office<K> {
     // Reloads the copy if it is stale, and queries the storage for the facts about postings that the
     // check of a request needs. A `Store` fault makes the copy stale.
     fn gather_facts(&mut self, command: &Command) -> Result<Facts, Fault>
-        ensures fault_behaviour { FaultBehaviour K.view self.old self.new result }
-        ensures same { SameTables K.view self.old self.new }
-        ensures fresh { OnOk result (self.new.stale ≡ false) }
+        ensures frame { OfficeQueryFrame K.view self.old self.new result }
         ensures in_tables { IfOk result (λ facts. (K.view self.new.keeper).is_up
             → FactsInTables (K.view self.new.keeper).rows command.now facts) }
     {

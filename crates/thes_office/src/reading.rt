@@ -7,7 +7,7 @@ ghost use Rattle.thes_base.specs.Views.{totals_of};
 ghost use Rattle.thes_store.specs.Storage.{QueryFrame};
 ghost use Rattle.thes_office.specs.QueryFrames.{InStateOfTables, HistoryInTables};
 ghost use Rattle.thes_office.specs.AssignedPostings.{AssignedPostingsResult};
-ghost use Rattle.thes_office.specs.Office.{FaultBehaviour, IsCopy, SameTables};
+ghost use Rattle.thes_office.specs.Office.{IsCopy, OfficeQueryFrame};
 
 use crate::office::Office;
 use thes_base::data::{History, ResourceKind, Totals};
@@ -82,8 +82,7 @@ impl<K: Keeper> Office<K> {
     /// Returns the numbers of postings accepted, withdrawn, and accepted but not withdrawn, from
     /// the counts of the copy.
     pub fn totals(&mut self) -> Result<Totals, Fault>
-        ensures fault_behaviour { FaultBehaviour K.view self.old self.new result }
-        ensures same { SameTables K.view self.old self.new }
+        ensures frame { OfficeQueryFrame K.view self.old self.new result }
         ensures in_tables { IfOk result (λ totals. (K.view self.new.keeper).is_up
             → InStateOfTables (K.view self.new.keeper).rows (λ s. totals ≡ totals_of s.histories)) }
     {
@@ -96,8 +95,7 @@ impl<K: Keeper> Office<K> {
     /// Looks up the history of a posting in the tables: first concept, moves and withdrawal; None
     /// if no posting has the number.
     pub fn posting(&mut self, number: PostNo) -> Result<Option<History>, Fault>
-        ensures fault_behaviour { FaultBehaviour K.view self.old self.new result }
-        ensures same { SameTables K.view self.old self.new }
+        ensures frame { OfficeQueryFrame K.view self.old self.new result }
         ensures in_tables { IfOk result (λ told. (K.view self.new.keeper).is_up
             → HistoryInTables (K.view self.new.keeper).rows number told) }
     {
@@ -119,8 +117,7 @@ impl<K: Keeper> Office<K> {
         concept: ResNo,
         sink: &mut S,
     ) -> Result<Option<Refusal>, Fault>
-        ensures fault_behaviour { FaultBehaviour K.view self.old self.new result }
-        ensures same { SameTables K.view self.old self.new }
+        ensures frame { OfficeQueryFrame K.view self.old self.new result }
         ensures lists { (K.view self.new.keeper).is_up
             → AssignedPostingsResult S.gives (K.view self.new.keeper).rows concept sink.old result
             sink.new }

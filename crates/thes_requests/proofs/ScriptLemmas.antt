@@ -16,7 +16,8 @@ use Rattle.thes_base.specs.declared.fault.PipeFault.{PipeFault}
 use Rattle.thes_base.specs.declared.fault.PipeFault.TheVariants.{Read, Write, TooLong, Fault}
 use Rattle.thes_base.specs.declared.pipe.Pipe.{Pipe}
 use Rattle.thes_requests.specs.LineBuffer.{bytes_left, line_bytes, line_content, line_limit, ConsumesLine}
-use Rattle.thes_requests.specs.LineBuffer.{ConsumesPartOfLine, IsLineTooLong, IsEndFound}
+use Rattle.thes_requests.specs.LineBuffer.{ConsumesPartOfLine, IsLineTooLong, IsEndFound, StopsInLine}
+use Rattle.thes_requests.specs.PipeFrames.{ReadFrame}
 use Rattle.thes_requests.specs.Serving.{LineBehaviour}
 use Rattle.thes_requests.specs.Script.{StepLine, RunLines, AreAllowed, lines_limit, EndsLine, raw_lines, ServesLines}
 use Rattle.thes_requests.specs.Script.{outcome_text, script_text, end_after_outcome, end_of_outcomes, end_without_lines}
@@ -259,19 +260,20 @@ module _ {R W S : Type 0} (remaining : R → Option (List ℕ)) (contents : W �
         grind (arith, common_steps, line_whole, some_last, raw_lines-more)
 
     -- If the search for a line fails, the script stops, because of the reader or of a limit.
-    pub stops_at_read : (reader' : Pipe R) (held' : List ℕ) {T : Type 0} (stop : Stop) → ended_of reader ≡ false
-        → (let result : Result T Stop = Err stop in
-        (result ≡ Err stops.Failed → ConsumesPartOfLine (bytes_left remaining held reader)
-        (unread_bytes remaining reader')) × ((result ≡ Err stops.Failed) ↔ (failed_of reader' ≡ true))
-        × (result ≡ Err stops.TooLong → (denied_of reader' ≡ true) ⊎ (IsLineTooLong (bytes_left remaining held reader)
+    pub stops_at_read : (reader' : Pipe R) (held' : List ℕ) {T : Type 0} {before after : ℕ} (stop : Stop)
+        → ended_of reader ≡ false
+        → StopsInLine stop (bytes_left remaining held reader) (unread_bytes remaining reader') reader'
+        (IsLineTooLong (bytes_left remaining held reader)
         ⊎ ((count ≡ lines_limit) × (raw : List ℕ) × ConsumesLine (bytes_left remaining held reader)
-        (bytes_left remaining held' reader') raw (ended_of reader')))))
+        (bytes_left remaining held' reader') raw (ended_of reader')))
+        → ReadFrame reader reader' before after (let result : Result T Stop = Err stop in result)
         → failed_of writer ≡ false → Stops remaining contents serves is_open old (session reader' writer handler)
         (reading_fault stop)
-    stops_at_read reader' held' stops.Failed goes why w = stops_between_lines reader' Read goes
-        (breaks_within_line reader' (why.0 refl)) (λ e. why.1.0 refl, λ e. refl) (λ e. cc, λ e. let f = w in cc)
-    stops_at_read reader' held' stops.TooLong goes why w = stops_between_lines reader' TooLong goes
-        (inr (s.text, next_not_allowed (why.2 refl))) (λ e. cc, λ e. let bad = why.1.1 e in cc)
+    stops_at_read reader' held' stops.Failed goes why frame w = stops_between_lines reader' Read goes
+        (breaks_within_line reader' (why.failure refl)) (λ e. frame.failure.0 refl, λ e. refl)
+        (λ e. cc, λ e. let f = w in cc)
+    stops_at_read reader' held' stops.TooLong goes why frame w = stops_between_lines reader' TooLong goes
+        (inr (s.text, next_not_allowed (why.too_long refl))) (λ e. cc, λ e. let bad = frame.failure.1 e in cc)
         (λ e. cc, λ e. let f = w in cc)
       where
         next_not_allowed : (denied_of reader' ≡ true) ⊎ (IsLineTooLong (bytes_left remaining held reader)

@@ -5,6 +5,7 @@ pub mod Keywords
 pub mod Requests
 pub mod MemberReadings
 pub mod AnswerTexts
+pub mod PipeFrames
 pub mod LineBuffer
 pub mod RequestBehaviour
 pub mod Serving

@@ -1,13 +1,15 @@
 -- The unread bytes of an input, and the search for its next line.
-use Rattle.std.specs.Prelude.{◌≡◌, ◌≢◌, ℕ, ◌<◌, ◌≤◌, ◌==◌, Bool, true, false, if◌then◌else◌, List, [], ◌∷◌, ◌++◌}
-use Rattle.std.specs.Prelude.{length, take, drop, Option, None, Some}
+use Rattle.std.specs.Prelude.{◌≡◌, ◌≢◌, ◌⊎◌, ℕ, ◌<◌, ◌≤◌, ◌==◌, Bool, true, false, if◌then◌else◌, List, [], ◌∷◌}
+use Rattle.std.specs.Prelude.{◌++◌, length, take, drop, Option, None, Some, Result, IfErr, IfOk}
 use Rattle.std.specs.Str.Lines.{strip_carriage_return}
 use Rattle.std.specs.Io.KnownBytes.{Consumes, Keeps, IsAtEnd, prepend_known}
-use Rattle.thes_base.specs.Pipe.{unread_bytes}
+use Rattle.thes_base.specs.Pipe.{denied_of, ended_of, unread_bytes}
 use Rattle.thes_base.specs.declared.pipe.Pipe.{Pipe}
+use Rattle.thes_base.specs.declared.pipe.Stop.{Stop}
+use Rattle.thes_base.specs.declared.pipe.Stop.TheVariants.{Failed, TooLong}
 use Rattle.thes_requests.specs.declared.line_buffer.LineRun.{LineRun}
 use Rattle.thes_requests.specs.declared.line_buffer.LineSearch.{LineSearch}
-use Rattle.thes_requests.specs.declared.line_buffer.LineSearch.TheVariants.{Line}
+use Rattle.thes_requests.specs.declared.line_buffer.LineSearch.TheVariants.{End, Line}
 
 -- The bytes not consumed yet: those in the buffer, then those of the reader; None if the device
 -- doesn't know its bytes.
@@ -70,6 +72,21 @@ pub record ConsumesRun (old new line line' : List ℕ) (kept : Bool) (run : Line
   pub one : has_newline (take run.count old) ≡ false
   pub appends : run.kept ≡ true → (kept ≡ true) × (line' ≡ line ++ take run.count old)
 
+-- A read failed or was denied: the buffer is empty, the input hasn't ended, and TooLong means that a read was denied.
+pub record FindsNoBytes {R : Type 0} (stop : Stop) (held : List ℕ) (reader : Pipe R) : Type 0 where
+  pub empty : held ≡ []
+  pub not_ended : ended_of reader ≡ false
+  pub too_long : stop ≡ TooLong → denied_of reader ≡ true
+
+-- The effect of a read into the empty buffer: it holds bytes now, or the input has ended, or the read failed; no byte
+-- was consumed.
+pub record RefillsBuffer {R : Type 0} (old new : Option (List ℕ)) (held : List ℕ) (reader : Pipe R)
+    (result : Result Bool Stop) : Type 0 where
+  pub kept : Keeps old new
+  pub more : IfOk result (λ more. more ≡ true → (held ≢ []) × (ended_of reader ≡ false))
+  pub end : IfOk result (λ more. more ≡ false → (held ≡ []) × IsAtEnd new × (ended_of reader ≡ true))
+  pub stops : IfErr result (λ stop. FindsNoBytes stop held reader)
+
 -- The search found a line; `held` is its content, unless memory ran out.
 abbrev pub IsLineFound : LineSearch → List ℕ → Option (List ℕ) → Option (List ℕ) → Bool → Type 0
 IsLineFound found held old new ended =
@@ -78,3 +95,15 @@ IsLineFound found held old new ended =
 -- The search found the end of the input, and consumed no byte.
 abbrev pub IsEndFound : Option (List ℕ) → Option (List ℕ) → Bool → Type 0
 IsEndFound old new ended = Keeps old new × IsAtEnd new × (ended ≡ true)
+
+-- The search found a line, or the end of the input.
+pub record FindsLineOrEnd (found : LineSearch) (held : List ℕ) (old new : Option (List ℕ)) (ended : Bool) :
+    Type 0 where
+  pub line : found ≢ End → IsLineFound found held old new ended
+  pub end : found ≡ End → IsEndFound old new ended
+
+-- The search stopped: the reader failed within a line, or a read was denied, or the input exceeds a limit.
+pub record StopsInLine {R : Type 0} (stop : Stop) (old unread : Option (List ℕ)) (reader : Pipe R)
+    (Exceeds : Type 0) : Type 0 where
+  pub failure : stop ≡ Failed → ConsumesPartOfLine old unread
+  pub too_long : stop ≡ TooLong → (denied_of reader ≡ true) ⊎ Exceeds

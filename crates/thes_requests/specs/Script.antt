@@ -1,10 +1,10 @@
 -- Scripts: one request a line, each answered with a line before the next one is performed.
 use Rattle.std.specs.Prelude.{◌≡◌, ◌⊎◌, ◌≤◌, ◌↔◌, ℕ, ◌==◌, ◌||◌, Bool, true, false, if◌then◌else◌, List, [], ◌∷◌}
-use Rattle.std.specs.Prelude.{◌++◌, length, take, flat_map, fold, Option, Some, None}
+use Rattle.std.specs.Prelude.{◌++◌, length, take, flat_map, fold, Option, Some, None, Result, MatchResult}
 use Rattle.std.specs.List.{list_all, slice_split, All}
 use Rattle.std.specs.Str.Lines.{lines}
 use Rattle.std.specs.Io.KnownBytes.{Appends, Consumes, IsAtEnd}
-use Rattle.thes_base.specs.Pipe.{failed_of, ended_of, denied_of, unread_bytes, written_bytes}
+use Rattle.thes_base.specs.Pipe.{IsFresh, failed_of, ended_of, denied_of, unread_bytes, written_bytes}
 use Rattle.thes_base.specs.declared.fault.Fault.TheVariants.{OutOfMemory}
 use Rattle.thes_base.specs.declared.fault.PipeFault.{PipeFault}
 use Rattle.thes_base.specs.declared.fault.PipeFault.TheVariants.{Read, Write, TooLong, Fault}
@@ -115,6 +115,11 @@ pub record Session (R W S : Type 0) : Type 0 where
 abbrev pub session : {R W S : Type 0} → Pipe R → Pipe W → S → Session R W S
 session reader writer handler = record { reader = reader; writer = writer; handler = handler }
 
+-- Neither the reader nor the writer has failed or ended, and neither was denied a call.
+pub record IsFreshSession {R W S : Type 0} (begun : Session R W S) : Type 0 where
+  pub reader : IsFresh begun.reader
+  pub writer : IsFresh begun.writer
+
 -- The line after those served would exceed the limits on number or length.
 pub record ExceedsLimits (served : List ℕ) (rest : Option (List ℕ)) : Type 0 where
   pub next : List ℕ
@@ -185,3 +190,8 @@ module _ {R W S : Type 0} (remaining : R → Option (List ℕ)) (contents : W �
     pub cause : IsCause fault served rest line_outcomes
     pub read : (fault ≡ Read) ↔ (failed_of new.reader ≡ true)
     pub wrote : (fault ≡ Write) ↔ (failed_of new.writer ≡ true)
+
+  -- The end of a script: it read all input and answered each line that isn't blank, or a fault stopped it after the
+  -- first lines; the output is exactly the answers, the last of which may be cut short by the fault.
+  abbrev pub EndsScript : Result ScriptEnd PipeFault → Type 0
+  EndsScript result = MatchResult result Completes Stops

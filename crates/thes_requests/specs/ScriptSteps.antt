@@ -1,17 +1,30 @@
 -- The progress of a script line by line, for private contracts and proofs.
-use Rattle.std.specs.Prelude.{◌≡◌, ℕ, Bool, true, false, List, length, Option}
+use Rattle.std.specs.Prelude.{◌≡◌, ◌≢◌, ◌⊎◌, ◌≤◌, ◌+◌, ℕ, Bool, true, false, List, length, Option, Result, IfErr, IfOk}
 use Rattle.std.specs.Io.KnownBytes.{Appends, Consumes, IsAtEnd}
 use Rattle.thes_base.specs.Pipe.{IsFresh, failed_of, ended_of, denied_of, unread_bytes, written_bytes, AppendsPrefix}
 use Rattle.thes_base.specs.declared.fault.Fault.TheVariants.{OutOfMemory}
 use Rattle.thes_base.specs.declared.fault.PipeFault.{PipeFault}
 use Rattle.thes_base.specs.declared.fault.PipeFault.TheVariants.{Read, Write, TooLong, Fault}
 use Rattle.thes_base.specs.declared.pipe.Pipe.{Pipe}
-use Rattle.thes_requests.specs.LineBuffer.{bytes_left}
+use Rattle.thes_base.specs.declared.pipe.Stop.{Stop}
+use Rattle.thes_requests.specs.LineBuffer.{bytes_left, ConsumesLine, FindsLineOrEnd, IsLineTooLong, StopsInLine}
 use Rattle.thes_requests.specs.Serving.{LineBehaviour}
 use Rattle.thes_requests.specs.Script.{ServesLines, EndsLine, Session, raw_lines, outcome_text, script_text}
-use Rattle.thes_requests.specs.Script.{end_after_outcome, end_of_outcomes}
+use Rattle.thes_requests.specs.Script.{end_after_outcome, end_of_outcomes, lines_limit}
+use Rattle.thes_requests.specs.declared.line_buffer.LineSearch.{LineSearch}
+use Rattle.thes_requests.specs.declared.line_buffer.LineSearch.TheVariants.{End}
+use Rattle.thes_requests.specs.declared.lines.ScriptLines.{ScriptLines}
 use Rattle.thes_requests.specs.declared.script.ScriptEnd.{ScriptEnd}
 use Rattle.thes_requests.specs.declared.serve.LineOutcome.{LineOutcome}
+
+-- The search for the next line of a script found the line and counted it, found the end of the input, or stopped. The
+-- bytes that are left are those of the buffer, and then the unread ones of the reader.
+pub record FindsNextLine {R : Type 0} (left left' : Option (List ℕ)) (old new : ScriptLines)
+    (unread : Option (List ℕ)) (reader : Pipe R) (result : Result LineSearch Stop) : Type 0 where
+  pub found : IfOk result (λ one. FindsLineOrEnd one new.line.items left left' (ended_of reader))
+  pub count : IfOk result (λ one. one ≢ End → (new.count ≡ old.count + 1) × (new.count ≤ lines_limit))
+  pub stops : IfErr result (λ stop. StopsInLine stop left unread reader (IsLineTooLong left
+      ⊎ ((old.count ≡ lines_limit) × (raw : List ℕ) × ConsumesLine left left' raw (ended_of reader))))
 
 module _ {W S : Type 0} (contents : W → Option (List ℕ)) (is_open : S → Bool) (handler : S)
     (writer writer' : Pipe W) where

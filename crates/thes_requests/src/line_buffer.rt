@@ -1,9 +1,10 @@
 //! A buffer that splits the input of a reader into lines.
-ghost use Rattle.std.specs.Prelude.{◌≡◌, ◌≢◌, ◌≤◌, ◌<◌, ◌⊎◌, ℕ, Bool, List, [], ◌∷◌, ◌++◌, length, take, drop, true, false, IfOk, IfErr, OnOk, OnErr, IsErrOf, Option, IsTrue, MatchOption, ◌↔◌};
-ghost use Rattle.std.specs.Io.KnownBytes.{Consumes, Keeps, IsAtEnd};
+ghost use Rattle.std.specs.Prelude.{◌≡◌, ◌≢◌, ◌≤◌, [], ◌∷◌, ◌++◌, length, take, drop, true, false, IfOk, IfErr};
+ghost use Rattle.std.specs.Io.KnownBytes.{Keeps};
 ghost use Rattle.std.specs.Str.Lines.{strip_carriage_return};
-ghost use Rattle.thes_base.specs.Pipe.{failed_of, ended_of, denied_of, IsFresh, PaysCalls, unread_bytes};
-ghost use Rattle.thes_requests.specs.LineBuffer.{bytes_left, has_newline, ConsumesByte, ConsumesRun, ConsumesPartOfLine, IsLineTooLong, IsLineFound, IsEndFound};
+ghost use Rattle.thes_base.specs.Pipe.{ended_of, IsFresh, unread_bytes};
+ghost use Rattle.thes_requests.specs.PipeFrames.{ReadFrame};
+ghost use Rattle.thes_requests.specs.LineBuffer.{bytes_left, has_newline, ConsumesByte, ConsumesRun, FindsNoBytes, RefillsBuffer, FindsLineOrEnd, StopsInLine, IsLineTooLong};
 
 use memchr::memchr;
 use std::alloc::{AllocError, Global};
@@ -76,13 +77,11 @@ impl LineBuffer {
             (bytes_left R.remaining self.old reader.old)
             (bytes_left R.remaining self.new reader.new)
             (ended_of reader.new)) }
-        ensures err { OnErr result (Keeps (bytes_left R.remaining self.old reader.old)
+        ensures stopped { IfErr result (λ stop. Keeps
+            (bytes_left R.remaining self.old reader.old)
             (bytes_left R.remaining self.new reader.new)
-            × (ended_of reader.new ≡ false)) }
-        ensures emptied { OnErr result (self.new ≡ []) }
-        ensures failed { IsErrOf result Stop.Failed ↔ (failed_of reader.new ≡ true) }
-        ensures denied { IsErrOf result Stop.TooLong ↔ (denied_of reader.new ≡ true) }
-        ensures paid { PaysCalls reader.old reader.new budget.old budget.new }
+            × FindsNoBytes stop self.new reader.new) }
+        ensures frame { ReadFrame reader.old reader.new budget.old budget.new result }
     {
         if self.pos == self.filled && !self.refill(reader, budget)? {
             return Ok(None);
@@ -100,23 +99,14 @@ impl LineBuffer {
         line: &mut Vec<u8>,
     ) -> Result<LineSearch, Stop>
         requires { IsFresh reader.old }
-        ensures line { IfOk result (λ found. found ≢ LineSearch.End →
-            IsLineFound found line.new.items
+        ensures found { IfOk result (λ found. FindsLineOrEnd found line.new.items
             (bytes_left R.remaining self.old reader.old)
             (bytes_left R.remaining self.new reader.new)
             (ended_of reader.new)) }
-        ensures end { IfOk result (λ found. found ≡ LineSearch.End → IsEndFound
-            (bytes_left R.remaining self.old reader.old)
-            (bytes_left R.remaining self.new reader.new)
-            (ended_of reader.new)) }
-        ensures broken { IsErrOf result Stop.Failed →
-            ConsumesPartOfLine (bytes_left R.remaining self.old reader.old)
-            (unread_bytes R.remaining reader.new) }
-        ensures failed { IsErrOf result Stop.Failed ↔ (failed_of reader.new ≡ true) }
-        ensures too_long { IsErrOf result Stop.TooLong → (denied_of reader.new ≡ true)
-            ⊎ IsLineTooLong (bytes_left R.remaining self.old reader.old) }
-        ensures denied { denied_of reader.new ≡ true → IsErrOf result Stop.TooLong }
-        ensures paid { PaysCalls reader.old reader.new budget.old budget.new }
+        ensures stopped { let before = bytes_left R.remaining self.old reader.old in
+            IfErr result (λ stop. StopsInLine stop before (unread_bytes R.remaining reader.new)
+            reader.new (IsLineTooLong before)) }
+        ensures frame { ReadFrame reader.old reader.new budget.old budget.new result }
     {
         line.clear();
         let mut held = true;
@@ -150,16 +140,9 @@ impl LineBuffer {
     fn refill<R: Read>(&mut self, reader: &mut Pipe<R>, budget: &mut Budget) -> Result<bool, Stop>
         requires fresh { IsFresh reader.old }
         requires used { self.old ≡ [] }
-        ensures more { IfOk result (λ more. more ≡ true → (self.new ≢ [])
-            × (ended_of reader.new ≡ false)) }
-        ensures kept { Keeps (bytes_left R.remaining self.old reader.old)
-            (bytes_left R.remaining self.new reader.new) }
-        ensures end { IfOk result (λ more. more ≡ false → (self.new ≡ [])
-            × IsAtEnd (bytes_left R.remaining self.new reader.new) × (ended_of reader.new ≡ true)) }
-        ensures err { OnErr result ((self.new ≡ []) × (ended_of reader.new ≡ false)) }
-        ensures failed { IsErrOf result Stop.Failed ↔ (failed_of reader.new ≡ true) }
-        ensures denied { IsErrOf result Stop.TooLong ↔ (denied_of reader.new ≡ true) }
-        ensures paid { PaysCalls reader.old reader.new budget.old budget.new }
+        ensures refills { RefillsBuffer (bytes_left R.remaining self.old reader.old)
+            (bytes_left R.remaining self.new reader.new) self.new reader.new result }
+        ensures frame { ReadFrame reader.old reader.new budget.old budget.new result }
     {
         self.pos = 0;
         self.filled = 0;

@@ -1,8 +1,10 @@
 //! The lines of a script, within the limit of 1,000,000 lines.
-ghost use Rattle.std.specs.Prelude.{◌≡◌, ◌≢◌, ◌≤◌, ◌⊎◌, ◌+◌, List, ℕ, [], IfOk, OnOk, IsErrOf, ◌↔◌, true, false};
-ghost use Rattle.thes_base.specs.Pipe.{failed_of, ended_of, denied_of, IsFresh, PaysCalls, unread_bytes};
-ghost use Rattle.thes_requests.specs.LineBuffer.{bytes_left, ConsumesLine, ConsumesPartOfLine, IsLineTooLong, IsLineFound, IsEndFound};
+ghost use Rattle.std.specs.Prelude.{◌≡◌, ◌≤◌, [], IfOk};
+ghost use Rattle.thes_base.specs.Pipe.{IsFresh, unread_bytes};
+ghost use Rattle.thes_requests.specs.PipeFrames.{ReadFrame};
+ghost use Rattle.thes_requests.specs.LineBuffer.{bytes_left};
 ghost use Rattle.thes_requests.specs.Script.{lines_limit};
+ghost use Rattle.thes_requests.specs.ScriptSteps.{FindsNextLine};
 
 use crate::line_buffer::{LineBuffer, LineSearch};
 use std::alloc::{AllocError, Global};
@@ -43,29 +45,10 @@ impl ScriptLines {
     ) -> Result<LineSearch, Stop>
         requires fresh { IsFresh reader.old }
         requires within { self.old.count ≤ lines_limit }
-        ensures line { IfOk result (λ found. found ≢ LineSearch.End →
-            IsLineFound found self.new.line.items
-            (bytes_left R.remaining self.old.line_buffer reader.old)
-            (bytes_left R.remaining self.new.line_buffer reader.new)
-            (ended_of reader.new)) }
-        ensures end { IfOk result (λ found. found ≡ LineSearch.End → IsEndFound
-            (bytes_left R.remaining self.old.line_buffer reader.old)
-            (bytes_left R.remaining self.new.line_buffer reader.new)
-            (ended_of reader.new)) }
-        ensures count { IfOk result (λ found. found ≢ LineSearch.End →
-            (self.new.count ≡ self.old.count + 1) × (self.new.count ≤ lines_limit)) }
-        ensures broken { IsErrOf result Stop.Failed →
-            ConsumesPartOfLine (bytes_left R.remaining self.old.line_buffer reader.old)
-            (unread_bytes R.remaining reader.new) }
-        ensures failed { IsErrOf result Stop.Failed ↔ (failed_of reader.new ≡ true) }
-        ensures too_long { IsErrOf result Stop.TooLong → (denied_of reader.new ≡ true)
-            ⊎ (IsLineTooLong (bytes_left R.remaining self.old.line_buffer reader.old)
-            ⊎ ((self.old.count ≡ lines_limit) × (raw : List ℕ) × ConsumesLine
-            (bytes_left R.remaining self.old.line_buffer reader.old)
-            (bytes_left R.remaining self.new.line_buffer reader.new)
-            raw (ended_of reader.new))) }
-        ensures denied { denied_of reader.new ≡ true → IsErrOf result Stop.TooLong }
-        ensures paid { PaysCalls reader.old reader.new budget.old budget.new }
+        ensures finds { FindsNextLine (bytes_left R.remaining self.old.line_buffer reader.old)
+            (bytes_left R.remaining self.new.line_buffer reader.new) self.old self.new
+            (unread_bytes R.remaining reader.new) reader.new result }
+        ensures frame { ReadFrame reader.old reader.new budget.old budget.new result }
     {
         let found = self.line_buffer.take_line(reader, budget, &mut self.line)?;
         if found == LineSearch::End {

@@ -1,7 +1,7 @@
 //! Scripts: one request a line, each answered with a line before the next one is performed.
 ghost use Rattle.std.specs.Prelude.{◌≡◌, true, IfOk, IfErr, OnOk};
 ghost use Rattle.thes_base.specs.Pipe.{IsFresh, PaysCalls, KeepsSharedCallLimit};
-ghost use Rattle.thes_requests.specs.Script.{end_after_outcome, end_without_lines, session, Completes, Stops};
+ghost use Rattle.thes_requests.specs.Script.{end_after_outcome, end_without_lines, session, EndsScript, IsFreshSession};
 ghost use Rattle.thes_requests.specs.Serving.{Serves};
 ghost use Rattle.thes_requests.specs.ScriptSteps.{OutcomeWritten, StopsWithOutcome};
 
@@ -94,15 +94,11 @@ pub fn script<R: Read, W: Write, D: RequestHandler>(
     writer: &mut Pipe<W>,
     handler: &mut D,
 ) -> Result<ScriptEnd, PipeFault>
-    requires reader { IsFresh reader.old }
-    requires writer { IsFresh writer.old }
+    requires fresh { IsFreshSession (session reader.old writer.old handler.old) }
     requires open { D.is_open handler.old ≡ true }
-    ensures completed { IfOk result
-        (Completes R.remaining W.contents (Serves D.requests) D.is_open
-        (session reader.old writer.old handler.old) (session reader.new writer.new handler.new)) }
-    ensures stopped { IfErr result
-        (Stops R.remaining W.contents (Serves D.requests) D.is_open
-        (session reader.old writer.old handler.old) (session reader.new writer.new handler.new)) }
+    ensures ends { EndsScript R.remaining W.contents (Serves D.requests) D.is_open
+        (session reader.old writer.old handler.old) (session reader.new writer.new handler.new)
+        result }
     ensures calls { KeepsSharedCallLimit reader.old reader.new writer.old writer.new }
 {
     let mut lines = ScriptLines::new(alloc)?;

@@ -1,7 +1,8 @@
 //! Serves one line of a script: reads its request, and answers it.
-ghost use Rattle.std.specs.Prelude.{◌≡◌, ◌⊎◌, ◌↔◌, ℕ, List, true, false, IsTrue, OnOk, OnErr, IsErrOf};
+ghost use Rattle.std.specs.Prelude.{◌≡◌, ℕ, List, true, false, OnOk, OnErr};
 ghost use Rattle.std.specs.Io.KnownBytes.{Appends};
-ghost use Rattle.thes_base.specs.Pipe.{failed_of, ended_of, denied_of, written_bytes, AppendsPrefix, PaysCalls};
+ghost use Rattle.thes_base.specs.Pipe.{failed_of, written_bytes, AppendsPrefix};
+ghost use Rattle.thes_requests.specs.PipeFrames.{WriteFrame};
 ghost use Rattle.thes_requests.specs.Script.{is_blank, outcome_text, StepLine};
 ghost use Rattle.thes_requests.specs.Serving.{Serves, command_answer, query_answer};
 
@@ -61,11 +62,7 @@ impl LineOutcome {
             (written_bytes W.contents writer.new) (outcome_text self.now)) }
         ensures err { OnErr result (AppendsPrefix (written_bytes W.contents writer.old)
             (written_bytes W.contents writer.new) (outcome_text self.now)) }
-        ensures ended { ended_of writer.new ≡ ended_of writer.old }
-        ensures failed { IsErrOf result Stop.Failed ↔ (failed_of writer.new ≡ true) }
-        ensures denied { IsTrue (denied_of writer.new)
-            ↔ (IsTrue (denied_of writer.old) ⊎ IsErrOf result Stop.TooLong) }
-        ensures paid { PaysCalls writer.old writer.new budget.old budget.new }
+        ensures frame { WriteFrame writer.old writer.new budget.old budget.new result }
     {
         match self {
             LineOutcome::Skipped => Ok(()),

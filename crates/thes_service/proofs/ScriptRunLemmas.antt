@@ -1,7 +1,6 @@
 -- Proves that the lines of a script lead an office through a run of the machine.
 use Rattle.std.proofs.Common.{◌≡◌, ◌∙◌, inl, inr, sym, refl, subst, ℕ, List, [], ◌∷◌, ◌++◌, Option, Result, Ok, Err}
 use Rattle.std.proofs.Common.{arith}
-use Rattle.std.specs.Prelude.{IfOk, IfErr}
 use Rattle.thes_base.specs.declared.data.Limits.{Limits}
 use Rattle.thes_base.specs.declared.fault.Fault.{Fault}
 use Rattle.thes_base.specs.declared.fault.PipeFault.{PipeFault}
@@ -20,7 +19,7 @@ use Rattle.thes_requests.specs.declared.serve.LineAnswer.TheVariants.{Reply, Vie
 use Rattle.thes_requests.specs.declared.script.ScriptEnd.{ScriptEnd}
 use Rattle.thes_requests.specs.declared.serve.LineOutcome.{LineOutcome}
 use Rattle.thes_requests.specs.declared.serve.LineOutcome.TheVariants.{Skipped, Unheld, Answered}
-use Rattle.thes_requests.specs.Script.{StepLine, RunLines, Session, Completes, Stops}
+use Rattle.thes_requests.specs.Script.{StepLine, RunLines, Session, EndsScript}
 use Rattle.thes_service.specs.OfficeRequests.{IsReachedByRun, OfficeServes, is_always_open}
 
 module _ {K : Type 0} (view : K → StorageView) where
@@ -112,10 +111,9 @@ module _ {K : Type 0} (view : K → StorageView) where
       → ((view old.handler.keeper).is_up → (base : List ℕ) × (s : State)
       × TablesOfState (view old.handler.keeper).rows base s
       × IsConsistentState base s)
-      → IfOk result (Completes remaining contents (OfficeServes view) is_always_open old new)
-      → IfErr result (Stops remaining contents (OfficeServes view) is_always_open old new)
+      → EndsScript remaining contents (OfficeServes view) is_always_open old new result
       → IsReachedByRun view old.handler new.handler
-  script_leads remaining contents (Ok ended) old new shows f g = let l = f.lines in
-      lines_reached _ f.line_outcomes old.handler old.handler new.handler l.run (led_start old.handler shows)
-  script_leads remaining contents (Err fault) old new shows f g = let l = g.lines in
-      lines_reached _ g.line_outcomes old.handler old.handler new.handler l.run (led_start old.handler shows)
+  script_leads remaining contents (Ok ended) old new shows ends = let l = ends.lines in
+      lines_reached _ ends.line_outcomes old.handler old.handler new.handler l.run (led_start old.handler shows)
+  script_leads remaining contents (Err fault) old new shows ends = let l = ends.lines in
+      lines_reached _ ends.line_outcomes old.handler old.handler new.handler l.run (led_start old.handler shows)

@@ -1,9 +1,9 @@
 //! The engine over an office: performs requests, answers queries, runs scripts, and serves HTTP
 //! connections.
-ghost use Rattle.std.specs.Prelude.{◌≡◌, IfOk, IfErr};
-ghost use Rattle.thes_base.specs.Pipe.{IsFresh, KeepsSharedCallLimit};
+ghost use Rattle.std.specs.Prelude.{◌≡◌, IfOk};
+ghost use Rattle.thes_base.specs.Pipe.{KeepsSharedCallLimit};
 ghost use Rattle.thes_http.specs.Server.{LeadsBy};
-ghost use Rattle.thes_requests.specs.Script.{session, Completes, Stops};
+ghost use Rattle.thes_requests.specs.Script.{session, EndsScript, IsFreshSession};
 ghost use Rattle.thes_service.specs.OfficeRequests.{OfficeServes, is_always_open, IsReachedByRun};
 ghost use Rattle.thes_service.specs.Service.{office_behaviour};
 
@@ -158,14 +158,10 @@ pub fn office_script<K: Keeper, R: Read, W: Write>(
     writer: &mut Pipe<W>,
     handler: &mut OfficeHandler<K>,
 ) -> Result<ScriptEnd, PipeFault>
-    requires reader { IsFresh reader.old }
-    requires writer { IsFresh writer.old }
-    ensures completed { let serves = OfficeServes K.view in
-        IfOk result (Completes R.remaining W.contents serves is_always_open
-        (session reader.old writer.old handler.old) (session reader.new writer.new handler.new)) }
-    ensures stopped { let serves = OfficeServes K.view in
-        IfErr result (Stops R.remaining W.contents serves is_always_open
-        (session reader.old writer.old handler.old) (session reader.new writer.new handler.new)) }
+    requires { IsFreshSession (session reader.old writer.old handler.old) }
+    ensures ends { EndsScript R.remaining W.contents (OfficeServes K.view) is_always_open
+        (session reader.old writer.old handler.old) (session reader.new writer.new handler.new)
+        result }
     ensures reached { IsReachedByRun K.view handler.old handler.new }
     ensures calls { KeepsSharedCallLimit reader.old reader.new writer.old writer.new }
 {

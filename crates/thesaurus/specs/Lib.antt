@@ -51,6 +51,7 @@ pub use Rattle.thes_office.specs.LoadedCore
 pub use Rattle.thes_office.specs.LoaderFeed
 pub use Rattle.thes_office.specs.LoaderView
 pub use Rattle.thes_office.specs.Office
+pub use Rattle.thes_office.specs.Opening
 pub use Rattle.thes_office.specs.QueryFrames
 pub use Rattle.thes_office.specs.TablesOfState
 pub use Rattle.thes_post.specs.PostingCounts

@@ -2,7 +2,6 @@ use Rattle.std.proofs.Common.{◌≡◌, ◌∙◌, ap, inl, inr, refl, subst}
 use Rattle.thes_office.specs.Office.{OfficeView}
 use Rattle.thes_cli.specs.Work.{DoesOutputWork, DoesWork}
 use Rattle.thes_cli.specs.Scripting.{AnswersScript}
-use Rattle.thes_cli.proofs.ScriptLemmas.{script_answered}
 use Rattle.thes_cli.proofs.work.work_over_keeper.Goals as goal
 use Rattle.thes_cli.proofs.work.work_over_keeper.Goals.{in-Script, in-Output}
 
@@ -21,14 +20,13 @@ returns g c =
             output = w.office_script-ended.new.writer;
             errors = w.report_script_end-status.new.errors;
           })) one
-          (script_answered g.K.Keeper.view g.R.Read.remaining g.W.Write.contents g.E.Write.contents
-          c.new-handler.result old w.report_script_end-status.result w.office_script-ended.new.handler (record old {
-            input = w.office_script-ended.new.reader;
-            output = w.office_script-ended.new.writer;
-            errors = w.report_script_end-status.new.errors;
-          }) w.office_script-ended.result w.office_script-ended.ensures.completed w.office_script-ended.ensures.stopped
-          w.office_script-ended.ensures.reached w.office_script-ended.ensures.calls
-          (w.report_script_end-status.ensures.fault, w.report_script_end-status.ensures.status)))
+          (record {
+            result = w.office_script-ended.result;
+            script = w.office_script-ended.ensures.ends;
+            reached = w.office_script-ended.ensures.reached;
+            calls = w.office_script-ended.ensures.calls;
+            closes = (w.report_script_end-status.ensures.fault, w.report_script_end-status.ensures.status);
+          }))
       | in-Output w ↦ rw (w.in-Output.is, w.status-is, w.handler-is, w.streams-is) (
         refl,
         subst (λ (k : OfficeView _). DoesOutputWork g.K.Keeper.view g.F.Read.remaining g.W.Write.contents
@@ -39,11 +37,7 @@ returns g c =
     ] in (
       inl record {
         old_office = c.in-Ok.office;
-        opens = record {
-          limits_are = c.in-Ok.ensures.limits;
-          same = c.in-Ok.ensures.same;
-          shows = c.in-Ok.ensures.shows;
-        };
+        opens = c.in-Ok.ensures.opened;
         new_office = c.match-work.handler;
         does = does;
         back_is = c.into_keeper.ensures ∙ ap (λ (o : OfficeView _). o.keeper) c.into_office.ensures;
@@ -55,11 +49,7 @@ pub returns-in-Err : goal.returns-in-Err
 returns-in-Err g c = (
   inr record {
     fault = c.in-Err.fault;
-    fails_to_open = record {
-      same = c.in-Err.ensures.back;
-      verdict = c.in-Err.ensures.verdict;
-      store = c.in-Err.ensures.store;
-    };
+    fails_to_open = c.in-Err.ensures.opened;
     input = refl;
     output = refl;
     prints_it = c.report_unopened_store.ensures.line;

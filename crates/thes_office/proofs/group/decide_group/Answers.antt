@@ -48,3 +48,6 @@ returns-clause-decides g c up =
     subst (λ (l : List Command). GroupDecided (g.K.Keeper.view c.args.keeper.now).rows c.args.core.now.setting l
     c.loop-command.decided.answers.items c.loop-command.decided.delta c.loop-command.core)
     (take_all c.loop-command.command-index c.args.group.now (omega arith)) (c.loop-command.invariant.decides up)
+
+pub returns-clause-usable : goal.returns-clause-usable
+returns-clause-usable g c = let now = c.loop-command.invariant in (omega (arith, now.each), now.unspent, now.setting)

@@ -16,4 +16,4 @@ returns-clause-reached g c =
     (subst (λ (d : OfficeView _). (g.K.Keeper.view d.keeper).is_up → (base : List ℕ) × (s : State)
     × TablesOfState (g.K.Keeper.view d.keeper).rows base s × IsConsistentState base s) c.handler.view_is
     c.is_stale.ensures.shows)
-    c.script.ensures.completed c.script.ensures.stopped
+    c.script.ensures.ends

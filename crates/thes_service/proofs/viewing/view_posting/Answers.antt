@@ -17,8 +17,8 @@ unknown hs n none = search (rules, sym none)
 pub returns-in_ok-query_answer-in-Ok-Some : goal.returns-in_ok-query_answer-in-Ok-Some
 returns-in_ok-query_answer-in-Ok-Some g c = record {
   fault_behaviour = behaviour_with_value g.K.Keeper.view c.args.office.now c.posting.new.self
-      c.in-Ok-Some.field-0 c.in_ok-query_answer-in-Ok-Some.field-0 c.in-Ok-Some.ensures.fault_behaviour;
-  same = c.in-Ok-Some.ensures.same;
+      c.in-Ok-Some.field-0 c.in_ok-query_answer-in-Ok-Some.field-0 c.in-Ok-Some.ensures.frame.fault_behaviour;
+  same = c.in-Ok-Some.ensures.frame.same;
   viewed = λ up base s x. c.in_ok-query_answer-in-Ok-Some.ensures s (asked.Posting c.args.number)
       (sym (c.in-Ok-Some.ensures.in_tables up base s x) ∙ c.in-Ok-Some.field-0-is);
 }
@@ -26,8 +26,8 @@ returns-in_ok-query_answer-in-Ok-Some g c = record {
 pub returns-in-Ok-None : goal.returns-in-Ok-None
 returns-in-Ok-None g c = record {
   fault_behaviour = behaviour_with_value g.K.Keeper.view c.args.office.now c.posting.new.self
-      c.in-Ok-None.field-0 _ c.in-Ok-None.ensures.fault_behaviour;
-  same = c.in-Ok-None.ensures.same;
+      c.in-Ok-None.field-0 _ c.in-Ok-None.ensures.frame.fault_behaviour;
+  same = c.in-Ok-None.ensures.frame.same;
   viewed = λ up base s x. unknown s.histories c.args.number (sym c.in-Ok-None.field-0-is
       ∙ c.in-Ok-None.ensures.in_tables
       up base s x);

@@ -10,16 +10,16 @@ pub returns-in-Settled-clause-performed : goal.returns-in-Settled-clause-perform
 returns-in-Settled-clause-performed g c =
     performed_when_settled g.K.Keeper.view c.self.inside.keeper c.self.inside.core
     c.self.inside.limits c.self.inside.stale c.gather_facts.new.self c.self.invariant c.self.view_is
-    c.in_ok-facts.ensures.fresh c.args.command.now c.in_ok-facts.facts c.in_ok-facts.ensures.in_tables _
+    c.in_ok-facts.ensures.frame.fresh c.args.command.now c.in_ok-facts.facts c.in_ok-facts.ensures.in_tables _
     c.in_ok-answer.ensures.ok
-    c.args.self.now c.in-Settled.answer c.in_ok-facts.ensures.fault_behaviour.limits c.in_ok-facts.ensures.same
+    c.args.self.now c.in-Settled.answer c.in_ok-facts.ensures.frame.fault_behaviour.limits c.in_ok-facts.ensures.frame.same
     c.in-Settled.is
 
 pub commit-requires : goal.commit-requires
 commit-requires g c = record {
   fits = accepted_fits g.K.Keeper.view c.self.inside.keeper c.self.inside.core
       c.self.inside.limits c.self.inside.stale c.gather_facts.new.self c.self.invariant c.self.view_is
-      c.in_ok-facts.ensures.fresh c.args.command.now c.in_ok-facts.facts c.in_ok-facts.ensures.in_tables _
+      c.in_ok-facts.ensures.frame.fresh c.args.command.now c.in_ok-facts.facts c.in_ok-facts.ensures.in_tables _
       c.in_ok-answer.ensures.ok
       c.in-Accepted.answer c.in-Accepted.delta c.in-Accepted.is;
 }
@@ -31,7 +31,7 @@ invariant_of-self g c =
     (never_falls _ _ _ c.commit.ensures.keeps.cause)
     (λ e. let is : c.in-Err.fault ≡ faults.Store = search rules in
     inr (has_failed _ _ _ c.in-Err.ensures.keeps.cause is))
-    (λ e. ap (λ (d : OfficeView _). d.stale) c.self.view_is ∙ c.in_ok-facts.ensures.fresh) c.commit.ensures.keeps.was
+    (λ e. ap (λ (d : OfficeView _). d.stale) c.self.view_is ∙ c.in_ok-facts.ensures.frame.fresh) c.commit.ensures.keeps.was
     c.in-Err.ensures.keeps.same
 
 pub apply-requires-clause-may : goal.apply-requires-clause-may
@@ -41,7 +41,7 @@ pub invariant_of-self-in-Accepted : goal.invariant_of-self-in-Accepted
 invariant_of-self-in-Accepted g c =
     consistent_when_accepted g.K.Keeper.view c.self.inside.keeper c.self.inside.core
     c.self.inside.limits c.self.inside.stale c.gather_facts.new.self c.self.invariant c.self.view_is
-    c.in_ok-facts.ensures.fresh c.args.command.now c.in_ok-facts.facts c.in_ok-facts.ensures.in_tables _
+    c.in_ok-facts.ensures.frame.fresh c.args.command.now c.in_ok-facts.facts c.in_ok-facts.ensures.in_tables _
     c.in_ok-answer.ensures.ok
     c.in-Accepted.answer c.in-Accepted.delta c.in-Accepted.is c.commit.new.self c.learn_forms.ensures
     c.commit.ensures.keeps.was c.in_default.ensures.ok c.apply.new.self c.apply.result c.is_spent-self-inside.result
@@ -51,8 +51,8 @@ pub returns-clause-performed : goal.returns-clause-performed
 returns-clause-performed g c =
     performed_when_accepted g.K.Keeper.view c.self.inside.keeper c.self.inside.core
     c.self.inside.limits c.self.inside.stale c.gather_facts.new.self c.self.invariant c.self.view_is
-    c.in_ok-facts.ensures.fresh c.args.command.now c.in_ok-facts.facts c.in_ok-facts.ensures.in_tables _
+    c.in_ok-facts.ensures.frame.fresh c.args.command.now c.in_ok-facts.facts c.in_ok-facts.ensures.in_tables _
     c.in_ok-answer.ensures.ok
     c.in-Accepted.answer c.in-Accepted.delta c.in-Accepted.is c.commit.new.self c.learn_forms.ensures
     c.commit.ensures.keeps.was c.in_default.ensures.ok c.args.self.now c.is_spent-self-inside.result
-    c.in_ok-facts.ensures.fault_behaviour.limits c.in_ok-facts.ensures.same
+    c.in_ok-facts.ensures.frame.fault_behaviour.limits c.in_ok-facts.ensures.frame.same

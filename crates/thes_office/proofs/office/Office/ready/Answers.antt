@@ -9,8 +9,7 @@ returns g c = (
     λ office. tt,
     ready_core g.K.Keeper.view c.args.self.now c.self.inside.keeper
         c.self.inside.core c.self.inside.limits c.self.inside.stale c.refresh.new.self _ c.self.invariant
-        c.self.view_is
-        c.in_ok-refresh.ensures.fault_behaviour c.in_ok-refresh.ensures.same c.in_ok-refresh.ensures.fresh refl,
+        c.self.view_is c.in_ok-refresh.ensures refl,
   ),
   record { after = tt },
 )

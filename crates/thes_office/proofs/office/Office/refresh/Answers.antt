@@ -1,5 +1,5 @@
 use Rattle.std.proofs.Common.{rules, inl}
-use Rattle.thes_office.proofs.OfficeViewLemmas.{consistent_after_load, consistent_after_query, behaviour_of_load_fault}
+use Rattle.thes_office.proofs.OfficeViewLemmas.{consistent_after_load, consistent_after_query, frame_of_load_fault}
 use Rattle.thes_office.proofs.office.Office.refresh.Goals as goal
 
 pub invariant_of-self : goal.invariant_of-self
@@ -8,9 +8,9 @@ invariant_of-self g c =
     c.self.inside.core c.self.inside.limits c.self.inside.stale c.self.inside.stale c.self.invariant
     c.load.ensures.reads.later (λ e. inl e) (λ e. e) c.load.ensures.reads.was c.load.ensures.reads.same
 
-pub returns-in-Err-clause-fault_behaviour : goal.returns-in-Err-clause-fault_behaviour
-returns-in-Err-clause-fault_behaviour g c =
-    behaviour_of_load_fault g.K.Keeper.view c.self.inside.keeper c.load.new.keeper
+pub returns-in-Err : goal.returns-in-Err
+returns-in-Err g c =
+    frame_of_load_fault g.K.Keeper.view c.self.inside.keeper c.load.new.keeper
     c.self.inside.core c.self.inside.limits c.self.inside.stale c.in-Err.fault c.args.self.now
     c.in-Err.ensures.reads c.in-Err.ensures.verdict c.self.invariant (search rules) c.self.view_is
 

@@ -1,4 +1,4 @@
-use Rattle.std.proofs.Common.{ap, sym, subst, ◌∙◌, refl, Bool, arith}
+use Rattle.std.proofs.Common.{ap, sym, subst, ◌∙◌, refl, Bool}
 use Rattle.thes_base.specs.declared.data.Limits.{Limits}
 use Rattle.thes_office.specs.Office.{IsConsistent, IsCopy, OfficeView}
 use Rattle.thes_office.proofs.StepLemmas.{copies_own}
@@ -12,9 +12,9 @@ invariant_of-self g c =
     c.perform_group.new.core c.self.inside.limits b) (sym fresh)
     (consistent_after_load g.K.Keeper.view c.perform_group.new.keeper
     c.perform_group.new.keeper c.perform_group.new.core c.self.inside.limits c.self.invariant.few
-    c.in-Ok.ensures.unspent
+    c.in-Ok.ensures.ok.unspent
     (λ up. subst (λ (l : Limits). IsCopy (g.K.Keeper.view c.perform_group.new.keeper).rows l c.perform_group.new.core)
-    (c.self.invariant.copies fresh (c.perform_group.ensures.keeps.was up)).limits_are (c.in-Ok.ensures.copies up))
+    (c.self.invariant.copies fresh (c.perform_group.ensures.keeps.was up)).limits_are (c.in-Ok.ensures.ok.copies up))
     (λ up. refl))
 
 pub invariant_of-self-in-Err : goal.invariant_of-self-in-Err
@@ -23,10 +23,10 @@ invariant_of-self-in-Err g c =
     c.perform_group.new.keeper c.self.inside.core c.perform_group.new.core c.self.inside.limits c.self.inside.stale
     c.self.invariant c.perform_group.ensures.keeps.was c.in-Err.ensures.keeps.same c.in-Err.ensures.spent
 
-pub perform_group-requires-clause-unspent : goal.perform_group-requires-clause-unspent
-perform_group-requires-clause-unspent g c = grind (arith)
-
-pub perform_group-requires-clause-copies : goal.perform_group-requires-clause-copies
-perform_group-requires-clause-copies g c up =
-    copies_own (g.K.Keeper.view c.self.inside.keeper).rows c.self.inside.limits c.self.inside.core
-    (c.self.invariant.copies (ap (λ (d : OfficeView _). d.stale) c.self.view_is ∙ c.requires.fresh) up)
+pub perform_group-requires : goal.perform_group-requires
+perform_group-requires g c = let fresh = ap (λ (d : OfficeView _). d.stale) c.self.view_is ∙ c.requires.fresh in record {
+  unspent = c.self.invariant.unspent fresh;
+  copies = λ up. copies_own (g.K.Keeper.view c.self.inside.keeper).rows c.self.inside.limits c.self.inside.core
+      (c.self.invariant.copies fresh up);
+  group = c.requires.group;
+}

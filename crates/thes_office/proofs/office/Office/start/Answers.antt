@@ -1,4 +1,4 @@
-use Rattle.std.proofs.Common.{arith}
+use Rattle.std.proofs.Common.{arith, refl}
 use Rattle.thes_office.proofs.StepLemmas.{copies_over}
 use Rattle.thes_office.proofs.OfficeViewLemmas.{consistent_after_load}
 use Rattle.thes_office.proofs.office.Office.start.Goals as goal
@@ -16,11 +16,17 @@ invariant_of-result g c =
     }
     c.in-Ok.ensures.unspent c.in-Ok.ensures.copies c.in-Ok.ensures.reads.same
 
-pub returns-in-Ok-clause-shows : goal.returns-in-Ok-clause-shows
-returns-in-Ok-clause-shows g c up =
-    let here = copies_over (g.K.Keeper.view c.args.keeper).rows (g.K.Keeper.view c.load.new.keeper).rows c.args.limits
-    c.in-Ok.core (c.in-Ok.ensures.reads.same up) (c.in-Ok.ensures.copies up) in
-    (c.in-Ok.core.setting.base, here.state, here.shows)
+pub returns-in-Ok-clause-opened : goal.returns-in-Ok-clause-opened
+returns-in-Ok-clause-opened g c =
+    let reads = c.in-Ok.ensures.reads in record {
+      limits_are = refl;
+      fresh = refl;
+      keeps = record { same = reads.same; was = reads.was; count = reads.count };
+      shows = λ up. let here = copies_over (g.K.Keeper.view c.args.keeper).rows
+          (g.K.Keeper.view c.load.new.keeper).rows c.args.limits
+          c.in-Ok.core (reads.same up) (c.in-Ok.ensures.copies up) in
+          (c.in-Ok.core.setting.base, here.state, here.shows);
+    }
 
 pub returns-in-Ok-clause-found : goal.returns-in-Ok-clause-found
 returns-in-Ok-clause-found g c up =
