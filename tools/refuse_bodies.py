@@ -16,7 +16,8 @@ the crates are known to be proved, as `rt ci` leaves them, with their libraries 
 the functions that edited ones call.
 With --control a neutral edit takes the place of the wrong bodies of each function: one value becomes two cases with the same
 result. Where that is refused, too, the proof rests on the function's shape, and the refusals of wrong bodies that change the shape,
-by a branch or an exit, tell little. Run it once in a while: these are printed, and the record stays as it is.
+by a branch or an exit, tell little. Run it once in a while: these are printed, and the record stays as it is. With --shaped it is
+run only over functions with such wrong bodies.
 If all wrong bodies of a crate are refused, its line in the record tests/refused.txt gets a sum of what that rests on: the
 toolchain, the sources of the crate and of those below it, and the bodies. As long as the sum stays, they aren't tried
 again but with --all. Commit the record with the change.
@@ -30,6 +31,7 @@ Examples:
   tools/refuse_bodies.py --dry                      only whether each edit can be applied
   tools/refuse_bodies.py --body merge thes_core     those whose names contain `merge`
   tools/refuse_bodies.py --control thes_core        neutral edits of the functions that have wrong bodies
+  tools/refuse_bodies.py --control --shaped         only of those with wrong bodies of another shape, of all crates
 """
 import argparse
 import functools
@@ -147,18 +149,21 @@ class Edit:
 
 class NeutralEdit(Edit):
     """An edit that makes two cases of a value in a function, with the same result: in a line that a wrong body changes, or else in the
-    first one in which there is a value."""
+    first one in which there is a value, or else of the last value. A value of which a proof file names a call is taken last."""
 
     def __init__(self, crate_folder, edits):
         function = edits[0].functions[0]
         path, at = function.place
         lines = (crate_folder / path).read_text(encoding="utf-8").split("\n")
         body = body_of(lines, at)
-        changed = [first for edit in edits for it, first, *_ in edit.hunks if it == path and first in body]
-        self.name, self.functions = f"{crate_folder.name}/{function.name}", [function]
         # The wrong bodies that have another shape.
-        self.bodies = [it.name for it in edits if any(changes_shape(crate_folder, *hunk) for hunk in it.hunks)]
-        self.hunks = next(([(path, i, i + 1, [new])] for i in [*changed, *body] if (new := split_in_two(lines, i))), [])
+        shaped = [it for it in edits if any(changes_shape(crate_folder, *hunk) for hunk in it.hunks)]
+        changed = [first for edit in [*shaped, *edits] for it, first, *_ in edit.hunks if it == path and first in body]
+        self.name, self.functions, self.bodies = f"{crate_folder.name}/{function.name}", [function], [it.name for it in shaped]
+        single = [(path, i, i + 1, [new]) for i in [*changed, *body] if (new := split_in_two(lines, i))]
+        named = names_in_proofs(crate_folder, function)
+        places = [*single, *last_in_two(path, lines, body)]
+        self.hunks = sorted(places, key=lambda it: not named.isdisjoint(step_names("\n".join(lines[it[1] : it[2]]))))[:1]
         self.fault, self.is_refused, self.goals, self.room = None, False, [], sys.maxsize
         if not self.hunks:
             raise BadEdit("no line of it has a value by itself")
@@ -189,6 +194,37 @@ def split_in_two(lines, at):
     return None
 
 
+def last_in_two(path, lines, body):
+    """Returns the edit that makes two cases of the last statement or value of a body, in a list, or none if it is no value."""
+    ends = [i for i in body if re.match(rf"{indent_of(lines[body.start])}\S", lines[i]) and re.search(r"(;|^ *\})$", lines[i])]
+    first = next((i + 1 for i in reversed(ends) if i + 1 < body.stop), body.start)
+    last = lines[first : body.stop]
+    pad = indent_of(lines[body.start])
+    is_value = last and not re.match(r" *(?:let|return|break|continue|prove!|use|for|while)\b", last[0])
+    return [(path, first, body.stop, [f"{pad}if 1 < 2 {{", *last, f"{pad}}} else {{", *last, f"{pad}}}"])] if is_value else []
+
+
+def indent_of(line):
+    return line[: len(line) - len(line.lstrip())]
+
+
+def step_names(text):
+    """Returns what a check may call the steps of a text: by the calls in it, by tests for equality, and by what takes its value."""
+    calls = re.findall(r"(\w+)(?:::<[^()]*>)?\(", text) + re.findall(r"\blet (?:mut )?(\w+)", text)
+    return {*calls, *(["eq"] if " == " in text else []), *(["ne"] if " != " in text else [])}
+
+
+def names_in_proofs(crate_folder, function):
+    """Returns the parts of the names of steps that the proof files of a function name."""
+    found = set()
+    for file in (crate_folder / "proofs").rglob("*/*.antt"):
+        folder = file.parent.relative_to(crate_folder / "proofs")
+        if function.is_named(f"{crate_folder.name}::{'::'.join(folder.parts).replace('+', '')}"):
+            steps = re.findall(r"\b(?:c|w)\.([\w-]+)", file.read_text(encoding="utf-8"))
+            found.update(part for step in steps for part in step.split("-"))
+    return found
+
+
 def is_whole(text):
     """Whether the brackets of a text are closed in it, and none that isn't opened in it."""
     opened = []
@@ -200,8 +236,9 @@ def is_whole(text):
     return not opened
 
 
-def neutral_edits(root, edits):
-    """Returns a neutral edit for each function with wrong bodies, by crate, and the functions for which there is none."""
+def neutral_edits(root, edits, of_all):
+    """Returns a neutral edit for each function with wrong bodies, or only with such of another shape, by crate, and the functions for which
+    there is none."""
     found, without = {}, []
     for name, of_crate in edits.items():
         by_place = {}
@@ -209,7 +246,9 @@ def neutral_edits(root, edits):
             by_place.setdefault(edit.functions[0].place, []).append(edit)
         for same in by_place.values():
             try:
-                found.setdefault(name, []).append(NeutralEdit(root / "crates" / name, same))
+                edit = NeutralEdit(root / "crates" / name, same)
+                if of_all or edit.bodies:
+                    found.setdefault(name, []).append(edit)
             except BadEdit as why:
                 without.append(f"{name}/{same[0].functions[0].name}: {why}")
     return found, without
@@ -631,6 +670,7 @@ def words_given():
     parser.add_argument("--all", action="store_true", help="also try what the record says was seen refused")
     parser.add_argument("--body", default="", help="only the wrong bodies whose names have this word; they come into no record")
     parser.add_argument("--control", action="store_true", help="try neutral edits of the functions that have wrong bodies")
+    parser.add_argument("--shaped", action="store_true", help="with --control: only of functions with wrong bodies of another shape")
     parser.add_argument("--dry", action="store_true", help="say only which edits cannot be applied")
     parser.add_argument("--lenient", action="store_true", help="fail only for a body that is proved or cannot be applied")
     parser.add_argument("--minutes", type=float, default=math.inf, help="begin no round after these, and name the edits that are left")
@@ -652,7 +692,7 @@ def main():
     if given.dry:
         return report(edits, [], faults, [], 0, given.lenient)
     if given.control:
-        neutral, without = neutral_edits(given.root, edits)
+        neutral, without = neutral_edits(given.root, edits, not given.shaped)
         _, untried, cpu = try_crates(neutral, given) if neutral else ([], [], 0)
         return report_control(neutral, without, untried, cpu)
     record = {} if given.all or given.body else read_record(given.root)

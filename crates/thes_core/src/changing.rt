@@ -142,6 +142,7 @@ impl Thesaurus {
     }
 
     // Marks a concept as dead without a replacement, and removes its links.
+    #[tactic(auto, using(crate::proofs::ApplyLemmas::parts_become_state, crate::proofs::OutsideLemmas::outside_marked_dead))]
     fn deprecate(&mut self, concept: ResNo)
         requires { PartsAccept self.old [] (request.Deprecate concept) }
         ensures { IsChangedBy (request.Deprecate concept) self.old self.new }

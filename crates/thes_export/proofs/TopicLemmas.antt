@@ -110,16 +110,18 @@ module _ (core : CoreView) (n : ℕ) where
 
   -- The lines of labels are those of their topic.
 
+  -- The lines of the first i labels are appended.
+  pub record AreLabelsAdded (own : List LabelData) (i : ℕ) (old new : List (List ℕ)) : Type 0 where
+    pub adds : Adds (IsLineOf (OfSome (λ (d : LabelData) (t : Triple). t ≡ label_triple core n d) (take i own))) old new
+
   pub label_lines : (own : List LabelData) (i : ℕ) (old new : List (List ℕ)) → length own ≤ i
-      → AreLabelsOf core.labels n own
-      → Adds (IsLineOf (OfSome (λ (d : LabelData) (t : Triple). t ≡ label_triple core n d) (take i own))) old new
-      → Adds (IsLineOf (IsTopicTriple core Labels n)) old new
-  label_lines own i old new all are added =
+      → AreLabelsOf core.labels n own → AreLabelsAdded own i old new → Adds (IsLineOf (IsTopicTriple core Labels n)) old new
+  label_lines own i old new all are so_far =
       same_lines (OfSome (λ (d : LabelData) (t : Triple). t ≡ label_triple core n d) own) (IsTopicTriple core Labels n)
       old new
       (λ t w. (w.0, sym (are.each w.0) ∙ contains_own own w.0 w.1, w.2))
       (λ t w. (w.0, own_contains own w.0 (are.each w.0 ∙ w.1), w.2))
-      (all_taken (λ (d : LabelData) (t : Triple). t ≡ label_triple core n d) own i old new all added)
+      (all_taken (λ (d : LabelData) (t : Triple). t ≡ label_triple core n d) own i old new all so_far.adds)
 
   -- The lines of semantic relations are those of their topics.
 

@@ -172,6 +172,7 @@ pub(crate) fn push_replacement(
 }
 
 // Appends the lines of all labels and scope notes.
+#[tactic(auto, using(crate::proofs::TopicLemmas::label_lines))]
 pub(crate) fn push_labels(about: &LineSource, lines: &mut Vec<ExportPart>) -> Result<(), AllocError>
     ensures { OnOk result (AddsTopic about.now Topic.Labels lines.old.items lines.new.items) }
 {

@@ -94,9 +94,9 @@ AreStarted-more old new block k n small at set before m i =
       ]),
     )
 
-pub AreStarted-end : (words block : List ℕ) (k : ℕ) → length block ≤ k → AreStarted words block k → (n j : ℕ)
+pub bits_started : (words block : List ℕ) (k : ℕ) → length block ≤ k → AreStarted words block k → (n j : ℕ)
     → HasBit words n j ↔ (slice_get block j ≡ Some n)
-AreStarted-end words block k past started n j = grind (arith, common_steps, slice_get_within)
+bits_started words block k past started n j = grind (arith, common_steps, slice_get_within)
 
 -- The new words are the old ones, with the bits of these nodes' words set in the word of n.
 abbrev pub AreSetAbove : (old new : List ℕ) → (n : ℕ) → (above : List ℕ) → Type 0
@@ -212,9 +212,9 @@ module _ (held : Links) (block : List ℕ) where
             (set r.node j).1 (inl (before.starts r.node j (is ∙ ap (λ (y : ℕ). Some y) (sym same))))
         of_row j x is (inr chain) = let one = Chain-first {S = S} r.node x chain in above j x one.0 is one.1 one.2
 
-    pub AreFoundBelow-end : (words : List ℕ) (k : ℕ) → length rows ≤ k → AreFoundBelow held (take k rows) block words
+    pub sets_found : (words : List ℕ) (k : ℕ) → length rows ≤ k → AreFoundBelow held (take k rows) block words
         → AreUpperSets held block words
-    AreFoundBelow-end words k past state n j x is = (state.sound n j x is, from)
+    sets_found words k past state n j x is = (state.sound n j x is, from)
       where
         from : ReachesUp (Holds held) n x → HasBit words n j
         from (inl same) = state.starts n j (is ∙ ap (λ (y : ℕ). Some y) (sym same))

@@ -356,6 +356,7 @@ impl Graph {
     }
 
     /// Removes all links with an end at the node; it can't fail.
+    #[tactic(auto, using(crate::proofs::ChangeLemmas::fewer_links, crate::proofs::ChangeLemmas::without_node_none, crate::proofs::ChangeLemmas::without_node_removed))]
     pub fn drop_all(&mut self, n: ResNo)
         ensures { self.new ≡ record self.old { links = links_after_deprecation n self.old.links } }
     {

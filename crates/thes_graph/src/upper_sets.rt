@@ -38,6 +38,7 @@ fn set_bits_of_node(words: &mut Vec<u64>, n: ResNo, bits: u64) -> Result<(), All
 }
 
 // Sets the bit of each node of the block in its own word, and clears all other bits.
+#[tactic(auto, using(crate::proofs::UpperSetLemmas::bits_started))]
 fn start_block(words: &mut Vec<u64>, block: &[ResNo]) -> Result<(), AllocError>
     requires { length block.now ≤ 64 }
     ensures { OnOk result
@@ -64,6 +65,7 @@ fn set_bits_above(words: &mut Vec<u64>, row: &PathNode) -> Result<(), AllocError
 }
 
 /// Finds the words of all nodes for a block, by one pass over rows in which each node comes after its broader nodes.
+#[tactic(auto, using(crate::proofs::UpperSetLemmas::sets_found))]
 pub fn find_upper_sets(
     words: &mut Vec<u64>,
     rows: &[PathNode],

@@ -1,5 +1,5 @@
 -- Proves that consecutive connections lead from the first state to the last.
-use Rattle.std.proofs.Common.{◌≡◌, Option, subst, refl, sym, ℕ, ◌+◌, ◌≤◌, List, [], ◌∷◌, ◌++◌, length-append, arith}
+use Rattle.std.proofs.Common.{◌≡◌, Option, subst, refl, sym, ℕ, ◌+◌, ◌<◌, ◌≤◌, List, [], ◌∷◌, ◌++◌, length-append, arith}
 use Rattle.thes_requests.specs.Script.{Session}
 use Rattle.thes_http.specs.Connection.{EndsAs}
 use Rattle.thes_http.specs.declared.response.Response.{Response}
@@ -57,3 +57,7 @@ module _ {S : Type 0} (d : ServiceBehaviour S) where
       leads_nowhere 1 before.handler after.handler same.0
   leads_by_end remaining contents before after ReadFault (_, same) =
       leads_nowhere 1 before.handler after.handler same.0
+
+  -- One more connection leads on from where those before it led.
+  pub leads_more : (m n : ℕ) (old mid new : S) → LeadsBy d m old mid → LeadsBy d 1 mid new → m < n → LeadsBy d n old new
+  leads_more m n old mid new led is more = leads_within (m + 1) n (omega (arith, more)) (leads_on m 1 led is)

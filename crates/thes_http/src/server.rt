@@ -20,6 +20,7 @@ use thes_http_request::endpoint::Routes;
 /// accepting a connection, or `OutOfMemory`: memory for the routes ran out before the first
 /// connection, or running out of memory has closed the service. `Ok` means that the service is
 /// open.
+#[tactic(auto, using(crate::proofs::ServerLemmas::leads_more, crate::proofs::ServerLemmas::leads_within))]
 pub fn serve<N: Net + Clock, S: Service>(
     alloc: Global,
     clock: &N,

@@ -1,6 +1,6 @@
 //! Serves one connection over the two ends of its stream.
 ghost use Rattle.std.specs.Prelude.{◌≡◌, true};
-ghost use Rattle.thes_http.specs.Server.{IsServedBy, is_wait};
+ghost use Rattle.thes_http.specs.Server.{IsServedBy, LeadsBy, is_wait};
 
 use crate::deadline::TimedStream;
 use crate::serve::{ConnectionEnd, serve_one};
@@ -47,7 +47,8 @@ pub(crate) fn serve_ends<'c, C: Clock, T: Read + Write + OpenStream + Drop, S: S
     service: &mut S,
 ) -> ServedStream<'c, C, T>
     requires { S.is_open service.old ≡ true }
-    ensures { IsServedBy T.remaining T.contents S.behaviour ends service.old result service.new }
+    ensures served { IsServedBy T.remaining T.contents S.behaviour ends service.old result service.new }
+    ensures leads { LeadsBy S.behaviour 1 service.old service.new }
 {
     let Ends { input, output } = ends;
     let mut reader = Pipe::new(TimedStream::new(input, clock));

@@ -1,4 +1,4 @@
-use Rattle.thes_graph.proofs.UpperSetLemmas.{AreFoundBelow-start, AreFoundBelow-more, AreFoundBelow-end}
+use Rattle.thes_graph.proofs.UpperSetLemmas.{AreFoundBelow-start, AreFoundBelow-more}
 use Rattle.thes_graph.proofs.upper_sets.find_upper_sets.Goals as goal
 
 pub loop-row-init : goal.loop-row-init
@@ -10,8 +10,3 @@ loop-row-preserved c held all =
     AreFoundBelow-more held c.args.block.now c.args.rows.now all c.loop-row.words.items c.set_bits_above.new.words.items
     c.loop-row.row-index c.row-item.result c.loop-row-test.true c.row-item.is c.in_ok-set_bits_above.ensures
     (c.loop-row.invariant held all)
-
-pub returns : goal.returns
-returns c held all =
-    AreFoundBelow-end held c.args.block.now c.args.rows.now all c.loop-row.words.items c.loop-row.row-index
-    c.loop-row-test.false (c.loop-row.invariant held all)

@@ -1,6 +1,6 @@
 use Rattle.std.proofs.Common.{ℕ, Some, sym, ap, ◌∙◌, arith}
 use Rattle.std.proofs.lemmas.Option.{slice_get-get_or}
-use Rattle.thes_graph.proofs.UpperSetLemmas.{AreStarted-none, AreStarted-more, AreStarted-end}
+use Rattle.thes_graph.proofs.UpperSetLemmas.{AreStarted-none, AreStarted-more}
 use Rattle.thes_graph.proofs.upper_sets.start_block.Goals as goal
 
 pub loop-j-init : goal.loop-j-init
@@ -13,6 +13,3 @@ loop-j-preserved c =
     (slice_get-get_or c.args.block.now c.loop-j.j c.index-block-j.result c.loop-j-test.true
     ∙ ap (λ (n : ℕ). Some n) (sym c.index-block-j.is))
     c.in_ok-set_bits_of_node.ensures c.loop-j.invariant
-
-pub returns : goal.returns
-returns c = AreStarted-end c.loop-j.words.items c.args.block.now c.loop-j.j c.loop-j-test.false c.loop-j.invariant
