@@ -17,7 +17,7 @@ returns-in-Ok-clause-taken g c =
     let fits : f + c.in-Ok.count ≤ c.self.inside.buffer.len =
     omega (
       arith,
-      c.in-Ok.ensures.bound.0,
+      c.in-Ok.ensures.reads.size.0,
       c.read.auto.buf,
       len,
       inv.0,
@@ -27,8 +27,8 @@ returns-in-Ok-clause-taken g c =
       length-take (length d - f) (drop f d),
     ) in record {
       more = take c.in-Ok.count new;
-      taken = c.in-Ok.ensures.bytes.0;
+      taken = c.in-Ok.ensures.reads.bytes.0;
       all = buffer_after_read_within c.self.inside.buffer.items d new post
           (drop (length ws) c.self.inside.buffer.items) c.args.self.now f c.in-Ok.count c.self.inside.buffer.len
-          c.deref_mut.ensures.value c.self.view_is room c.in-Ok.ensures.bound.0 fits;
+          c.deref_mut.ensures.value c.self.view_is room c.in-Ok.ensures.reads.size.0 fits;
     }
