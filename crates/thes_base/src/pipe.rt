@@ -1,10 +1,10 @@
 //! Pipes: readers and writers that record failures, the end of the input, denied calls, and the
 //! number of calls.
-ghost use Rattle.std.specs.Prelude.{◌≡◌, ◌≢◌, ◌+◌, ◌<◌, length, true, false, IsTrue, IfOk, IfErr, OnOk, OnErr, IsErrOf, ◌↔◌, ◌⊎◌};
-ghost use Rattle.std.specs.Io.{ReadsAtMost, WritesAtMost};
-ghost use Rattle.std.specs.Io.KnownBytes.{ReadConsumes, WriteAppends, Appends};
+ghost use Rattle.std.specs.Prelude.{◌≡◌, ◌≢◌, ◌<◌, length, false, IsTrue, IfErr, OnOk, OnErr, ◌↔◌};
+ghost use Rattle.std.specs.Io.KnownBytes.{Appends};
 ghost use Rattle.std.specs.IoError.{error_kind};
-ghost use Rattle.thes_base.specs.Pipe.{device_of, failed_of, ended_of, denied_of, calls_of, calls_after, IsFresh, KeepsCallLimit, PaysCalls, calls_limit, unread_bytes, written_bytes, AppendsPrefix, IsPartialWrite, reading_fault, writing_fault};
+ghost use Rattle.thes_base.specs.Pipe.{device_of, failed_of, ended_of, denied_of, calls_of, IsFresh, KeepsCallLimit, calls_limit, written_bytes, AppendsPrefix, IsPartialWrite, reading_fault, writing_fault};
+ghost use Rattle.thes_base.specs.PipeFrames.{DeviceCallFrame, ReadFrame, WriteFrame, ReadsOnce, ReadsBytes, WritesOnce};
 
 use crate::fault::PipeFault;
 use std::io;
@@ -145,21 +145,8 @@ impl<R: Read> Pipe<R> {
     pub fn read_once(&mut self, budget: &mut Budget, buf: &mut [u8]) -> io::Result<usize>
         requires room { 0 < length buf.old }
         requires left { 0 < budget.old }
-        ensures bound { ReadsAtMost result buf.new }
-        ensures bytes { ReadConsumes (unread_bytes R.remaining self.old)
-            (unread_bytes R.remaining self.new) result buf.new }
-
-        // The end is recorded exactly if the call returned no byte, a failure exactly if it
-        // returned an error other than Interrupted.
-        ensures ended { IfOk result (λ n. IsTrue (ended_of self.new)
-            ↔ (IsTrue (ended_of self.old) ⊎ (n ≡ 0))) }
-        ensures not_ended { OnErr result (ended_of self.new ≡ ended_of self.old) }
-        ensures failed { IfErr result (λ e. IsTrue (failed_of self.new)
-            ↔ (IsTrue (failed_of self.old) ⊎ (error_kind e ≢ ErrorKind.Interrupted))) }
-        ensures not_failed { OnOk result (failed_of self.new ≡ failed_of self.old) }
-        ensures denied { denied_of self.new ≡ denied_of self.old }
-        ensures counted { calls_of self.new ≡ calls_after (calls_of self.old) 1 }
-        ensures paid { budget.new + 1 ≡ budget.old }
+        ensures reads { ReadsOnce R.remaining self.old self.new buf.new result }
+        ensures frame { DeviceCallFrame self.old self.new budget.old budget.new }
     {
         budget.left -= 1;
         self.calls = self.calls.saturating_add(1);
@@ -176,16 +163,8 @@ impl<R: Read> Pipe<R> {
     pub fn read(&mut self, budget: &mut Budget, buf: &mut [u8]) -> Result<usize, Stop>
         requires room { 0 < length buf.old }
         requires fresh { IsFresh self.old }
-        ensures bound { ReadsAtMost result buf.new }
-        ensures bytes { ReadConsumes (unread_bytes R.remaining self.old)
-            (unread_bytes R.remaining self.new) result buf.new }
-        ensures ended { IfOk result (λ n. IsTrue (ended_of self.new) ↔ (n ≡ 0)) }
-        ensures not_ended { OnErr result (ended_of self.new ≡ false) }
-        ensures failed { IsErrOf result Stop.Failed ↔ (failed_of self.new ≡ true) }
-        ensures denied { IsErrOf result Stop.TooLong ↔ (denied_of self.new ≡ true) }
-        ensures too_long { IsErrOf result Stop.TooLong → budget.new ≡ 0 }
-        ensures paid { PaysCalls self.old self.new budget.old budget.new }
-        ensures spent { OnOk result (budget.new < budget.old) }
+        ensures reads { ReadsBytes R.remaining self.old self.new budget.old budget.new buf.new result }
+        ensures frame { ReadFrame self.old self.new budget.old budget.new result }
     {
         while budget.left > 0 {
             match self.read_once(budget, buf) {
@@ -208,20 +187,8 @@ impl<W: Write> Pipe<W> {
     pub fn write_once(&mut self, budget: &mut Budget, bytes: &[u8]) -> io::Result<usize>
         requires some { 0 < length bytes.now }
         requires left { 0 < budget.old }
-        ensures bound { WritesAtMost result bytes.now }
-        ensures bytes { WriteAppends (written_bytes W.contents self.old)
-            (written_bytes W.contents self.new) result bytes.now }
-
-        // A failure is recorded exactly if the call wrote no byte, or returned an error other than
-        // Interrupted.
-        ensures stuck { IfOk result (λ n. IsTrue (failed_of self.new)
-            ↔ (IsTrue (failed_of self.old) ⊎ (n ≡ 0))) }
-        ensures failed { IfErr result (λ e. IsTrue (failed_of self.new)
-            ↔ (IsTrue (failed_of self.old) ⊎ (error_kind e ≢ ErrorKind.Interrupted))) }
-        ensures ended { ended_of self.new ≡ ended_of self.old }
-        ensures denied { denied_of self.new ≡ denied_of self.old }
-        ensures counted { calls_of self.new ≡ calls_after (calls_of self.old) 1 }
-        ensures paid { budget.new + 1 ≡ budget.old }
+        ensures writes { WritesOnce W.contents self.old self.new bytes.now result }
+        ensures frame { DeviceCallFrame self.old self.new budget.old budget.new }
     {
         budget.left -= 1;
         self.calls = self.calls.saturating_add(1);
@@ -242,12 +209,7 @@ impl<W: Write> Pipe<W> {
             (written_bytes W.contents self.new) bytes.now) }
         ensures err { OnErr result (AppendsPrefix (written_bytes W.contents self.old)
             (written_bytes W.contents self.new) bytes.now) }
-        ensures ended { ended_of self.new ≡ ended_of self.old }
-        ensures failed { IsErrOf result Stop.Failed ↔ (failed_of self.new ≡ true) }
-        ensures denied { IsTrue (denied_of self.new)
-            ↔ (IsTrue (denied_of self.old) ⊎ IsErrOf result Stop.TooLong) }
-        ensures too_long { IsErrOf result Stop.TooLong → budget.new ≡ 0 }
-        ensures paid { PaysCalls self.old self.new budget.old budget.new }
+        ensures frame { WriteFrame self.old self.new budget.old budget.new result }
     {
         let mut at = 0;
         while at < bytes.len() {

@@ -1,7 +1,7 @@
 //! Responses, each with a status, a media type and a body, and their bytes.
 ghost use Rattle.std.specs.Prelude.{◌≡◌, ◌≤◌, false, length, OnOk, OnErr};
 ghost use Rattle.thes_base.specs.Pipe.{failed_of};
-ghost use Rattle.thes_requests.specs.PipeFrames.{WriteFrame};
+ghost use Rattle.thes_base.specs.PipeFrames.{WriteFrame};
 ghost use Rattle.thes_http.specs.Responses.{status_code, status_line, media_type, problem_text, problem_status, allow_line, allow_text, body_text, head_text, WritesPrefix, WritesResponse, reply_response, page_response, problem_response, form_response, fault_response, command_response, query_response, import_response, export_response, display_response};
 
 use crate::head_text::HeadText;

@@ -17,7 +17,7 @@ use Rattle.thes_base.specs.declared.fault.PipeFault.TheVariants.{Read, Write, To
 use Rattle.thes_base.specs.declared.pipe.Pipe.{Pipe}
 use Rattle.thes_requests.specs.LineBuffer.{bytes_left, line_bytes, line_content, line_limit, ConsumesLine}
 use Rattle.thes_requests.specs.LineBuffer.{ConsumesPartOfLine, IsLineTooLong, IsEndFound, StopsInLine}
-use Rattle.thes_requests.specs.PipeFrames.{ReadFrame}
+use Rattle.thes_base.specs.PipeFrames.{ReadFrame}
 use Rattle.thes_requests.specs.Serving.{LineBehaviour}
 use Rattle.thes_requests.specs.Script.{StepLine, RunLines, AreAllowed, lines_limit, EndsLine, raw_lines, ServesLines}
 use Rattle.thes_requests.specs.Script.{outcome_text, script_text, end_after_outcome, end_of_outcomes, end_without_lines}

@@ -5,7 +5,6 @@ pub mod Keywords
 pub mod Requests
 pub mod MemberReadings
 pub mod AnswerTexts
-pub mod PipeFrames
 pub mod LineBuffer
 pub mod RequestBehaviour
 pub mod Serving

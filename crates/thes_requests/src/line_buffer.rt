@@ -3,7 +3,7 @@ ghost use Rattle.std.specs.Prelude.{◌≡◌, ◌≢◌, ◌≤◌, [], ◌∷�
 ghost use Rattle.std.specs.Io.KnownBytes.{Keeps};
 ghost use Rattle.std.specs.Str.Lines.{strip_carriage_return};
 ghost use Rattle.thes_base.specs.Pipe.{ended_of, IsFresh, unread_bytes};
-ghost use Rattle.thes_requests.specs.PipeFrames.{ReadFrame};
+ghost use Rattle.thes_base.specs.PipeFrames.{ReadFrame};
 ghost use Rattle.thes_requests.specs.LineBuffer.{bytes_left, has_newline, ConsumesByte, ConsumesRun, FindsNoBytes, RefillsBuffer, FindsLineOrEnd, StopsInLine, IsLineTooLong};
 
 use memchr::memchr;

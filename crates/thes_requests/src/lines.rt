@@ -1,7 +1,7 @@
 //! The lines of a script, within the limit of 1,000,000 lines.
 ghost use Rattle.std.specs.Prelude.{◌≡◌, ◌≤◌, [], IfOk};
 ghost use Rattle.thes_base.specs.Pipe.{IsFresh, unread_bytes};
-ghost use Rattle.thes_requests.specs.PipeFrames.{ReadFrame};
+ghost use Rattle.thes_base.specs.PipeFrames.{ReadFrame};
 ghost use Rattle.thes_requests.specs.LineBuffer.{bytes_left};
 ghost use Rattle.thes_requests.specs.Script.{lines_limit};
 ghost use Rattle.thes_requests.specs.ScriptSteps.{FindsNextLine};

@@ -2,7 +2,7 @@
 ghost use Rattle.std.specs.Prelude.{◌≡◌, ℕ, List, true, false, OnOk, OnErr};
 ghost use Rattle.std.specs.Io.KnownBytes.{Appends};
 ghost use Rattle.thes_base.specs.Pipe.{failed_of, written_bytes, AppendsPrefix};
-ghost use Rattle.thes_requests.specs.PipeFrames.{WriteFrame};
+ghost use Rattle.thes_base.specs.PipeFrames.{WriteFrame};
 ghost use Rattle.thes_requests.specs.Script.{is_blank, outcome_text, StepLine};
 ghost use Rattle.thes_requests.specs.Serving.{Serves, command_answer, query_answer};
 

@@ -12,6 +12,7 @@ pub use Rattle.thes_base.specs.Listing
 pub use Rattle.thes_base.specs.Machine
 pub use Rattle.thes_base.specs.Neighbourhood
 pub use Rattle.thes_base.specs.Pipe
+pub use Rattle.thes_base.specs.PipeFrames
 pub use Rattle.thes_base.specs.Postings
 pub use Rattle.thes_base.specs.ReadResults
 pub use Rattle.thes_base.specs.RefusalRules

@@ -18,5 +18,6 @@ returns-clause-frame g c = record {
   end = search rules;
   failure = search rules;
   denial = search rules;
-  calls = pays_then c.write_all-2.ensures.paid c.write_all-3.ensures.paid;
+  too_long = search rules;
+  calls = pays_then c.write_all-2.ensures.frame.calls c.write_all-3.ensures.frame.calls;
 }

@@ -1,0 +1,70 @@
+-- What a call that reads or writes leaves in the record of its pipe, and what a read or a write does.
+use Rattle.std.specs.Prelude.{◌≡◌, ◌≢◌, ◌⊎◌, ◌↔◌, ◌+◌, ◌<◌, ℕ, true, false, Option, Result, IsErrOf, IsTrue, IfErr, IfOk}
+use Rattle.std.specs.Prelude.{OnErr, OnOk}
+use Rattle.std.specs.Io.{ReadsAtMost, WritesAtMost}
+use Rattle.std.specs.Io.KnownBytes.{ReadConsumes, WriteAppends}
+use Rattle.std.specs.IoError.{error_kind}
+use Rattle.std.specs.declared.io.Error.{Error}
+use Rattle.std.specs.declared.io.ErrorKind.TheVariants.{Interrupted}
+use Rattle.thes_base.specs.Types.{Bytes}
+use Rattle.thes_base.specs.Pipe.{PaysCalls, calls_after, calls_of, denied_of, ended_of, failed_of}
+use Rattle.thes_base.specs.Pipe.{unread_bytes, written_bytes}
+use Rattle.thes_base.specs.declared.pipe.Pipe.{Pipe}
+use Rattle.thes_base.specs.declared.pipe.Stop.{Stop}
+use Rattle.thes_base.specs.declared.pipe.Stop.TheVariants.{Failed, TooLong}
+
+-- What a single call of a device leaves: nothing was denied, one call is counted, and the budget fell by one.
+pub record DeviceCallFrame {T : Type 0} (old new : Pipe T) (before after : ℕ) : Type 0 where
+  pub denial : denied_of new ≡ denied_of old
+  pub count : calls_of new ≡ calls_after (calls_of old) 1
+  pub cost : after + 1 ≡ before
+
+-- What every call that reads leaves: the reader has failed exactly if the result says so, a denied read is reported as
+-- TooLong, and the budget fell by the number of reads.
+pub record ReadFrame {R T : Type 0} (old new : Pipe R) (before after : ℕ) (result : Result T Stop) : Type 0 where
+  pub failure : IsErrOf result Failed ↔ (failed_of new ≡ true)
+  pub denial : denied_of new ≡ true → IsErrOf result TooLong
+  pub calls : PaysCalls old new before after
+
+-- What every call that writes leaves: the writer has failed exactly if the result says so, a write was denied exactly
+-- if one was before or the result is TooLong, for which the budget is used up, and the budget fell by the number of
+-- writes.
+pub record WriteFrame {W T : Type 0} (old new : Pipe W) (before after : ℕ) (result : Result T Stop) : Type 0 where
+  pub end : ended_of new ≡ ended_of old
+  pub failure : IsErrOf result Failed ↔ (failed_of new ≡ true)
+  pub denial : IsTrue (denied_of new) ↔ (IsTrue (denied_of old) ⊎ IsErrOf result TooLong)
+  pub too_long : IsErrOf result TooLong → after ≡ 0
+  pub calls : PaysCalls old new before after
+
+module _ {R : Type 0} (remaining : R → Option Bytes) (old new : Pipe R) where
+  -- The effect of one call of a reader: the end is recorded exactly if the call returned no byte, a failure exactly if
+  -- it returned an error other than Interrupted.
+  pub record ReadsOnce (buf : Bytes) (result : Result ℕ Error) : Type 0 where
+    pub size : ReadsAtMost result buf
+    pub bytes : ReadConsumes (unread_bytes remaining old) (unread_bytes remaining new) result buf
+    pub end : IfOk result (λ n. IsTrue (ended_of new) ↔ (IsTrue (ended_of old) ⊎ (n ≡ 0)))
+    pub no_end : OnErr result (ended_of new ≡ ended_of old)
+    pub failure : IfErr result (λ e. IsTrue (failed_of new)
+        ↔ (IsTrue (failed_of old) ⊎ (error_kind e ≢ Interrupted)))
+    pub no_failure : OnOk result (failed_of new ≡ failed_of old)
+
+  -- The effect of a read: at least one byte, or none at the end of the input, which is recorded. TooLong means that a
+  -- read was denied, since the budget is used up.
+  pub record ReadsBytes (before after : ℕ) (buf : Bytes) (result : Result ℕ Stop) : Type 0 where
+    pub size : ReadsAtMost result buf
+    pub bytes : ReadConsumes (unread_bytes remaining old) (unread_bytes remaining new) result buf
+    pub end : IfOk result (λ n. IsTrue (ended_of new) ↔ (n ≡ 0))
+    pub no_end : OnErr result (ended_of new ≡ false)
+    pub too_long : IsErrOf result TooLong → (denied_of new ≡ true) × (after ≡ 0)
+    pub cost : OnOk result (after < before)
+
+module _ {W : Type 0} (contents : W → Option Bytes) (old new : Pipe W) where
+  -- The effect of one call of a writer: a failure is recorded exactly if the call wrote no byte, or returned an error
+  -- other than Interrupted.
+  pub record WritesOnce (text : Bytes) (result : Result ℕ Error) : Type 0 where
+    pub size : WritesAtMost result text
+    pub bytes : WriteAppends (written_bytes contents old) (written_bytes contents new) result text
+    pub stall : IfOk result (λ n. IsTrue (failed_of new) ↔ (IsTrue (failed_of old) ⊎ (n ≡ 0)))
+    pub failure : IfErr result (λ e. IsTrue (failed_of new)
+        ↔ (IsTrue (failed_of old) ⊎ (error_kind e ≢ Interrupted)))
+    pub end : ended_of new ≡ ended_of old
