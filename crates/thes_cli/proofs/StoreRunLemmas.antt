@@ -1,5 +1,5 @@
 -- Proves that the work of each command leads an office through a run of the machine.
-use Rattle.std.proofs.Common.{◌≡◌, inl, inr, ℕ, List, [], Option, Result, Ok, Err}
+use Rattle.std.proofs.Common.{inl, inr, ℕ, List, [], Option, Result, Ok, Err}
 use Rattle.thes_base.proofs.MachineLemmas.{legal_is_consistent}
 use Rattle.thes_base.specs.Headline.{IsConsistentState}
 use Rattle.thes_base.specs.State.{State}

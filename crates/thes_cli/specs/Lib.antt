@@ -9,3 +9,4 @@ pub mod Importing
 pub mod Serving
 pub mod Work
 pub mod Stores
+pub mod Running

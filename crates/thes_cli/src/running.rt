@@ -3,14 +3,18 @@ ghost use Rattle.std.specs.Prelude.{◌≡◌, false};
 ghost use Rattle.sqlite_wal.specs.Files.{image_at};
 ghost use Rattle.thes_sqlite.specs.DatabaseFiles.{HoldsStore};
 ghost use Rattle.thes_jobs.specs.Databases.{AreCleanFiles, ClosesStores, HoldTables, OpensStores};
+ghost use Rattle.thes_jobs.specs.declared.store_files.StoreFiles.{StoreFiles};
+ghost use Rattle.thes_cli.specs.Running.{MigratesInFile, RunsPlan};
 ghost use Rattle.thes_cli.specs.Stores.{LeadsIfClosed};
 ghost use Rattle.thes_cli.specs.Streams.{AreFresh};
 
 use crate::closing::Closed;
 use crate::stores::{work_and_close, work_in_memory};
 use crate::streams::Streams;
-use sqlite::{Alter, Connection, FileFrom, Start};
+use sqlite::{Alter, Connection, FileFrom, FileStore, Start};
 use sqlite_disk::{Disk, Files};
+use sqlite_trees::store::Store;
+use std::fs::File;
 use std::io::{Read, Write};
 use thes_command_line::arguments::{EarlyExit, Job};
 use thes_command_line::start_failure::report_start_failure;
@@ -30,6 +34,7 @@ fn migrate<S: Alter, O, L: Drop, D: Databases<Connection<S>, O, L>, R, W: Write,
 ) -> u8
     requires idle { conn.in_transaction ≡ false }
     requires streams { AreFresh streams.old }
+    ensures { MigratesInFile W.contents E.contents S.Store streams.old result streams.new file conn }
 {
     let (output, errors) = (&mut streams.output, &mut streams.errors);
     let (status, conn) = migrate_in_database(rt.alloc(), file.as_str(), conn, output, errors);
@@ -56,7 +61,9 @@ fn run_job<
     requires opens { OpensStores S.Store O.held D.opens }
     requires closes { ClosesStores S.Store D.closes D.is_clean D.holds }
     requires streams { AreFresh streams.old }
-    ensures { LeadsIfClosed E.contents O.held D.is_clean D.holds streams.old.errors
+    ensures runs { RunsPlan ⟦<File as Read>⟧.remaining R.remaining W.contents E.contents S.Store
+        O.held D.is_clean D.holds O planned streams.old result.0 result.1 streams.new }
+    ensures leads { LeadsIfClosed E.contents O.held D.is_clean D.holds streams.old.errors
         streams.new.errors result.0 result.1 }
 {
     let status = match open_job::<S, O, L, D>(rt, databases, planned) {
@@ -87,7 +94,11 @@ pub fn run_in_files<S: Start + Contents, R: Read, W: Write, E: Write>(
     streams: &mut Streams<R, W, E>,
 ) -> (u8, Closed<Option<Files<FileFrom<S>>>>)
     requires { AreFresh streams.old }
-    ensures { LeadsIfClosed E.contents (λ t. HoldsStore (image_at S.Start) t)
+    ensures runs { RunsPlan ⟦<File as Read>⟧.remaining R.remaining W.contents E.contents
+        ⟦<FileStore<FileFrom<S>> as Store>⟧ (λ t. HoldsStore (image_at S.Start) t)
+        (AreCleanFiles ⟦<FileFrom<S> as Disk>⟧) (HoldTables ⟦<FileFrom<S> as Disk>⟧)
+        (StoreFiles S) planned streams.old result.0 result.1 streams.new }
+    ensures leads { LeadsIfClosed E.contents (λ t. HoldsStore (image_at S.Start) t)
         (AreCleanFiles ⟦<FileFrom<S> as Disk>⟧) (HoldTables ⟦<FileFrom<S> as Disk>⟧)
         streams.old.errors streams.new.errors result.0 result.1 }
 {

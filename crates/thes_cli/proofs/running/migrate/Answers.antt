@@ -1,0 +1,9 @@
+use Rattle.std.proofs.Common.{refl}
+use Rattle.thes_cli.proofs.running.migrate.Goals as goal
+
+pub returns : goal.returns
+returns g c = record {
+  input = refl;
+  back = c.migrate_in_database-status.result.1;
+  migrates = rw (← c.as_str.ensures.value) c.migrate_in_database-status.ensures;
+}

@@ -1,0 +1,59 @@
+-- The run of a command line: its job is opened and done, or the reason why not is reported.
+use Rattle.std.specs.Prelude.{◌≡◌, ℕ, List, Option, Result, Ok, Err, string_bytes}
+use Rattle.std.specs.Global.{Global}
+use Rattle.std.specs.declared.fs.File.{File}
+use Rattle.std.specs.declared.string.String.{String}
+use Rattle.sqlite.specs.Held.{Held}
+use Rattle.sqlite_trees.specs.declared.store.Store.{Ghosts}
+use Rattle.thes_tables.specs.Tables.{Tables}
+use Rattle.thes_command_line.specs.Printing.{PrintsText}
+use Rattle.thes_command_line.specs.StartFailure.{ReportsStartFailure}
+use Rattle.thes_command_line.specs.declared.arguments.EarlyExit.{EarlyExit}
+use Rattle.thes_command_line.specs.declared.arguments.Job.{Job}
+use Rattle.thes_command_line.specs.declared.start_failure.StartFailure.{StartFailure}
+use Rattle.thes_jobs.specs.Migrating.{MigratesDatabase, version_line}
+use Rattle.thes_jobs.specs.Starting.{OpensPlan}
+use Rattle.thes_jobs.specs.declared.starting.OpenJob.{OpenJob}
+use Rattle.thes_jobs.specs.declared.starting.OpenJob.TheVariants.{InFile, InMemory, Migration, Version}
+use Rattle.thes_cli.specs.Stores.{WorksInMemory, WorksToClosing}
+use Rattle.thes_cli.specs.declared.closing.Closed.{Closed}
+use Rattle.thes_cli.specs.declared.streams.Streams.{Streams}
+
+module _ {R W E S : Type 0} (out : W → Option (List ℕ)) (err : E → Option (List ℕ)) (store : Ghosts S)
+    (old : Streams R W E) (status : ℕ) (new : Streams R W E) where
+  -- The store in the file with this name was migrated in its database, and its version or the fault was printed.
+  pub record MigratesInFile (file : String Global) (conn : Held S) : Type 0 where
+    pub input : new.input ≡ old.input
+    pub back : Held S
+    pub migrates : MigratesDatabase out err old.output new.output old.errors new.errors store (string_bytes file) conn
+        status back
+
+  -- Nothing was opened, for this reason, which is reported.
+  pub record ReportsFailure (failure : StartFailure) : Type 0 where
+    pub input : new.input ≡ old.input
+    pub reports : ReportsStartFailure out err old.output new.output old.errors new.errors failure status
+
+  -- The version of a new store in memory was printed.
+  pub record PrintsVersion : Type 0 where
+    pub input : new.input ≡ old.input
+    pub prints_it : PrintsText out err old.output new.output old.errors new.errors version_line status
+
+module _ {R W E S C : Type 0} (given : File → Option (List ℕ)) (remaining : R → Option (List ℕ))
+    (out : W → Option (List ℕ)) (err : E → Option (List ℕ)) (store : Ghosts S) (held : Tables → Type 0)
+    (is_clean : C → Type 0) (holds : C → Tables → Type 0) where
+  -- The work of the job that was opened was done and its store closed, or the reason why none was opened is reported.
+  abbrev pub DoesOpened : {O : Type 0} → Result (OpenJob S O) StartFailure → Streams R W E → ℕ → Closed C
+      → Streams R W E → Type 0
+  DoesOpened (Ok (InFile work)) old status closed new =
+      WorksToClosing given remaining out err store held is_clean holds work old status closed new
+  DoesOpened (Ok (InMemory work)) old status closed new = WorksInMemory given remaining out err work old status new
+  DoesOpened (Ok (Migration file conn)) old status closed new = MigratesInFile out err store old status new file conn
+  DoesOpened (Ok Version) old status closed new = PrintsVersion out err store old status new
+  DoesOpened (Err failure) old status closed new = ReportsFailure out err store old status new failure
+
+  -- The job of a command line was opened as the command line says, and done.
+  pub record RunsPlan (O : Type 0) (planned : Result Job EarlyExit) (old : Streams R W E) (status : ℕ)
+      (closed : Closed C) (new : Streams R W E) : Type 0 where
+    pub opened : Result (OpenJob S O) StartFailure
+    pub opens : OpensPlan store planned opened
+    pub does : DoesOpened opened old status closed new
