@@ -24,12 +24,12 @@ module _ {R W E S : Type 0} (out : W → Option (List ℕ)) (err : E → Option 
   -- The store in the file with this name was migrated in its database, and its version or the fault was printed.
   pub record MigratesInFile (file : String Global) (conn : Held S) : Type 0 where
     pub input : new.input ≡ old.input
-    pub back : Held S
+    pub conn_after : Held S
     pub migrates : MigratesDatabase out err old.output new.output old.errors new.errors store (string_bytes file) conn
-        status back
+        status conn_after
 
   -- Nothing was opened, for this reason, which is reported.
-  pub record ReportsFailure (failure : StartFailure) : Type 0 where
+  pub record ReportsNoJob (failure : StartFailure) : Type 0 where
     pub input : new.input ≡ old.input
     pub reports : ReportsStartFailure out err old.output new.output old.errors new.errors failure status
 
@@ -49,11 +49,11 @@ module _ {R W E S C : Type 0} (given : File → Option (List ℕ)) (remaining : 
   DoesOpened (Ok (InMemory work)) old status closed new = WorksInMemory given remaining out err work old status new
   DoesOpened (Ok (Migration file conn)) old status closed new = MigratesInFile out err store old status new file conn
   DoesOpened (Ok Version) old status closed new = PrintsVersion out err store old status new
-  DoesOpened (Err failure) old status closed new = ReportsFailure out err store old status new failure
+  DoesOpened (Err failure) old status closed new = ReportsNoJob out err store old status new failure
 
   -- The job of a command line was opened as the command line says, and done.
   pub record RunsPlan (O : Type 0) (planned : Result Job EarlyExit) (old : Streams R W E) (status : ℕ)
       (closed : Closed C) (new : Streams R W E) : Type 0 where
-    pub opened : Result (OpenJob S O) StartFailure
-    pub opens : OpensPlan store planned opened
-    pub does : DoesOpened opened old status closed new
+    pub open_job : Result (OpenJob S O) StartFailure
+    pub opens : OpensPlan store planned open_job
+    pub does : DoesOpened open_job old status closed new

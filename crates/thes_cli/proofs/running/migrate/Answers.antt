@@ -4,6 +4,6 @@ use Rattle.thes_cli.proofs.running.migrate.Goals as goal
 pub returns : goal.returns
 returns g c = record {
   input = refl;
-  back = c.migrate_in_database-status.result.1;
+  conn_after = c.migrate_in_database-status.result.1;
   migrates = rw (← c.as_str.ensures.value) c.migrate_in_database-status.ensures;
 }
