@@ -1,7 +1,7 @@
 -- Collecting the reachable nodes keeps the invariant of the loop, finds exactly these nodes, and takes at most two
 -- visits for each link.
 use Rattle.std.proofs.Common.{◌≡◌, ◌+◌, ◌*◌, ◌≤◌, ◌<◌, inl, inr, ℕ, List, [], ◌∷◌, ◌++◌, length, take, get_or, ap}
-use Rattle.std.proofs.Common.{sym, subst, ◌∙◌, arith, Contains, sum_by, below_more, length-append}
+use Rattle.std.proofs.Common.{sym, subst, ◌∙◌, arith, Contains, sum_by, below_more, length-append, None, slice_get}
 use Rattle.std.proofs.lemmas.List.{take_more, take-append-le, get_or_append_left, get_or_default}
 use Rattle.std.proofs.lemmas.List.Elements.{Contains-append_left, Contains-append_right, Contains-append_cases}
 use Rattle.std.proofs.lemmas.List.Elements.{Contains-get_or}
@@ -18,6 +18,7 @@ use Rattle.thes_links.proofs.StepLemmas.{Leads-first}
 use Rattle.thes_links.proofs.ReachLemmas.{IsSearchedUpTo-start, IsSearchedUpTo-more, IsSearchedUpTo-end}
 use Rattle.thes_links.proofs.EditLemmas.{row_after_edit-sound, row_after_edit-complete}
 use Rattle.thes_links.proofs.CountLemmas.{met_twice}
+use Rattle.thes_links.proofs.WeightLemmas.{past_of_none}
 
 -- The state of the collection: the first i nodes are read, and their visits have raised the count from `from` to
 -- `count`.
@@ -101,22 +102,23 @@ module _ (edit : LinkEdit) (held : Links) (relation : Relation) (start : ℕ) wh
       grown : i + 1 ≤ length later
       grown = omega (arith, ap length grows.extends.1, length-append nodes grows.extends.0)
 
-  pub IsGatherState-end : (nodes : List ℕ) (links : List Link) (i from count : ℕ) → length nodes ≤ i
+  pub set_gathered : (nodes : List ℕ) (links : List Link) (i from count : ℕ) → slice_get nodes i ≡ None
       → IsGatherState edit held relation start nodes links i from count
       → IsReachableSet (HeldAfter edit held) relation start nodes links
-  IsGatherState-end nodes links i from count done walked = record {
-    reach = IsSearchedUpTo-end (Steps relation (HeldAfter edit held)) start nodes i done walked.closed;
+  set_gathered nodes links i from count none walked = record {
+    reach = IsSearchedUpTo-end (Steps relation (HeldAfter edit held)) start nodes i (past_of_none nodes i none)
+        walked.closed;
     sound = walked.sound;
     complete = λ l would n (k, lt, is) ends.
-        walked.complete l would k (omega arith) (let P : ℕ → Type 0 = λ m. HasEnd m l in
+        walked.complete l would k (omega (arith, past_of_none nodes i none)) (let P : ℕ → Type 0 = λ m. HasEnd m l in
         subst P (sym is ∙ get_or_default nodes k n 0 lt) ends);
   }
 
   -- At the end the count has grown by at most two visits for each link at a collected node.
-  pub IsGatherState-cost : (nodes : List ℕ) (links : List Link) (i from count : ℕ) → length nodes ≤ i
+  pub gather_cost : (nodes : List ℕ) (links : List Link) (i from count : ℕ) → slice_get nodes i ≡ None
       → IsGatherState edit held relation start nodes links i from count
       → (ns : List Link) → ((n : ℕ) → Contains nodes n → CoversAt edit held n ns) → count ≤ from + 2 * length ns
-  IsGatherState-cost nodes links i from count done walked ns covers =
+  gather_cost nodes links i from count none walked ns covers =
       let whole : take i nodes ≡ nodes = ap (λ j. take j nodes) all ∙ take-length nodes in
       let cost : count ≤ from + sum_by weight (take i nodes) =
       walked.cost ns (λ k lt. covers (get_or nodes k 0) (Contains-get_or nodes k 0 (omega arith))) in
@@ -127,4 +129,4 @@ module _ (edit : LinkEdit) (held : Links) (relation : Relation) (start : ℕ) wh
       weight n = sum_by (ends_at_node edit n) ns
 
       all : i ≡ length nodes
-      all = omega (arith, walked.within)
+      all = omega (arith, walked.within, past_of_none nodes i none)

@@ -13,6 +13,11 @@ pub record IsRow (held : Links) (node : ℕ) (row : List Link) : Type 0 where
   pub complete : (l : Link) → Holds held l → HasEnd node l → Contains row l
   pub once : AllPairs (λ x y. x ≢ y) row
 
+-- The list is the node's row, and each held link has two different ends.
+pub record IsTwoEndedRow (held : Links) (node : ℕ) (row : List Link) : Type 0 where
+  pub two_ends : HaveTwoEnds (Holds held)
+  pub listing : IsRow held node row
+
 -- The list has exactly the links held, in any order, and each has two different ends.
 pub record AreAll (held : Links) (all : List Link) : Type 0 where
   pub two_ends : HaveTwoEnds (Holds held)

@@ -6,7 +6,7 @@ ghost use Rattle.thes_base.specs.Links.{Holds};
 ghost use Rattle.thes_base.specs.declared.data.Link.{Link};
 ghost use Rattle.thes_links.specs.GraphView.{GraphView, is_marked};
 ghost use Rattle.thes_links.specs.Side.{IsPart};
-ghost use Rattle.thes_links.specs.Reading.{HaveTwoEnds, IsRow, count_after_visit, count_after_read};
+ghost use Rattle.thes_links.specs.Reading.{HaveTwoEnds, IsTwoEndedRow, count_after_visit, count_after_read};
 
 use crate::side::{Part, Side};
 use thes_base::data::Link;
@@ -27,15 +27,13 @@ pub trait Links {
     /// Returns the i-th link with an end at the node, and counts a visit if there is one.
     fn link_at(&mut self, node: ResNo, i: usize) -> Option<Link>
         ensures net { net self.new ≡ net self.old }
-        ensures two_ends { HaveTwoEnds (Holds (net self.old).links) }
-        ensures listed { IsRow (net self.old).links node (links_of (net self.old) node) }
+        ensures row { IsTwoEndedRow (net self.old).links node (links_of (net self.old) node) }
         ensures link { result ≡ slice_get (links_of (net self.old) node) i }
         ensures count { count self.new ≡ count_after_read (count self.old) result };
 
     /// Returns the range of the node's links that lie on this side, without counting a visit.
     fn part(&self, node: ResNo, side: Side) -> Part
-        ensures two_ends { HaveTwoEnds (Holds (net self.now).links) }
-        ensures listed { IsRow (net self.now).links node (links_of (net self.now) node) }
+        ensures row { IsTwoEndedRow (net self.now).links node (links_of (net self.now) node) }
         ensures part { IsPart (links_of (net self.now) node) node side result };
 
     /// Checks whether the link is held in this order of its ends, and counts a visit.

@@ -174,15 +174,13 @@ pub fn gather<L: Links>(
 {
     let mut nodes = Nodes::singleton(alloc, start)?;
     let mut found = Vec::new(alloc);
-    for i in 0..usize::MAX {
-        let x = match nodes.get(i) {
-            Some(x) => x,
-            None => break,
-        };
+    let mut i = 0;
+    while let Some(x) = nodes.get(i) {
         let raw = read(alloc, links, edit, x)?;
         let row = links_after_edit(alloc, edit, raw)?;
         meet_steps(&mut nodes, &row, relation, x)?;
         found.extend_from_slice(&row)?;
+        i += 1;
     }
     Ok(ReachableSet {
         nodes,
