@@ -13,8 +13,8 @@ use Rattle.thes_base.proofs.ListMemberLemmas.{Contains-none, Contains-head, Cont
 use Rattle.thes_graph.specs.declared.find_cycle.PathNode.{PathNode}
 use Rattle.thes_links.specs.Steps.{GrowsBy}
 use Rattle.thes_links.specs.Local.{NoCycleAt}
-use Rattle.thes_graph.specs.Whole.{HasCycle}
-use Rattle.thes_graph.specs.CycleSearch.{IsUpwardOrder, IsUpwardPath, IsCycleSearch, stack_measure, search_measure}
+use Rattle.thes_graph.specs.CycleSearch.{HasCycle, IsUpwardOrder, IsUpwardPath, IsCycleSearch, stack_measure}
+use Rattle.thes_graph.specs.CycleSearch.{search_measure}
 use Rattle.thes_links.proofs.ReachLemmas.{no_others}
 use Rattle.thes_links.proofs.PivotLemmas.{Chain-join, Chain-one}
 use Rattle.thes_links.proofs.WeightLemmas.{take_next, Contains-take}

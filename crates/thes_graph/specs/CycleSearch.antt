@@ -1,9 +1,14 @@
 -- The state of the depth-first search for a cycle of broader links.
 use Rattle.std.specs.Prelude.{◌≡◌, ◌⊎◌, ◌+◌, ◌*◌, ◌-◌, ◌^◌, ◌<◌, ℕ, List, [], ◌∷◌, Contains, length, get_or, take}
+use Rattle.std.specs.Prelude.{Bool, false, MatchBool}
 use Rattle.thes_base.specs.declared.data.Link.{Link}
-use Rattle.thes_base.specs.Links.{Chain, IsNarrower}
+use Rattle.thes_base.specs.Links.{Chain, IsNarrower, IsBelow}
 use Rattle.thes_graph.specs.declared.find_cycle.PathNode.{PathNode}
 use Rattle.thes_links.specs.Local.{NoCycleAt}
+
+-- Some concept is above itself, which breaks Cycle.
+abbrev pub HasCycle : (Link → Type 0) → Type 0
+HasCycle Held = (x : ℕ) × IsBelow Held x x
 
 -- The nodes are in upward order: each comes after all nodes broader than it, and no cycle runs through any of them.
 pub record IsUpwardOrder (Held : Link → Type 0) (nodes : List ℕ) : Type 0 where
@@ -35,3 +40,19 @@ stack_measure (s ∷ ss) = 1 + length s.above.items + stack_measure ss
 -- plus the measure of the stack.
 abbrev pub search_measure : (met : List ℕ) → List PathNode → ℕ
 search_measure met stack = (2 ^ 63 - length met) * 2 ^ 64 + stack_measure stack
+
+-- One step of the search: it found a cycle, or came to a later state with a smaller measure. Nodes that were met or done
+-- still are.
+pub record IsSearchStep (Held : Link → Type 0) (met done : List ℕ) (stack : List PathNode) (later_met later_done : List ℕ)
+    (later_stack : List PathNode) (found : Bool) : Type 0 where
+  pub verdict : MatchBool found (HasCycle Held) (IsCycleSearch Held later_met later_done later_stack)
+  pub met_growth : (n : ℕ) → Contains met n → Contains later_met n
+  pub done_growth : (n : ℕ) → Contains done n → Contains later_done n
+  pub descent : found ≡ false → search_measure later_met later_stack < search_measure met stack
+
+-- The whole search from a node: it found a cycle, or the node is done, and the nodes that are done are in upward order.
+-- Nodes that were done still are.
+pub record IsSearchFrom (Held : Link → Type 0) (start : ℕ) (done later : List ℕ) (found : Bool) : Type 0 where
+  pub verdict : MatchBool found (HasCycle Held) (Contains later start)
+  pub growth : (n : ℕ) → Contains done n → Contains later n
+  pub order : found ≡ false → IsUpwardOrder Held later

@@ -1,5 +1,5 @@
 -- The nodes of a block that are at or above each node, as bits of the node's word.
-use Rattle.std.specs.Prelude.{◌≡◌, ◌<◌, ◌↔◌, ℕ, List, Contains, Some, get_or, slice_get, take, length}
+use Rattle.std.specs.Prelude.{◌≡◌, ◌<◌, ◌≤◌, ◌↔◌, ℕ, List, Contains, Some, get_or, slice_get, take, length}
 use Rattle.thes_base.specs.Links.{Links, Holds, IsNarrower}
 use Rattle.thes_graph.specs.declared.find_cycle.PathNode.{PathNode}
 use Rattle.thes_links.specs.Local.{ReachesUp}
@@ -21,3 +21,8 @@ pub record AreUpwardRows (held : Links) (rows : List PathNode) : Type 0 where
 abbrev pub AreUpperSets : Links → (block words : List ℕ) → Type 0
 AreUpperSets held block words =
     (n j x : ℕ) → slice_get block j ≡ Some x → HasBit words n j ↔ ReachesUp (Holds held) n x
+
+-- The block has at most 64 nodes, and the words state which of them are at or above each node.
+pub record AreBlockWords (held : Links) (block words : List ℕ) : Type 0 where
+  pub size : length block ≤ 64
+  pub sets : AreUpperSets held block words

@@ -1,9 +1,8 @@
 //! The depth-first search for a cycle of broader links. A node is done once all nodes above it are
 //! done: then no cycle runs through it, and no search from it is needed again.
-ghost use Rattle.std.specs.Prelude.{◌≡◌, ◌<◌, ◌↔◌, ◌++◌, ◌∷◌, [], ℕ, false, Contains, IfOk, OnOk, MatchBool};
+ghost use Rattle.std.specs.Prelude.{◌≡◌, ◌↔◌, ◌++◌, ◌∷◌, [], ℕ, Contains, IfOk};
 ghost use Rattle.thes_base.specs.Links.{Holds, IsNarrower};
-ghost use Rattle.thes_graph.specs.Whole.{HasCycle};
-ghost use Rattle.thes_graph.specs.CycleSearch.{IsUpwardOrder, IsCycleSearch, search_measure};
+ghost use Rattle.thes_graph.specs.CycleSearch.{IsUpwardOrder, IsCycleSearch, IsSearchStep, IsSearchFrom};
 
 use std::alloc::{AllocError, Global};
 use thes_base::number::ResNo;
@@ -48,13 +47,8 @@ fn advance_path<L: Links>(
     requires { IsCycleSearch (Holds (L.net links.old).links) met.old done.old
         (stack.old.items ++ last ∷ []) }
     ensures net { L.net links.new ≡ L.net links.old }
-    ensures met { OnOk result ((n : ℕ) → Contains met.old n → Contains met.new n) }
-    ensures done { OnOk result ((n : ℕ) → Contains done.old n → Contains done.new n) }
-    ensures found { IfOk result (λ found. MatchBool found (HasCycle (Holds (L.net links.old).links))
-        (IsCycleSearch (Holds (L.net links.old).links) met.new done.new stack.new.items)) }
-    ensures less { IfOk result (λ found. found ≡ false
-        → search_measure met.new stack.new.items
-        < search_measure met.old (stack.old.items ++ last ∷ [])) }
+    ensures outcome { IfOk result (IsSearchStep (Holds (L.net links.old).links) met.old done.old
+        (stack.old.items ++ last ∷ []) met.new done.new stack.new.items) }
 {
     let Some(high) = last.above.last().copied() else {
         done.meet(last.node)?;
@@ -85,11 +79,8 @@ pub fn find_cycle<L: Links>(
 ) -> Result<bool, AllocError>
     requires { IsUpwardOrder (Holds (L.net links.old).links) done.old }
     ensures net { L.net links.new ≡ L.net links.old }
-    ensures found { IfOk result (λ found. MatchBool found (HasCycle (Holds (L.net links.old).links))
-        (Contains done.new start)) }
-    ensures extends { OnOk result ((n : ℕ) → Contains done.old n → Contains done.new n) }
-    ensures order { IfOk result
-        (λ found. found ≡ false → IsUpwardOrder (Holds (L.net links.old).links) done.new) }
+    ensures outcome { IfOk result
+        (IsSearchFrom (Holds (L.net links.old).links) start done.old done.new) }
 {
     if done.has(start) {
         return Ok(false);

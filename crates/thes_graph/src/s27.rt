@@ -7,7 +7,7 @@ ghost use Rattle.thes_base.specs.Links.{Holds, S27};
 ghost use Rattle.thes_links.specs.declared.relation.Relation.TheVariants as relation;
 ghost use Rattle.thes_links.specs.Reading.{HaveTwoEnds, AreAll};
 ghost use Rattle.thes_links.specs.Words.{HasBit};
-ghost use Rattle.thes_graph.specs.UpperSets.{AreUpwardRows, AreUpperSets};
+ghost use Rattle.thes_graph.specs.UpperSets.{AreUpwardRows, AreBlockWords};
 ghost use Rattle.thes_links.specs.Steps.{HasDirection};
 ghost use Rattle.thes_graph.specs.Whole.{IsWholeOrder, KeepsS27Below, BreaksS27};
 
@@ -87,8 +87,7 @@ fn some_breaks_s27<L: Links>(
     words: &[u64],
     block: &[ResNo],
 ) -> Result<bool, AllocError>
-    requires size { length block.now ≤ 64 }
-    requires words { AreUpperSets (L.net links.old).links block.now words.now }
+    requires words { AreBlockWords (L.net links.old).links block.now words.now }
     requires two_ends { HaveTwoEnds (Holds (L.net links.old).links) }
     ensures net { L.net links.new ≡ L.net links.old }
     ensures s27 { IfOk result (λ found. MatchBool found (BreaksS27 (Holds (L.net links.old).links))

@@ -1,13 +1,13 @@
 //! The check of all links: Cycle by one search of all nodes, S27 for the related concepts in blocks, S46 once for each
 //! class of exact matches.
-ghost use Rattle.std.specs.Prelude.{◌≡◌, ℕ, true, false, Contains, Ok, IfOk, OnOk, MatchBool};
+ghost use Rattle.std.specs.Prelude.{◌≡◌, Contains, IfOk, OnOk, MatchBool};
 ghost use Rattle.thes_base.specs.declared.data.Link.{Link};
 ghost use Rattle.thes_base.specs.Links.{Holds, NoCycle, S46, IsFirstBroken};
 ghost use Rattle.thes_links.specs.Reading.{HaveTwoEnds, AreAll};
 ghost use Rattle.thes_links.specs.Steps.{GrowsBy};
-ghost use Rattle.thes_links.specs.Local.{KeepsS46At, BreaksS46};
-ghost use Rattle.thes_graph.specs.Whole.{IsWholeOrder, HasCycle};
-ghost use Rattle.thes_graph.specs.CycleSearch.{IsUpwardOrder};
+ghost use Rattle.thes_links.specs.Local.{BreaksS46};
+ghost use Rattle.thes_graph.specs.Whole.{IsWholeOrder, KeepS46, IsClassVerdict};
+ghost use Rattle.thes_graph.specs.CycleSearch.{HasCycle, IsUpwardOrder};
 
 use crate::find_cycle::find_cycle;
 use crate::s27::breaks_s27;
@@ -33,9 +33,8 @@ fn has_cycle<L: Links>(
     requires order { IsUpwardOrder (Holds (L.net links.old).links) order.old }
     ensures net { L.net links.new ≡ L.net links.old }
     ensures cycle { IfOk result (λ found. MatchBool found (HasCycle (Holds (L.net links.old).links))
-        (NoCycle (Holds (L.net links.old).links))) }
-    ensures whole { IfOk result
-        (λ found. found ≡ false → IsWholeOrder (Holds (L.net links.old).links) order.new) }
+        (NoCycle (Holds (L.net links.old).links)
+        × IsWholeOrder (Holds (L.net links.old).links) order.new)) }
 {
     for link in all {
         if find_cycle(alloc, links, link.a, order)? {
@@ -66,15 +65,10 @@ fn breaks_s46_at<L: Links>(
     n: ResNo,
     done: &mut Nodes,
 ) -> Result<bool, AllocError>
-    requires done { (m : ℕ) → Contains done.old m → KeepsS46At (Holds (L.net links.old).links) m }
+    requires done { KeepS46 (Holds (L.net links.old).links) done.old }
     requires two_ends { HaveTwoEnds (Holds (L.net links.old).links) }
     ensures net { L.net links.new ≡ L.net links.old }
-    ensures found { IfOk result
-        (λ found. MatchBool found (BreaksS46 (Holds (L.net links.old).links))
-        (Contains done.new n)) }
-    ensures extends { OnOk result ((m : ℕ) → Contains done.old m → Contains done.new m) }
-    ensures done { OnOk result
-        ((m : ℕ) → Contains done.new m → KeepsS46At (Holds (L.net links.old).links) m) }
+    ensures outcome { IfOk result (IsClassVerdict (Holds (L.net links.old).links) n done.old done.new) }
 {
     let same = gather(alloc, links, &LinkEdit::NoEdit, n, Relation::Exact)?;
     if has_link_between(Relation::Apart, &same.links, &same.nodes, &same.nodes) {

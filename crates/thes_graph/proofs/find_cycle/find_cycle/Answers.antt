@@ -2,7 +2,7 @@ use Rattle.std.proofs.Common.{[], ◌∷◌, ℕ, List, sym, subst, ◌∙◌}
 use Rattle.std.proofs.lemmas.List.{nil_from_length}
 use Rattle.thes_base.specs.Links.{Holds}
 use Rattle.thes_base.proofs.ListMemberLemmas.{Contains-head}
-use Rattle.thes_graph.specs.CycleSearch.{IsCycleSearch}
+use Rattle.thes_graph.specs.CycleSearch.{HasCycle, IsCycleSearch}
 use Rattle.thes_graph.specs.declared.find_cycle.PathNode.{PathNode}
 use Rattle.thes_links.specs.GraphView.{GraphView}
 use Rattle.thes_graph.proofs.CycleSearchLemmas.{IsCycleSearch-start, IsCycleSearch-end}
@@ -27,16 +27,29 @@ loop-last-preserved g c = record {
   climbs =
       subst (λ (net : GraphView). IsCycleSearch (Holds net.links) c.advance_path.new.met c.advance_path.new.done
       c.advance_path.new.stack.items) c.loop-last.invariant.net
-      (rw c.if-branch.false at c.in_ok-advance_path.ensures.found);
-  start = c.in_ok-advance_path.ensures.met c.args.start c.loop-last.invariant.start;
-  extends = λ n has. c.in_ok-advance_path.ensures.done n (c.loop-last.invariant.extends n has);
+      (rw c.if-branch.false at c.in_ok-advance_path.ensures.outcome.verdict);
+  start = c.in_ok-advance_path.ensures.outcome.met_growth c.args.start c.loop-last.invariant.start;
+  extends = λ n has. c.in_ok-advance_path.ensures.outcome.done_growth n (c.loop-last.invariant.extends n has);
 }
 
-pub returns-clause-found : goal.returns-clause-found
-returns-clause-found g c =
-    IsCycleSearch-end (Holds (g.L.Links.net c.args.links.now).links) c.loop-last.met c.loop-last.done
-    (subst (λ (stack : List PathNode). IsCycleSearch (Holds (g.L.Links.net c.args.links.now).links) c.loop-last.met
-    c.loop-last.done stack)
-    (nil_from_length c.loop-last.stack.items (sym c.loop-last.stack.ok.0 ∙ c.in_default.ensures.cases.0))
-    c.loop-last.invariant.climbs)
-    c.args.start c.loop-last.invariant.start
+pub returns-then-branch-clause-outcome : goal.returns-then-branch-clause-outcome
+returns-then-branch-clause-outcome g c = record {
+  verdict =
+      subst (λ (net : GraphView). HasCycle (Holds net.links)) c.loop-last.invariant.net
+      (rw c.if-branch.true at c.in_ok-advance_path.ensures.outcome.verdict);
+  growth = λ n has. c.in_ok-advance_path.ensures.outcome.done_growth n (c.loop-last.invariant.extends n has);
+  order = λ e. absurd (cc);
+}
+
+pub returns-clause-outcome : goal.returns-clause-outcome
+returns-clause-outcome g c = record {
+  verdict =
+      IsCycleSearch-end (Holds (g.L.Links.net c.args.links.now).links) c.loop-last.met c.loop-last.done
+      (subst (λ (stack : List PathNode). IsCycleSearch (Holds (g.L.Links.net c.args.links.now).links) c.loop-last.met
+      c.loop-last.done stack)
+      (nil_from_length c.loop-last.stack.items (sym c.loop-last.stack.ok.0 ∙ c.in_default.ensures.cases.0))
+      c.loop-last.invariant.climbs)
+      c.args.start c.loop-last.invariant.start;
+  growth = c.loop-last.invariant.extends;
+  order = λ _. c.loop-last.invariant.climbs.order;
+}

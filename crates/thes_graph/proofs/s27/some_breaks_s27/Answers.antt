@@ -8,7 +8,7 @@ use Rattle.thes_graph.proofs.s27.some_breaks_s27.Goals as goal
 pub returns-then-some_has_bit-clause-s27 : goal.returns-then-some_has_bit-clause-s27
 returns-then-some_has_bit-clause-s27 g c =
     let found = c.if-some_has_bit.ensures in
-    s27_found (g.L.Links.net c.args.links.now).links c.args.block.now c.args.words.now c.requires.words c.loop-j.j
+    s27_found (g.L.Links.net c.args.links.now).links c.args.block.now c.args.words.now c.requires.words.sets c.loop-j.j
     c.index-block-j.result c.loop-j-test.true c.index-block-j.is c.in_ok-related.related.items
     (subst (λ (net : GraphView). (y : ℕ) → Contains c.in_ok-related.related.items y
     ↔ IsRelated (Holds net.links) c.index-block-j.result y) c.loop-j.invariant.net c.in_ok-related.ensures.next)
@@ -19,7 +19,7 @@ pub loop-j-preserved : goal.loop-j-preserved
 loop-j-preserved g c = record {
   net = c.in_ok-related.ensures.net ∙ c.loop-j.invariant.net;
   free =
-      s27_passed (g.L.Links.net c.args.links.now).links c.args.block.now c.args.words.now c.requires.words c.loop-j.j
+      s27_passed (g.L.Links.net c.args.links.now).links c.args.block.now c.args.words.now c.requires.words.sets c.loop-j.j
       c.index-block-j.result c.loop-j-test.true c.index-block-j.is c.in_ok-related.related.items
       (subst (λ (net : GraphView). (y : ℕ) → Contains c.in_ok-related.related.items y
       ↔ IsRelated (Holds net.links) c.index-block-j.result y) c.loop-j.invariant.net c.in_ok-related.ensures.next)

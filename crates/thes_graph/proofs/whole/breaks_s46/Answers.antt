@@ -14,11 +14,11 @@ loop-link-preserved g c =
     elim c.else-has_direction.branch [
       | else-has_direction-via-then-has_direction+then-not-has+in_ok-breaks_s46_at+else-branch w ↦ record {
         net = ap g.L.Links.net w.links-is ∙ w.in_ok-breaks_s46_at.ensures.net ∙ c.loop-link.invariant.net;
-        free = rw (w.done-is, ← c.loop-link.invariant.net) w.in_ok-breaks_s46_at.ensures.done;
+        free = rw (w.done-is, ← c.loop-link.invariant.net) w.in_ok-breaks_s46_at.ensures.outcome.classes;
         done =
             rw w.done-is
-            (more w.breaks_s46_at.new.done w.in_ok-breaks_s46_at.ensures.extends
-            (λ _. rw w.if-branch.false at w.in_ok-breaks_s46_at.ensures.found));
+            (more w.breaks_s46_at.new.done w.in_ok-breaks_s46_at.ensures.outcome.growth
+            (λ _. rw w.if-branch.false at w.in_ok-breaks_s46_at.ensures.outcome.verdict));
       }
       | else-has_direction-via-then-has_direction+else-not-has w ↦ record {
         net = ap g.L.Links.net w.links-is ∙ c.loop-link.invariant.net;
