@@ -40,7 +40,7 @@ use Rattle.thes_lists.specs.declared.lists.Lists.{Lists}
 use Rattle.thes_lists.specs.Lists as lists
 use Rattle.thes_lists.specs.Lists.{listed_at, AreListings}
 use Rattle.thes_lists.proofs.ListingLemmas.{listing_none, listings_same}
-use Rattle.thes_vocab.specs.Vocabulary.{Vocabulary, IsConceptIn, IsConceptOf, IsReplacement}
+use Rattle.thes_vocab.specs.Vocabulary.{Vocabulary, vocabulary_from, IsConceptIn, IsConceptOf, IsReplacement}
 use Rattle.thes_vocab.specs.NameIndex.{AreHoldersIndexed, HasEntryInScheme, HasLabelEntry, KeepsNames, KeepsOtherNames}
 use Rattle.thes_vocab.specs.OwnLabels.{AreLabelsOf}
 use Rattle.thes_vocab.specs.ConceptLists.{ConceptListsAfterInsert, ConceptListsAfterRemove}
@@ -49,10 +49,6 @@ use Rattle.thes_vocab.specs.Consistency.{IsConsistentVocabulary}
 use Rattle.thes_vocab.proofs.ConceptListLemmas.{concept_cases, concept_lists_with_new, listed_dead}
 use Rattle.thes_vocab.proofs.LabelTableLemmas.{insert_after_remove}
 use Rattle.thes_vocab.proofs.LabelCheckLemmas.{owners_bound, relabelled_is, renamed_breaks_s13}
-
--- The vocabulary with these parts.
-abbrev vocabulary : List ℕ → List Resource → Iris → Labels → Vocabulary
-vocabulary base rs iris labels = record { base = base; resources = rs; iris = iris; labels = labels }
 
 abbrev pub IsSchemeOf : List Resource → ℕ → Option ℕ → Type 0
 IsSchemeOf rs n o = MatchOption o ((scheme : ℕ) → IsConceptOf rs scheme n → ⊥) (λ scheme. IsConceptOf rs scheme n)
@@ -305,7 +301,7 @@ numbered_at {A = A} xs (suc n) x y e f =
 
 module _ (base : List ℕ) (rs : List Resource) (iris : Iris) (labels : Labels) (old new : Names) (concepts : Lists ℕ)
     (kept : IsConsistentVocabulary base rs iris labels old concepts) (v : Vocabulary)
-    (seen : vocabulary base rs iris labels ≡ v) (keeps : KeepsNames old new) where
+    (seen : vocabulary_from base rs iris labels ≡ v) (keeps : KeepsNames old new) where
   module _ (owner : ℕ) (o : Option ℕ) (xs : List Resource) (same : xs ≡ rs) (at : IsSchemeOf xs owner o) where
     at_owner : IsSchemeOf rs owner o
     at_owner = subst (λ ys. IsSchemeOf ys owner o) same at

@@ -1,7 +1,7 @@
 -- The two maps of numbers and IRIs stay inverse to each other at each change.
 use Rattle.std.proofs.Common.{arith}
 use Rattle.std.proofs.lemmas.Grind.{common_steps}
-use Rattle.std.proofs.Common.{◌≡◌, ◌≢◌, ◌⊎◌, inl, inr, ℕ, List, [], ◌∷◌, refl, sym, ap, ◌∙◌, Bool, true, false, cond}
+use Rattle.std.proofs.Common.{◌≡◌, ◌≢◌, ◌⊎◌, inl, inr, ℕ, List, [], ◌∷◌, refl, sym, ap, subst, ◌∙◌, Bool, true, false, cond}
 use Rattle.std.specs.Prelude.{Option, None, Some}
 use Rattle.std.specs.Option.{MatchOption}
 use Rattle.std.specs.declared.cmp.Ordering.{Ordering}
@@ -61,22 +61,31 @@ iris_after_insert old new n iri u = dict.same_map nat_cmp_total dict.nat_cmp-IsA
     ∙ sym (dict.get-insert nat_cmp_total (iris_in old.entries) n iri q ∙ ap (cond (eq_by_cmp nat_cmp q n) (Some iri))
     (get_iri_at old q)))
 
-module _ (iris : Iris) (numbers more : Numbers) (n : ℕ) (iri : List ℕ) (tied : AreInverse iris numbers)
-    (set : IsNumberSet numbers more iri (Some n)) (free : (m : ℕ) → dict.get iris m ≢ Some iri) where
-  other_iri : (m : ℕ) (i : List ℕ) → dict.get iris m ≡ Some i → i ≡ iri → ⊥
-  other_iri m i has same = free m (has ∙ ap Some same)
+-- A new number is inserted at a copy of its new IRI, in the map back.
+module _ (iris now : Iris) (seen : iris ≡ now) (numbers more : Numbers) (n : ℕ) (iri copy : List ℕ)
+    (tied : AreInverse iris numbers) (free : (m : ℕ) → dict.get now m ≢ Some iri) (same_copy : copy ≡ iri)
+    (updates : Updates iri_cmp numbers more copy (Some n)) where
+  number_set : IsNumberSet numbers more iri (Some n)
+  number_set = subst (λ (i : List ℕ). IsNumberSet numbers more i (Some n)) same_copy
+      (number_updated numbers more copy (Some n) updates)
 
-  -- Inserting a new number and its IRI keeps the maps inverse.
-  pub inverse_after_insert : dict.get iris n ≡ None → AreInverse (dict.insert iris n iri) more
-  inverse_after_insert none = record {
+  other_iri : (m : ℕ) (i : List ℕ) → dict.get iris m ≡ Some i → i ≡ iri → ⊥
+  other_iri m i has same = free m (ap (λ (x : Iris). dict.get x m) (sym seen) ∙ has ∙ ap Some same)
+
+  -- Inserting the number and its IRI keeps the maps inverse.
+  pub inverse_after_insert : dict.get now n ≡ None → AreInverse (dict.insert iris n iri) more
+  inverse_after_insert unused = record {
     number = λ m i e. number_at m i (iri_cases iris n iri m i e);
     iri = λ m i e. iri_at m i e (same_or_not i iri);
   }
     where
+      none : dict.get iris n ≡ None
+      none = ap (λ (x : Iris). dict.get x n) seen ∙ unused
+
       number_at : (m : ℕ) (i : List ℕ) → ((m ≡ n) × (i ≡ iri)) ⊎ (dict.get iris m ≡ Some i) → get iri_cmp more i
           ≡ Some m
-      number_at m i (inl (here, same)) = ap (get iri_cmp more) same ∙ set.at ∙ ap Some (sym here)
-      number_at m i (inr has) = set.others i (other_iri m i has) ∙ tied.number m i has
+      number_at m i (inl (here, same)) = ap (get iri_cmp more) same ∙ number_set.at ∙ ap Some (sym here)
+      number_at m i (inr has) = number_set.others i (other_iri m i has) ∙ tied.number m i has
 
       put_at : dict.get (dict.insert iris n iri) n ≡ Some iri
       put_at = dict.get-insert nat_cmp_total iris n iri n ∙ ap (λ b. cond b (Some iri) (dict.get iris n))
@@ -96,11 +105,16 @@ module _ (iris : Iris) (numbers more : Numbers) (n : ℕ) (iri : List ℕ) (tied
       iri_at : (m : ℕ) (i : List ℕ) → get iri_cmp more i ≡ Some m → (i ≡ iri) ⊎ (i ≡ iri → ⊥)
           → dict.get (dict.insert iris n iri) m ≡ Some i
       iri_at m i e (inl same) = grind (arith, common_steps, put_at, same_Some)
-      iri_at m i e (inr apart) = kept m i (tied.iri m i (sym (set.others i apart) ∙ e))
+      iri_at m i e (inr apart) = kept m i (tied.iri m i (sym (number_set.others i apart) ∙ e))
 
-  -- Removing the IRI from the second map again restores the old maps.
-  pub inverse_after_undo : (back : Numbers) → IsNumberSet more back iri None → AreInverse iris back
-  inverse_after_undo back unset = grind (arith, common_steps, none-some, other_iri, same_or_not)
+  -- Removing the IRI from the map back again restores the old maps.
+  pub inverse_after_undo : (back : Numbers) (removed : List ℕ) → removed ≡ iri → Updates iri_cmp more back removed None
+      → AreInverse iris back
+  inverse_after_undo back removed same undone = restored (subst (λ (i : List ℕ). IsNumberSet more back i None) same
+      (number_updated more back removed None undone)) number_set
+    where
+      restored : IsNumberSet more back iri None → IsNumberSet numbers more iri (Some n) → AreInverse iris back
+      restored unset set = grind (arith, common_steps, none-some, other_iri, same_or_not)
 
 pub inverse_of_empty : (iris : Iris) (numbers : Numbers) → ((n : ℕ) → dict.get iris n ≡ None)
     → ((i : List ℕ) → get iri_cmp numbers i ≡ None) → AreInverse iris numbers

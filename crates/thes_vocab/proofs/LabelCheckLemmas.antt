@@ -33,7 +33,7 @@ use Rattle.thes_base.proofs.UniquePreferredLemmas.{made_unique, taken_breaks}
 use Rattle.thes_base.proofs.ConditionLemmas.{owner_exists}
 use Rattle.thes_base.proofs.NumberedLemmas.{numbered_bound}
 use Rattle.std.proofs.lemmas.Option.{same_Some}
-use Rattle.thes_vocab.specs.Vocabulary.{IsHolder}
+use Rattle.thes_vocab.specs.Vocabulary.{Vocabulary, IsHolder}
 use Rattle.thes_vocab.specs.Rivals.{HasRival, HasTwoPreferred, HasClash}
 
 -- The text that a look-up returns is that of the preferred label in the language.
@@ -62,6 +62,15 @@ owners_bound rs labels legal l held = let at = owner_exists rs l.owner (legal.ow
 pub kind_of_name : (labels : Labels) (owner : ℕ) (tag text : List ℕ) → has_lexical_label labels owner tag text ≡ true
     → (k : LabelKind) × (is_lexical_kind k ≡ true) × HasLabel labels owner k tag text
 kind_of_name labels owner tag text e = grind (arith, common_steps, or_cases)
+
+-- A live concept of the scheme has a rival in another one that has its preferred label.
+rival_of : (rs : List Resource) (labels : Labels) (l : Label) (m n scheme : ℕ) (tag text : List ℕ)
+    → label m Pref tag text ≡ l → HasLabel labels n Pref tag text → n ≢ m → IsLiveConcept rs m
+    → scheme_of rs m ≡ Some scheme → IsLiveConcept rs n → scheme_of rs n ≡ Some scheme
+    → HasRival rs labels l.owner l.tag l.text
+rival_of rs labels l m n scheme tag text is held differ lm sm ln sn =
+    subst (λ (q : Label). HasRival rs labels q.owner q.tag q.text) is
+    (record { scheme = scheme; rival = n; concept = lm; within = sm; holder = ((ln, sn), held); other = differ })
 
 module _ (labels : Labels) (l : Label) where
   abbrev labels_with_new : Labels
@@ -113,16 +122,7 @@ module _ (labels : Labels) (l : Label) where
             → (l.kind ≢ Pref) ⊎ (HasRival rs labels l.owner l.tag l.text → ⊥) → ⊥
         rival_at m n is held differ lm sm ln sn (inl other) = other (sym (ap (λ (q : Label). q.kind) is))
         rival_at m n is held differ lm sm ln sn (inr none) =
-            none (subst (λ (q : Label). HasRival rs labels q.owner q.tag q.text) is
-            (record {
-              scheme = scheme;
-              rival = n;
-              concept = lm;
-              within = sm;
-              holder = ((ln, sn), held);
-              other =
-                  differ;
-            }))
+            none (rival_of rs labels l m n scheme tag text is held differ lm sm ln sn)
 
         go : (label m Pref tag text ≡ l) ⊎ HasLabel labels m Pref tag text → (label n Pref tag text ≡ l)
             ⊎ HasLabel labels n Pref tag text → (n ≡ m) ⊎ (n ≢ m) → m ≡ n
@@ -192,16 +192,7 @@ module _ (labels : Labels) (owner : ℕ) (tag text old : List ℕ) (keep : Bool)
             → IsLiveConcept rs m → scheme_of rs m ≡ Some scheme → IsLiveConcept rs n → scheme_of rs n ≡ Some scheme
             → ⊥
         rival_at m n is held differ lm sm ln sn =
-            none (subst (λ (q : Label). HasRival rs labels q.owner q.tag q.text) is
-            (record {
-              scheme = scheme;
-              rival = n;
-              concept = lm;
-              within = sm;
-              holder = ((ln, sn), held);
-              other =
-                  differ;
-            }))
+            none (rival_of rs labels _ m n scheme t x is held differ lm sm ln sn)
 
         go : Cases (label m Pref t x) → Cases (label n Pref t x) → (n ≡ m) ⊎ (n ≢ m) → m ≡ n
         go a b h = grind (arith, common_steps, never_kept, rival_at)
@@ -219,41 +210,58 @@ pub row_without_name : (rs : List Resource) (labels next : Labels) (owner : ℕ)
     (Some no.NoSuchLabel)
 row_without_name rs labels next owner tag none = inl (λ (text, has). none text has, refl)
 
-module _ (rs : List Resource) (labels : Labels) (owner : ℕ) (tag text old : List ℕ) (keep : Bool)
-    (legal : AreLegalLabels rs labels) (has : HasLabel labels owner Pref tag old) where
-  abbrev RowOf : Option Refusal → Type 0
-  RowOf answer = unless_replaceable_preferred labels rs (labels_after_relabel owner tag text keep labels) owner tag
-      accepted answer
+-- The verdict on a new preferred label, by look-ups in the vocabulary as it is seen.
+module _ (seen v : Vocabulary) (is : seen ≡ v) (owner : ℕ) (tag text old : List ℕ) (keep : Bool)
+    (legal : AreLegalLabels seen.resources seen.labels) (has : HasLabel seen.labels owner Pref tag old) where
+  abbrev labels : Labels
+  labels = seen.labels
 
-  at_renamed : (answer : Option Refusal) → unless_replaceable_preferred labels rs
+  abbrev RowOf : Option Refusal → Type 0
+  RowOf answer = unless_replaceable_preferred v.labels v.resources (labels_after_relabel owner tag text keep v.labels)
+      owner tag accepted answer
+
+  at_renamed : (answer : Option Refusal) → unless_replaceable_preferred labels seen.resources
       (replace_preferred owner tag text keep old labels) owner tag accepted answer → RowOf answer
-  at_renamed answer row = subst (λ (labels_after_rename : Labels). unless_replaceable_preferred labels rs
-      labels_after_rename owner
-      tag accepted answer) (sym (relabelled_is labels owner tag text old keep legal.one_preferred has)) row
+  at_renamed answer row = subst (λ (w : Vocabulary). unless_replaceable_preferred w.labels w.resources
+      (labels_after_relabel owner tag text keep w.labels) owner tag accepted answer) is
+      (subst (λ (renamed : Labels). unless_replaceable_preferred labels seen.resources renamed owner tag accepted
+      answer) (sym (relabelled_is labels owner tag text old keep legal.one_preferred has)) row)
 
   pub row_clashing : HasClash labels owner tag text old keep → RowOf (Some no.S13)
   row_clashing c = at_renamed _ (inr ((old, has), inl (renamed_breaks_s13 labels owner tag text old keep c, refl)))
 
-  module _ (free : HasClash labels owner tag text old keep → ⊥) where
-    pub row_with_rival : HasRival rs labels owner tag text → RowOf (Some no.PreferredTaken)
+  module _ (clashes : Bool) (told : HasClash labels owner tag text old keep → clashes ≡ true)
+      (none : clashes ≡ false) where
+    free : HasClash labels owner tag text old keep → ⊥
+    free clash = true≢false (sym (told clash) ∙ none)
+
+    pub row_with_rival : HasRival v.resources v.labels owner tag text → RowOf (Some no.PreferredTaken)
     row_with_rival rival =
         at_renamed _
         (inr (
           (old, has),
           inr (
             renamed_keeps_s13 labels owner tag text old keep legal.disjoint has free,
-            inl (renamed_breaks_unique labels owner tag text old keep rs rival, refl),
+            inl (
+              renamed_breaks_unique labels owner tag text old keep seen.resources
+                  (subst (λ (w : Vocabulary). HasRival w.resources w.labels owner tag text) (sym is) rival),
+              refl,
+            ),
           ),
         ))
 
-    pub row_renamed : (HasRival rs labels owner tag text → ⊥) → RowOf None
-    row_renamed none =
+    pub row_renamed : (HasRival v.resources v.labels owner tag text → ⊥) → RowOf None
+    row_renamed alone =
         at_renamed _
         (inr (
           (old, has),
           inr (
             renamed_keeps_s13 labels owner tag text old keep legal.disjoint has free,
-            inr (renamed_keeps_unique labels owner tag text old keep rs legal.unique none, refl),
+            inr (
+              renamed_keeps_unique labels owner tag text old keep seen.resources legal.unique (λ rival. alone
+                  (subst (λ (w : Vocabulary). HasRival w.resources w.labels owner tag text) is rival)),
+              refl,
+            ),
           ),
         ))
 

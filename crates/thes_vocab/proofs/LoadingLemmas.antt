@@ -21,7 +21,7 @@ use Rattle.thes_base.proofs.LegalResourceLemmas.{iri_cases, no_iri}
 use Rattle.thes_lists.specs.declared.lists.Lists.{Lists}
 use Rattle.thes_vocab.specs.declared.names.Names.{Names}
 use Rattle.thes_lists.specs.Lists.{AreListings}
-use Rattle.thes_vocab.specs.Vocabulary.{Vocabulary, IsConceptIn, IsConceptOf, concept_scheme}
+use Rattle.thes_vocab.specs.Vocabulary.{Vocabulary, vocabulary_from, IsConceptIn, IsConceptOf, concept_scheme}
 use Rattle.thes_vocab.specs.OwnLabels.{data_cmp, has_own}
 use Rattle.thes_vocab.specs.NameIndex.{KeepsNames, HasLabelEntry}
 use Rattle.thes_vocab.specs.Consistency.{IsConsistentVocabulary}
@@ -49,9 +49,6 @@ module _ (v : Vocabulary) (l : Label) where
     rival = λ h. breaks_unique v.labels l v.resources h.0 h.1 fits.unique;
   }
 
-abbrev vocabulary : List ℕ → List Resource → Iris → Labels → Vocabulary
-vocabulary base rs iris labels = record { base = base; resources = rs; iris = iris; labels = labels }
-
 module _ (base : List ℕ) (rs : List Resource) (iris : Iris) (labels : Labels) (old new : Names) (concepts : Lists ℕ)
     (is : IsLoading base rs iris labels old concepts) where
   -- The invariant holds after entries are added to the index of preferred labels.
@@ -59,7 +56,7 @@ module _ (base : List ℕ) (rs : List Resource) (iris : Iris) (labels : Labels) 
   loading_more keeps = grind (arith, common_steps, finds_more)
 
   module _ (owner : ℕ) (d : LabelData) (keeps : KeepsNames old new) (o : Option ℕ) (at : IsSchemeOf rs owner o)
-      (noted : HasLabelEntry new o d owner) (fits : MayLoadLabel (vocabulary base rs iris labels)
+      (noted : HasLabelEntry new o d owner) (fits : MayLoadLabel (vocabulary_from base rs iris labels)
       (owned_label owner d)) where
     abbrev l : Label
     l = owned_label owner d
@@ -69,12 +66,12 @@ module _ (base : List ℕ) (rs : List Resource) (iris : Iris) (labels : Labels) 
     loading_label = grind (arith, common_steps, finds_added, inserted_cases)
 
   -- The invariant holds after an IRI is loaded.
-  pub loading_iri : (n : ℕ) (iri : List ℕ) → MayLoadIri (vocabulary base rs iris labels) n iri
+  pub loading_iri : (n : ℕ) (iri : List ℕ) → MayLoadIri (vocabulary_from base rs iris labels) n iri
       → IsLoading base rs (dict.insert iris n iri) labels old concepts
   loading_iri n iri fits = grind (arith, common_steps, iri_cases)
 
   -- The loaded vocabulary is consistent if all IRIs and preferred labels are there.
-  pub loading_kept : HaveIris (vocabulary base rs iris labels) → EachHasPreferred rs labels → IsConsistentVocabulary
+  pub loading_kept : HaveIris (vocabulary_from base rs iris labels) → EachHasPreferred rs labels → IsConsistentVocabulary
       base rs iris labels old concepts
   loading_kept all named = record {
     legal = record {

@@ -1,5 +1,6 @@
 -- The labels of all owners, stored as a row for each owner, at the index that is the owner's number.
-use Rattle.std.specs.Prelude.{◌≡◌, ◌≢◌, ℕ, ◌+◌, List, [], ◌∷◌, ◌++◌, map, false, not, ◌&&◌, ◌||◌, slice_get}
+use Rattle.std.specs.Prelude.{◌≡◌, ◌≢◌, ℕ, ◌+◌, List, [], ◌∷◌, ◌++◌, map, Bool, false, not, ◌&&◌, ◌||◌, slice_get}
+use Rattle.std.specs.Prelude.{Result, IfOk, OnOk, OnErr}
 use Rattle.std.specs.Ordering.{nat_cmp, eq_by_cmp}
 use Rattle.std.specs.Option.{unwrap_or}
 use Rattle.std.specs.FinSet as set
@@ -63,3 +64,11 @@ AreMissingLabels rows source target copies = (l : LabelData) →
 -- Each owner has the same row, or the same lack of labels, in both.
 abbrev pub AreSameLabelRows : LabelRows → LabelRows → Type 0
 AreSameLabelRows old new = (n : ℕ) → owner_row new n ≡ owner_row old n
+
+-- The outcome of inserting a label for the owner: Ok with whether it is new, and the owner has it; or Err, and each owner
+-- has the same row.
+pub record InsertsInRow {E : Type 0} (old new : LabelRows) (owner : ℕ) (l : LabelData) (result : Result Bool E)
+    : Type 0 where
+  pub answer : IfOk result (λ is_new. is_new ≡ not (has_own (owner_row old owner) l))
+  pub ok : OnOk result (RowsAfterInsert old new owner l)
+  pub err : OnErr result (AreSameLabelRows old new)

@@ -1,5 +1,5 @@
 -- The index of preferred labels: for each label of a concept, an entry with a digest of the label and the concept.
-use Rattle.std.specs.Prelude.{◌≡◌, ◌%◌, ◌^◌, ◌&&◌, ◌==◌, ℕ, List, Bool, true, Option, Some, fold}
+use Rattle.std.specs.Prelude.{◌≡◌, ◌<◌, ◌%◌, ◌^◌, ◌&&◌, ◌==◌, ℕ, List, Bool, true, Option, Some, fold, length}
 use Rattle.std.specs.declared.cmp.Ordering.{Ordering}
 use Rattle.std.specs.Ordering.{nat_cmp, ordering_then}
 use Rattle.std.specs.BTreeSet.{contains}
@@ -8,7 +8,7 @@ use Rattle.std.specs.Hash.FoldHasher.{initial, write, finish}
 use Rattle.thes_base.specs.declared.data.Resource.{Resource}
 use Rattle.thes_base.specs.declared.data.LabelKind.TheVariants.{Pref}
 use Rattle.thes_base.specs.Data.{LabelData}
-use Rattle.thes_base.specs.Labels.{Labels, label_kind_no}
+use Rattle.thes_base.specs.Labels.{Labels, label_kind_no, UniquePreferred}
 use Rattle.thes_vocab.specs.Vocabulary.{IsHolder}
 use Rattle.thes_vocab.specs.OwnLabels.{HasOwnPreferred}
 use Rattle.thes_vocab.specs.declared.names.Names.{Names}
@@ -55,3 +55,10 @@ abbrev pub AreHoldersIndexed : List Resource → Labels → Names → Type 0
 AreHoldersIndexed resources labels names =
     (scheme n : ℕ) (tag text : List ℕ) → IsHolder resources labels scheme tag text n
     → HasNameEntry names scheme tag text n
+
+-- The index leads to the one live concept of a scheme that has a preferred label: there are few resources, each such
+-- concept has an entry, and no two of a scheme have the same label.
+pub record LeadsToHolders (resources : List Resource) (labels : Labels) (names : Names) : Type 0 where
+  pub few : length resources < 2 ^ 32
+  pub entries : AreHoldersIndexed resources labels names
+  pub unique : UniquePreferred resources labels

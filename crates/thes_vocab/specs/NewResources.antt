@@ -1,5 +1,5 @@
 -- Requests for new resources: their checks and their effect.
-use Rattle.std.specs.Prelude.{◌≡◌, ◌⊎◌, ℕ, List, true, None, Some}
+use Rattle.std.specs.Prelude.{◌≡◌, ◌⊎◌, ◌+◌, ℕ, List, length, true, None, Some, Result, IfOk, OnOk, OnErr}
 use Rattle.thes_base.specs.declared.data.Resource.{Resource}
 use Rattle.thes_base.specs.Resources.{IsScheme, is_scheme_kind, is_concept_kind, is_collection_kind}
 use Rattle.thes_base.specs.Labels.{Labels, IsPreferredTaken}
@@ -20,6 +20,12 @@ vocabulary_after_add (Concept scheme tag text) v =
 vocabulary_after_add (Collection scheme tag text) v =
     vocabulary_of v.base (state_after_creation (collection_resource scheme) tag text (bare_state v))
 vocabulary_after_add (Outside iri) v = vocabulary_of v.base (state_after_outside iri (bare_state v))
+
+-- The outcome of adding a resource: Ok with the next number, and the vocabulary is `after`; or Err, and it is unchanged.
+pub record AddsResource {E : Type 0} (old new after : Vocabulary) (result : Result ℕ E) : Type 0 where
+  pub number : IfOk result (λ n. n ≡ length old.resources + 1)
+  pub ok : OnOk result (new ≡ after)
+  pub err : OnErr result (new ≡ old)
 
 -- The checks of a new resource, followed by the remaining rule.
 abbrev pub unless_new : Vocabulary → NewResource → RefusalRule → RefusalRule

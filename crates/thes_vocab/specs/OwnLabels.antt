@@ -1,5 +1,5 @@
 -- The labels of one owner as a list sorted by kind, language and text.
-use Rattle.std.specs.Prelude.{◌≡◌, ◌≢◌, ℕ, List, Bool, true}
+use Rattle.std.specs.Prelude.{◌≡◌, ◌≢◌, ◌||◌, ℕ, List, Bool, true}
 use Rattle.std.specs.declared.cmp.Ordering.{Ordering}
 use Rattle.std.specs.Ordering.{nat_cmp, ordering_then, eq_by_cmp}
 use Rattle.std.specs.Cmp.Lexicographic.{slice_cmp}
@@ -50,3 +50,8 @@ pub record HasTwoOwnPreferred (own : List LabelData) : Type 0 where
 pub record AreLabelsOf (labels : Labels) (owner : ℕ) (own : List LabelData) : Type 0 where
   pub ordered : IsStrictlySortedBy data_cmp own
   pub each : (l : LabelData) → has_own own l ≡ set.contains labels (owned_label owner l)
+
+-- The new list is sorted, and has the labels of the old one and those for which `is_new` is true.
+pub record GainsLabels (old new : List LabelData) (is_new : LabelData → Bool) : Type 0 where
+  pub order : IsStrictlySortedBy data_cmp new
+  pub labels : (l : LabelData) → has_own new l ≡ (is_new l || has_own old l)

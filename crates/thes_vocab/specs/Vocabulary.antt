@@ -17,6 +17,11 @@ pub record Vocabulary : Type 0 where
   pub iris : Iris
   pub labels : Labels
 
+-- The vocabulary of these parts.
+abbrev pub vocabulary_from : List ℕ → List Resource → Iris → Labels → Vocabulary
+vocabulary_from base resources iris labels =
+    record { base = base; resources = resources; iris = iris; labels = labels }
+
 -- The vocabulary with the base, and without resources.
 abbrev pub empty_vocabulary : List ℕ → Vocabulary
 empty_vocabulary base = record { base = base; resources = []; iris = dict.empty; labels = set.empty }

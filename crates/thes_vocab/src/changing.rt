@@ -9,7 +9,7 @@ ghost use Rattle.thes_base.specs.Changes.{state_after_creation, state_after_outs
 ghost use Rattle.thes_base.specs.RuleParts.{unless_new_label, unless_droppable, unless_replaceable_preferred};
 ghost use Rattle.thes_vocab.specs.Vocabulary.{bare_state, vocabulary_of, with_labels, vocabulary_after_death, IsLiveOwner, IsReplacement};
 ghost use Rattle.thes_vocab.specs.CopiedLabels.{lacks_name};
-ghost use Rattle.thes_vocab.specs.NewResources.{unless_new, vocabulary_after_add, IsNewOwner, IsFreeName};
+ghost use Rattle.thes_vocab.specs.NewResources.{unless_new, vocabulary_after_add, AddsResource, IsNewOwner, IsFreeName};
 
 use crate::concepts;
 use crate::vocab::{Vocab, concept_scheme, scheme_if_concept};
@@ -23,9 +23,7 @@ impl Vocab {
     pub fn add_resource(&mut self, new: NewResource) -> Result<ResNo, AllocError>
         requires allowed { unless_new self.old new accepted None }
         requires room { length self.old.resources + 1 < 2 ^ 32 }
-        ensures number { IfOk result (λ n. n ≡ length self.old.resources + 1) }
-        ensures ok { OnOk result (self.new ≡ vocabulary_after_add new self.old) }
-        ensures err { OnErr result (self.new ≡ self.old) }
+        ensures { AddsResource self.old self.new (vocabulary_after_add new self.old) result }
     {
         match new {
             NewResource::Scheme(tag, text) => self.add_named(
@@ -184,11 +182,8 @@ impl Vocab {
         requires named { IsNewOwner self.old.resources resource }
         requires free { IsFreeName self.old.resources self.old.labels resource tag text }
         requires room { length self.old.resources + 1 < 2 ^ 32 }
-        ensures number { IfOk result (λ n. n ≡ length self.old.resources + 1) }
-        ensures ok { OnOk result (self.new ≡
-            vocabulary_of self.old.base
-            (state_after_creation resource tag text (bare_state self.old))) }
-        ensures err { OnErr result (self.new ≡ self.old) }
+        ensures { let after = state_after_creation resource tag text (bare_state self.old) in
+            AddsResource self.old self.new (vocabulary_of self.old.base after) result }
     {
         let n = ResNo::new(self.resources.len() as u32 + 1);
         self.resources.try_reserve(1)?;
@@ -207,10 +202,8 @@ impl Vocab {
         requires foreign { BeginsWith iri self.old.base → ⊥ }
         requires free { (n : ℕ) → dict.get self.old.iris n ≢ Some iri }
         requires room { length self.old.resources + 1 < 2 ^ 32 }
-        ensures number { IfOk result (λ n. n ≡ length self.old.resources + 1) }
-        ensures ok { OnOk result (self.new ≡
-            vocabulary_of self.old.base (state_after_outside iri (bare_state self.old))) }
-        ensures err { OnErr result (self.new ≡ self.old) }
+        ensures { let after = state_after_outside iri (bare_state self.old) in
+            AddsResource self.old self.new (vocabulary_of self.old.base after) result }
     {
         let n = ResNo::new(self.resources.len() as u32 + 1);
         self.resources.try_reserve(1)?;

@@ -13,7 +13,7 @@ ghost use Rattle.thes_vocab.specs.Vocabulary.{IsLiveOwner};
 ghost use Rattle.thes_vocab.specs.NewResources.{unless_new};
 ghost use Rattle.thes_vocab.specs.Rivals.{HasRival};
 
-use crate::vocab::{Vocab, concept_scheme, resource_at};
+use crate::vocab::{Vocab, resource_at};
 use thes_base::data::{Label, LabelKind, LabelValue, NewResource, ResourceKind};
 use thes_base::fault::Refusal;
 use thes_base::number::ResNo;
@@ -183,9 +183,8 @@ impl Vocab {
         ensures { IsTrue result
             ↔ HasRival self.now.resources self.now.labels owner tag.now text.now }
     {
-        let Some(scheme) = concept_scheme(self.resources.as_slice(), owner) else {
-            return false;
-        };
-        self.holder(scheme, tag, text).is_some_and(|n| n != owner)
+        let resources = self.resources.as_slice();
+        self.names
+            .has_rival(resources, &self.labels, owner, tag, text)
     }
 }

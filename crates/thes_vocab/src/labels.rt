@@ -1,5 +1,5 @@
 // The labels of all owners, in a row for each owner.
-ghost use Rattle.std.specs.Prelude.{◌≡◌, ◌≢◌, ◌↔◌, ◌+◌, ◌<◌, false, IsTrue, ℕ, List, IfOk, OnOk, OnErr, length, not, option_copied, slice_get, MatchOption};
+ghost use Rattle.std.specs.Prelude.{◌≡◌, ◌≢◌, ◌↔◌, ◌+◌, ◌<◌, false, IsTrue, ℕ, List, IfOk, OnOk, OnErr, length, option_copied, slice_get, MatchOption};
 ghost use Rattle.std.specs.FinSet as set;
 ghost use Rattle.thes_base.specs.declared.data.LabelKind.TheVariants.{Pref, Alt};
 ghost use Rattle.thes_base.specs.Data.{label_value_kind, label_value_text};
@@ -8,7 +8,7 @@ ghost use Rattle.thes_base.specs.Labels.{HasLabel};
 ghost use Rattle.thes_base.specs.Machine.{owned_label};
 ghost use Rattle.thes_vocab.specs.Rivals.{HasTwoPreferred, HasClash};
 ghost use Rattle.thes_vocab.specs.OwnLabels.{own_label, has_own, AreLabelsOf};
-ghost use Rattle.thes_vocab.specs.LabelRows.{IsRowOfOwner, HasNoLabels, owner_row, RowsAfterInsert, RowsAfterRemove, RowsAfterInsertions, AreMissingLabels, AreSameLabelRows};
+ghost use Rattle.thes_vocab.specs.LabelRows.{IsRowOfOwner, HasNoLabels, owner_row, InsertsInRow, RowsAfterRemove, RowsAfterInsertions, AreMissingLabels, AreSameLabelRows};
 
 use crate::row::{OwnerRow, missing_labels};
 use std::alloc::{AllocError, Global};
@@ -247,10 +247,7 @@ fn put(
     owner: ResNo,
     label: Label,
 ) -> Result<bool, AllocError>
-    ensures added { IfOk result
-        (λ added. added ≡ not (has_own (owner_row rows.old.items owner) label)) }
-    ensures ok { OnOk result (RowsAfterInsert rows.old.items rows.new.items owner label) }
-    ensures err { OnErr result (AreSameLabelRows rows.old.items rows.new.items) }
+    ensures { InsertsInRow rows.old.items rows.new.items owner label result }
 {
     open_row(rows, alloc, owner)?;
     insert_in_row(rows, owner, label)
@@ -259,10 +256,7 @@ fn put(
 // Inserts a label into the row of an owner that has one, and returns whether it is new.
 fn insert_in_row(rows: &mut Vec<OwnerRow>, owner: ResNo, label: Label) -> Result<bool, AllocError>
     requires { owner < length rows.old.items }
-    ensures added { IfOk result
-        (λ added. added ≡ not (has_own (owner_row rows.old.items owner) label)) }
-    ensures ok { OnOk result (RowsAfterInsert rows.old.items rows.new.items owner label) }
-    ensures err { OnErr result (AreSameLabelRows rows.old.items rows.new.items) }
+    ensures { InsertsInRow rows.old.items rows.new.items owner label result }
 {
     match rows.get_mut(owner.get() as usize) {
         Some(row) => row.insert(label),

@@ -4,13 +4,12 @@ ghost use Rattle.std.specs.Prelude.{◌≡◌, ◌<◌, ◌^◌, ◌↔◌, ℕ,
 ghost use Rattle.std.specs.Ordering.{nat_cmp};
 ghost use Rattle.thes_base.specs.declared.data.LabelKind.TheVariants.{Pref};
 ghost use Rattle.thes_base.specs.Resources.{CanOwn, IsOutside};
-ghost use Rattle.thes_base.specs.Labels.{HasLabel, HasPreferred, EachHasPreferred, UniquePreferred, is_lexical_kind};
+ghost use Rattle.thes_base.specs.Labels.{HasLabel, HasPreferred, EachHasPreferred, is_lexical_kind};
 ghost use Rattle.thes_base.specs.Changes.{has_lexical_label};
 ghost use Rattle.thes_base.specs.Machine.{owned_label};
 ghost use Rattle.thes_lists.specs.Lists.{listed_at, AreListings};
 ghost use Rattle.thes_vocab.specs.Vocabulary.{IsConceptOf};
-ghost use Rattle.thes_vocab.specs.NameIndex.{AreHoldersIndexed};
-ghost use Rattle.thes_vocab.specs.Rivals.{HasRival};
+ghost use Rattle.thes_vocab.specs.NameIndex.{LeadsToHolders};
 ghost use Rattle.thes_vocab.specs.Loading.{AreSound, AreIrisSoFar, AreLabelsSoFar, HasIri, HaveIris, IsFreeIri, LoadIriResult, LoadLabelResult, IsFreeLabel, bare_vocabulary};
 
 use crate::concepts;
@@ -22,7 +21,7 @@ use std::alloc::{AllocError, Global};
 use std::marker::Model;
 use thes_base::data::{Label, LabelKind, LabelValue, Resource, ResourceKind};
 use thes_base::number::ResNo;
-use thes_base::text::{Base, Iri, Tag, Text};
+use thes_base::text::{Base, Iri};
 use thes_lists::Lists;
 
 /// A vocabulary that is being loaded: all its resources are given at the start, and IRIs and labels
@@ -42,19 +41,14 @@ impl Model for VocabLoad {
     ghost use Rattle.std.specs.Coded.{codes};
     ghost use Rattle.std.specs.FinMap as dict;
     ghost use Rattle.std.specs.FinSet as set;
-    ghost use Rattle.thes_vocab.specs.Vocabulary.{Vocabulary};
+    ghost use Rattle.thes_vocab.specs.Vocabulary.{Vocabulary, vocabulary_from};
     ghost use Rattle.thes_vocab.specs.Loading.{IsLoading};
 
     ghost Value = { Vocabulary };
 
     ghost coded = { Prim.hlevel (codes, set.code, dict.code) };
 
-    ghost view = { λ a. record {
-      base = a.base;
-      resources = a.resources.items;
-      iris = a.iris;
-      labels = a.labels;
-    } };
+    ghost view = { λ a. vocabulary_from a.base a.resources.items a.iris a.labels };
 
     ghost invariant = { λ a.
         IsLoading a.base a.resources.items a.iris a.labels a.names a.concepts };
@@ -246,9 +240,7 @@ fn is_free_label(
     owner: ResNo,
     label: &Label,
 ) -> bool
-    requires few { length resources.now < 2 ^ 32 }
-    requires found { AreHoldersIndexed resources.now labels.now names.now }
-    requires unique { UniquePreferred resources.now labels.now }
+    requires { LeadsToHolders resources.now labels.now names.now }
     ensures { IsTrue result ↔ IsFreeLabel resources.now labels.now (owned_label owner label.now) }
 {
     if !can_own(resources, owner) {
@@ -263,7 +255,10 @@ fn is_free_label(
     if repeats_preferred(labels, owner, label) {
         return false;
     }
-    !repeats_holder(resources, labels, names, owner, label)
+    match &label.value {
+        LabelValue::Pref(text) => !names.has_rival(resources, labels, owner, &label.tag, text),
+        _ => true,
+    }
 }
 
 // Checks whether the label is lexical, and its owner has the text in the language under one of the
@@ -281,51 +276,6 @@ fn repeats_preferred(labels: &LabelTable, owner: ResNo, label: &Label) -> bool
         × ((text : List ℕ) × HasLabel labels.now owner Pref label.now.tag text)) }
 {
     label.kind() == LabelKind::Pref && labels.preferred(owner, &label.tag).is_some()
-}
-
-// Checks whether the label is a preferred one of a live concept, and another live concept of its
-// scheme has it.
-fn repeats_holder(
-    resources: &[Resource],
-    labels: &LabelTable,
-    names: &Names,
-    owner: ResNo,
-    label: &Label,
-) -> bool
-    requires few { length resources.now < 2 ^ 32 }
-    requires found { AreHoldersIndexed resources.now labels.now names.now }
-    requires unique { UniquePreferred resources.now labels.now }
-    ensures { IsTrue result ↔ ((label.now.kind ≡ Pref)
-        × HasRival resources.now labels.now owner label.now.tag label.now.text) }
-{
-    match &label.value {
-        LabelValue::Pref(text) => has_rival(resources, labels, names, owner, &label.tag, text),
-        _ => false,
-    }
-}
-
-// Checks whether the owner is a live concept, and another live concept of its scheme has the
-// preferred label.
-fn has_rival(
-    resources: &[Resource],
-    labels: &LabelTable,
-    names: &Names,
-    owner: ResNo,
-    tag: &Tag,
-    text: &Text,
-) -> bool
-    requires few { length resources.now < 2 ^ 32 }
-    requires found { AreHoldersIndexed resources.now labels.now names.now }
-    requires unique { UniquePreferred resources.now labels.now }
-    ensures { IsTrue result ↔ HasRival resources.now labels.now owner tag.now text.now }
-{
-    let Some(scheme) = concept_scheme(resources, owner) else {
-        return false;
-    };
-    match names.holder(resources, labels, scheme, tag, text) {
-        Some(n) => n != owner,
-        None => false,
-    }
 }
 
 // Checks whether each scheme, concept and collection has a preferred label in some language.

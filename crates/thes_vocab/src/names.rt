@@ -6,7 +6,8 @@ ghost use Rattle.std.specs.List.{list_any};
 ghost use Rattle.thes_base.specs.Forms.{IsNumber};
 ghost use Rattle.thes_base.specs.Labels.{IsPreferredTaken};
 ghost use Rattle.thes_vocab.specs.Vocabulary.{IsHolder};
-ghost use Rattle.thes_vocab.specs.NameIndex.{name_digest, entry_cmp, has_digest, HasNameEntry, HasEntryInScheme, HasLabelEntry, KeepsNames, KeepsOtherNames, AreHoldersIndexed};
+ghost use Rattle.thes_vocab.specs.NameIndex.{name_digest, entry_cmp, has_digest, HasNameEntry, HasEntryInScheme, HasLabelEntry, KeepsNames, KeepsOtherNames, AreHoldersIndexed, LeadsToHolders};
+ghost use Rattle.thes_vocab.specs.Rivals.{HasRival};
 
 use crate::labels::LabelTable;
 use crate::vocab::concept_scheme;
@@ -56,6 +57,28 @@ impl Names {
             }
         }
         None
+    }
+
+    // Checks whether the owner is a live concept, and another live concept of its scheme has the
+    // preferred label.
+    pub(crate) fn has_rival(
+        &self,
+        resources: &[Resource],
+        labels: &LabelTable,
+        owner: ResNo,
+        tag: &Tag,
+        text: &Text,
+    ) -> bool
+        requires { LeadsToHolders resources.now labels.now self.now }
+        ensures { IsTrue result ↔ HasRival resources.now labels.now owner tag.now text.now }
+    {
+        let Some(scheme) = concept_scheme(resources, owner) else {
+            return false;
+        };
+        match self.holder(resources, labels, scheme, tag, text) {
+            Some(n) => n != owner,
+            None => false,
+        }
     }
 
     // Returns the entries with the digest.

@@ -7,7 +7,7 @@ ghost use Rattle.std.specs.Ordering.{eq_by_cmp};
 ghost use Rattle.thes_base.specs.Data.{LabelData};
 ghost use Rattle.thes_vocab.specs.LabelPositions.{IsLabelPosition, IsPreferredAt};
 ghost use Rattle.thes_vocab.specs.CopiedLabels.{has_own_name, is_name, lacks_own_name, merged_label, copies_label};
-ghost use Rattle.thes_vocab.specs.OwnLabels.{data_cmp, language_cmp, own_label, has_own, HasOwnPreferred, HasNoOwnPreferred, HasTwoOwnPreferred};
+ghost use Rattle.thes_vocab.specs.OwnLabels.{data_cmp, language_cmp, own_label, has_own, GainsLabels, HasOwnPreferred, HasNoOwnPreferred, HasTwoOwnPreferred};
 
 use std::alloc::{AllocError, Global};
 use std::cmp::Ordering;
@@ -189,9 +189,7 @@ fn insert_at(labels: &mut Vec<Label>, place: usize, label: Label) -> Result<(), 
 fn insert_reserved(list: &mut Vec<Label>, mut labels: Vec<Label>)
     requires room { vec_len list.old + vec_len labels ≤ vec_capacity list.old }
     requires sorted { IsStrictlySortedBy data_cmp list.old.items }
-    ensures sorted { IsStrictlySortedBy data_cmp list.new.items }
-    ensures has { (l : LabelData) →
-        has_own list.new.items l ≡ (has_own labels.items l || has_own list.old.items l) }
+    ensures { GainsLabels list.old.items list.new.items (has_own labels.items) }
 {
     'inserting: while let Some(label) = labels.pop() {
         insert_in(list, label);
@@ -202,9 +200,7 @@ fn insert_reserved(list: &mut Vec<Label>, mut labels: Vec<Label>)
 fn insert_in(list: &mut Vec<Label>, label: Label)
     requires room { vec_len list.old < vec_capacity list.old }
     requires sorted { IsStrictlySortedBy data_cmp list.old.items }
-    ensures sorted { IsStrictlySortedBy data_cmp list.new.items }
-    ensures has { (l : LabelData) →
-        has_own list.new.items l ≡ (eq_by_cmp data_cmp l label || has_own list.old.items l) }
+    ensures gain { GainsLabels list.old.items list.new.items (λ l. eq_by_cmp data_cmp l label) }
     ensures room { (n : ℕ) → vec_len list.old + n + 1 ≤ vec_capacity list.old
         → vec_len list.new + n ≤ vec_capacity list.new }
 {

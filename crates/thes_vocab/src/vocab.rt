@@ -41,7 +41,7 @@ impl Model for Vocab {
     ghost use Rattle.std.specs.FinMap as dict;
     ghost use Rattle.std.specs.FinSet as set;
     ghost use Rattle.thes_vocab.specs.OwnLabels.{AreLabelsOf};
-    ghost use Rattle.thes_vocab.specs.Vocabulary.{Vocabulary};
+    ghost use Rattle.thes_vocab.specs.Vocabulary.{Vocabulary, vocabulary_from};
 
     ghost Value = { Vocabulary };
 
@@ -49,12 +49,7 @@ impl Model for Vocab {
 
     ghost use Rattle.thes_vocab.specs.Consistency.{IsConsistentVocabulary};
 
-    ghost view = { λ a. record {
-      base = a.base;
-      resources = a.resources.items;
-      iris = a.iris;
-      labels = a.labels;
-    } };
+    ghost view = { λ a. vocabulary_from a.base a.resources.items a.iris a.labels };
 
     ghost invariant = { λ a.
         IsConsistentVocabulary a.base a.resources.items a.iris a.labels a.names a.concepts };

@@ -8,8 +8,8 @@ inserting-preserved c =
     let so_far = c.inserting.invariant in
     let room = so_far.1 in
     let one_less = c.in-Some.ensures.cases in (
-      c.insert_in.ensures.sorted,
+      c.insert_in.ensures.gain.order,
       c.insert_in.ensures.room (vec_len c.pop.new.self) (omega (arith, room, one_less)),
       λ q. has_moved c.inserting.labels.items c.pop.new.self.items c.inserting.list.items c.insert_in.new.list.items
-          c.in-Some.label q c.in-Some.ensures.items (c.insert_in.ensures.has q) ∙ so_far.2 q,
+          c.in-Some.label q c.in-Some.ensures.items (c.insert_in.ensures.gain.labels q) ∙ so_far.2 q,
     )

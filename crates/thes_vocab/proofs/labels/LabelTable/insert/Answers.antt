@@ -13,13 +13,13 @@ pub invariant_of-self-then-branch : goal.invariant_of-self-then-branch
 invariant_of-self-then-branch c =
     let more : c.self.inside.count + 1 ≡ c.in_ok-count.count = search rules in
     let counted = rows_put c.self.inside.rows.items c.put.new.rows.items c.self.inside.count c.args.owner c.args.label
-    c.self.invariant c.in_ok-put.ensures.ok c.in_ok-put.field-0 c.in_ok-put.ensures.added in
+    c.self.invariant c.in_ok-put.ensures.ok c.in_ok-put.field-0 c.in_ok-put.ensures.answer in
     sym (ap (λ (b : Bool). cond b (c.self.inside.count + 1) c.self.inside.count) c.if-branch.true ∙ more) ∙ counted
 
 pub invariant_of-self-else-branch : goal.invariant_of-self-else-branch
 invariant_of-self-else-branch c =
     let counted = rows_put c.self.inside.rows.items c.put.new.rows.items c.self.inside.count c.args.owner c.args.label
-    c.self.invariant c.in_ok-put.ensures.ok c.in_ok-put.field-0 c.in_ok-put.ensures.added in
+    c.self.invariant c.in_ok-put.ensures.ok c.in_ok-put.field-0 c.in_ok-put.ensures.answer in
     sym (ap (λ (b : Bool). cond b (c.self.inside.count + 1) c.self.inside.count) c.if-branch.false) ∙ counted
 
 pub returns-then-branch-clause-ok : goal.returns-then-branch-clause-ok

@@ -4,14 +4,11 @@ use Rattle.thes_base.specs.declared.data.Resource.{Resource}
 use Rattle.thes_base.specs.Labels.{Labels}
 use Rattle.thes_base.specs.Resources.{Iris}
 use Rattle.thes_base.specs.Machine.{owned_label}
-use Rattle.thes_vocab.specs.Vocabulary.{Vocabulary, with_labels}
+use Rattle.thes_vocab.specs.Vocabulary.{Vocabulary, vocabulary_from, with_labels}
 use Rattle.thes_vocab.specs.Loading.{IsLoading, IsFreeLabel, MayLoadLabel}
 use Rattle.thes_vocab.proofs.ConsistencyLemmas.{IsSchemeOf}
 use Rattle.thes_vocab.proofs.LoadingLemmas.{loading_more, loading_label, fits_free, free_fits}
 use Rattle.thes_vocab.proofs.load.VocabLoad.take_label.Goals as goal
-
-abbrev seen : List ℕ → List Resource → Iris → Labels → Vocabulary
-seen base rs iris labels = record { base = base; resources = rs; iris = iris; labels = labels }
 
 pub invariant_of-self-in_err-insert : goal.invariant_of-self-in_err-insert
 invariant_of-self-in_err-insert c = grind (arith, loading_more)
@@ -22,7 +19,7 @@ invariant_of-self-then-is_free_label c =
     let l = owned_label c.args.owner c.args.label in
     let free = subst (λ (rs : List Resource). IsFreeLabel rs inside.labels l) c.as_slice.ensures.value
     (c.is_free_label.ensures.0 c.if-is_free_label.true) in
-    let fits = fits_free (seen inside.base inside.resources.items inside.iris inside.labels) l
+    let fits = fits_free (vocabulary_from inside.base inside.resources.items inside.iris inside.labels) l
     c.self.invariant.labels_so_far free in
     let at = subst (λ (rs : List Resource). IsSchemeOf rs c.args.owner c.concept_scheme-scheme.result)
     c.as_slice-then-is_free_label.ensures.value c.concept_scheme-scheme.ensures in
@@ -38,10 +35,10 @@ returns-in_ok-insert c =
     let l = owned_label c.args.owner c.args.label in
     let free = subst (λ (rs : List Resource). IsFreeLabel rs inside.labels l) c.as_slice.ensures.value
     (c.is_free_label.ensures.0 c.if-is_free_label.true) in
-    let fits = fits_free (seen inside.base inside.resources.items inside.iris inside.labels) l
+    let fits = fits_free (vocabulary_from inside.base inside.resources.items inside.iris inside.labels) l
     c.self.invariant.labels_so_far free in (
       subst (λ (v : Vocabulary). MayLoadLabel v l) c.self.view_is fits,
-      ap (λ (ls : Labels). seen inside.base inside.resources.items inside.iris ls) c.in_ok-insert.ensures.ok
+      ap (λ (ls : Labels). vocabulary_from inside.base inside.resources.items inside.iris ls) c.in_ok-insert.ensures.ok
           ∙ ap (λ (v : Vocabulary). with_labels v (set.insert v.labels l)) c.self.view_is,
     )
 

@@ -3,7 +3,7 @@ use Rattle.thes_base.specs.declared.data.Resource.{Resource}
 use Rattle.thes_base.specs.Resources.{IsLiveConcept}
 use Rattle.thes_base.specs.Changes.{resource_after_death}
 use Rattle.thes_base.proofs.ResourceLemmas.{marked_dead_at}
-use Rattle.thes_vocab.specs.Vocabulary.{Vocabulary, IsReplacement, vocabulary_after_death}
+use Rattle.thes_vocab.specs.Vocabulary.{Vocabulary, vocabulary_from, IsReplacement, vocabulary_after_death}
 use Rattle.thes_vocab.specs.ConceptLists.{ConceptListsAfterRemove}
 use Rattle.thes_vocab.specs.Consistency.{IsConsistentVocabulary}
 use Rattle.thes_vocab.proofs.ConsistencyLemmas.{kept_dead, numbered_at}
@@ -38,10 +38,5 @@ returns c =
     let new = ap (resource_after_death c.args.replaced) c.resource.view_is in
     let list = (λ i. set rs (c.get.ensures.value i - 1) (new i))
     ∙ sym (marked_dead_at rs c.args.n c.args.replaced r at) in
-    ap (λ (x : List Resource). let v : Vocabulary = record {
-      base = inside.base;
-      resources = x;
-      iris = inside.iris;
-      labels = inside.labels;
-    } in v) list
+    ap (λ (x : List Resource). vocabulary_from inside.base x inside.iris inside.labels) list
     ∙ ap (λ (v : Vocabulary). vocabulary_after_death v c.args.n c.args.replaced) c.self.view_is
