@@ -1,9 +1,11 @@
 pub mod FactLemmas
+pub mod NamedPostingLemmas
 pub mod GrowthLemmas
 pub mod NextStateLemmas
 pub mod RequestCheckLemmas
 pub mod OutsideLemmas
 pub mod ApplyLemmas
+pub mod MergeLemmas
 pub mod LabelListLemmas
 pub mod RequestMoveLemmas
 pub mod DeltaLemmas

@@ -10,9 +10,11 @@ use Rattle.thes_base.specs.Refusals.{Setting}
 use Rattle.thes_base.specs.Machine.{HasNewKey, Step, next_state, answer_of, refusal_rule_of}
 use Rattle.thes_tables.specs.declared.change.Change.{Change}
 use Rattle.thes_tables.specs.ChangeLaw.{AreChangesBetween}
+use Rattle.thes_core.specs.declared.facts.Facts.{Facts}
 use Rattle.thes_core.specs.declared.verdict.Verdict.{Verdict}
 use Rattle.thes_core.specs.declared.verdict.Verdict.TheVariants.{Settled, Accepted}
 use Rattle.thes_core.specs.CoreView.{CoreView, IsViewOf, with_histories}
+use Rattle.thes_core.specs.Facts.{AreFacts}
 
 -- The request passes all checks in this state, and its key, if it has one, is new.
 pub record IsAccepted (setting : Setting) (s : State) (command : Command) : Type 0 where
@@ -32,6 +34,14 @@ abbrev pub IsVerdict : Setting → State → Command → Verdict → Type 0
 IsVerdict setting s command (Settled answer) = Step setting s command answer s
 IsVerdict setting s command (Accepted answer changes) = AcceptedVerdict setting s command answer changes
 
+-- The result of a decision: OutOfMemory, or a verdict that is right in each state of which the core is a view, if the
+-- facts are those of its histories: a settled answer is that of a machine's step that leaves the state unchanged; an
+-- accepted verdict has the machine's answer, and changes of rows that lead to its next state.
+abbrev pub DecideResult : CoreView → Command → Facts → Result Verdict Fault → Type 0
+DecideResult core command facts (Ok verdict) =
+    (s : State) → IsViewOf core s → AreFacts command s.histories facts → IsVerdict core.setting s command verdict
+DecideResult core command facts (Err fault) = fault ≡ OutOfMemory
+
 -- The request passes its checks, except those of the postings that it names: a Split is checked with an empty list of
 -- postings, a Post or a Withdraw not at all, any other request in full.
 abbrev pub IsAcceptedWithoutPostings : Setting → State → Command → Type 0
@@ -49,6 +59,11 @@ MayApply core command = IsAcceptedWithoutPostings core.setting (with_histories [
 abbrev pub VerdictMayApply : CoreView → Command → Verdict → Type 0
 VerdictMayApply core command (Settled answer) = Unit {0}
 VerdictMayApply core command (Accepted answer changes) = MayApply core command
+
+-- What an application leaves: a usable core with the same base and limits; or, after OutOfMemory, an unusable core.
+abbrev pub ApplyFrame : {A : Type 0} → CoreView → Result A Fault → CoreView → Type 0
+ApplyFrame old (Ok applied) new = (new.spent ≡ false) × (new.setting ≡ old.setting)
+ApplyFrame old (Err fault) new = (fault ≡ OutOfMemory) × (new.spent ≡ true)
 
 -- The result of a step: the machine's answer, and a core that is a view of the machine's next state; or OutOfMemory,
 -- and an unchanged or unusable core.

@@ -1,6 +1,7 @@
 -- A core as contracts see it: a state with counts in place of histories.
-use Rattle.std.specs.Prelude.{◌≡◌, Bool, List, []}
+use Rattle.std.specs.Prelude.{◌≡◌, ℕ, Bool, List, [], false}
 use Rattle.thes_base.specs.declared.data.History.{History}
+use Rattle.thes_base.specs.declared.data.Limits.{Limits}
 use Rattle.thes_base.specs.declared.data.Resource.{Resource}
 use Rattle.thes_base.specs.Resources.{Iris}
 use Rattle.thes_base.specs.Labels.{Labels}
@@ -42,3 +43,9 @@ pub record IsViewOf (core : CoreView) (s : State) : Type 0 where
   pub state : with_histories s.histories core ≡ s
   pub posting_counts : ArePostingCounts s.histories core.posting_counts
   pub legal : IsLegalState core.setting.base s
+
+-- The core is usable, and has this base and these limits.
+pub record IsUsableWith (base : List ℕ) (limits : Limits) (core : CoreView) : Type 0 where
+  pub base_is : core.setting.base ≡ base
+  pub limits_are : core.setting.limits ≡ limits
+  pub usable : core.spent ≡ false

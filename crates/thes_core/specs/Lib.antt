@@ -3,6 +3,7 @@ pub mod NamedPostings
 pub mod Facts
 pub mod Room
 pub mod CoreView
+pub mod CoreSizes
 pub mod Parts
 pub mod CoreDecisions
 pub mod Requests

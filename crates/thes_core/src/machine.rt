@@ -1,12 +1,12 @@
 //! The machine: the answer to each request and the state after it, with counts in place of the
 //! histories of postings.
-ghost use Rattle.std.specs.Prelude.{◌≡◌, false, true, IfOk, IfErr, OnOk};
+ghost use Rattle.std.specs.Prelude.{◌≡◌, false, IfOk, OnOk};
 ghost use Rattle.thes_base.specs.State.{State, empty_state};
 ghost use Rattle.thes_base.specs.Headline.{IsConsistentState};
 ghost use Rattle.thes_base.specs.Machine.{next_state};
 ghost use Rattle.thes_core.specs.Facts.{AreFacts};
-ghost use Rattle.thes_core.specs.CoreView.{IsViewOf};
-ghost use Rattle.thes_core.specs.CoreDecisions.{IsAccepted, IsVerdict, MayApply, CoreStepResult, VerdictMayApply};
+ghost use Rattle.thes_core.specs.CoreView.{IsUsableWith, IsViewOf};
+ghost use Rattle.thes_core.specs.CoreDecisions.{IsAccepted, DecideResult, MayApply, ApplyFrame, CoreStepResult, VerdictMayApply};
 
 use crate::checking::known_answer;
 use crate::facts::Facts;
@@ -51,9 +51,7 @@ impl Core {
     /// Creates a core with the empty state, the base and the limits.
     pub fn new(alloc: Global, base: Base, limits: Limits) -> Core
         ensures holds { IsViewOf result empty_state }
-        ensures base { result.setting.base ≡ base }
-        ensures limits { result.setting.limits ≡ limits }
-        ensures spent { result.spent ≡ false }
+        ensures usable { IsUsableWith base limits result }
     {
         // No effect; states the form of the base for the proof.
         let _ = base.as_str();
@@ -73,11 +71,8 @@ impl Core {
     /// its changes of rows. The verdict is right if the facts are those of the postings.
     pub fn decide(&self, command: &Command, facts: &Facts) -> Result<Verdict, Fault>
         requires { self.now.spent ≡ false }
-        ensures ok { IfOk result (λ verdict. (s : State) → IsViewOf self.now s
-            → AreFacts command.now s.histories facts.now
-            → IsVerdict self.now.setting s command.now verdict) }
+        ensures decides { DecideResult self.now command.now facts.now result }
         ensures may { IfOk result (VerdictMayApply self.now command.now) }
-        ensures err { IfErr result (λ fault. fault ≡ Fault.OutOfMemory) }
         ensures in_order { (s : State) → IsViewOf self.now s
             → IsConsistentState self.now.setting.base s }
     {
@@ -98,10 +93,7 @@ impl Core {
             → AreFacts command.now s.histories facts.now
             → IsAccepted self.old.setting s command.now
             → OnOk result (IsViewOf self.new (next_state command.now s)) }
-        ensures ok { OnOk result ((self.new.spent ≡ false)
-            × (self.new.setting ≡ self.old.setting)) }
-        ensures err { IfErr result (λ fault. (fault ≡ Fault.OutOfMemory)
-            × (self.new.spent ≡ true)) }
+        ensures frame { ApplyFrame self.old result self.new }
     {
         // No effect; states the form of each text for the proof.
         command.learn_forms();

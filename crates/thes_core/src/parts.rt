@@ -1,9 +1,8 @@
 //! Creates a core from parts that were loaded.
-ghost use Rattle.std.specs.Prelude.{◌≡◌, false};
 ghost use Rattle.thes_base.specs.State.{State};
 ghost use Rattle.thes_base.specs.Legal.{IsLegalState};
 ghost use Rattle.thes_links.specs.GraphView.{MarksOutside};
-ghost use Rattle.thes_core.specs.CoreView.{IsViewOf};
+ghost use Rattle.thes_core.specs.CoreView.{IsUsableWith, IsViewOf};
 ghost use Rattle.thes_core.specs.Parts.{ArePartsOf};
 
 use crate::machine::Core;
@@ -24,9 +23,7 @@ impl Core {
             × IsLegalState vocab.base s }
         ensures holds { (s : State) → ArePartsOf s vocab graph.links book
             → IsLegalState vocab.base s → IsViewOf result s }
-        ensures base { result.setting.base ≡ vocab.base }
-        ensures limits { result.setting.limits ≡ limits }
-        ensures spent { result.spent ≡ false }
+        ensures usable { IsUsableWith vocab.base limits result }
     {
         // No effect; states the form of the base for the proof.
         let _ = vocab.base().as_str();

@@ -1,7 +1,6 @@
 //! Look-ups in a core. Only `is_spent` may be called on an unusable one.
-ghost use Rattle.std.specs.Prelude.{◌≡◌, ◌↔◌, ◌⊎◌, ◌-◌, ℕ, Some, false, true, length, IfOk, IsTrue, MatchOption};
+ghost use Rattle.std.specs.Prelude.{◌≡◌, ◌↔◌, ◌⊎◌, ℕ, Some, false, true, IfOk, IsTrue, MatchOption};
 ghost use Rattle.std.specs.FinMap as dict;
-ghost use Rattle.std.specs.FinSet as set;
 ghost use Rattle.std.specs.Option.{option_copied};
 ghost use Rattle.std.specs.Ordering.{nat_cmp};
 ghost use Rattle.thes_base.specs.declared.data.LinkKind.TheVariants as kinds;
@@ -12,6 +11,7 @@ ghost use Rattle.thes_base.specs.Listing.{IsListing};
 ghost use Rattle.thes_base.specs.Resources.{is_outside, entry_at, replacements, IsLive};
 ghost use Rattle.thes_base.specs.State.{State};
 ghost use Rattle.thes_base.specs.Views.{HasLink, HasBroader, IsMapping, IsTypedLink, mapping_cmp, typed_cmp};
+ghost use Rattle.thes_core.specs.CoreSizes.{AreSizesOf, AreTotalsOf};
 ghost use Rattle.thes_core.specs.CoreView.{IsViewOf};
 ghost use Rattle.thes_post.specs.PostingCounts.{count_of};
 ghost use Rattle.thes_vocab.specs.OwnLabels.{AreLabelsOf};
@@ -51,12 +51,7 @@ impl Core {
     /// Returns the sizes of the state; `accepted` includes withdrawn postings.
     pub fn sizes(&self) -> Sizes
         requires { self.now.spent ≡ false }
-        ensures resources { result.resources ≡ length self.now.resources }
-        ensures labels { result.labels ≡ set.len self.now.labels }
-        ensures links { result.links ≡ set.len self.now.links }
-        ensures accepted { result.accepted ≡ self.now.posting_counts.accepted }
-        ensures withdrawn { result.withdrawn ≡ self.now.posting_counts.withdrawn }
-        ensures moves { result.moves ≡ self.now.posting_counts.moves }
+        ensures { AreSizesOf self.now result }
     {
         let totals = self.thesaurus.book.totals();
         Sizes {
@@ -72,10 +67,7 @@ impl Core {
     /// Returns the numbers of postings accepted, withdrawn, and not withdrawn.
     pub fn totals(&self) -> Totals
         requires { self.now.spent ≡ false }
-        ensures accepted { result.accepted ≡ self.now.posting_counts.accepted }
-        ensures withdrawn { result.withdrawn ≡ self.now.posting_counts.withdrawn }
-        ensures standing { result.standing ≡ self.now.posting_counts.accepted -
-            self.now.posting_counts.withdrawn }
+        ensures { AreTotalsOf self.now.posting_counts result }
     {
         self.thesaurus.book.totals()
     }

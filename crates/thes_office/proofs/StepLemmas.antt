@@ -1,11 +1,10 @@
 -- Proves that a performed request leads from tables that encode a state, and a copy of them, to
 -- tables and a copy of the machine's next state.
 use Rattle.std.proofs.lemmas.Grind.{common_steps}
-use Rattle.std.proofs.Common.{◌≡◌, List, false, true, refl, sym, ap, subst, ◌∙◌, arith}
-use Rattle.std.specs.Prelude.{Result, Ok, Err, OnOk, IfErr}
+use Rattle.std.proofs.Common.{◌≡◌, List, false, refl, sym, ap, subst, ◌∙◌, arith}
+use Rattle.std.specs.Prelude.{Result, Ok, Err, OnOk}
 use Rattle.thes_base.specs.declared.data.Limits.{Limits}
 use Rattle.thes_base.specs.declared.fault.Fault.{Fault}
-use Rattle.thes_base.specs.declared.fault.Fault.TheVariants.{OutOfMemory}
 use Rattle.thes_base.specs.declared.request.Answer.{Answer}
 use Rattle.thes_base.specs.declared.request.Command.{Command}
 use Rattle.thes_base.specs.Legal.{IsLegalState}
@@ -18,7 +17,7 @@ use Rattle.thes_tables.specs.declared.change.Change.{Change}
 use Rattle.thes_tables.specs.Cells.{Raw, cells_of_tables}
 use Rattle.thes_tables.specs.Rows.{tables_after_delta}
 use Rattle.thes_tables.specs.Tables.{Tables}
-use Rattle.thes_core.specs.CoreDecisions.{AcceptedVerdict}
+use Rattle.thes_core.specs.CoreDecisions.{AcceptedVerdict, ApplyFrame}
 use Rattle.thes_core.specs.CoreView.{CoreView, IsViewOf}
 use Rattle.thes_core.proofs.NextStateLemmas.{next_legal, step_of_accepted}
 use Rattle.thes_office.specs.Office.{ChangesNothing, IsCopy, TablesAfterStep}
@@ -72,17 +71,16 @@ module _ (setting : Setting) (old new : Raw) (s : State) (command : Command) (an
   -- A copy that is usable after the request holds the next state.
   pub copies_accepted : {A : Type 0} (copy copy' : CoreView) (result : Result A Fault) → copy.setting ≡ setting
       → OnOk result (IsViewOf copy' (next_state command s))
-      → OnOk result ((copy'.spent ≡ false) × (copy'.setting ≡ copy.setting))
-      → IfErr result (λ fault. (fault ≡ OutOfMemory) × (copy'.spent ≡ true)) → copy'.spent ≡ false
+      → ApplyFrame copy result copy' → copy'.spent ≡ false
       → IsCopy new setting.limits copy'
-  copies_accepted copy copy' (Ok a) is holds kept err unspent = record {
+  copies_accepted copy copy' (Ok a) is holds kept unspent = record {
     limits_are = ap (λ (q : Setting). q.limits) (kept.1 ∙ is);
     state = next_state command s;
     holds = holds;
     shows = subst (λ (q : Setting). TablesOfState new q.base (next_state command s)) (sym (kept.1 ∙ is))
         state_after_accepted;
   }
-  copies_accepted copy copy' (Err fault) is holds kept err unspent = let spent = err.1 in absurd (cc)
+  copies_accepted copy copy' (Err fault) is holds failed unspent = let spent = failed.1 in absurd (cc)
 
 -- A copy of the rows is a copy of equal rows.
 pub copies_over : (old new : Raw) (limits : Limits) (copy : CoreView) → new ≡ old → IsCopy old limits copy

@@ -1,10 +1,9 @@
 -- Proves what follows from a verdict on a request, decided on a current copy with the facts in the tables.
 use Rattle.std.proofs.lemmas.Grind.{common_steps}
-use Rattle.std.proofs.Common.{◌≡◌, false, true, inl, refl, sym, ap, subst, ◌∙◌, Bool, List, arith}
-use Rattle.std.specs.Prelude.{Result, Ok, OnOk, IfErr}
+use Rattle.std.proofs.Common.{◌≡◌, false, inl, refl, sym, ap, subst, ◌∙◌, Bool, List, arith}
+use Rattle.std.specs.Prelude.{Result, Ok, OnOk}
 use Rattle.thes_base.specs.declared.data.Limits.{Limits}
 use Rattle.thes_base.specs.declared.fault.Fault.{Fault}
-use Rattle.thes_base.specs.declared.fault.Fault.TheVariants.{OutOfMemory}
 use Rattle.thes_base.specs.declared.request.Answer.{Answer}
 use Rattle.thes_base.specs.declared.request.Command.{Command}
 use Rattle.thes_base.specs.Machine.{next_state}
@@ -19,7 +18,7 @@ use Rattle.thes_store.specs.Storage.{StorageView}
 use Rattle.thes_core.specs.declared.facts.Facts.{Facts}
 use Rattle.thes_core.specs.declared.verdict.Verdict.{Verdict}
 use Rattle.thes_core.specs.declared.verdict.Verdict.TheVariants.{Settled, Accepted}
-use Rattle.thes_core.specs.CoreDecisions.{AcceptedVerdict, IsAccepted, IsVerdict}
+use Rattle.thes_core.specs.CoreDecisions.{AcceptedVerdict, ApplyFrame, IsAccepted, IsVerdict}
 use Rattle.thes_core.specs.CoreView as core
 use Rattle.thes_core.specs.CoreView.{IsViewOf}
 use Rattle.thes_core.specs.Facts.{AreFacts}
@@ -103,10 +102,9 @@ module _ {K : Type 0} (view : K → StorageView) (keeper : K) (copy : core.CoreV
           → later ≡ copy'.spent
           → ((s : State) → IsViewOf copy s → AreFacts command s.histories facts → IsAccepted copy.setting s command
           → OnOk result (IsViewOf copy' (next_state command s)))
-          → OnOk result ((copy'.spent ≡ false) × (copy'.setting ≡ copy.setting))
-          → IfErr result (λ fault. (fault ≡ OutOfMemory) × (copy'.spent ≡ true))
+          → ApplyFrame copy result copy'
           → IsConsistent view new copy' limits later
-      consistent_when_accepted copy' result later spends applies ok err = record {
+      consistent_when_accepted copy' result later spends applies frame = record {
         few = kept.few;
         shows = λ up. let x = step_when_accepted up in (x.base, x.state_after, x.shows);
         unspent = λ e. sym spends ∙ e;
@@ -116,6 +114,6 @@ module _ {K : Type 0} (view : K → StorageView) (keeper : K) (copy : core.CoreV
             (copies_accepted copy.setting (view keeper).rows (view new).rows here.state command answer changes
             (few (was up)) forms
             here.shows (grants (was up)) (made up) copy copy' result refl
-            (applies here.state here.holds (right_facts (was up)) (grants (was up)).accepts) ok err (sym spends ∙ e));
+            (applies here.state here.holds (right_facts (was up)) (grants (was up)).accepts) frame (sym spends ∙ e));
         why = λ e. inl (sym spends ∙ e);
       }

@@ -1,16 +1,34 @@
--- The answer to the check of an edit, and the links near the edit, whose number bounds the visits.
-use Rattle.std.specs.Prelude.{◌≡◌, ◌⊎◌, ◌+◌, ◌*◌, ◌≤◌, ℕ, Bool, List, Contains, length}
+-- What the check of an edit needs, its answer, and the links near the edit, whose number bounds the visits.
+use Rattle.std.specs.Prelude.{◌≡◌, ◌≢◌, ◌⊎◌, ◌+◌, ◌*◌, ◌≤◌, ℕ, Bool, List, Contains, Option, length}
 use Rattle.std.specs.FinSet.{insert}
+use Rattle.thes_base.specs.declared.data.Direction.TheVariants.{Never}
 use Rattle.thes_base.specs.declared.data.Link.{Link}
+use Rattle.thes_base.specs.declared.fault.Refusal.{Refusal}
 use Rattle.thes_base.specs.declared.fault.Refusal.TheVariants as no
 use Rattle.thes_base.specs.RefusalRules.{RefusalRule, refused_if}
-use Rattle.thes_base.specs.Links.{Links, Holds, IsFirstBroken, HasEnd}
+use Rattle.thes_base.specs.Links.{Links, Holds, IsFirstBroken, HasEnd, broader_direction}
 use Rattle.thes_base.specs.Neighbourhood.{EditToCheck}
 use Rattle.thes_base.specs.Neighbourhood as edit
 use Rattle.thes_links.specs.declared.edit.LinkEdit.{LinkEdit}
 use Rattle.thes_links.specs.declared.edit.LinkEdit.TheVariants.{NoEdit, WithLink, AfterMerge}
 use Rattle.thes_links.specs.LinkEdit.{HeldAfter}
-use Rattle.thes_links.specs.Local.{IsNearPivot}
+use Rattle.thes_links.specs.Local.{AreSoundWith, BreakNone, CoversNear, IsFirstOfCycleAndS27, IsNearPivot}
+
+-- The two nodes differ, and the links held break no rule, so that a link or a merge may join the nodes.
+pub record AreJoinable (held : Links) (a b : ℕ) : Type 0 where
+  pub ends : a ≢ b
+  pub unbroken : BreakNone (Holds held)
+
+-- The links held and the new one are sound, and the new one is neither broader nor narrower.
+pub record AreSoundWithLevel (held : Links) (new : Link) : Type 0 where
+  pub sound : AreSoundWith held new
+  pub level : broader_direction new.kind ≡ Never
+
+-- The result of a check of a new link for Cycle and S27: the first of the two that the links held and the new one break
+-- together, or none. The count grows by at most four visits for each link near the new one.
+pub record IsCycleAndS27Result (held : Links) (new : Link) (before after : ℕ) (answer : Option Refusal) : Type 0 where
+  pub first : IsFirstOfCycleAndS27 (HeldAfter (WithLink new) held) answer
+  pub count : (ns : List Link) → CoversNear (WithLink new) held new.a ns → after ≤ before + 4 * length ns
 
 -- The answer to the check of a new link in normal form: LinkThere if it is held, or else the first rule that the links
 -- with it break.

@@ -1,8 +1,15 @@
--- Kinds of links that can break few rules or none.
-use Rattle.std.specs.Prelude.{◌≡◌}
+-- Links that can break few rules or none, by their kinds and by their ends.
+use Rattle.std.specs.Prelude.{◌≡◌, ℕ}
+use Rattle.thes_base.specs.declared.data.Link.{Link}
 use Rattle.thes_base.specs.declared.data.LinkKind.{LinkKind}
 use Rattle.thes_base.specs.declared.data.Direction.TheVariants.{Forward, Never}
 use Rattle.thes_base.specs.Links.{broader_direction, related_direction, exact_direction, disjoint_direction}
+use Rattle.thes_links.specs.declared.relation.Relation.{Relation}
+use Rattle.thes_links.specs.Steps.{Steps}
+
+-- No link leads from the node in the relation.
+pub record IsEnd (relation : Relation) (Held : Link → Type 0) (n : ℕ) : Type 0 where
+  pub none : (y : ℕ) → Steps relation Held n y → ⊥
 
 -- Links of the kind lead from their first end to a broader concept, and have no part in the other relations.
 abbrev pub LeadsUp : LinkKind → Type 0

@@ -1,5 +1,5 @@
 -- The state of two searches, one from each end of a link, of which the second reads no more links than the first.
-use Rattle.std.specs.Prelude.{◌⊎◌, ◌+◌, ◌*◌, ◌≤◌, ◌<◌, ℕ, List, length}
+use Rattle.std.specs.Prelude.{◌≡◌, ◌⊎◌, ◌+◌, ◌*◌, ◌≤◌, ◌<◌, ℕ, Bool, List, false, length}
 use Rattle.thes_base.specs.declared.data.Link.{Link}
 use Rattle.thes_base.specs.Links.{Links, Holds}
 use Rattle.thes_links.specs.declared.relation.Relation.{Relation}
@@ -24,6 +24,16 @@ AreVisitsBounded held relation start before after =
     (ns : List Link) → ((n : ℕ) → Reaches (Steps relation (Holds held)) start n → CoversAt NoEdit held n ns)
     → after ≤ before + 2 * length ns
 
+-- The relation is broader or narrower, and the search has met a node that it hasn't read.
+pub record HasNextNode (relation : Relation) (side_search : SideSearch) : Type 0 where
+  pub hierarchy : IsHierarchy relation
+  pub more : side_search.next < length side_search.nodes
+
+-- The search has read no fewer nodes than before, and exactly one more if `allowance` is still less than `size`.
+pub record AdvancesUnlessAllowed (allowance size : ℕ) (old new : SideSearch) : Type 0 where
+  pub extends : old.next ≤ new.next
+  pub next : allowance < size → new.next ≡ old.next + 1
+
 -- The relation is broader or narrower, both searches have met a node that they haven't read, and the range has the links
 -- of the second's next node.
 pub record CanAdvanceBoth (held : Links) (rows : ℕ → List Link) (relation : Relation) (first second : SideSearch)
@@ -32,6 +42,13 @@ pub record CanAdvanceBoth (held : Links) (rows : ℕ → List Link) (relation : 
   pub more_first : first.next < length first.nodes
   pub more_second : second.next < length second.nodes
   pub ready : HasNextPart held rows (converse relation) second part
+
+-- The range has the links of the second's next node, and unless a goal is found, one of the searches has read more
+-- nodes.
+pub record AdvancesPair (held : Links) (rows : ℕ → List Link) (relation : Relation)
+    (first second first_after second_after : SideSearch) (part : Part) (found : Bool) : Type 0 where
+  pub ready : HasNextPart held rows (converse relation) second_after part
+  pub next : found ≡ false → first.next + second.next < first_after.next + second_after.next
 
 -- The state of the two searches. The links that the second has read, and the `left` that it may still read, are
 -- together at most as many as the first has read. The count has grown from `before` by at most the number of links that

@@ -139,6 +139,20 @@ IsAdvanceResult edit held relation goals start side_search read found =
     MatchBool found (LeadsTo edit held relation goals start × IsReadBounded edit held relation start read)
     (IsSideSearch edit held relation goals start side_search read)
 
+-- The result of reading more nodes in `visits` visits: from each state that IsSideSearch describes, the search comes to
+-- another one, or has found a goal.
+abbrev pub ContinuesSearch : LinkEdit → Links → Relation → (goals : List ℕ) → (old new : SideSearch) → (visits : ℕ)
+    → (found : Bool) → Type 0
+ContinuesSearch edit held relation goals old new visits found =
+    (start read : ℕ) → IsSideSearch edit held relation goals start old read
+    → IsAdvanceResult edit held relation goals start new (read + visits) found
+
+-- The search has read the links of one more node, in `visits` visits.
+pub record AdvancesByNode (edit : LinkEdit) (held : Links) (relation : Relation) (goals : List ℕ)
+    (old new : SideSearch) (visits : ℕ) (found : Bool) : Type 0 where
+  pub next : new.next ≡ old.next + 1
+  pub continues : ContinuesSearch edit held relation goals old new visits found
+
 -- The rule that a link from `low` up to `high` would break: Cycle if a chain leads from `high` up to `low`, or else S27
 -- if a concept at or below `low` is related to one at or above `high`.
 abbrev pub IsBrokenBetween : (Link → Type 0) → (low high : ℕ) → Option Refusal → Type 0
@@ -161,6 +175,21 @@ pub record HaveNextParts (held : Links) (rows : ℕ → List Link) (up : SideSea
   pub upward : HasNextPart held rows along.Broader up up_part
   pub downward : HasNextPart held rows along.Narrower down down_part
 
+-- The edit is valid, each of two searches, one up and one down, has met a node that it hasn't read, and the ranges have
+-- the links of these next nodes.
+pub record CanAdvanceInTurn (edit : LinkEdit) (held : Links) (rows : ℕ → List Link) (up : SideSearch) (up_part : Part)
+    (down : SideSearch) (down_part : Part) : Type 0 where
+  pub fit : IsValidEdit edit
+  pub more_up : up.next < length up.nodes
+  pub more_down : down.next < length down.nodes
+  pub ready : HaveNextParts held rows up up_part down down_part
+
+-- One of the two searches has read the links of one more node, and the ranges have the links of the next nodes.
+pub record AdvancesInTurn (held : Links) (rows : ℕ → List Link) (up down up_after : SideSearch) (up_part : Part)
+    (down_after : SideSearch) (down_part : Part) : Type 0 where
+  pub next : up_after.next + down_after.next ≡ up.next + down.next + 1
+  pub ready : HaveNextParts held rows up_after up_part down_after down_part
+
 -- The state of two alternating searches, up from `high` and down from `low`; the count has grown from `from` to `count`
 -- by at most their visits.
 abbrev pub AreAlternating : LinkEdit → Links → (lows highs : List ℕ) → (low high : ℕ) → (up down : SideSearch)
@@ -175,6 +204,15 @@ abbrev pub HasEitherFoundGoal : LinkEdit → Links → (lows highs : List ℕ) �
 HasEitherFoundGoal edit held lows highs low high from count =
     (LeadsTo edit held along.Broader lows high ⊎ LeadsTo edit held along.Narrower highs low)
     × ((ns : List Link) → CoversBetween edit held low high ns → count ≤ from + 4 * length ns)
+
+-- The result of turns of two searches, during which the count grows from `before` to `after`: from each state that
+-- AreAlternating describes, they come to another one, or one of them has found a goal.
+abbrev pub ContinuesInTurn : LinkEdit → Links → (lows highs : List ℕ) → (up down up_after down_after : SideSearch)
+    → (before after : ℕ) → (found : Bool) → Type 0
+ContinuesInTurn edit held lows highs up down up_after down_after before after found =
+    (low high from : ℕ) → AreAlternating edit held lows highs low high up down from before
+    → MatchBool found (HasEitherFoundGoal edit held lows highs low high from after)
+    (AreAlternating edit held lows highs low high up_after down_after from after)
 
 -- A related link joins one of xs to one of ys after the edit.
 abbrev pub AreTied : LinkEdit → Links → (xs ys : List ℕ) → Type 0

@@ -3,10 +3,11 @@
 ghost use Rattle.std.specs.Prelude.{◌≡◌, ◌+◌, ◌*◌, ◌≤◌, false, List, OnOk, IfOk, MatchBool, length};
 ghost use Rattle.thes_base.specs.declared.data.Link.{Link};
 ghost use Rattle.thes_base.specs.declared.data.Direction.TheVariants.{Either, Never};
-ghost use Rattle.thes_base.specs.Links.{S46, broader_direction, related_direction, exact_direction, disjoint_direction, IsFirstBroken};
+ghost use Rattle.thes_base.specs.Links.{S46, related_direction, exact_direction, disjoint_direction, IsFirstBroken};
 ghost use Rattle.thes_links.specs.declared.edit.LinkEdit.TheVariants.{WithLink};
 ghost use Rattle.thes_links.specs.LinkEdit.{HeldAfter};
-ghost use Rattle.thes_links.specs.Local.{AreSoundWith, IsFirstOfCycleAndS27, CoversNear, BreaksS46};
+ghost use Rattle.thes_links.specs.Local.{AreSoundWith, CoversNear, BreaksS46};
+ghost use Rattle.thes_walks.specs.EditChecks.{AreSoundWithLevel, IsCycleAndS27Result};
 
 use crate::class::breaks_class;
 use crate::paired_search::has_end_above;
@@ -43,14 +44,10 @@ fn check_level_link<L: Links>(
     links: &mut L,
     new: &Link,
 ) -> Result<Option<Refusal>, AllocError>
-    requires sound { AreSoundWith (L.net links.old).links new.now }
-    requires level { broader_direction new.now.kind ≡ Never }
+    requires { AreSoundWithLevel (L.net links.old).links new.now }
     ensures net { L.net links.new ≡ L.net links.old }
-    ensures first { IfOk result
-        (IsFirstOfCycleAndS27 (HeldAfter (WithLink new.now) (L.net links.old).links)) }
-    ensures count { OnOk result
-        ((ns : List Link) → CoversNear (WithLink new.now) (L.net links.old).links new.now.a ns
-        → L.count links.new ≤ L.count links.old + 4 * length ns) }
+    ensures checked { IfOk result (IsCycleAndS27Result (L.net links.old).links new.now
+        (L.count links.old) (L.count links.new)) }
 {
     if !relates(new.kind) {
         return Ok(None);
@@ -69,11 +66,8 @@ fn check_cycle_and_s27<L: Links>(
 ) -> Result<Option<Refusal>, AllocError>
     requires { AreSoundWith (L.net links.old).links new.now }
     ensures net { L.net links.new ≡ L.net links.old }
-    ensures first { IfOk result
-        (IsFirstOfCycleAndS27 (HeldAfter (WithLink new.now) (L.net links.old).links)) }
-    ensures count { OnOk result
-        ((ns : List Link) → CoversNear (WithLink new.now) (L.net links.old).links new.now.a ns
-        → L.count links.new ≤ L.count links.old + 4 * length ns) }
+    ensures checked { IfOk result (IsCycleAndS27Result (L.net links.old).links new.now
+        (L.count links.old) (L.count links.new)) }
 {
     let edit = LinkEdit::NoEdit;
     match direction(Relation::Broader, new.kind) {

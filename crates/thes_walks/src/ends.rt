@@ -2,16 +2,16 @@
 //! narrower nor related concepts, or their broader end neither broader nor related ones. Most links
 //! of a hierarchy that is built from its top or its bottom are such links. No function here makes a
 //! visit.
-ghost use Rattle.std.specs.Prelude.{◌≡◌, ◌≢◌, ℕ, true, MatchBool};
+ghost use Rattle.std.specs.Prelude.{◌≡◌, true, MatchBool};
 ghost use Rattle.thes_base.specs.Links.{Holds};
 ghost use Rattle.thes_links.specs.declared.relation.Relation.TheVariants as relation;
 ghost use Rattle.thes_links.specs.declared.edit.LinkEdit.TheVariants.{WithLink};
 ghost use Rattle.thes_links.specs.Reading.{HaveTwoEnds};
 ghost use Rattle.thes_links.specs.Side.{IsOneSided};
-ghost use Rattle.thes_links.specs.Steps.{Steps};
 ghost use Rattle.thes_links.specs.LinkEdit.{HeldAfter};
 ghost use Rattle.thes_links.specs.Local.{BreakNone};
-ghost use Rattle.thes_walks.specs.Ends.{LeadsUp, IsLoose};
+ghost use Rattle.thes_walks.specs.EditChecks.{AreJoinable};
+ghost use Rattle.thes_walks.specs.Ends.{IsEnd, LeadsUp, IsLoose};
 
 use thes_base::data::{Link, LinkKind};
 use thes_base::number::ResNo;
@@ -24,7 +24,7 @@ use thes_links::side::side_for;
 fn is_end<L: Links>(links: &L, n: ResNo, relation: Relation) -> bool
     requires { IsOneSided relation }
     ensures two_ends { HaveTwoEnds (Holds (L.net links.now).links) }
-    ensures end { result ≡ true → (y : ℕ) → Steps relation (Holds (L.net links.now).links) n y → ⊥ }
+    ensures end { result ≡ true → IsEnd relation (Holds (L.net links.now).links) n }
 {
     let part = links.part(n, side_for(relation));
     part.to <= part.from
@@ -35,8 +35,7 @@ fn is_end<L: Links>(links: &L, n: ResNo, relation: Relation) -> bool
 pub fn is_end_after<L: Links>(links: &L, edit: &LinkEdit, x: ResNo, relation: Relation) -> bool
     requires { IsOneSided relation }
     ensures two_ends { HaveTwoEnds (Holds (L.net links.now).links) }
-    ensures end { result ≡ true → (y : ℕ)
-        → Steps relation (HeldAfter edit.now (L.net links.now).links) x y → ⊥ }
+    ensures end { result ≡ true → IsEnd relation (HeldAfter edit.now (L.net links.now).links) x }
 {
     match edit {
         LinkEdit::NoEdit => is_end(links, x, relation),
@@ -58,20 +57,16 @@ pub fn is_end_after<L: Links>(links: &L, edit: &LinkEdit, x: ResNo, relation: Re
 
 // Returns true if no held link makes a concept narrower than the node or related to it.
 fn is_lowest<L: Links>(links: &L, n: ResNo) -> bool
-    ensures narrower { result ≡ true → (y : ℕ)
-        → Steps relation.Narrower (Holds (L.net links.now).links) n y → ⊥ }
-    ensures related { result ≡ true → (y : ℕ)
-        → Steps relation.Related (Holds (L.net links.now).links) n y → ⊥ }
+    ensures narrower { result ≡ true → IsEnd relation.Narrower (Holds (L.net links.now).links) n }
+    ensures related { result ≡ true → IsEnd relation.Related (Holds (L.net links.now).links) n }
 {
     is_end(links, n, Relation::Narrower) && is_end(links, n, Relation::Related)
 }
 
 // Returns true if no held link makes a concept broader than the node or related to it.
 fn is_highest<L: Links>(links: &L, n: ResNo) -> bool
-    ensures broader { result ≡ true → (y : ℕ)
-        → Steps relation.Broader (Holds (L.net links.now).links) n y → ⊥ }
-    ensures related { result ≡ true → (y : ℕ)
-        → Steps relation.Related (Holds (L.net links.now).links) n y → ⊥ }
+    ensures broader { result ≡ true → IsEnd relation.Broader (Holds (L.net links.now).links) n }
+    ensures related { result ≡ true → IsEnd relation.Related (Holds (L.net links.now).links) n }
 {
     is_end(links, n, Relation::Broader) && is_end(links, n, Relation::Related)
 }
@@ -104,8 +99,7 @@ fn is_loose(kind: LinkKind) -> bool
 // Returns true if a link to a broader concept breaks no rule because its narrower end is a lowest node, or its broader
 // end a highest one.
 fn is_outermost<L: Links>(links: &L, new: &Link) -> bool
-    requires ends { new.now.a ≢ new.now.b }
-    requires unbroken { BreakNone (Holds (L.net links.now).links) }
+    requires joins { AreJoinable (L.net links.now).links new.now.a new.now.b }
     requires up { LeadsUp new.now.kind }
     ensures { result ≡ true → BreakNone (HeldAfter (WithLink new.now) (L.net links.now).links) }
 {
@@ -118,8 +112,7 @@ fn is_outermost<L: Links>(links: &L, new: &Link) -> bool
 /// Returns true only if the link breaks no rule, because of its kind, or because its narrower end
 /// is a lowest node or its broader end a highest one; false decides nothing.
 pub fn is_harmless<L: Links>(links: &L, new: &Link) -> bool
-    requires ends { new.now.a ≢ new.now.b }
-    requires unbroken { BreakNone (Holds (L.net links.now).links) }
+    requires { AreJoinable (L.net links.now).links new.now.a new.now.b }
     ensures { result ≡ true → BreakNone (HeldAfter (WithLink new.now) (L.net links.now).links) }
 {
     if is_loose(new.kind) {

@@ -1,7 +1,7 @@
 //! Checks the links held, or the links after an edit, against the rules Cycle, S27 and S46. A check
 //! reads only links near the edit. Two searches, for broader and for narrower concepts, decide
 //! Cycle and S27; one along exact matches decides S46.
-ghost use Rattle.std.specs.Prelude.{◌≡◌, ◌≢◌, ◌+◌, ◌*◌, ◌≤◌, List, Contains, OnOk, IfOk, length};
+ghost use Rattle.std.specs.Prelude.{◌≡◌, ◌+◌, ◌*◌, ◌≤◌, List, Contains, OnOk, IfOk, length};
 ghost use Rattle.thes_base.specs.declared.data.Link.{Link};
 ghost use Rattle.thes_base.specs.Links.{Holds, normal_form, links_after_merge, IsFirstBroken};
 ghost use Rattle.thes_base.specs.Neighbourhood.{Add, Merge, Recheck};
@@ -10,7 +10,7 @@ ghost use Rattle.thes_links.specs.GraphView.{is_marked};
 ghost use Rattle.thes_links.specs.Reading.{HaveTwoEnds};
 ghost use Rattle.thes_links.specs.LinkEdit.{HeldAfter, IsValidEdit};
 ghost use Rattle.thes_links.specs.Local.{BreakNone, AreSoundWith, HeldAwayFrom, IsFirstBrokenAt, CoversNear};
-ghost use Rattle.thes_walks.specs.EditChecks.{checks_of_add, CoversEdit, AreFewVisits};
+ghost use Rattle.thes_walks.specs.EditChecks.{checks_of_add, AreJoinable, CoversEdit, AreFewVisits};
 
 use crate::addition::check_added_link;
 use crate::class::breaks_class;
@@ -93,8 +93,7 @@ pub fn judge_add<L: Links>(
     links: &mut L,
     link: &Link,
 ) -> Result<Option<Refusal>, AllocError>
-    requires ends { link.now.a ≢ link.now.b }
-    requires unbroken { BreakNone (Holds (L.net links.old).links) }
+    requires { AreJoinable (L.net links.old).links link.now.a link.now.b }
     ensures net { L.net links.new ≡ L.net links.old }
     ensures answer { IfOk result
         (checks_of_add (L.net links.old).links
@@ -142,8 +141,7 @@ pub fn judge_contract<L: Links>(
     source: ResNo,
     target: ResNo,
 ) -> Result<Option<Refusal>, AllocError>
-    requires ends { source ≢ target }
-    requires unbroken { BreakNone (Holds (L.net links.old).links) }
+    requires { AreJoinable (L.net links.old).links source target }
     ensures net { L.net links.new ≡ L.net links.old }
     ensures first { IfOk result (IsFirstBroken
         (Holds (links_after_merge (is_marked (L.net links.old)) source target

@@ -5,8 +5,8 @@ ghost use Rattle.thes_base.specs.declared.data.Link.{Link};
 ghost use Rattle.thes_base.specs.Links.{Holds, Chain};
 ghost use Rattle.thes_links.specs.declared.edit.LinkEdit.TheVariants.{NoEdit};
 ghost use Rattle.thes_links.specs.Steps.{Steps};
-ghost use Rattle.thes_walks.specs.SideSearch.{IsHierarchy, HasNextPart, CoversBetween};
-ghost use Rattle.thes_walks.specs.PairedSearch.{converse, CanAdvanceBoth, AreVisitsBounded, ArePairedSearches, HasFoundGoal, HasEndAbove, HasNoEndAbove};
+ghost use Rattle.thes_walks.specs.SideSearch.{IsHierarchy, CoversBetween};
+ghost use Rattle.thes_walks.specs.PairedSearch.{converse, HasNextNode, AdvancesUnlessAllowed, CanAdvanceBoth, AdvancesPair, AreVisitsBounded, ArePairedSearches, HasFoundGoal, HasEndAbove, HasNoEndAbove};
 
 use crate::side_search::SideSearch;
 use std::alloc::{AllocError, Global};
@@ -39,12 +39,11 @@ fn advance_first<L: Links>(
     size: usize,
     tos: &Nodes,
 ) -> Result<bool, AllocError>
-    requires walked { IsHierarchy relation }
-    requires first { first.old.next < length first.old.nodes }
+    requires { HasNextNode relation first.old }
     ensures net { L.net links.new ≡ L.net links.old }
-    ensures extends { OnOk result (first.old.next ≤ first.new.next) }
-    ensures next { OnOk result (allowance.new < size → first.new.next ≡ first.old.next + 1) }
-    ensures advances { IfOk result (λ found. (froms : List ℕ) (from to before : ℕ)
+    ensures advances { OnOk result
+        (AdvancesUnlessAllowed allowance.new size first.old first.new) }
+    ensures continues { IfOk result (λ found. (froms : List ℕ) (from to before : ℕ)
         (second : SideSearch)
         → ArePairedSearches (L.net links.old).links relation froms tos.now from to first.old second
         allowance.old before (L.count links.old)
@@ -80,11 +79,10 @@ fn advance_pair<L: Links>(
     requires { CanAdvanceBoth (L.net links.old).links (L.links_of (L.net links.old)) relation
         first.old second.old part.old }
     ensures net { L.net links.new ≡ L.net links.old }
-    ensures part { OnOk result (HasNextPart (L.net links.old).links (L.links_of (L.net links.old))
-        (converse relation) second.new part.new) }
-    ensures next { IfOk result (λ found. found ≡ false
-        → first.old.next + second.old.next < first.new.next + second.new.next) }
-    ensures advances { IfOk result (λ found. (from to before : ℕ)
+    ensures advances { IfOk result (AdvancesPair (L.net links.old).links
+        (L.links_of (L.net links.old)) relation first.old second.old first.new second.new
+        part.new) }
+    ensures continues { IfOk result (λ found. (from to before : ℕ)
         → ArePairedSearches (L.net links.old).links relation froms.now tos.now from to first.old
         second.old allowance.old before (L.count links.old)
         → MatchBool found (HasFoundGoal (L.net links.old).links relation froms.now tos.now from to
@@ -119,7 +117,7 @@ fn run_paired_search<L: Links>(
     ensures net { L.net links.new ≡ L.net links.old }
     ensures done { IfOk result (λ found. found ≡ false → first.new.next < length first.new.nodes
         → length second.new.nodes ≤ second.new.next) }
-    ensures advances { IfOk result (λ found. (from to before : ℕ)
+    ensures continues { IfOk result (λ found. (from to before : ℕ)
         → ArePairedSearches (L.net links.old).links relation froms.now tos.now from to first.old
         second.old 0 before (L.count links.old)
         → MatchBool found (HasFoundGoal (L.net links.old).links relation froms.now tos.now from to

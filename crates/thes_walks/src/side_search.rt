@@ -1,11 +1,11 @@
 //! A breadth-first search that reads the links on one side of each node, and can pause after each node.
-ghost use Rattle.std.specs.Prelude.{◌≡◌, ◌+◌, ◌-◌, ◌≤◌, ◌<◌, ◌^◌, ◌∷◌, [], ℕ, true, false, List, OnOk, IfOk, MatchBool, length, sum_by, slice_get, option_and_then};
+ghost use Rattle.std.specs.Prelude.{◌≡◌, ◌+◌, ◌-◌, ◌≤◌, ◌<◌, ◌^◌, ◌∷◌, [], true, false, List, OnOk, IfOk, MatchBool, length, sum_by, slice_get, option_and_then};
 ghost use Rattle.thes_base.specs.declared.data.Link.{Link};
 ghost use Rattle.thes_links.specs.declared.edit.LinkEdit.TheVariants.{NoEdit, AfterMerge};
 ghost use Rattle.thes_links.specs.Side.{side_in};
 ghost use Rattle.thes_links.specs.Steps.{Steps};
 ghost use Rattle.thes_links.specs.LinkEdit.{HeldAfter, CoversAt};
-ghost use Rattle.thes_walks.specs.SideSearch.{link_after, step_after_edit, LeadsWithin, LeadsFrom, IsSearchResult, CoversSide, one_on_side, link_visits, IsHierarchySearch, IsPartAt, HasNextPart, CanFollow, CanAdvance, IsSideSearch, IsAdvanceResult};
+ghost use Rattle.thes_walks.specs.SideSearch.{link_after, step_after_edit, LeadsWithin, LeadsFrom, IsSearchResult, CoversSide, one_on_side, link_visits, IsHierarchySearch, IsPartAt, HasNextPart, CanFollow, CanAdvance, ContinuesSearch, AdvancesByNode};
 
 use std::alloc::{AllocError, Global};
 use thes_base::data::Link;
@@ -240,11 +240,8 @@ impl SideSearch {
         requires { CanAdvance edit.now (L.net links.old).links (L.links_of (L.net links.old))
             relation self.old part }
         ensures net { L.net links.new ≡ L.net links.old }
-        ensures next { OnOk result (self.new.next ≡ self.old.next + 1) }
-        ensures advances { IfOk result (λ found. (start read : ℕ)
-            → IsSideSearch edit.now (L.net links.old).links relation goals.now start self.old read
-            → IsAdvanceResult edit.now (L.net links.old).links relation goals.now start self.new
-            (read + (L.count links.new - L.count links.old)) found) }
+        ensures advances { IfOk result (AdvancesByNode edit.now (L.net links.old).links relation
+            goals.now self.old self.new (L.count links.new - L.count links.old)) }
     {
         let x = self.nodes.as_slice()[self.next];
         let found = follow_after_edit(links, &mut self.nodes, edit, relation, x, part, goals)?;
@@ -276,12 +273,9 @@ impl SideSearch {
         requires { CanAdvance NoEdit (L.net links.old).links (L.links_of (L.net links.old)) relation
             self.old part }
         ensures net { L.net links.new ≡ L.net links.old }
-        ensures next { OnOk result (self.new.next ≡ self.old.next + 1) }
         ensures count { L.count links.new ≤ L.count links.old + (part.to - part.from) }
-        ensures advances { IfOk result (λ found. (start read : ℕ)
-            → IsSideSearch NoEdit (L.net links.old).links relation goals.now start self.old read
-            → IsAdvanceResult NoEdit (L.net links.old).links relation goals.now start self.new
-            (read + (part.to - part.from)) found) }
+        ensures advances { IfOk result (AdvancesByNode NoEdit (L.net links.old).links relation
+            goals.now self.old self.new (part.to - part.from)) }
     {
         let x = self.nodes.as_slice()[self.next];
         let edit = LinkEdit::NoEdit;
@@ -303,10 +297,8 @@ impl SideSearch {
         ensures net { L.net links.new ≡ L.net links.old }
         ensures done { IfOk result
             (λ found. found ≡ false → length self.new.nodes ≤ self.new.next) }
-        ensures advances { IfOk result (λ found. (start read : ℕ)
-            → IsSideSearch edit.now (L.net links.old).links relation goals.now start self.old read
-            → IsAdvanceResult edit.now (L.net links.old).links relation goals.now start self.new
-            (read + (L.count links.new - L.count links.old)) found) }
+        ensures continues { IfOk result (ContinuesSearch edit.now (L.net links.old).links relation
+            goals.now self.old self.new (L.count links.new - L.count links.old)) }
     {
         'reading: while !self.is_done() {
             let part = self.next_part(links, relation);

@@ -3,11 +3,12 @@
 //! link may lead from one of these nodes.
 ghost use Rattle.std.specs.Prelude.{◌≡◌, ◌+◌, ◌-◌, ◌*◌, ◌≤◌, ◌<◌, ℕ, true, false, List, Contains, OnOk, IfOk, MatchBool, length};
 ghost use Rattle.thes_base.specs.declared.data.Link.{Link};
-ghost use Rattle.thes_links.specs.declared.relation.Relation.TheVariants.{Broader, Narrower, Related};
+ghost use Rattle.thes_links.specs.declared.relation.Relation.TheVariants.{Related};
 ghost use Rattle.thes_links.specs.declared.side.Side.TheVariants.{Sideways};
 ghost use Rattle.thes_links.specs.Steps.{Steps, Reaches};
 ghost use Rattle.thes_links.specs.LinkEdit.{HeldAfter, IsValidEdit, CoversAt};
-ghost use Rattle.thes_walks.specs.SideSearch.{read_cost, CanAdvance, HaveNextParts, IsHierarchySearch, IsSideSearch, AreAlternating, HasEitherFoundGoal, AreTied, IsSecondResult, IsBrokenBetween, CoversBetween};
+ghost use Rattle.thes_walks.specs.Ends.{IsEnd};
+ghost use Rattle.thes_walks.specs.SideSearch.{read_cost, IsHierarchySearch, IsSideSearch, CanAdvanceInTurn, AdvancesInTurn, ContinuesInTurn, AreTied, IsSecondResult, IsBrokenBetween, CoversBetween};
 
 use crate::ends::is_end_after;
 use crate::side_search::{SideSearch, follow_after_edit, part_along};
@@ -34,22 +35,13 @@ fn advance_in_turn<L: Links>(
     lows: &Nodes,
     highs: &Nodes,
 ) -> Result<bool, AllocError>
-    requires up { CanAdvance edit.now (L.net links.old).links (L.links_of (L.net links.old)) Broader
-        up.old up_part.old }
-    requires down { CanAdvance edit.now (L.net links.old).links (L.links_of (L.net links.old))
-        Narrower down.old down_part.old }
+    requires { CanAdvanceInTurn edit.now (L.net links.old).links (L.links_of (L.net links.old))
+        up.old up_part.old down.old down_part.old }
     ensures net { L.net links.new ≡ L.net links.old }
-    ensures parts { OnOk result (HaveNextParts (L.net links.old).links
-        (L.links_of (L.net links.old)) up.new up_part.new down.new down_part.new) }
-    ensures next { OnOk result (up.new.next + down.new.next ≡ up.old.next + down.old.next + 1) }
-    ensures advances { IfOk result (λ found. (low high from : ℕ)
-        → AreAlternating edit.now (L.net links.old).links lows.now highs.now low high up.old
-        down.old from (L.count links.old)
-        → MatchBool found
-        (HasEitherFoundGoal edit.now (L.net links.old).links lows.now highs.now low high from
-        (L.count links.new))
-        (AreAlternating edit.now (L.net links.old).links lows.now highs.now low high up.new
-        down.new from (L.count links.new))) }
+    ensures advances { OnOk result (AdvancesInTurn (L.net links.old).links
+        (L.links_of (L.net links.old)) up.old down.old up.new up_part.new down.new down_part.new) }
+    ensures continues { IfOk result (ContinuesInTurn edit.now (L.net links.old).links lows.now
+        highs.now up.old down.old up.new down.new (L.count links.old) (L.count links.new)) }
 {
     let up_read = up.nodes.as_slice().len().saturating_add(up_part.size());
     let down_read = down.nodes.as_slice().len().saturating_add(down_part.size());
@@ -77,14 +69,8 @@ fn search_in_turns<L: Links>(
     ensures net { L.net links.new ≡ L.net links.old }
     ensures done { IfOk result (λ found. found ≡ false → up.new.next < length up.new.nodes
         → length down.new.nodes ≤ down.new.next) }
-    ensures advances { IfOk result (λ found. (low high from : ℕ)
-        → AreAlternating edit.now (L.net links.old).links lows.now highs.now low high up.old
-        down.old from (L.count links.old)
-        → MatchBool found
-        (HasEitherFoundGoal edit.now (L.net links.old).links lows.now highs.now low high from
-        (L.count links.new))
-        (AreAlternating edit.now (L.net links.old).links lows.now highs.now low high up.new
-        down.new from (L.count links.new))) }
+    ensures continues { IfOk result (ContinuesInTurn edit.now (L.net links.old).links lows.now
+        highs.now up.old down.old up.new down.new (L.count links.old) (L.count links.new)) }
 {
     let mut up_part = up.next_part(links, Relation::Broader);
     let mut down_part = down.next_part(links, Relation::Narrower);
@@ -108,8 +94,8 @@ fn search_in_turns<L: Links>(
 // Returns true only if no related link leads from any of the nodes after the edit. Reads no link,
 // so a false result decides nothing.
 fn have_none<L: Links>(links: &L, edit: &LinkEdit, xs: &Nodes) -> bool
-    ensures { result ≡ true → (x y : ℕ) → Contains xs.now x
-        → Steps Related (HeldAfter edit.now (L.net links.now).links) x y → ⊥ }
+    ensures { result ≡ true → (x : ℕ) → Contains xs.now x
+        → IsEnd Related (HeldAfter edit.now (L.net links.now).links) x }
 {
     for x in xs.as_slice() {
         if !is_end_after(links, edit, *x, Relation::Related) {

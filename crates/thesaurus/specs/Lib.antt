@@ -22,6 +22,7 @@ pub use Rattle.thes_base.specs.State
 pub use Rattle.thes_base.specs.Texts
 pub use Rattle.thes_base.specs.Views
 pub use Rattle.thes_core.specs.CoreDecisions
+pub use Rattle.thes_core.specs.CoreSizes
 pub use Rattle.thes_core.specs.CoreView
 pub use Rattle.thes_core.specs.Facts
 pub use Rattle.thes_core.specs.LabelLists

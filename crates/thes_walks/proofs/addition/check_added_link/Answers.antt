@@ -15,7 +15,7 @@ cost : (g : Over) (c : In_ok-breaks_s46 g) (ns : List Link) → CoversNear (With
     → g.L.Links.count c.breaks_s46.new.links ≤ g.L.Links.count c.args.links.now + 6 * length ns
 cost g c ns covers =
     let one : g.L.Links.count c.check_cycle_and_s27.new.links ≤ g.L.Links.count c.args.links.now + 4 * length ns =
-    c.in_ok-refusal.ensures.count ns covers in
+    c.in_ok-refusal.ensures.checked.count ns covers in
     let two : g.L.Links.count c.breaks_s46.new.links ≤ g.L.Links.count c.check_cycle_and_s27.new.links + 2
     * length ns = c.in_ok-breaks_s46.ensures.count ns (rw c.in_ok-refusal.ensures.net covers) in
     omega (arith, one, two)
@@ -23,12 +23,12 @@ cost g c ns covers =
 pub returns-in-Some-clause-first : goal.returns-in-Some-clause-first
 returns-in-Some-clause-first g c =
     IsFirstBroken-two (HeldAfter (WithLink c.args.new.now) (g.L.Links.net c.args.links.now).links) c.in-Some.refusal
-    (rw c.in-Some.is at c.in_ok-refusal.ensures.first)
+    (rw c.in-Some.is at c.in_ok-refusal.ensures.checked.first)
 
 pub returns-then-branch-clause-first : goal.returns-then-branch-clause-first
 returns-then-branch-clause-first g c =
     let two : IsFirstOfCycleAndS27 (HeldAfter (WithLink c.args.new.now) (g.L.Links.net c.args.links.now).links) None =
-    rw c.in-None.is at c.in_ok-refusal.ensures.first in
+    rw c.in-None.is at c.in_ok-refusal.ensures.checked.first in
     let found : BreaksS46 (HeldAfter (WithLink c.args.new.now) (g.L.Links.net c.args.links.now).links) =
     rw (c.if-branch.true, c.in_ok-refusal.ensures.net) at c.in_ok-breaks_s46.ensures.s46 in
     (two.0, two.1, found)
@@ -39,7 +39,7 @@ returns-then-branch-clause-count g c = cost g (goal.at.returns-then-branch-claus
 pub returns-clause-first : goal.returns-clause-first
 returns-clause-first g c =
     let two : IsFirstOfCycleAndS27 (HeldAfter (WithLink c.args.new.now) (g.L.Links.net c.args.links.now).links) None =
-    rw c.in-None.is at c.in_ok-refusal.ensures.first in
+    rw c.in-None.is at c.in_ok-refusal.ensures.checked.first in
     let off : S46 (HeldAfter (WithLink c.args.new.now) (g.L.Links.net c.args.links.now).links) =
     rw (c.if-branch.false, c.in_ok-refusal.ensures.net) at c.in_ok-breaks_s46.ensures.s46 in
     (two.0, two.1, off)

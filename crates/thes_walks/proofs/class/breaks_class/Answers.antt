@@ -14,7 +14,7 @@ pub returns-then-is_end_after-clause-found : goal.returns-then-is_end_after-clau
 returns-then-is_end_after-clause-found g c =
     class_alone (HeldAfter c.args.edit.now (g.L.Links.net c.args.links.now).links) c.args.pivot
     (would_two (g.L.Links.net c.args.links.now).links c.args.edit.now c.requires c.if-is_end_after.ensures.two_ends)
-    (c.if-is_end_after.ensures.end refl)
+    (c.if-is_end_after.ensures.end refl).none
 
 pub returns-clause-count : goal.returns-clause-count
 returns-clause-count g c ns covers =

@@ -27,9 +27,11 @@ returns-clause-count g c ns has_new all =
     c.in_ok-answer.ensures.count rest.0 (rw c.if-holds.ensures.net covers) in
     omega (arith, c.if-holds.ensures.count, rest.1)
 
-pub is_harmless-requires-clause-unbroken : goal.is_harmless-requires-clause-unbroken
-is_harmless-requires-clause-unbroken g c = subst (λ (net : GraphView). BreakNone (Holds net.links))
-    (sym c.if-holds.ensures.net) c.requires.unbroken
+pub is_harmless-requires : goal.is_harmless-requires
+is_harmless-requires g c = record {
+  ends = c.requires.ends;
+  unbroken = subst (λ (net : GraphView). BreakNone (Holds net.links)) (sym c.if-holds.ensures.net) c.requires.unbroken;
+}
 
 pub returns-then-is_harmless-clause-answer : goal.returns-then-is_harmless-clause-answer
 returns-then-is_harmless-clause-answer g c =

@@ -13,7 +13,7 @@ led : (g : Over) (c : In_ok-found g) → MatchBool c.in_ok-found.found
     (c.args.to ∷ []) c.args.from c.args.to c.run_paired_search.new.first c.run_paired_search.new.second allowance
     (g.L.Links.count c.args.links.now) (g.L.Links.count c.run_paired_search.new.links))
 led g c =
-    (rw (c.in_ok-froms.ensures, c.in_ok-tos.ensures) at c.in_ok-found.ensures.advances) c.args.from c.args.to
+    (rw (c.in_ok-froms.ensures, c.in_ok-tos.ensures) at c.in_ok-found.ensures.continues) c.args.from c.args.to
     (g.L.Links.count c.args.links.now)
     (ArePairedSearches-start (g.L.Links.net c.args.links.now).links c.args.relation c.requires (c.args.from ∷ [])
     (c.args.to ∷ []) c.args.from c.args.to (g.L.Links.count c.args.links.now)

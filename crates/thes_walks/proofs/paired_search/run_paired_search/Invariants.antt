@@ -8,7 +8,7 @@ invariant-steps g l = record {
   net : g.L.Links.net l.links ≡ g.L.Links.net l.fn.links;
   part : HasNextPart (g.L.Links.net l.fn.links).links (g.L.Links.links_of (g.L.Links.net l.fn.links))
       (converse l.relation) l.second l.part;
-  advances : (from to before : ℕ)
+  continues : (from to before : ℕ)
       → ArePairedSearches (g.L.Links.net l.fn.links).links l.relation l.froms l.tos from to l.fn.first l.fn.second 0
       before (g.L.Links.count l.fn.links)
       → ArePairedSearches (g.L.Links.net l.fn.links).links l.relation l.froms l.tos from to l.first l.second l.allowance

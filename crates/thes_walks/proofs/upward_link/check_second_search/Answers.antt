@@ -15,14 +15,14 @@ led : (g : Over) (c : Then-branch g) (start read : ℕ) → IsSideSearch c.args.
     → LeadsTo c.args.edit.now (g.L.Links.net c.args.links.now).links c.args.relation c.args.goals.now start
     × IsReadBounded c.args.edit.now (g.L.Links.net c.args.links.now).links c.args.relation start
     (read + (g.L.Links.count c.finish.new.links - g.L.Links.count c.args.links.now))
-led g c = rw c.if-branch.true at c.in_ok-finish.ensures.advances
+led g c = rw c.if-branch.true at c.in_ok-finish.ensures.continues
 
 -- If the search found no goal, IsSideSearch describes its state.
 on : (g : Over) (c : Else-branch g) (start read : ℕ) → IsSideSearch c.args.edit.now
     (g.L.Links.net c.args.links.now).links c.args.relation c.args.goals.now start c.args.other.now read
     → IsSideSearch c.args.edit.now (g.L.Links.net c.args.links.now).links c.args.relation c.args.goals.now start
     c.finish.new.self (read + (g.L.Links.count c.finish.new.links - g.L.Links.count c.args.links.now))
-on g c = rw c.if-branch.false at c.in_ok-finish.ensures.advances
+on g c = rw c.if-branch.false at c.in_ok-finish.ensures.continues
 
 -- The search and the reading of related links together make a bounded number of visits.
 cost : (g : Over) (c : In_ok-are_tied g) (start read : ℕ) (ns : List Link) → IsSideSearch c.args.edit.now
@@ -36,7 +36,7 @@ cost g c start read ns is covers there =
     let side_search : IsSideSearch c.args.edit.now (g.L.Links.net c.args.links.now).links c.args.relation
     c.args.goals.now
     start c.finish.new.self (read + (g.L.Links.count c.finish.new.links - g.L.Links.count c.args.links.now)) =
-    rw c.if-branch.false at c.in_ok-finish.ensures.advances start read is in
+    rw c.if-branch.false at c.in_ok-finish.ensures.continues start read is in
     let more : g.L.Links.count c.are_tied.new.links ≤ g.L.Links.count c.finish.new.links + read_cost c.args.edit.now
     Sideways c.args.ended.now ns = c.in_ok-are_tied.ensures.count ns (rw c.in_ok-finish.ensures.net there) in
     omega (
@@ -47,7 +47,8 @@ cost g c start read ns is covers there =
     )
 
 pub returns-then-have_none-clause-rest : goal.returns-then-have_none-clause-rest
-returns-then-have_none-clause-rest g c start read is x y has reach related = c.if-have_none.ensures refl x y has related
+returns-then-have_none-clause-rest g c start read is x y has reach related =
+    (c.if-have_none.ensures refl x has).none y related
 
 pub returns-then-have_none-clause-count : goal.returns-then-have_none-clause-count
 returns-then-have_none-clause-count g c start read ns is covers _ =

@@ -13,7 +13,7 @@ met : (g : Over) (c : Then-branch g) → HasEitherFoundGoal c.args.edit.now (g.L
     (c.args.high ∷ []) c.args.low c.args.high (g.L.Links.count c.args.links.now)
     (g.L.Links.count c.search_in_turns.new.links)
 met g c =
-    (rw (c.if-branch.true, c.in_ok-lows.ensures, c.in_ok-highs.ensures) at c.in_ok-search_in_turns.ensures.advances)
+    (rw (c.if-branch.true, c.in_ok-lows.ensures, c.in_ok-highs.ensures) at c.in_ok-search_in_turns.ensures.continues)
     c.args.low c.args.high (g.L.Links.count c.args.links.now)
     (AreAlternating-start c.args.edit.now (g.L.Links.net c.args.links.now).links (c.args.low ∷ []) (c.args.high ∷ [])
     c.args.low c.args.high (g.L.Links.count c.args.links.now) c.in_ok-up.up c.in_ok-down.down
@@ -25,7 +25,7 @@ in_turn : (g : Over) (c : Else-branch g) → AreAlternating c.args.edit.now (g.L
     (c.args.low ∷ []) (c.args.high ∷ []) c.args.low c.args.high c.search_in_turns.new.up c.search_in_turns.new.down
     (g.L.Links.count c.args.links.now) (g.L.Links.count c.search_in_turns.new.links)
 in_turn g c =
-    (rw (c.if-branch.false, c.in_ok-lows.ensures, c.in_ok-highs.ensures) at c.in_ok-search_in_turns.ensures.advances)
+    (rw (c.if-branch.false, c.in_ok-lows.ensures, c.in_ok-highs.ensures) at c.in_ok-search_in_turns.ensures.continues)
     c.args.low c.args.high (g.L.Links.count c.args.links.now)
     (AreAlternating-start c.args.edit.now (g.L.Links.net c.args.links.now).links (c.args.low ∷ []) (c.args.high ∷ [])
     c.args.low c.args.high (g.L.Links.count c.args.links.now) c.in_ok-up.up c.in_ok-down.down

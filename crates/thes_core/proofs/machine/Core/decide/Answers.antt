@@ -9,14 +9,14 @@ check_request-requires c = c.self.invariant (ap (λ (k : CoreView). k.spent) c.s
 pub accepted-requires : goal.accepted-requires
 accepted-requires c = grind (arith)
 
-pub returns-in-Some-clause-ok : goal.returns-in-Some-clause-ok
-returns-in-Some-clause-ok c = λ s holds told. inl (c.in-Some.ensures.some s told, refl)
+pub returns-in-Some-clause-decides : goal.returns-in-Some-clause-decides
+returns-in-Some-clause-decides c = λ s holds told. inl (c.in-Some.ensures.some s told, refl)
 
-pub returns-in-Some-2-clause-ok : goal.returns-in-Some-2-clause-ok
-returns-in-Some-2-clause-ok c = grind (arith, held_kept, held_sums, in_view)
+pub returns-in-Some-2-clause-decides : goal.returns-in-Some-2-clause-decides
+returns-in-Some-2-clause-decides c = grind (arith, held_kept, held_sums, in_view)
 
-pub returns-in_ok-accepted-in-None-clause-ok : goal.returns-in_ok-accepted-in-None-clause-ok
-returns-in_ok-accepted-in-None-clause-ok c = grind (arith, held_kept, held_meant, held_sums, in_view)
+pub returns-in_ok-accepted-in-None-clause-decides : goal.returns-in_ok-accepted-in-None-clause-decides
+returns-in_ok-accepted-in-None-clause-decides c = grind (arith, held_kept, held_meant, held_sums, in_view)
 
 pub returns-in_ok-accepted-in-None-clause-may : goal.returns-in_ok-accepted-in-None-clause-may
 returns-in_ok-accepted-in-None-clause-may c = grind (arith, held_unspent)

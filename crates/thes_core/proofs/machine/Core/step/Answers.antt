@@ -13,7 +13,7 @@ pub returns-in-Settled-clause-performs : goal.returns-in-Settled-clause-performs
 returns-in-Settled-clause-performs c = λ s holds told. (
   s,
   subst (IsVerdict c.args.self.now.setting s c.args.command.now) c.in-Settled.is
-      (c.in_ok-answer.ensures.ok s holds told),
+      (c.in_ok-answer.ensures.decides s holds told),
   holds,
   c.requires,
   refl,
@@ -27,13 +27,13 @@ returns-in_ok-apply-in-Accepted-clause-performs c = λ s holds told.
     let setting = c.args.self.now.setting in
     let command = c.args.command.now in
     let verdict : AcceptedVerdict setting s command c.in-Accepted.answer c.in-Accepted._delta =
-    subst (IsVerdict setting s command) c.in-Accepted.is (c.in_ok-answer.ensures.ok s holds told) in (
+    subst (IsVerdict setting s command) c.in-Accepted.is (c.in_ok-answer.ensures.decides s holds told) in (
       next_state command s,
       subst (λ (a : Answer). Step setting s command a (next_state command s)) (sym verdict.answer_is)
           (step_of_accepted setting s command verdict.accepts),
       c.in_ok-apply-in-Accepted.ensures.made s holds told verdict.accepts,
-      c.in_ok-apply-in-Accepted.ensures.ok.0,
-      c.in_ok-apply-in-Accepted.ensures.ok.1,
+      c.in_ok-apply-in-Accepted.ensures.frame.0,
+      c.in_ok-apply-in-Accepted.ensures.frame.1,
     )
 
 pub returns-in_ok-apply-in-Accepted-clause-in_order : goal.returns-in_ok-apply-in-Accepted-clause-in_order

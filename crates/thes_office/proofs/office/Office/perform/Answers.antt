@@ -11,7 +11,7 @@ returns-in-Settled-clause-performed g c =
     performed_when_settled g.K.Keeper.view c.self.inside.keeper c.self.inside.core
     c.self.inside.limits c.self.inside.stale c.gather_facts.new.self c.self.invariant c.self.view_is
     c.in_ok-facts.ensures.frame.fresh c.args.command.now c.in_ok-facts.facts c.in_ok-facts.ensures.in_tables _
-    c.in_ok-answer.ensures.ok
+    c.in_ok-answer.ensures.decides
     c.args.self.now c.in-Settled.answer c.in_ok-facts.ensures.frame.fault_behaviour.limits c.in_ok-facts.ensures.frame.same
     c.in-Settled.is
 
@@ -20,7 +20,7 @@ commit-requires g c = record {
   fits = accepted_fits g.K.Keeper.view c.self.inside.keeper c.self.inside.core
       c.self.inside.limits c.self.inside.stale c.gather_facts.new.self c.self.invariant c.self.view_is
       c.in_ok-facts.ensures.frame.fresh c.args.command.now c.in_ok-facts.facts c.in_ok-facts.ensures.in_tables _
-      c.in_ok-answer.ensures.ok
+      c.in_ok-answer.ensures.decides
       c.in-Accepted.answer c.in-Accepted.delta c.in-Accepted.is;
 }
 
@@ -42,17 +42,17 @@ invariant_of-self-in-Accepted g c =
     consistent_when_accepted g.K.Keeper.view c.self.inside.keeper c.self.inside.core
     c.self.inside.limits c.self.inside.stale c.gather_facts.new.self c.self.invariant c.self.view_is
     c.in_ok-facts.ensures.frame.fresh c.args.command.now c.in_ok-facts.facts c.in_ok-facts.ensures.in_tables _
-    c.in_ok-answer.ensures.ok
+    c.in_ok-answer.ensures.decides
     c.in-Accepted.answer c.in-Accepted.delta c.in-Accepted.is c.commit.new.self c.learn_forms.ensures
     c.commit.ensures.keeps.was c.in_default.ensures.ok c.apply.new.self c.apply.result c.is_spent-self-inside.result
-    c.is_spent-self-inside.ensures.value c.apply.ensures.made c.apply.ensures.ok c.apply.ensures.err
+    c.is_spent-self-inside.ensures.value c.apply.ensures.made c.apply.ensures.frame
 
 pub returns-clause-performed : goal.returns-clause-performed
 returns-clause-performed g c =
     performed_when_accepted g.K.Keeper.view c.self.inside.keeper c.self.inside.core
     c.self.inside.limits c.self.inside.stale c.gather_facts.new.self c.self.invariant c.self.view_is
     c.in_ok-facts.ensures.frame.fresh c.args.command.now c.in_ok-facts.facts c.in_ok-facts.ensures.in_tables _
-    c.in_ok-answer.ensures.ok
+    c.in_ok-answer.ensures.decides
     c.in-Accepted.answer c.in-Accepted.delta c.in-Accepted.is c.commit.new.self c.learn_forms.ensures
     c.commit.ensures.keeps.was c.in_default.ensures.ok c.args.self.now c.is_spent-self-inside.result
     c.in_ok-facts.ensures.frame.fault_behaviour.limits c.in_ok-facts.ensures.frame.same

@@ -12,7 +12,7 @@ use Rattle.thes_walks.proofs.SideSearchLemmas.{Steps-sound, Steps-held}
 use Rattle.thes_walks.proofs.side_search.SideSearch.advance_at.Goals as goal
 
 pub returns-clause-advances : goal.returns-clause-advances
-returns-clause-advances g c start read is =
+returns-clause-advances g c =
     let x : ℕ = c.index-as_slice-self.result in
     let row : List Link = g.L.Links.links_of (g.L.Links.net c.args.links.now) x in
     let at : x ≡ get_or c.args.self.now.nodes c.args.self.now.next 0 =
@@ -22,22 +22,26 @@ returns-clause-advances g c start read is =
     let ready : IsPartAt (g.L.Links.net c.args.links.now).links row x (side_in c.args.relation) c.args.part =
     subst (λ (n : ℕ). IsPartAt (g.L.Links.net c.args.links.now).links (rows n) n (side_in c.args.relation) c.args.part)
     (sym at) (c.requires.ready c.requires.more) in
-    IsAdvanceResult-more NoEdit (g.L.Links.net c.args.links.now).links c.args.relation c.args.goals.now start
-    c.requires.hierarchy
-    c.args.self.now (record { nodes = c.follow_part.new.nodes; next = c.args.self.now.next + 1 }) x
-    (c.args.part.to - c.args.part.from) read (read + (c.args.part.to - c.args.part.from)) c.requires.more
-    at refl (omega arith)
-    (λ ns covers. part_cost (g.L.Links.net c.args.links.now).links x (side_in c.args.relation) row c.args.part ready.is_row
-    ready.on_side ns (λ l has ends _. covers l has ends))
-    is c.in_ok-found.found
-    (IsSearchResult-same c.args.self.now.nodes c.follow_part.new.nodes c.args.goals.now
-    (LeadsWithin NoEdit c.args.relation x row c.args.part.from c.args.part.to)
-    (Steps c.args.relation (HeldAfter NoEdit (g.L.Links.net c.args.links.now).links) x)
-    (λ y within. Steps-sound (g.L.Links.net c.args.links.now).links c.args.relation NoEdit x x y
-    (LeadsFrom-read NoEdit c.args.relation x row (g.L.Links.net c.args.links.now).links x c.args.part ready.is_row ready.on_side
-    c.args.part.to y (omega arith) within))
-    (λ y steps. LeadsFrom-there NoEdit c.args.relation x row (g.L.Links.net c.args.links.now).links x c.args.part ready.is_row
-    ready.on_side c.args.part.to y (omega arith)
-    (Steps-held (g.L.Links.net c.args.links.now).links c.args.relation
-    (hierarchy_is_one_sided c.args.relation c.requires.hierarchy) ready.two_ends x y steps))
-    c.in_ok-found.found c.in_ok-found.ensures.finds)
+    record {
+      next = refl;
+      continues = λ start read is.
+          IsAdvanceResult-more NoEdit (g.L.Links.net c.args.links.now).links c.args.relation c.args.goals.now start
+          c.requires.hierarchy
+          c.args.self.now (record { nodes = c.follow_part.new.nodes; next = c.args.self.now.next + 1 }) x
+          (c.args.part.to - c.args.part.from) read (read + (c.args.part.to - c.args.part.from)) c.requires.more
+          at refl (omega arith)
+          (λ ns covers. part_cost (g.L.Links.net c.args.links.now).links x (side_in c.args.relation) row c.args.part ready.is_row
+          ready.on_side ns (λ l has ends _. covers l has ends))
+          is c.in_ok-found.found
+          (IsSearchResult-same c.args.self.now.nodes c.follow_part.new.nodes c.args.goals.now
+          (LeadsWithin NoEdit c.args.relation x row c.args.part.from c.args.part.to)
+          (Steps c.args.relation (HeldAfter NoEdit (g.L.Links.net c.args.links.now).links) x)
+          (λ y within. Steps-sound (g.L.Links.net c.args.links.now).links c.args.relation NoEdit x x y
+          (LeadsFrom-read NoEdit c.args.relation x row (g.L.Links.net c.args.links.now).links x c.args.part ready.is_row ready.on_side
+          c.args.part.to y (omega arith) within))
+          (λ y steps. LeadsFrom-there NoEdit c.args.relation x row (g.L.Links.net c.args.links.now).links x c.args.part ready.is_row
+          ready.on_side c.args.part.to y (omega arith)
+          (Steps-held (g.L.Links.net c.args.links.now).links c.args.relation
+          (hierarchy_is_one_sided c.args.relation c.requires.hierarchy) ready.two_ends x y steps))
+          c.in_ok-found.found c.in_ok-found.ensures.finds);
+    }

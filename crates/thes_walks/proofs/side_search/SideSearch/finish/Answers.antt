@@ -6,26 +6,26 @@ use Rattle.thes_walks.proofs.side_search.SideSearch.finish.Goals as goal
 pub reading-preserved : goal.reading-preserved
 reading-preserved g c = record {
   net = c.in_ok-advance.ensures.net ∙ c.reading.invariant.net;
-  advances = λ start read is.
+  continues = λ start read is.
       let on : IsSideSearch c.args.edit.now (g.L.Links.net c.args.links.now).links c.args.relation c.args.goals.now
       start c.advance.new.self (read + (g.L.Links.count c.reading.links - g.L.Links.count c.args.links.now)
       + (g.L.Links.count c.advance.new.links - g.L.Links.count c.reading.links)) =
-      (rw (c.if-branch.false, c.reading.invariant.net) at c.in_ok-advance.ensures.advances) start
+      (rw (c.if-branch.false, c.reading.invariant.net) at c.in_ok-advance.ensures.advances.continues) start
       (read + (g.L.Links.count c.reading.links - g.L.Links.count c.args.links.now))
-      (c.reading.invariant.advances start read is) in
+      (c.reading.invariant.continues start read is) in
       IsSideSearch-less c.args.edit.now (g.L.Links.net c.args.links.now).links c.args.relation c.args.goals.now start
       c.advance.new.self (read + (g.L.Links.count c.advance.new.links - g.L.Links.count c.args.links.now)) _
       (omega arith) on;
 }
 
-pub returns-then-branch-clause-advances : goal.returns-then-branch-clause-advances
-returns-then-branch-clause-advances g c start read is =
+pub returns-then-branch-clause-continues : goal.returns-then-branch-clause-continues
+returns-then-branch-clause-continues g c start read is =
     let on : IsAdvanceResult c.args.edit.now (g.L.Links.net c.args.links.now).links c.args.relation c.args.goals.now
     start c.advance.new.self (read + (g.L.Links.count c.reading.links - g.L.Links.count c.args.links.now)
     + (g.L.Links.count c.advance.new.links - g.L.Links.count c.reading.links)) true =
-    (rw (c.if-branch.true, c.reading.invariant.net) at c.in_ok-advance.ensures.advances) start
+    (rw (c.if-branch.true, c.reading.invariant.net) at c.in_ok-advance.ensures.advances.continues) start
     (read + (g.L.Links.count c.reading.links - g.L.Links.count c.args.links.now))
-    (c.reading.invariant.advances start read is) in
+    (c.reading.invariant.continues start read is) in
     IsAdvanceResult-less c.args.edit.now (g.L.Links.net c.args.links.now).links c.args.relation c.args.goals.now start
     c.advance.new.self (read + (g.L.Links.count c.advance.new.links - g.L.Links.count c.args.links.now)) _
     (omega arith) true on

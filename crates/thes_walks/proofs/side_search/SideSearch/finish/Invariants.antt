@@ -5,7 +5,7 @@ use Rattle.thes_walks.proofs.side_search.SideSearch.finish.Given as goal
 abbrev pub invariant-reading : goal.invariant-reading
 invariant-reading g l = record {
   net : g.L.Links.net l.links ≡ g.L.Links.net l.fn.links;
-  advances : (start read : ℕ) → IsSideSearch l.edit (g.L.Links.net l.fn.links).links l.relation l.goals start l.fn.self
+  continues : (start read : ℕ) → IsSideSearch l.edit (g.L.Links.net l.fn.links).links l.relation l.goals start l.fn.self
       read → IsSideSearch l.edit (g.L.Links.net l.fn.links).links l.relation l.goals start l.self
       (read + (g.L.Links.count l.links - g.L.Links.count l.fn.links));
 }
