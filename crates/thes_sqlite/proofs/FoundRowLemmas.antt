@@ -1,7 +1,7 @@
 -- Proves that a load passes the rows that it finds, in a database that may hold anything.
 use Rattle.std.proofs.lemmas.Grind.{common_steps}
 use Rattle.std.proofs.Common.{◌≡◌, ◌<◌, ◌+◌, ◌∙◌, ℕ, List, [], ◌∷◌, ◌++◌, length, take, get_or, append-nil}
-use Rattle.std.proofs.Common.{append_assoc}
+use Rattle.std.proofs.Common.{append_assoc, false, inl}
 use Rattle.std.proofs.Common.{Option, None, Result, Ok, Err, OnOk, refl, sym, ap, subst, arith, IsTrue}
 use Rattle.sqlite.specs.Effect.{Database}
 use Rattle.sqlite.specs.Held.{Held, state}
@@ -11,7 +11,9 @@ use Rattle.thes_base.specs.declared.fault.Table.{Table}
 use Rattle.thes_base.specs.declared.fault.Table.TheVariants as table
 use Rattle.thes_tables.specs.declared.cells.Cell.{Cell}
 use Rattle.thes_tables.specs.Cells.{Raw, RawTable}
+use Rattle.thes_sql.specs.Declarations.{declares}
 use Rattle.thes_sql.specs.Reads.{LeavesTables}
+use Rattle.thes_sql.proofs.DeclarationLemmas.{store_declares}
 use Rattle.thes_store.specs.FoundLoads.{PassesFound}
 use Rattle.thes_store.specs.Sinks.{SinkAcceptsAll, sink_rows_of_table, sink_rows_of_tables}
 use Rattle.thes_tables.specs.TableOrder.{raw_rows_of, table_order}
@@ -21,6 +23,7 @@ use Rattle.thes_sqlite.specs.KeeperView.{KeeperView, IsUp}
 use Rattle.thes_sqlite.specs.FoundRows.{FindsTable, AreFoundRows, PassesTable, PassesNamed, PassesTables}
 use Rattle.thes_sqlite.specs.FoundRows.{FindsInKeeper, IsKeeperOpen}
 use Rattle.thes_sqlite.specs.MigrationEffects.{LeavesUnwritten}
+use Rattle.thes_sqlite.specs.RowReads.{YieldsTable}
 use Rattle.thes_sqlite.proofs.KeeperLemmas.{before_read, tables_then}
 
 -- The rows of the tables so far and those of one more table.
@@ -54,6 +57,15 @@ module _ {R : Type 0} (gives : R → Table × Option (List Cell) → Result (Uni
       → FindsTable p db None → OnOk r (PassesTable gives p db old new)
   none_passed p db old new (Ok done) took found = (None, found, (new, took, refl))
   none_passed p db old new (Err fault) took found = tt
+
+  -- A sink that receives no rows of a table that isn't declared as in a store has received what the table yields.
+  pub undeclared_yielded : {S : Type 0} (g : Ghosts S) (p : Table) (old new : Held S) (before after : R)
+      (r : Result (Unit {0}) Fault) → declares (state g old).now.schema p ≡ false → gives before (p, None) r after
+      → YieldsTable g gives p old new before r after
+  undeclared_yielded g p old new before after r undeclared took = record {
+    rows = λ clean is. absurd (cc (store_declares p));
+    content = λ clean. none_passed p (state g old).now before after r took (inl undeclared);
+  }
 
   passed_in_order : (db : Database) (old new : R) → PassesNamed gives table_order db old new
       → PassesTables gives db old new

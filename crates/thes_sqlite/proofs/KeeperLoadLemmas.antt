@@ -19,7 +19,7 @@ use Rattle.thes_tables.specs.TableOrder.{raw_rows_of}
 use Rattle.thes_store.proofs.SinkLemmas.{tables_append, part_accepted, part_refused}
 use Rattle.thes_store.proofs.StorageLemmas.{kept_after, query_after}
 use Rattle.thes_sqlite.specs.KeeperView.{KeeperView, raw_in, raw_table, raw_of_keeper, IsUp, IsKeeperUp, IsStore}
-use Rattle.thes_sqlite.specs.KeeperView.{IsKeeperState, storage_view}
+use Rattle.thes_sqlite.specs.KeeperView.{IsKeeperState, KeeperQueryFrame, storage_view}
 use Rattle.thes_sqlite.proofs.KeeperLemmas.{before_read, readable_of}
 
 pub raw_at : (p : Table) (db : Trees) → raw_rows_of p (raw_in db) ≡ raw_table p db
@@ -55,7 +55,7 @@ module _ {S R : Type 0} (g : Ghosts S) (gives : R → Table × Option (List Cell
     (p : LoadProgress g gives (take i names) start mid before between)
     (yields : IsKeeperUp g new → SinkOutcome gives between
     (sink_rows_of_table name (raw_table name (state g mid.conn).now.trees)) r after)
-    (asks : QueryFrame (storage_view g mid) (storage_view g new) r) (known : new.first ≡ mid.first) where
+    (frame : KeeperQueryFrame g mid new r) where
   one : IsKeeperUp g new → SinkOutcome gives between (sink_rows_of_tables (raw_of_keeper g start) (name ∷ [])) r after
   one up = grind (arith, common_steps, raw_at, append-nil)
 
@@ -63,20 +63,23 @@ module _ {S R : Type 0} (g : Ghosts S) (gives : R → Table × Option (List Cell
       before after
   load_progress_next done ok = record {
     keeps = kept_after (storage_view g start) (storage_view g mid) (storage_view g new) p.keeps done
-        (subst (QueryFrame (storage_view g mid) (storage_view g new)) ok asks);
+        (subst (QueryFrame (storage_view g mid) (storage_view g new)) ok frame.storage);
     sink_accepts = λ up. part_accepted gives (sink_rows_of_tables (raw_of_keeper g start))
         (tables_append (raw_of_keeper g start)) names i
-        name before between after r done lt is (p.sink_accepts (asks.was up)) ok (one up);
-    first = known ∙ p.first;
+        name before between after r done lt is (p.sink_accepts (frame.storage.was up)) ok (one up);
+    first = frame.first ∙ p.first;
   }
 
   -- A fault at one table ends the load with a prefix of the rows in the sink.
   pub load_progress_fault : (fault : Fault) → r ≡ Err fault
       → (IsKeeperUp g new → SinkAcceptsPrefix gives fault before (sink_rows_of_tables (raw_of_keeper g start) names)
-      after) × QueryFrame {T = Unit {0}} (storage_view g start) (storage_view g new) (Err fault)
+      after) × KeeperQueryFrame {T = Unit {0}} g start new (Err fault)
   load_progress_fault fault err = (
     λ up. part_refused gives (sink_rows_of_tables (raw_of_keeper g start)) (tables_append (raw_of_keeper g start))
-        names i name fault before between after r lt is (p.sink_accepts (asks.was up)) err (one up),
-    query_after (storage_view g start) (storage_view g mid) (storage_view g new) p.keeps (Err fault)
-        (subst (QueryFrame (storage_view g mid) (storage_view g new)) err asks),
+        names i name fault before between after r lt is (p.sink_accepts (frame.storage.was up)) err (one up),
+    record {
+      storage = query_after (storage_view g start) (storage_view g mid) (storage_view g new) p.keeps (Err fault)
+          (subst (QueryFrame (storage_view g mid) (storage_view g new)) err frame.storage);
+      first = frame.first ∙ p.first;
+    },
   )

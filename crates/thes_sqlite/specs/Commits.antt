@@ -1,8 +1,11 @@
--- The effect of a commit on a database that may hold anything.
-use Rattle.std.specs.Prelude.{◌≡◌, Result, OnErr}
+-- The effect of a commit through the storage, on a database that may hold anything.
+use Rattle.std.specs.Prelude.{◌≡◌, List, Result, OnOk, OnErr}
 use Rattle.sqlite.specs.Held.{Held, state}
 use Rattle.sqlite_trees.specs.declared.store.Store.{Ghosts}
-use Rattle.thes_sqlite.specs.KeeperView.{IsUp}
+use Rattle.thes_base.specs.declared.fault.Fault.{Fault}
+use Rattle.thes_tables.specs.declared.change.Change.{Change}
+use Rattle.thes_store.specs.Storage.{CommitFrame}
+use Rattle.thes_sqlite.specs.KeeperView.{KeeperView, IsUp, IsStore, LeavesEither, LeavesAfter, storage_view}
 use Rattle.thes_sqlite.specs.MigrationEffects.{LeavesUnwritten}
 
 -- What every commit keeps of any database: one that is open now was open before, and nothing in it is uncommitted; a
@@ -11,3 +14,19 @@ pub record DatabaseFrame {S T E : Type 0} (g : Ghosts S) (old new : Held S) (res
   pub was : IsUp (state g new) → IsUp (state g old)
   pub settled : IsUp (state g new) → (state g new).now ≡ (state g new).committed
   pub none : OnErr result (LeavesUnwritten g old new)
+
+-- What every commit keeps: on a fault the rows and the database are unchanged, whatever it holds, and the count of
+-- failures agrees with the result. The connection at the start stays known.
+pub record KeeperCommitFrame {S T : Type 0} (g : Ghosts S) (old new : KeeperView S) (result : Result T Fault) : Type 0
+  where
+    pub storage : CommitFrame (storage_view g old) (storage_view g new) result
+    pub database : DatabaseFrame g old.conn new.conn result
+    pub first : new.first ≡ old.first
+
+-- A commit is safe from crashes if the database was a store: whatever the result, a crash leaves the tables without the
+-- changes or with all of them, and after success with all of them.
+pub record IsCrashSafe {S T E : Type 0} (g : Ghosts S) (changes : List Change) (old new : KeeperView S)
+    (result : Result T E) : Type 0 where
+  pub atomicity : IsStore (state g old.first) → LeavesEither changes (state g old.conn) (state g new.conn)
+  pub durability : OnOk result (IsStore (state g old.first)
+      → LeavesAfter changes (state g old.conn) (state g new.conn))

@@ -1,17 +1,18 @@
 -- The state of storage in a database, and what a crash leaves of it.
-use Rattle.std.specs.Prelude.{◌≡◌, ◌⊎◌, ℕ, false, List, map, Some, IsTrue, refl}
+use Rattle.std.specs.Prelude.{◌≡◌, ◌⊎◌, ℕ, false, List, map, Some, Result, IsTrue, refl}
 use Rattle.std.specs.Coded.{Coded, code_by, coded×, coded_ℕ}
 use Rattle.sqlite.specs.Held.{Held, held_code, state}
 use Rattle.sqlite_trees.specs.declared.store.Store.{Ghosts}
+use Rattle.thes_base.specs.declared.fault.Fault.{Fault}
 use Rattle.thes_base.specs.declared.fault.Table.{Table}
 use Rattle.sqlite.specs.Tree.{Trees}
 use Rattle.sqlite.specs.State.{State, HasCleanDisk}
 use Rattle.thes_tables.specs.declared.change.Change.{Change}
-use Rattle.thes_tables.specs.Tables.{Tables}
+use Rattle.thes_tables.specs.Tables.{Tables, empty_tables}
 use Rattle.thes_tables.specs.Rows.{tables_after_delta}
 use Rattle.thes_tables.specs.Cells.{Raw, RawTable, cells_of_tables}
 use Rattle.thes_tables.specs.TableOrder.{raw_by_table}
-use Rattle.thes_store.specs.Storage.{StorageView}
+use Rattle.thes_store.specs.Storage.{StorageView, QueryFrame}
 use Rattle.thes_sql.specs.StoredRows.{Keeps, Hold}
 use Rattle.thes_sql.specs.Reads.{rows_in_trees}
 use Rattle.thes_sqlite.specs.ValueCells.{cell_of}
@@ -75,6 +76,18 @@ IsKeeperUp g k = IsStore (state g k.first) × IsUp (state g k.conn)
 -- The storage as any storage is seen.
 abbrev pub storage_view : {S : Type 0} → Ghosts S → KeeperView S → StorageView
 storage_view g k = record { rows = raw_of_keeper g k; is_up = IsKeeperUp g k; failures = k.failures }
+
+-- The storage is new: it keeps the tables of a store without rows, and has counted no failures.
+pub record IsNewKeeper {S : Type 0} (g : Ghosts S) (base : List ℕ) (k : KeeperView S) : Type 0 where
+  pub rows : IsUp (state g k.conn) → raw_of_keeper g k ≡ cells_of_tables (empty_tables base)
+  pub store : IsStore (state g k.first)
+  pub failures : k.failures ≡ 0
+
+-- The effect of every query: that on any storage, and the connection at the start stays known.
+pub record KeeperQueryFrame {S T : Type 0} (g : Ghosts S) (old new : KeeperView S) (result : Result T Fault) : Type 0
+  where
+    pub storage : QueryFrame (storage_view g old) (storage_view g new) result
+    pub first : new.first ≡ old.first
 
 -- A crash leaves the tables without the changes, or those with all changes.
 abbrev pub LeavesEither : List Change → State → State → Type 0

@@ -16,8 +16,8 @@ use Rattle.thes_tables.specs.declared.cells.Cell.{Cell}
 use Rattle.thes_tables.specs.Tables.{Tables}
 use Rattle.thes_tables.specs.Cells.{number_cell, cells_of_tables}
 use Rattle.thes_sql.specs.StoredRows.{Keeps, Hold}
-use Rattle.thes_sql.specs.Reads.{read_text}
-use Rattle.thes_sql.specs.Queries.{compiles, Finds, finds_nothing}
+use Rattle.thes_sql.specs.Reads.{read_text, LeavesAlone}
+use Rattle.thes_sql.specs.Queries.{compiles, Finds, finds_nothing, KeepsDatabase}
 use Rattle.thes_sql.specs.OldStore.{KeepsOld, links_text, hier_text}
 use Rattle.thes_tables.specs.OldRows.{tables_after_migration}
 use Rattle.thes_sqlite.specs.KeeperView.{IsUp, KeeperView, IsKeeperUp, raw_of_keeper}
@@ -83,6 +83,13 @@ abbrev pub Judges : {S V : Type 0} → Ghosts S → (Database → Result V Fault
 Judges g Is old new r =
     HasCleanDisk (state g new) → IsErrAnd r (HasFailed (state g old) (state g new)) ⊎ Is (state g old).now r
 
+-- What every verdict leaves: success keeps the database and what is committed of it, no result changes a database of
+-- committed rows, and a fault is one that a migration returns.
+pub record JudgeFrame {S V : Type 0} (g : Ghosts S) (old new : Held S) (r : Result V Fault) : Type 0 where
+  pub database : KeepsDatabase g old new r
+  pub effect : LeavesAlone g old new
+  pub fault : IfErr r IsMigrateFault
+
 -- The fault for an error of the query for table meta.
 abbrev pub meta_fault_of : Error → Fault
 meta_fault_of e = if finds_nothing e then BadStore table.Meta else error_fault e
@@ -126,6 +133,13 @@ HasCountedCause before now (Err fault) = IsStoreCounted before now fault
 abbrev pub ServesMigrated : {S : Type 0} → Ghosts S → KeeperView S → KeeperView S → Type 0
 ServesMigrated g old new = IsUp (state g new.conn) → (t : Tables) → KeepsOld (state g old.conn).now t
     → IsKeeperUp g new × (raw_of_keeper g new ≡ cells_of_tables (tables_after_migration t))
+
+-- The tables that the storage serves after a migration: those of a store of version 2 as before, and those of version 1
+-- as migrated.
+pub record ServesAfterMigration {S : Type 0} (g : Ghosts S) (old new : KeeperView S) (r : Result ℕ Fault) : Type 0 where
+  pub current : IsKeeperUp g old → IsUp (state g new.conn)
+      → IsKeeperUp g new × (raw_of_keeper g new ≡ raw_of_keeper g old)
+  pub older : OnOk r (ServesMigrated g old new)
 
 -- The result that follows from a verdict: a database of version 1 is migrated, unless a statement
 -- fails; one of version 2 is unchanged; any other is refused.

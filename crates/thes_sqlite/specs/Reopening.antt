@@ -1,9 +1,10 @@
 -- The state of storage in a database that is opened again after a failure.
-use Rattle.std.specs.Prelude.{◌≡◌, ℕ, Option, None, Some, refl}
+use Rattle.std.specs.Prelude.{◌≡◌, ℕ, Option, None, Some, Result, OnErr, refl}
 use Rattle.std.specs.Coded.{Coded, code_by, coded×, coded_ℕ, coded_option}
 use Rattle.sqlite.specs.Effect.{Database}
 use Rattle.sqlite.specs.Held.{Held, state}
 use Rattle.sqlite_trees.specs.declared.store.Store.{Ghosts}
+use Rattle.thes_base.specs.declared.fault.Fault.{Fault}
 use Rattle.thes_tables.specs.Cells.{Raw}
 use Rattle.thes_tables.specs.Tables.{Tables}
 use Rattle.thes_store.specs.Storage.{StorageView}
@@ -106,6 +107,12 @@ pub record ReturnsFirst {S : Type 0} (g : Ghosts S) (held : Tables → Type 0) (
 pub record LeavesFirst {S : Type 0} (g : Ghosts S) (old new : ReopeningView S) : Type 0 where
   pub was : IsStillOpen g new → IsStillOpen g old
   pub same : IsStillOpen g new → database_of_first g new.first ≡ database_of_first g old.first
+
+-- What every commit keeps that counts no failure yet: on a fault the rows are unchanged.
+pub record KeepsOnFault {T : Type 0} (old new : StorageView) (result : Result T Fault) : Type 0 where
+  pub same : OnErr result (new.is_up → new.rows ≡ old.rows)
+  pub was : new.is_up → old.is_up
+  pub count : new.failures ≡ old.failures
 
 -- The storage as any storage is seen, while the first connection is open.
 abbrev pub storage_still : {S : Type 0} → Ghosts S → ReopeningView S → StorageView

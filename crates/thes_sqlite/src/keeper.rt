@@ -1,7 +1,7 @@
 //! Storage of the tables in a database.
 ghost use Rattle.std.specs.Prelude.{◌≡◌, ◌⊎◌, false, OnOk, IfOk, IfErr};
 ghost use Rattle.thes_base.specs.Resources.{entry_at};
-ghost use Rattle.thes_tables.specs.Tables.{Tables, empty_tables};
+ghost use Rattle.thes_tables.specs.Tables.{Tables};
 ghost use Rattle.thes_tables.specs.Cells.{cells_of_tables};
 ghost use Rattle.thes_sql.specs.Schema.{empty_schema};
 ghost use Rattle.thes_sql.specs.TransactionEffects.{IsEmpty};
@@ -9,11 +9,11 @@ ghost use Rattle.thes_base.specs.declared.fault.Table.{Table};
 ghost use Rattle.thes_store.specs.FoundLoads.{PassesFound};
 ghost use Rattle.thes_store.specs.Sinks.{SinkOutcome, sink_rows_of_table, sink_rows, sink_rows_of_tables};
 ghost use Rattle.thes_store.specs.Reading.{IsPostingOfKey, IsPostingOfNumber, assigned_posting_rows, assigned_row_numbers};
-ghost use Rattle.thes_store.specs.Storage.{CommitFrame, DeltaFitsStorage, KeepsStorage, QueryFrame, RawAfterChanges};
-ghost use Rattle.thes_sqlite.specs.KeeperView.{IsUp, IsStore, IsKeeperState, IsKeeperUp, LeavesEither, LeavesAfter};
+ghost use Rattle.thes_store.specs.Storage.{DeltaFitsStorage, KeepsStorage, RawAfterChanges};
+ghost use Rattle.thes_sqlite.specs.KeeperView.{IsUp, IsStore, IsKeeperState, IsKeeperUp, IsNewKeeper, KeeperQueryFrame};
 ghost use Rattle.thes_sqlite.specs.KeeperView.{raw_table, raw_of_keeper, storage_view};
-ghost use Rattle.thes_sqlite.specs.MigrationEffects.{Migrates, HasCountedCause, ServesMigrated, LeavesUnwritten};
-ghost use Rattle.thes_sqlite.specs.Commits.{DatabaseFrame};
+ghost use Rattle.thes_sqlite.specs.MigrationEffects.{Migrates, HasCountedCause, ServesAfterMigration, LeavesUnwritten};
+ghost use Rattle.thes_sqlite.specs.Commits.{KeeperCommitFrame, IsCrashSafe};
 ghost use Rattle.thes_sqlite.specs.FoundRows.{IsKeeperOpen, FindsInKeeper, PassesTable, PassesNamed};
 ghost use Rattle.thes_sql.specs.Reads.{LeavesTables};
 ghost use Rattle.sqlite.specs.Held.{state};
@@ -71,10 +71,7 @@ impl<S: Alter> SqlKeeper<S> {
     ) -> Result<SqlKeeper<S>, (Fault, Connection<S>)>
         requires idle { conn.in_transaction ≡ false }
         ensures made { IsEmpty empty_schema (state S.Store conn).now
-            → IfOk result (λ k. IsUp (state S.Store k.conn)
-            → raw_of_keeper S.Store k ≡ cells_of_tables (empty_tables base.now)) }
-        ensures serves { IsEmpty empty_schema (state S.Store conn).now
-            → IfOk result (λ k. (k.failures ≡ 0) × IsStore (state S.Store k.first)) }
+            → IfOk result (IsNewKeeper S.Store base.now) }
         ensures back { IfErr result (λ e. IsUp (state S.Store e.1)
             → (state S.Store e.1).now ≡ (state S.Store conn).now) }
         ensures cause { IfErr result (λ e. (e.0 ≡ Fault.OutOfMemory) ⊎ (e.0 ≡ Fault.Store)) }
@@ -107,10 +104,7 @@ impl<S: Alter> SqlKeeper<S> {
     /// success the storage serves the store of version 2.
     pub fn migrate(&mut self) -> Result<u32, Fault>
         ensures migrates { Migrates S.Store self.old.conn self.new.conn result }
-        ensures serves { IsKeeperUp S.Store self.old → IsUp (state S.Store self.new.conn)
-            → IsKeeperUp S.Store self.new
-            × (raw_of_keeper S.Store self.new ≡ raw_of_keeper S.Store self.old) }
-        ensures made { OnOk result (ServesMigrated S.Store self.old self.new) }
+        ensures serves { ServesAfterMigration S.Store self.old self.new result }
         ensures first { self.new.first ≡ self.new.conn }
         ensures cause { HasCountedCause self.old.failures self.new.failures result }
     {
@@ -156,19 +150,8 @@ impl<S: Alter> SqlKeeper<S> {
         ensures ok { OnOk result (IsKeeperUp S.Store self.new
             → RawAfterChanges changes.now
             (raw_of_keeper S.Store self.old) (raw_of_keeper S.Store self.new)) }
-        ensures keeps { CommitFrame (storage_view S.Store self.old) (storage_view S.Store self.new)
-            result }
-        ensures first { self.new.first ≡ self.old.first }
-
-        // Whatever the database holds: nothing is left uncommitted, and a fault leaves it unwritten.
-        ensures frame { DatabaseFrame S.Store self.old.conn self.new.conn result }
-
-        // Whatever the result, a crash leaves the tables without the changes or with all of them;
-        // after success, with all of them.
-        ensures crash { IsStore (state S.Store self.old.first)
-            → LeavesEither changes.now (state S.Store self.old.conn) (state S.Store self.new.conn) }
-        ensures durable { OnOk result (IsStore (state S.Store self.old.first)
-            → LeavesAfter changes.now (state S.Store self.old.conn) (state S.Store self.new.conn)) }
+        ensures frame { KeeperCommitFrame S.Store self.old self.new result }
+        ensures crash { IsCrashSafe S.Store changes.now self.old self.new result }
     {
         match commit_all(&mut self.conn, changes) {
             Ok(_) => Ok(()),
@@ -181,9 +164,7 @@ impl<S: Alter> SqlKeeper<S> {
         ensures yields { IsKeeperUp S.Store self.new → SinkOutcome R.gives sink.old
             (sink_rows_of_table name (raw_table name (state S.Store self.old.conn).now.trees))
             result sink.new }
-        ensures asks { QueryFrame (storage_view S.Store self.old) (storage_view S.Store self.new)
-            result }
-        ensures first { self.new.first ≡ self.old.first }
+        ensures frame { KeeperQueryFrame S.Store self.old self.new result }
         ensures passes { OnOk result (IsUp (state S.Store self.new.conn)
             → PassesTable R.gives name (state S.Store self.old.conn).now sink.old sink.new) }
         ensures leaves { LeavesTables S.Store self.old.conn self.new.conn }
@@ -199,9 +180,7 @@ impl<S: Alter> SqlKeeper<S> {
         ensures yields { IsKeeperUp S.Store self.new → SinkOutcome R.gives sink.old
             (sink_rows_of_tables (raw_of_keeper S.Store self.old) names.now)
             result sink.new }
-        ensures asks { QueryFrame (storage_view S.Store self.old) (storage_view S.Store self.new)
-            result }
-        ensures first { self.new.first ≡ self.old.first }
+        ensures frame { KeeperQueryFrame S.Store self.old self.new result }
         ensures passes { OnOk result (IsUp (state S.Store self.new.conn)
             → (state S.Store self.old.conn).now ≡ (state S.Store self.old.conn).committed
             → PassesNamed R.gives names.now (state S.Store self.old.conn).now sink.old sink.new) }
@@ -234,9 +213,7 @@ impl<S: Alter> Keeper for SqlKeeper<S> {
         ensures yields { IsKeeperUp S.Store self.new
             → SinkOutcome R.gives sink.old
             (sink_rows (raw_of_keeper S.Store self.old)) result sink.new }
-        ensures asks { QueryFrame (storage_view S.Store self.old) (storage_view S.Store self.new)
-            result }
-        ensures first { self.new.first ≡ self.old.first }
+        ensures frame { KeeperQueryFrame S.Store self.old self.new result }
 
         // Whatever the database holds, a load leaves it unchanged, and passes the rows that the
         // queries of the tables find.
@@ -254,19 +231,8 @@ impl<S: Alter> Keeper for SqlKeeper<S> {
         ensures ok { OnOk result (IsKeeperUp S.Store self.new
             → RawAfterChanges delta
             (raw_of_keeper S.Store self.old) (raw_of_keeper S.Store self.new)) }
-        ensures keeps { CommitFrame (storage_view S.Store self.old) (storage_view S.Store self.new)
-            result }
-        ensures first { self.new.first ≡ self.old.first }
-
-        // Whatever the database holds: nothing is left uncommitted, and a fault leaves it unwritten.
-        ensures frame { DatabaseFrame S.Store self.old.conn self.new.conn result }
-
-        // Whatever the result, a crash leaves the tables without the changes or with all of them;
-        // after success, with all of them.
-        ensures crash { IsStore (state S.Store self.old.first)
-            → LeavesEither delta (state S.Store self.old.conn) (state S.Store self.new.conn) }
-        ensures durable { OnOk result (IsStore (state S.Store self.old.first)
-            → LeavesAfter delta (state S.Store self.old.conn) (state S.Store self.new.conn)) }
+        ensures frame { KeeperCommitFrame S.Store self.old self.new result }
+        ensures crash { IsCrashSafe S.Store delta self.old self.new result }
     {
         self.commit_changes(delta.as_slice())
     }
@@ -276,9 +242,7 @@ impl<S: Alter> Keeper for SqlKeeper<S> {
         ensures ok { IfOk result (λ found. IsKeeperUp S.Store self.new → (t : Tables)
             → raw_of_keeper S.Store self.old ≡ cells_of_tables t
             → IsPostingOfKey key.now t.posting found) }
-        ensures asks { QueryFrame (storage_view S.Store self.old) (storage_view S.Store self.new)
-            result }
-        ensures first { self.new.first ≡ self.old.first }
+        ensures frame { KeeperQueryFrame S.Store self.old self.new result }
     {
         match find_posting(self.alloc, &mut self.conn, key) {
             Ok(found) => Ok(found),
@@ -290,9 +254,7 @@ impl<S: Alter> Keeper for SqlKeeper<S> {
     fn posting(&mut self, number: PostNo) -> Result<Option<Posting>, Fault>
         ensures ok { IfOk result (λ told. IsKeeperUp S.Store self.new → (t : Tables)
             → raw_of_keeper S.Store self.old ≡ cells_of_tables t → IsPostingOfNumber number t told) }
-        ensures asks { QueryFrame (storage_view S.Store self.old) (storage_view S.Store self.new)
-            result }
-        ensures first { self.new.first ≡ self.old.first }
+        ensures frame { KeeperQueryFrame S.Store self.old self.new result }
     {
         match find_with_moves(self.alloc, &mut self.conn, number) {
             Ok(told) => Ok(told),
@@ -304,9 +266,7 @@ impl<S: Alter> Keeper for SqlKeeper<S> {
     fn row(&mut self, number: PostNo) -> Result<Option<PostingRow>, Fault>
         ensures ok { IfOk result (λ row. IsKeeperUp S.Store self.new → (t : Tables)
             → raw_of_keeper S.Store self.old ≡ cells_of_tables t → row ≡ entry_at t.posting number) }
-        ensures asks { QueryFrame (storage_view S.Store self.old) (storage_view S.Store self.new)
-            result }
-        ensures first { self.new.first ≡ self.old.first }
+        ensures frame { KeeperQueryFrame S.Store self.old self.new result }
     {
         match find_row(self.alloc, &mut self.conn, number) {
             Ok(row) => Ok(row),
@@ -320,9 +280,7 @@ impl<S: Alter> Keeper for SqlKeeper<S> {
             → (t : Tables) → raw_of_keeper S.Store self.old ≡ cells_of_tables t
             → SinkOutcome P.gives sink.old (assigned_posting_rows concept t.posting) result
             sink.new }
-        ensures asks { QueryFrame (storage_view S.Store self.old) (storage_view S.Store self.new)
-            result }
-        ensures first { self.new.first ≡ self.old.first }
+        ensures frame { KeeperQueryFrame S.Store self.old self.new result }
     {
         match yield_postings(self.alloc, &mut self.conn, concept, sink) {
             Ok(_) => Ok(()),
@@ -335,9 +293,7 @@ impl<S: Alter> Keeper for SqlKeeper<S> {
         ensures ok { IfOk result (λ numbers. IsKeeperUp S.Store self.new → (t : Tables)
             → raw_of_keeper S.Store self.old ≡ cells_of_tables t
             → numbers.items ≡ assigned_row_numbers concept t.posting) }
-        ensures asks { QueryFrame (storage_view S.Store self.old) (storage_view S.Store self.new)
-            result }
-        ensures first { self.new.first ≡ self.old.first }
+        ensures frame { KeeperQueryFrame S.Store self.old self.new result }
     {
         match collect_numbers(self.alloc, &mut self.conn, concept) {
             Ok(numbers) => Ok(numbers),

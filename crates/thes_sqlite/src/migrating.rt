@@ -1,8 +1,6 @@
 //! Migrates a database from version 1 of the tables to version 2.
 ghost use Rattle.std.specs.Prelude.{◌≡◌, ◌⊎◌, Some, Err, IfErr, false};
-ghost use Rattle.thes_sql.specs.Reads.{LeavesAlone};
-ghost use Rattle.thes_sql.specs.Queries.{KeepsDatabase};
-ghost use Rattle.thes_sqlite.specs.MigrationEffects.{IsMigrateFault, IsMetaVerdict, IsVersionVerdict, IsLinkVerdict, IsMigrationVerdict, Judges, Migrates};
+ghost use Rattle.thes_sqlite.specs.MigrationEffects.{IsMigrateFault, IsMetaVerdict, IsVersionVerdict, IsLinkVerdict, IsMigrationVerdict, JudgeFrame, Judges, Migrates};
 ghost use Rattle.thes_sqlite.specs.MigrationEffects.{meta_fault_of, links_verdict_of, hier_verdict_of};
 ghost use Rattle.thes_sqlite.specs.Versions.{SpellsVersion};
 ghost use Rattle.sqlite.specs.Effect.{Database};
@@ -86,9 +84,7 @@ fn meta_fault(error: Error) -> Fault
 // is a fault.
 fn judge_version<S: Alter>(alloc: Global, conn: &mut Connection<S>) -> Result<bool, Fault>
     ensures judged { Judges S.Store IsVersionVerdict conn.old conn.new result }
-    ensures kept { KeepsDatabase S.Store conn.old conn.new result }
-    ensures leaves { LeavesAlone S.Store conn.old conn.new }
-    ensures faults { IfErr result IsMigrateFault }
+    ensures frame { JudgeFrame S.Store conn.old conn.new result }
 {
     match version_rows(conn) {
         Ok(rows) => is_version_1(alloc, rows.as_slice()),
@@ -125,9 +121,7 @@ fn hier_verdict(there: Result<bool, Error>) -> Result<(), Fault>
 fn judge_links<S: Alter>(conn: &mut Connection<S>) -> Result<(), Fault>
     ensures judged { Judges S.Store (λ (db : Database). IsLinkVerdict db.schema) conn.old conn.new
         result }
-    ensures kept { KeepsDatabase S.Store conn.old conn.new result }
-    ensures leaves { LeavesAlone S.Store conn.old conn.new }
-    ensures faults { IfErr result IsMigrateFault }
+    ensures frame { JudgeFrame S.Store conn.old conn.new result }
 {
     links_verdict(has_links(conn))?;
     hier_verdict(has_hier(conn))
@@ -137,9 +131,7 @@ fn judge_links<S: Alter>(conn: &mut Connection<S>) -> Result<(), Fault>
 // any other database is a fault.
 fn judge<S: Alter>(alloc: Global, conn: &mut Connection<S>) -> Result<bool, Fault>
     ensures judged { Judges S.Store IsMigrationVerdict conn.old conn.new result }
-    ensures kept { KeepsDatabase S.Store conn.old conn.new result }
-    ensures leaves { LeavesAlone S.Store conn.old conn.new }
-    ensures faults { IfErr result IsMigrateFault }
+    ensures frame { JudgeFrame S.Store conn.old conn.new result }
 {
     if !judge_version(alloc, conn)? {
         return Ok(false);

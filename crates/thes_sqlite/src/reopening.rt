@@ -11,7 +11,7 @@ ghost use Rattle.thes_store.specs.Reading.{IsPostingOfKey, IsPostingOfNumber, as
 ghost use Rattle.thes_sqlite.specs.Faults.{IsKeeperFault};
 ghost use Rattle.thes_store.specs.Storage.{DeltaFitsStorage, KeepsStorage, RawAfterChanges};
 ghost use Rattle.thes_sqlite.specs.Reopening.{IsKeeperStillUp, rows_still, storage_still, keeper_of_connection};
-ghost use Rattle.thes_sqlite.specs.Reopening.{FindsOfFirst, IsStillOpen, LeavesFirst, ReturnsFirst};
+ghost use Rattle.thes_sqlite.specs.Reopening.{FindsOfFirst, IsStillOpen, KeepsOnFault, LeavesFirst, ReturnsFirst};
 ghost use Rattle.thes_sqlite.specs.KeeperView.{ServesTables};
 
 use crate::faults::{count_fault, fault_of};
@@ -335,10 +335,8 @@ impl<S: Alter + Drop, O: Reopen<Connection<S>> + HeldTables> ReopeningKeeper<S, 
         ensures ok { OnOk result (IsKeeperStillUp S.Store self.new
             → RawAfterChanges changes.now (rows_still S.Store self.old)
             (rows_still S.Store self.new)) }
-        ensures err { OnErr result (IsKeeperStillUp S.Store self.new
-            → rows_still S.Store self.new ≡ rows_still S.Store self.old) }
-        ensures was { IsKeeperStillUp S.Store self.new → IsKeeperStillUp S.Store self.old }
-        ensures failures { self.new.failures ≡ self.old.failures }
+        ensures keeps { KeepsOnFault (storage_still S.Store self.old)
+            (storage_still S.Store self.new) result }
         ensures kind { IfErr result IsKeeperFault }
     {
         if !self.opener.is_in_place() {

@@ -9,9 +9,7 @@ ghost use Rattle.thes_store.specs.Sinks.{SinkOutcome, sink_rows_of_table};
 ghost use Rattle.thes_sql.specs.Declarations.{declares};
 ghost use Rattle.thes_sql.specs.StoredRows.{values, Keeps};
 ghost use Rattle.thes_sqlite.specs.Faults.{IsKeeperFault};
-ghost use Rattle.thes_sql.specs.Reads.{IsReadable, LeavesTables};
-ghost use Rattle.thes_sqlite.specs.KeeperView.{raw_table};
-ghost use Rattle.thes_sqlite.specs.FoundRows.{PassesTable};
+ghost use Rattle.thes_sqlite.specs.RowReads.{RowReadFrame, YieldsTable};
 ghost use Rattle.thes_sqlite.specs.ValueCells.{cell_of};
 ghost use Rattle.sqlite.specs.State.{HasCleanDisk};
 ghost use Rattle.sqlite.specs.Held.{state};
@@ -49,14 +47,8 @@ fn yield_rows<S: Alter, R: RowSink>(
     sink: &mut R,
 ) -> Result<(), Fault>
     requires { declares (state S.Store conn.old).now.schema name ≡ true }
-    ensures yields { HasCleanDisk (state S.Store conn.new) → IsReadable (state S.Store conn.old).now
-        → SinkOutcome R.gives sink.old
-        (sink_rows_of_table name (raw_table name (state S.Store conn.old).now.trees))
-        result sink.new }
-    ensures passes { HasCleanDisk (state S.Store conn.new) → OnOk result
-        (PassesTable R.gives name (state S.Store conn.old).now sink.old sink.new) }
-    ensures err { IfErr result IsKeeperFault }
-    ensures leaves { LeavesTables S.Store conn.old conn.new }
+    ensures yields { YieldsTable S.Store R.gives name conn.old conn.new sink.old result sink.new }
+    ensures frame { RowReadFrame S.Store conn.old conn.new result }
 {
     let mut rows = match conn.query(table_query(name), &[]) {
         Ok(rows) => rows,
@@ -79,23 +71,17 @@ fn yield_rows<S: Alter, R: RowSink>(
 
 /// Passes the rows of a table to a sink. If the table can't be queried, or isn't declared as in a
 /// store, reports that to the sink instead.
-#[tactic(auto, using(crate::proofs::FoundRowLemmas::none_passed, thes_sql::proofs::DeclarationLemmas::store_declares))]
+#[tactic(auto, using(crate::proofs::FoundRowLemmas::undeclared_yielded))]
 pub(crate) fn yield_table_rows<S: Alter, R: RowSink>(
     alloc: Global,
     conn: &mut Connection<S>,
     name: Table,
     sink: &mut R,
 ) -> Result<(), Fault>
-    ensures yields { HasCleanDisk (state S.Store conn.new) → IsReadable (state S.Store conn.old).now
-        → SinkOutcome R.gives sink.old
-        (sink_rows_of_table name (raw_table name (state S.Store conn.old).now.trees))
-        result sink.new }
-    ensures passes { HasCleanDisk (state S.Store conn.new) → OnOk result
-        (PassesTable R.gives name (state S.Store conn.old).now sink.old sink.new) }
+    ensures yields { YieldsTable S.Store R.gives name conn.old conn.new sink.old result sink.new }
     ensures differs { declares (state S.Store conn.old).now.schema name ≡ false
         → SinkOutcome R.gives sink.old (sink_rows_of_table name None) result sink.new }
-    ensures err { IfErr result IsKeeperFault }
-    ensures leaves { LeavesTables S.Store conn.old conn.new }
+    ensures frame { RowReadFrame S.Store conn.old conn.new result }
 {
     if !declares(conn, name) {
         return sink.report_unqueried(name);
@@ -126,8 +112,7 @@ pub(crate) fn yield_postings<S: Alter, P: PostingSink>(
     ensures yields { HasCleanDisk (state S.Store conn.new) → (t : Tables)
         → Keeps (state S.Store conn.old).now t
         → SinkOutcome P.gives sink.old (assigned_posting_rows concept t.posting) result sink.new }
-    ensures err { IfErr result IsKeeperFault }
-    ensures leaves { LeavesTables S.Store conn.old conn.new }
+    ensures frame { RowReadFrame S.Store conn.old conn.new result }
 {
     let mut postings = match conn.query(assigned_query(), params![concept.get()]) {
         Ok(postings) => postings,
@@ -172,8 +157,7 @@ pub(crate) fn collect_numbers<S: Alter>(
     ensures ok { HasCleanDisk (state S.Store conn.new) → IfOk result (λ numbers. (t : Tables)
         → Keeps (state S.Store conn.old).now t
         → numbers.items ≡ assigned_row_numbers concept t.posting) }
-    ensures err { IfErr result IsKeeperFault }
-    ensures leaves { LeavesTables S.Store conn.old conn.new }
+    ensures frame { RowReadFrame S.Store conn.old conn.new result }
 {
     let mut numbers = Vec::new(alloc);
     let mut rows = match conn.query(assigned_numbers_query(), params![concept.get()]) {

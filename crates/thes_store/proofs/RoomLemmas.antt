@@ -1,7 +1,7 @@
 -- Tables that have room for the rows of a list of changes have room for those of its first change.
 use Rattle.std.proofs.lemmas.Grind.{common_steps}
 use Rattle.std.proofs.Common.{◌≡◌, ◌+◌, ◌<◌, ◌≤◌, ◌∙◌, ℕ, List, [], ◌∷◌, ◌++◌, length, drop, get_or, refl, sym, ap}
-use Rattle.std.proofs.Common.{arith}
+use Rattle.std.proofs.Common.{arith, subst}
 use Rattle.std.specs.Prelude.{Option, None, Some, vec_len}
 use Rattle.std.specs.List.{cons_option}
 use Rattle.std.specs.Vec.{vec_capacity}
@@ -12,7 +12,7 @@ use Rattle.thes_store.specs.declared.tables.MemTables.{MemTables}
 use Rattle.thes_store.specs.AddedRow.{rows_added_by, added_resource, added_outside, added_label, inserted_link}
 use Rattle.thes_store.specs.AddedRow.{added_hier, added_posting, added_move, changed_label}
 use Rattle.thes_store.specs.Numbers.{owner_of, indexed_end_of, narrower_end_of}
-use Rattle.thes_store.specs.Room.{HasRoomForRows}
+use Rattle.thes_store.specs.Room.{HasRoomForRows, IsReadyForChanges}
 use Rattle.thes_store.specs.Slots.{IsReady}
 
 module _ {A : Type 0} where
@@ -34,9 +34,6 @@ module _ {A : Type 0} where
   drop_none [] = refl
   drop_none (x ∷ xs) = refl
 
-  pub drop_next : (xs : List A) (i : ℕ) (x : A) → i < length xs → x ≡ get_or xs i x → drop i xs ≡ x ∷ drop (i + 1) xs
-  drop_next xs i x lt is = drop_more xs i x lt ∙ ap (λ y. y ∷ drop (i + 1) xs) (sym is)
-
 fewer_fit : (len more all capacity : ℕ) → more ≤ all → len + all ≤ capacity → len + more ≤ capacity
 fewer_fit len more all capacity less fits = omega (arith, less, fits)
 
@@ -56,3 +53,9 @@ room_first m c rest room = record {
       (count_first (added_move c) (rows_added_by added_move rest)) room.steps;
   label_copies = begins_first m.label_copies.items (changed_label c) (rows_added_by changed_label rest) room.label_copies;
 }
+
+-- Tables that are ready for the changes that are left are ready for the next one and those after it.
+pub ready_next : (m : MemTables) (all : List Change) (i : ℕ) (c : Change) → i < length all → c ≡ get_or all i c
+    → IsReadyForChanges (drop i all) m → IsReadyForChanges (c ∷ drop (i + 1) all) m
+ready_next m all i c lt is ready = subst (λ l. IsReadyForChanges l m) (drop_more all i c lt
+    ∙ ap (λ x. x ∷ drop (i + 1) all) (sym is)) ready

@@ -1,11 +1,11 @@
 -- Passing a list to a sink in parts has the same outcome as passing it whole.
 use Rattle.std.proofs.lemmas.Grind.{common_steps}
 use Rattle.std.proofs.Common.{◌≡◌, ◌<◌, ◌+◌, ◌++◌, ◌∙◌, inl, inr, ℕ, zero, suc, List, [], ◌∷◌, length, map, take}
-use Rattle.std.proofs.Common.{get_or, refl, sym, ap, subst, arith, append_assoc}
+use Rattle.std.proofs.Common.{get_or, refl, sym, ap, subst, arith, append_assoc, append-nil, Bool}
 use Rattle.std.proofs.lemmas.List.{map-append}
 use Rattle.std.proofs.lemmas.List.Elements.{filter_map-append}
 use Rattle.std.specs.List.{filter_map}
-use Rattle.std.specs.Prelude.{Option, Some, Result, Ok, Err}
+use Rattle.std.specs.Prelude.{Option, Some, Result, Ok, Err, slice_get}
 use Rattle.std.specs.Result.{IsErr}
 use Rattle.thes_base.specs.declared.fault.Fault.{Fault}
 use Rattle.thes_base.specs.declared.fault.Table.{Table}
@@ -16,7 +16,8 @@ use Rattle.thes_tables.specs.Cells.{Raw, resource_cells, resource_rows}
 use Rattle.thes_tables.specs.TableOrder.{raw_rows_of}
 use Rattle.thes_store.specs.Sinks.{SinkAcceptsAll, SinkAcceptsPrefix, SinkOutcome, sink_rows_of_table}
 use Rattle.thes_store.specs.Sinks.{sink_rows_of_tables}
-use Rattle.thes_store.proofs.IndexPositionLemmas.{take_one, split_at}
+use Rattle.thes_store.specs.RowsAtPositions.{filtered_option, rows_at_positions}
+use Rattle.thes_store.proofs.IndexPositionLemmas.{take_one, split_at, picked_append, picked_cons}
 
 module _ {S A : Type 0} (gives : S → A → Result (Unit {0}) Fault → S → Type 0) where
   -- Passing one row gives the outcome of a list of one row.
@@ -118,6 +119,24 @@ module _ {S A X : Type 0} (gives : S → A → Result (Unit {0}) Fault → S →
       (some_then gives (parts (take i xs)) (parts (x ∷ []) ++ parts rest.0) fault old mid new t
       (some_more gives (parts (x ∷ [])) (parts rest.0) fault mid new
       (subst (λ q. SinkOutcome gives mid (parts (x ∷ [])) q new) err h)))
+
+module _ {S A : Type 0} (gives : S → A → Result (Unit {0}) Fault → S → Type 0) (p : A → Bool) (rows : List A)
+    (places : List ℕ) (i place : ℕ) (o : Option A) (old mid new : S) (r : Result (Unit {0}) Fault) (lt : i < length places)
+    (is : place ≡ get_or places i place) (t : SinkAcceptsAll gives old (rows_at_positions p rows (take i places)) mid)
+    (found : o ≡ slice_get rows place) (h : SinkOutcome gives mid (filtered_option p o) r new) where
+  at_place : SinkOutcome gives mid (rows_at_positions p rows (place ∷ [])) r new
+  at_place = subst (λ l. SinkOutcome gives mid l r new) (ap (filtered_option p) found ∙ sym (picked_cons p rows place [] ∙ append-nil _)) h
+
+  -- A sink that accepts the row at one more position, if it passes the test, has those at the positions so far.
+  pub place_accepted : (done : Unit {0}) → r ≡ Ok done
+      → SinkAcceptsAll gives old (rows_at_positions p rows (take (i + 1) places)) new
+  place_accepted done ok = part_accepted gives (rows_at_positions p rows) (picked_append p rows) places i place old mid
+      new r done lt is t ok at_place
+
+  pub place_refused : (fault : Fault) → r ≡ Err fault
+      → SinkAcceptsPrefix gives fault old (rows_at_positions p rows places) new
+  place_refused fault err = part_refused gives (rows_at_positions p rows) (picked_append p rows) places i place fault
+      old mid new r lt is t err at_place
 
 module _ {S A : Type 0} (gives : S → A → Result (Unit {0}) Fault → S → Type 0) where
   pub none_accepted : (xs : List A) (fault : Fault) (old : S) → SinkAcceptsPrefix gives fault old xs old

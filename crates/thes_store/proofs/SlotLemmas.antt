@@ -13,7 +13,7 @@ use Rattle.thes_tables.specs.Tables.{IsIn}
 use Rattle.thes_store.proofs.PlaceLemmas.{in_places}
 use Rattle.thes_store.specs.declared.slots.Slots.{Slots}
 use Rattle.thes_store.specs.Places.{places_at, HasPlace, KeepsOtherPlaces}
-use Rattle.thes_store.specs.RowsAtPositions.{rows_after_change_at}
+use Rattle.thes_store.specs.RowsAtPositions.{rows_after_change_at, KeepsRoom}
 use Rattle.thes_store.specs.Slots.{rows_in, AreIndexedBy, IsReady, is_same_row}
 
 module _ {A : Type 0} where
@@ -45,10 +45,9 @@ module _ {A : Type 0} where
         → KeepsOtherPlaces i old.places new.places → AreIndexedBy number old → AreIndexedBy number new
     found_emptied i items keeps found j row e = grind (arith, common_steps, slice_set_cases)
 
-    pub ready_emptied : (i : ℕ) (rest : List A) → i < vec_len old.rows → vec_len new.rows ≡ vec_len old.rows
-        → vec_capacity new.rows ≡ vec_capacity old.rows → KeepsOtherPlaces i old.places new.places
-        → IsReady number old rest → IsReady number new rest
-    ready_emptied i rest place_in_bounds len capacity keeps ready = grind (arith, common_steps)
+    pub ready_emptied : (i : ℕ) (rest : List A) → i < vec_len old.rows → KeepsRoom old.rows new.rows
+        → KeepsOtherPlaces i old.places new.places → IsReady number old rest → IsReady number new rest
+    ready_emptied i rest place_in_bounds room keeps ready = grind (arith, common_steps)
 
   module _ (p : A → Bool) where
     -- A gap in place of a row that fails the test leaves the passing rows unchanged.

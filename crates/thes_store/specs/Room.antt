@@ -41,3 +41,9 @@ pub record HasRoomForRows (changes : List Change) (m : MemTables) : Type 0 where
   pub posting : vec_len m.posting + length (rows_added_by added_posting changes) ≤ vec_capacity m.posting
   pub steps : vec_len m.steps + length (rows_added_by added_move changes) ≤ vec_capacity m.steps
   pub label_copies : (rest : List Label) × (m.label_copies.items ≡ rows_added_by changed_label changes ++ rest)
+
+-- The changes can be applied without failing: the tables have room for the rows that they insert, and each label and
+-- link is indexed.
+pub record IsReadyForChanges (changes : List Change) (m : MemTables) : Type 0 where
+  pub room : HasRoomForRows changes m
+  pub index : AllIndexed m

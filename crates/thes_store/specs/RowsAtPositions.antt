@@ -1,5 +1,7 @@
 -- The rows at some positions of a list.
-use Rattle.std.specs.Prelude.{ℕ, List, [], ◌∷◌, Bool, Option, None, Some, slice_get, slice_set, if◌then◌else◌, ◌==◌}
+use Rattle.std.specs.Prelude.{◌≡◌, ℕ, List, [], ◌∷◌, Bool, Option, None, Some, slice_get, slice_set, if◌then◌else◌, ◌==◌}
+use Rattle.std.specs.Prelude.{Vec, vec_len}
+use Rattle.std.specs.Vec.{vec_capacity}
 use Rattle.thes_tables.specs.declared.rows.MoveRow.{MoveRow}
 
 -- The test of whether the row is that of a move of the posting.
@@ -27,3 +29,8 @@ rows_after_change_at f i rows = elim (slice_get rows i) [ None ↦ rows | Some r
 abbrev pub rows_after_changes_at : {A : Type 0} → (A → A) → List ℕ → List A → List A
 rows_after_changes_at f [] rows = rows
 rows_after_changes_at f (i ∷ places) rows = rows_after_changes_at f places (rows_after_change_at f i rows)
+
+-- A vector has kept its length and its capacity, and so its room for further items.
+pub record KeepsRoom {A Z : Type 0} (old new : Vec A Z) : Type 0 where
+  pub len : vec_len new ≡ vec_len old
+  pub capacity : vec_capacity new ≡ vec_capacity old

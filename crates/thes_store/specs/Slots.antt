@@ -1,9 +1,10 @@
 -- A list of rows, with gaps where rows were removed, and its index.
-use Rattle.std.specs.Prelude.{◌≡◌, ◌≤◌, ◌+◌, ℕ, List, Bool, false, Option, Some, length, slice_get, vec_len}
+use Rattle.std.specs.Prelude.{◌≡◌, ◌≤◌, ◌+◌, ◌++◌, ◌∷◌, [], ℕ, List, Bool, false, not, Option, Some, length, filter}
+use Rattle.std.specs.Prelude.{slice_get, vec_len}
 use Rattle.std.specs.List.{filter_map}
 use Rattle.std.specs.Vec.{vec_capacity}
 use Rattle.thes_store.specs.declared.slots.Slots.{Slots}
-use Rattle.thes_store.specs.Places.{HasPlace}
+use Rattle.thes_store.specs.Places.{HasPlace, KeepsPlaces}
 
 module _ {A : Type 0} where
   -- The rows in their order, without the gaps.
@@ -24,6 +25,23 @@ module _ {A : Type 0} where
   pub record IsReady (number : A → ℕ) (s : Slots A) (coming : List A) : Type 0 where
     pub room : vec_len s.rows + length coming ≤ vec_capacity s.rows
     pub expected : AreExpected number s coming
+
+  -- The row is appended: each row stays indexed, and the room for the rows after this one is kept.
+  pub record AppendsRow (number : A → ℕ) (row : A) (old new : Slots A) : Type 0 where
+    pub rows : rows_in new ≡ rows_in old ++ row ∷ []
+    pub index : AreIndexedBy number old → AreIndexedBy number new
+    pub room : (rest : List A) → IsReady number old (row ∷ rest) → IsReady number new rest
+
+  -- The rows that are equal to this one are removed: the others stay indexed, and the room for further rows is kept.
+  pub record RemovesRow (number : A → ℕ) (same : A → A → Bool) (row : A) (old new : Slots A) : Type 0 where
+    pub rows : rows_in new ≡ filter (λ x. not (same x row)) (rows_in old)
+    pub index : AreIndexedBy number new
+    pub room : (rest : List A) → IsReady number old rest → IsReady number new rest
+
+  -- The rows are unchanged, and the index has all positions that it had.
+  pub record GrowsIndex (old new : Slots A) : Type 0 where
+    pub rows : new.rows ≡ old.rows
+    pub places : KeepsPlaces old.places new.places
 
   -- The test of whether the slot has a row that is equal to this one.
   abbrev pub is_same_row : (A → A → Bool) → Option (Option A) → A → Bool

@@ -3,8 +3,9 @@ ghost use Rattle.std.specs.Prelude.{◌≡◌, ◌≤◌, ◌<◌, ◌+◌, ◌^
 ghost use Rattle.std.specs.Vec.{vec_capacity};
 ghost use Rattle.thes_store.specs.AddedRow.{rows_added_by};
 ghost use Rattle.thes_store.specs.Places.{HasPlace, KeepsPlaces, KeepsOtherPlaces};
-ghost use Rattle.thes_store.specs.RowsAtPositions.{rows_after_change_at};
+ghost use Rattle.thes_store.specs.RowsAtPositions.{rows_after_change_at, KeepsRoom};
 ghost use Rattle.thes_store.specs.Slots.{rows_in, AreIndexedBy, AreExpected, IsReady, is_same_row};
+ghost use Rattle.thes_store.specs.Slots.{AppendsRow, RemovesRow, GrowsIndex};
 
 use crate::added_row::{AddedRow, count_added};
 use crate::places::Places;
@@ -79,8 +80,7 @@ impl<T: IndexedRow + Drop> Slots<T> {
     // Indexes the positions that the rows of the changes will get.
     fn expect(&mut self, changes: &[Change]) -> Result<(), AllocError>
         requires { vec_len self.old.rows + length changes.now < 2 ^ 64 }
-        ensures rows { self.new.rows ≡ self.old.rows }
-        ensures keeps { KeepsPlaces self.old.places self.new.places }
+        ensures keeps { GrowsIndex self.old self.new }
         ensures ok { OnOk result
             (AreExpected T.number_of self.new (rows_added_by T.added_row changes.now)) }
     {
@@ -95,8 +95,7 @@ impl<T: IndexedRow + Drop> Slots<T> {
     // returns `place` if the change inserts no row into this table.
     fn expect_one(&mut self, change: &Change, place: usize) -> Result<usize, AllocError>
         requires { place + 1 < 2 ^ 64 }
-        ensures rows { self.new.rows ≡ self.old.rows }
-        ensures keeps { KeepsPlaces self.old.places self.new.places }
+        ensures keeps { GrowsIndex self.old self.new }
         ensures ok { OnOk result ((row : T) → T.added_row change.now ≡ Some row
             → HasPlace self.new.places (T.number_of row) place) }
         ensures next { IfOk result (λ next. next
@@ -112,10 +111,7 @@ impl<T: IndexedRow + Drop> Slots<T> {
     /// Appends a row whose memory is reserved and whose position is indexed; it can't fail.
     pub fn push(&mut self, row: T)
         requires { IsReady T.number_of self.old (row ∷ []) }
-        ensures rows { rows_in self.new ≡ rows_in self.old ++ row ∷ [] }
-        ensures found { AreIndexedBy T.number_of self.old → AreIndexedBy T.number_of self.new }
-        ensures ready { (rest : List T) → IsReady T.number_of self.old (row ∷ rest)
-            → IsReady T.number_of self.new rest }
+        ensures { AppendsRow T.number_of row self.old self.new }
     {
         self.rows.push_reserved(Some(row));
     }
@@ -123,10 +119,7 @@ impl<T: IndexedRow + Drop> Slots<T> {
     /// Removes all rows that are equal to this one, and leaves gaps in their places.
     pub fn remove(&mut self, row: &T)
         requires { AreIndexedBy T.number_of self.old }
-        ensures rows { rows_in self.new ≡ filter (λ x. not (T.same x row.now)) (rows_in self.old) }
-        ensures found { AreIndexedBy T.number_of self.new }
-        ensures ready { (rest : List T) → IsReady T.number_of self.old rest
-            → IsReady T.number_of self.new rest }
+        ensures { RemovesRow T.number_of T.same row.now self.old self.new }
     {
         'removing: while let Some(place) = self.place_of(row) {
             self.empty(row.index_number(), place);
@@ -162,8 +155,7 @@ impl<T: IndexedRow + Drop> Slots<T> {
     fn empty(&mut self, number: u32, place: usize)
         ensures rows { self.new.rows.items
             ≡ rows_after_change_at (λ slot. None) place self.old.rows.items }
-        ensures len { vec_len self.new.rows ≡ vec_len self.old.rows }
-        ensures capacity { vec_capacity self.new.rows ≡ vec_capacity self.old.rows }
+        ensures room { KeepsRoom self.old.rows self.new.rows }
         ensures places { KeepsOtherPlaces place self.old.places self.new.places }
     {
         if let Some(slot) = self.rows.get_mut(place) {

@@ -1,6 +1,5 @@
 //! The tables in memory, and how changes are applied to them.
-ghost use Rattle.std.specs.Prelude.{◌≡◌, ◌∷◌, ◌++◌, [], List, map, filter, not, vec_len, OnOk};
-ghost use Rattle.std.specs.Vec.{vec_capacity};
+ghost use Rattle.std.specs.Prelude.{◌≡◌, ◌∷◌, [], List, map, OnOk};
 ghost use Rattle.thes_base.specs.Changes.{resources_after_death};
 ghost use Rattle.thes_tables.specs.declared.change.Change.{Change};
 ghost use Rattle.thes_tables.specs.Tables.{empty_tables};
@@ -8,9 +7,9 @@ ghost use Rattle.thes_tables.specs.Rows.{tables_after_change, tables_after_delta
 ghost use Rattle.thes_base.specs.Labels.{Label};
 ghost use Rattle.thes_store.specs.Covers.{IndexesByPlace, IndexesByPlaceThroughout};
 ghost use Rattle.thes_store.specs.Numbers.{owner_of, is_same_label};
-ghost use Rattle.thes_store.specs.RowsAtPositions.{rows_after_change_at, rows_after_changes_at};
-ghost use Rattle.thes_store.specs.Room.{tables_in_memory, AllIndexed, HasRoomForRows};
-ghost use Rattle.thes_store.specs.Slots.{rows_in, AreIndexedBy, IsReady};
+ghost use Rattle.thes_store.specs.RowsAtPositions.{rows_after_change_at, rows_after_changes_at, KeepsRoom};
+ghost use Rattle.thes_store.specs.Room.{tables_in_memory, AllIndexed, HasRoomForRows, IsReadyForChanges};
+ghost use Rattle.thes_store.specs.Slots.{AreIndexedBy, IsReady, AppendsRow, RemovesRow};
 
 use crate::added_row::make_room;
 use crate::index::Index;
@@ -78,14 +77,12 @@ impl MemTables {
 
     /// Applies a change. `standing` is an index of the postings by place, as they are before the change.
     pub fn apply_change(&mut self, change: Change, standing: &Index)
-        requires room { HasRoomForRows (change ∷ []) self.old }
-        requires found { AllIndexed self.old }
+        requires ready { IsReadyForChanges (change ∷ []) self.old }
         requires standing { IndexesByPlace standing.now self.old.posting.items }
         ensures tables { tables_in_memory self.new ≡ tables_after_change change
             (tables_in_memory self.old) }
-        ensures found { AllIndexed self.new }
-        ensures room { (rest : List Change) → HasRoomForRows (change ∷ rest) self.old
-            → HasRoomForRows rest self.new }
+        ensures ready { (rest : List Change) → IsReadyForChanges (change ∷ rest) self.old
+            → IsReadyForChanges rest self.new }
     {
         match change {
             Change::AddResource(_, resource) => self.resource.push_reserved(resource),
@@ -113,8 +110,7 @@ impl MemTables {
     /// Applies changes in order. `standing` is an index that has each posting under its place before each of the
     /// changes.
     pub fn apply_changes(&mut self, changes: Vec<Change>, standing: &Index)
-        requires room { HasRoomForRows changes.items self.old }
-        requires found { AllIndexed self.old }
+        requires ready { IsReadyForChanges changes.items self.old }
         requires standing { IndexesByPlaceThroughout
             standing.now changes.items (tables_in_memory self.old) }
         ensures tables { tables_in_memory self.new
@@ -131,12 +127,8 @@ impl MemTables {
 fn push_label(labels: &mut Slots<PackedLabel>, copies: &mut VecDeque<PackedLabel>, row: LabelRow)
     requires next { (rest : List Label) × (copies.old.items ≡ row ∷ rest) }
     requires ready { IsReady owner_of labels.old (row ∷ []) }
-    ensures rows { rows_in labels.new ≡ rows_in labels.old ++ row ∷ [] }
-    ensures found { AreIndexedBy owner_of labels.old → AreIndexedBy owner_of labels.new }
-    ensures ready { (rest : List Label) → IsReady owner_of labels.old (row ∷ rest)
-        → IsReady owner_of labels.new rest }
-    ensures copies { (rest : List Label) → copies.old.items ≡ row ∷ rest
-        → copies.new.items ≡ rest }
+    ensures appends { AppendsRow owner_of row labels.old labels.new }
+    ensures copies { copies.old.items ≡ row ∷ copies.new.items }
 {
     if let Some(copy) = copies.pop_front() {
         labels.push(copy);
@@ -147,14 +139,9 @@ fn push_label(labels: &mut Slots<PackedLabel>, copies: &mut VecDeque<PackedLabel
 // Removes the rows of a label, of which the next copy is taken.
 fn remove_label(labels: &mut Slots<PackedLabel>, copies: &mut VecDeque<PackedLabel>, row: LabelRow)
     requires next { (rest : List Label) × (copies.old.items ≡ row ∷ rest) }
-    requires found { AreIndexedBy owner_of labels.old }
-    ensures rows { rows_in labels.new
-        ≡ filter (λ x. not (is_same_label x row)) (rows_in labels.old) }
-    ensures found { AreIndexedBy owner_of labels.new }
-    ensures ready { (rest : List Label) → IsReady owner_of labels.old rest
-        → IsReady owner_of labels.new rest }
-    ensures copies { (rest : List Label) → copies.old.items ≡ row ∷ rest
-        → copies.new.items ≡ rest }
+    requires index { AreIndexedBy owner_of labels.old }
+    ensures removes { RemovesRow owner_of is_same_label row labels.old labels.new }
+    ensures copies { copies.old.items ≡ row ∷ copies.new.items }
 {
     if let Some(copy) = copies.pop_front() {
         labels.remove(&copy);
@@ -165,8 +152,7 @@ fn remove_label(labels: &mut Slots<PackedLabel>, copies: &mut VecDeque<PackedLab
 // Marks a resource as dead, with its replacement if it was merged.
 fn mark_dead(resources: &mut Vec<Resource>, n: ResNo, replaced: Option<ResNo>)
     ensures items { resources.new.items ≡ resources_after_death n replaced resources.old.items }
-    ensures len { vec_len resources.new ≡ vec_len resources.old }
-    ensures capacity { vec_capacity resources.new ≡ vec_capacity resources.old }
+    ensures room { KeepsRoom resources.old resources.new }
 {
     if let Some(resource) = resources.get_mut(n.get() as usize - 1) {
         resource.live = false;
@@ -177,8 +163,7 @@ fn mark_dead(resources: &mut Vec<Resource>, n: ResNo, replaced: Option<ResNo>)
 // Marks the posting with the number as withdrawn.
 fn withdraw(postings: &mut Vec<PostingRow>, n: PostNo)
     ensures items { postings.new.items ≡ with_posting row_after_withdrawal n postings.old.items }
-    ensures len { vec_len postings.new ≡ vec_len postings.old }
-    ensures capacity { vec_capacity postings.new ≡ vec_capacity postings.old }
+    ensures room { KeepsRoom postings.old postings.new }
 {
     if let Some(row) = postings.get_mut(n.get() as usize - 1) {
         row.withdrawn = true;
@@ -188,8 +173,7 @@ fn withdraw(postings: &mut Vec<PostingRow>, n: PostNo)
 // Assigns the posting with the number to the concept `place`.
 fn set_place(postings: &mut Vec<PostingRow>, n: PostNo, place: ResNo)
     ensures items { postings.new.items ≡ with_posting (row_at_place place) n postings.old.items }
-    ensures len { vec_len postings.new ≡ vec_len postings.old }
-    ensures capacity { vec_capacity postings.new ≡ vec_capacity postings.old }
+    ensures room { KeepsRoom postings.old postings.new }
 {
     if let Some(row) = postings.get_mut(n.get() as usize - 1) {
         row.place = place;
@@ -209,8 +193,7 @@ fn move_row(row: &mut PostingRow, source: ResNo, target: ResNo)
 fn move_posting_at(postings: &mut Vec<PostingRow>, place: usize, source: ResNo, target: ResNo)
     ensures items { postings.new.items
         ≡ rows_after_change_at (row_after_move_all source target) place postings.old.items }
-    ensures len { vec_len postings.new ≡ vec_len postings.old }
-    ensures capacity { vec_capacity postings.new ≡ vec_capacity postings.old }
+    ensures room { KeepsRoom postings.old postings.new }
 {
     if let Some(row) = postings.get_mut(place) {
         move_row(row, source, target);
@@ -227,8 +210,7 @@ fn move_at_positions(
     ensures items { postings.new.items
         ≡ rows_after_changes_at (row_after_move_all source target) places.now.keys
         postings.old.items }
-    ensures len { vec_len postings.new ≡ vec_len postings.old }
-    ensures capacity { vec_capacity postings.new ≡ vec_capacity postings.old }
+    ensures room { KeepsRoom postings.old postings.new }
 {
     for place in places.iter() {
         move_posting_at(postings, *place, source, target);
@@ -240,8 +222,7 @@ fn move_at_positions(
 fn move_all(postings: &mut Vec<PostingRow>, standing: &Index, source: ResNo, target: ResNo)
     requires { IndexesByPlace standing.now postings.old.items }
     ensures items { postings.new.items ≡ map (row_after_move_all source target) postings.old.items }
-    ensures len { vec_len postings.new ≡ vec_len postings.old }
-    ensures capacity { vec_capacity postings.new ≡ vec_capacity postings.old }
+    ensures room { KeepsRoom postings.old postings.new }
 {
     if let Some(places) = standing.set(source.get()) {
         move_at_positions(postings, places, source, target);

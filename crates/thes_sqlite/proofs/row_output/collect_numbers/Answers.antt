@@ -10,13 +10,16 @@ use Rattle.thes_sqlite.proofs.RowStreamLemmas.{Streams, streams_begin, streams_n
 use Rattle.thes_sqlite.proofs.TableStreamLemmas.{IsNumberRow, AppendsNumber, numbers_wanted, numbers_appended}
 use Rattle.thes_sqlite.proofs.row_output.collect_numbers.Goals as goal
 
-pub returns-in-Err-clause-leaves : goal.returns-in-Err-clause-leaves
-returns-in-Err-clause-leaves g c =
+pub returns-in-Err-clause-frame : goal.returns-in-Err-clause-frame
+returns-in-Err-clause-frame g c =
     let h = rw (c.in-Err.is, c.assigned_numbers_query.ensures, c.params-to_sql.ensures, c.get.ensures.value) at
     c.query.follows.holds-at-none in
-    (leaves_alone g.S.Store assigned_numbers_text (Int (pos c.args.concept) ∷ []) c.args.conn.now
-    c.query.follows.lender-at-none {V = List Row} (Err c.in-Err.error) (λ rows. rows) standing_numbers_is_query
-    (λ clean. tt) h.mode h.err h.survives).tables
+    record {
+      tables = (leaves_alone g.S.Store assigned_numbers_text (Int (pos c.args.concept) ∷ []) c.args.conn.now
+          c.query.follows.lender-at-none {V = List Row} (Err c.in-Err.error) (λ rows. rows) standing_numbers_is_query
+          (λ clean. tt) h.mode h.err h.survives).tables;
+      fault = c.fault_of.ensures.kind;
+    }
 
 pub numbers-init : goal.numbers-init
 numbers-init g c =

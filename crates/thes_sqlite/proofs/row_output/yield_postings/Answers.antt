@@ -18,13 +18,16 @@ returns-in-Err-clause-yields g c = λ clean t keeps.
     none_accepted g.P.PostingSink.gives (assigned_posting_rows c.args.concept t.posting) c.fault_of.result
     c.args.sink.now
 
-pub returns-in-Err-clause-leaves : goal.returns-in-Err-clause-leaves
-returns-in-Err-clause-leaves g c =
+pub returns-in-Err-clause-frame : goal.returns-in-Err-clause-frame
+returns-in-Err-clause-frame g c =
     let h = rw (c.in-Err.is, c.assigned_query.ensures, c.params-to_sql.ensures, c.get.ensures.value) at
     c.query.follows.holds-at-none in
-    (leaves_alone g.S.Store assigned_text (Int (pos c.args.concept) ∷ []) c.args.conn.now
-    c.query.follows.lender-at-none {V = List Row} (Err c.in-Err.error) (λ rows. rows) standing_is_query (λ clean. tt)
-    h.mode h.err h.survives).tables
+    record {
+      tables = (leaves_alone g.S.Store assigned_text (Int (pos c.args.concept) ∷ []) c.args.conn.now
+          c.query.follows.lender-at-none {V = List Row} (Err c.in-Err.error) (λ rows. rows) standing_is_query
+          (λ clean. tt) h.mode h.err h.survives).tables;
+      fault = c.fault_of.ensures.kind;
+    }
 
 pub postings-init : goal.postings-init
 postings-init g c =

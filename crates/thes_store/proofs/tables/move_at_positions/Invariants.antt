@@ -1,12 +1,9 @@
 use Rattle.std.proofs.Common.{◌≡◌, map}
-use Rattle.std.specs.Prelude.{vec_len}
-use Rattle.std.specs.Vec.{vec_capacity}
 use Rattle.thes_tables.specs.Rows.{row_after_move_all}
-use Rattle.thes_store.specs.RowsAtPositions.{rows_after_changes_at}
+use Rattle.thes_store.specs.RowsAtPositions.{rows_after_changes_at, KeepsRoom}
 use Rattle.thes_store.proofs.tables.move_at_positions.Given as goal
 
 abbrev pub invariant-loop-place : goal.invariant-loop-place
 invariant-loop-place l =
     (l.postings.items ≡ rows_after_changes_at (row_after_move_all l.source l.target)
-    (map (λ place. place.now) l.yielded) l.fn.postings.items) × (vec_len l.postings ≡ vec_len l.fn.postings)
-    × (vec_capacity l.postings ≡ vec_capacity l.fn.postings)
+    (map (λ place. place.now) l.yielded) l.fn.postings.items) × KeepsRoom l.fn.postings l.postings

@@ -1,4 +1,5 @@
-use Rattle.std.proofs.Common.{ap}
+use Rattle.std.proofs.lemmas.Grind.{common_steps}
+use Rattle.std.proofs.Common.{arith, ap}
 use Rattle.thes_sqlite.specs.KeeperView.{KeeperView}
 use Rattle.thes_sqlite.proofs.KeeperLemmas.{is_done, is_either, frame_of_success, frame_of_fault}
 use Rattle.thes_sqlite.proofs.keeper.SqlKeeper.commit_changes.Goals as goal
@@ -14,27 +15,34 @@ returns-in-Ok-clause-ok g c = λ up.
     c.commit_all.ensures.crash (λ h. g.met.S.Store.settled h.store) c.in-Ok.ensures.own c.in-Ok.ensures.all).ok
     up.0 up.1
 
-pub returns-in-Ok-clause-durable : goal.returns-in-Ok-clause-durable
-returns-in-Ok-clause-durable g c =
-    (is_done g.S.Store _ _ c.self.view_is c.commit_all.new.conn c.args.changes.now c.self.invariant c.requires
-    c.commit_all.ensures.crash (λ h. g.met.S.Store.settled h.store) c.in-Ok.ensures.own c.in-Ok.ensures.all).durable
-
 pub returns-in-Ok-clause-crash : goal.returns-in-Ok-clause-crash
-returns-in-Ok-clause-crash g c =
-    is_either g.S.Store _ _ c.self.view_is c.commit_all.new.conn c.args.changes.now c.self.invariant c.requires
-    c.commit_all.ensures.crash (λ h. g.met.S.Store.settled h.store)
+returns-in-Ok-clause-crash g c = record {
+  atomicity = is_either g.S.Store _ _ c.self.view_is c.commit_all.new.conn c.args.changes.now c.self.invariant
+      c.requires c.commit_all.ensures.crash (λ h. g.met.S.Store.settled h.store);
+  durability = (is_done g.S.Store _ _ c.self.view_is c.commit_all.new.conn c.args.changes.now c.self.invariant
+      c.requires c.commit_all.ensures.crash (λ h. g.met.S.Store.settled h.store) c.in-Ok.ensures.own
+      c.in-Ok.ensures.all).durable;
+}
 
 pub returns-in-Err-clause-crash : goal.returns-in-Err-clause-crash
-returns-in-Err-clause-crash g c =
-    is_either g.S.Store _ _ c.self.view_is c.commit_all.new.conn c.args.changes.now c.self.invariant c.requires
-    c.commit_all.ensures.crash (λ h. g.met.S.Store.settled h.store)
+returns-in-Err-clause-crash g c = record {
+  atomicity = is_either g.S.Store _ _ c.self.view_is c.commit_all.new.conn c.args.changes.now c.self.invariant
+      c.requires c.commit_all.ensures.crash (λ h. g.met.S.Store.settled h.store);
+  durability = tt;
+}
 
 pub returns-in-Ok-clause-frame : goal.returns-in-Ok-clause-frame
-returns-in-Ok-clause-frame g c = frame_of_success g.S.Store _ _ c.commit_all.new.conn
-    (ap (λ (k : KeeperView _). k.conn) c.self.view_is) c.self.invariant.autocommit c.commit_all.ensures.crash
-    c.commit_all.ensures.own _
+returns-in-Ok-clause-frame g c = record {
+  storage = grind (arith, common_steps);
+  database = frame_of_success g.S.Store _ _ c.commit_all.new.conn (ap (λ (k : KeeperView _). k.conn) c.self.view_is)
+      c.self.invariant.autocommit c.commit_all.ensures.crash c.commit_all.ensures.own _;
+  first = ap (λ (k : KeeperView _). k.first) c.self.view_is;
+}
 
 pub returns-in-Err-clause-frame : goal.returns-in-Err-clause-frame
-returns-in-Err-clause-frame g c = frame_of_fault g.S.Store _ _ c.commit_all.new.conn
-    (ap (λ (k : KeeperView _). k.conn) c.self.view_is) c.self.invariant.autocommit c.commit_all.ensures.crash
-    c.commit_all.ensures.own c.in-Err.error _ c.in-Err.is
+returns-in-Err-clause-frame g c = record {
+  storage = grind (arith, common_steps);
+  database = frame_of_fault g.S.Store _ _ c.commit_all.new.conn (ap (λ (k : KeeperView _). k.conn) c.self.view_is)
+      c.self.invariant.autocommit c.commit_all.ensures.crash c.commit_all.ensures.own c.in-Err.error _ c.in-Err.is;
+  first = ap (λ (k : KeeperView _). k.first) c.self.view_is;
+}

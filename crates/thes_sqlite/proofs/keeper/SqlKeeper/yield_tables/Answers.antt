@@ -1,4 +1,4 @@
-use Rattle.std.proofs.Common.{◌∙◌, List, get_or, subst, refl, rules}
+use Rattle.std.proofs.Common.{List, get_or, subst, refl, rules}
 use Rattle.std.proofs.lemmas.List.{take_all}
 use Rattle.thes_base.specs.declared.fault.Table.{Table}
 use Rattle.thes_base.specs.declared.fault.Table.TheVariants as table
@@ -26,8 +26,7 @@ loop-name-preserved g c =
     let name = get_or c.args.names.now c.loop-name.name-index table.Meta in (
       load_progress_next _ _ c.args.names.now c.loop-name.name-index name _ _ c.yield_table.new.self _ _
           c.yield_table.new.sink c.yield_table.result c.loop-name-test.true (search rules) c.loop-name.invariant.0
-          c.yield_table.ensures.yields c.yield_table.ensures.asks c.yield_table.ensures.first
-          c.in_default.field-0 c.in_default.is,
+          c.yield_table.ensures.yields c.yield_table.ensures.frame c.in_default.field-0 c.in_default.is,
       found_next _ _ c.args.names.now c.loop-name.name-index name _ _ c.yield_table.new.self.conn _ _
           c.yield_table.new.sink c.loop-name-test.true (search rules) c.loop-name.invariant.1
           c.yield_table.ensures.leaves (rw c.in_default.is at c.yield_table.ensures.passes),
@@ -38,24 +37,20 @@ returns-in-Err-clause-yields g c =
     let name = get_or c.args.names.now c.loop-name.name-index table.Meta in
     (load_progress_fault _ _ c.args.names.now c.loop-name.name-index name _ _ c.yield_table.new.self _ _
     c.yield_table.new.sink c.yield_table.result c.loop-name-test.true (search rules) c.loop-name.invariant.0
-    c.yield_table.ensures.yields c.yield_table.ensures.asks c.yield_table.ensures.first c.in-Err.fault c.in-Err.is).0
+    c.yield_table.ensures.yields c.yield_table.ensures.frame c.in-Err.fault c.in-Err.is).0
 
-pub returns-in-Err-clause-asks : goal.returns-in-Err-clause-asks
-returns-in-Err-clause-asks g c =
+pub returns-in-Err-clause-frame : goal.returns-in-Err-clause-frame
+returns-in-Err-clause-frame g c =
     let name = get_or c.args.names.now c.loop-name.name-index table.Meta in
     (load_progress_fault _ _ c.args.names.now c.loop-name.name-index name _ _ c.yield_table.new.self _ _
     c.yield_table.new.sink c.yield_table.result c.loop-name-test.true (search rules) c.loop-name.invariant.0
-    c.yield_table.ensures.yields c.yield_table.ensures.asks c.yield_table.ensures.first c.in-Err.fault c.in-Err.is).1
+    c.yield_table.ensures.yields c.yield_table.ensures.frame c.in-Err.fault c.in-Err.is).1
 
-pub returns-in-Err-clause-first : goal.returns-in-Err-clause-first
-returns-in-Err-clause-first g c = c.yield_table.ensures.first ∙ c.loop-name.invariant.0.first
-
-pub returns-clause-asks : goal.returns-clause-asks
-returns-clause-asks g c = let keeps = c.loop-name.invariant.0.keeps in
-    record { same = keeps.same; was = keeps.was; cause = keeps.count }
-
-pub returns-clause-first : goal.returns-clause-first
-returns-clause-first g c = c.loop-name.invariant.0.first
+pub returns-clause-frame : goal.returns-clause-frame
+returns-clause-frame g c = let keeps = c.loop-name.invariant.0.keeps in record {
+  storage = record { same = keeps.same; was = keeps.was; cause = keeps.count };
+  first = c.loop-name.invariant.0.first;
+}
 
 pub returns-clause-yields : goal.returns-clause-yields
 returns-clause-yields g c = λ up. subst (λ (l : List Table). SinkAcceptsAll g.R.RowSink.gives c.args.sink.now

@@ -1,11 +1,9 @@
-use Rattle.std.proofs.Common.{List, OnOk, subst}
-use Rattle.sqlite.specs.Held.{state}
+use Rattle.std.proofs.Common.{List, subst}
 use Rattle.thes_tables.specs.declared.change.Change.{Change}
-use Rattle.thes_sqlite.specs.KeeperView.{IsStore, LeavesAfter}
+use Rattle.thes_sqlite.specs.Commits.{IsCrashSafe}
 use Rattle.thes_sqlite.proofs.keeper.SqlKeeperKeeper.commit.Goals as goal
 
-pub returns-clause-durable : goal.returns-clause-durable
-returns-clause-durable g c =
-    subst (λ (changes : List Change). OnOk c.commit_changes.result (IsStore (state g.S.Store c.args.self.now.first)
-    → LeavesAfter changes (state g.S.Store c.args.self.now.conn) (state g.S.Store c.commit_changes.new.self.conn)))
-    c.as_slice.ensures c.commit_changes.ensures.durable
+pub returns-clause-crash : goal.returns-clause-crash
+returns-clause-crash g c =
+    subst (λ (changes : List Change). IsCrashSafe g.S.Store changes c.args.self.now c.commit_changes.new.self
+    c.commit_changes.result) c.as_slice.ensures c.commit_changes.ensures.crash

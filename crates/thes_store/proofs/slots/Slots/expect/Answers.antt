@@ -18,19 +18,21 @@ loop-change-preserved g c =
     let place = so_far.place in
     let least = so_far.least in
     let len : vec_len c.loop-change.self.rows ≡ vec_len c.args.self.now.rows =
-    same_len c.args.self.now c.loop-change.self so_far.rows in
+    same_len c.args.self.now c.loop-change.self so_far.keeps.rows in
     let at : c.loop-change.place ≡ vec_len c.loop-change.self.rows
     + length (rows_added_by added_row (take i c.args.changes.now)) = omega (arith, place, len) in
     record {
-      rows = c.expect_one.ensures.rows ∙ so_far.rows;
+      keeps = record {
+        rows = c.expect_one.ensures.keeps.rows ∙ so_far.keeps.rows;
+        places = λ n p h. c.expect_one.ensures.keeps.places n p (so_far.keeps.places n p h);
+      };
       place = omega (arith, more, next, place);
       least = omega (arith, next, least, one);
-      keeps = λ n p h. c.expect_one.ensures.keeps n p (so_far.keeps n p h);
       expected = subst (AreExpected g.T.IndexedRow.number_of c.expect_one.new.self)
           (sym (more_added added_row c.args.changes.now i change c.loop-change-test.true c.change-item.is))
           (expected_more g.T.IndexedRow.number_of c.loop-change.self c.expect_one.new.self
           (rows_added_by added_row (take i c.args.changes.now)) (added_row change) so_far.expected
-          c.expect_one.ensures.keeps c.expect_one.ensures.rows
+          c.expect_one.ensures.keeps.places c.expect_one.ensures.keeps.rows
           (λ row e. subst (HasPlace c.expect_one.new.self.places (g.T.IndexedRow.number_of row))
           at (c.in_ok-place.ensures.ok row e)));
     }

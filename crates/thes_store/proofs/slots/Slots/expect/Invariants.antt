@@ -1,17 +1,15 @@
 use Rattle.std.proofs.Common.{◌≡◌, ◌≤◌, ◌+◌, length, take}
 use Rattle.std.specs.Prelude.{vec_len}
 use Rattle.thes_store.specs.AddedRow.{rows_added_by}
-use Rattle.thes_store.specs.Places.{KeepsPlaces}
-use Rattle.thes_store.specs.Slots.{AreExpected}
+use Rattle.thes_store.specs.Slots.{AreExpected, GrowsIndex}
 use Rattle.thes_store.proofs.slots.Slots.expect.Given as goal
 
 abbrev pub invariant-loop-change : goal.invariant-loop-change
 invariant-loop-change g l = record {
-  rows : l.self.rows ≡ l.fn.self.rows;
+  keeps : GrowsIndex l.fn.self l.self;
   place : l.place ≡ vec_len l.fn.self.rows
       + length (rows_added_by g.T.AddedRow.added_row (take l.change-index l.changes));
   least : l.place ≤ vec_len l.fn.self.rows + l.change-index;
-  keeps : KeepsPlaces l.fn.self.places l.self.places;
   expected : AreExpected g.T.IndexedRow.number_of l.self
       (rows_added_by g.T.AddedRow.added_row (take l.change-index l.changes));
 }

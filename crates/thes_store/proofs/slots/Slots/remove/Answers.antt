@@ -15,10 +15,14 @@ removing-preserved g c = record {
       c.empty.ensures.places c.removing.invariant.found;
   ready = λ rest ready. ready_emptied g.T.IndexedRow.number_of c.removing.self c.empty.new.self c.in-Some.place rest
       (place_in_bounds g.T.IndexedRow.same c.args.row.now c.removing.self c.empty.new.self c.in-Some.place
-      c.in-Some.ensures.some c.empty.ensures.rows) c.empty.ensures.len c.empty.ensures.capacity c.empty.ensures.places
+      c.in-Some.ensures.some c.empty.ensures.rows) c.empty.ensures.room c.empty.ensures.places
       (c.removing.invariant.ready rest ready);
 }
 
-pub returns-clause-rows : goal.returns-clause-rows
-returns-clause-rows g c = none_left g.T.IndexedRow.same c.args.row.now c.removing.self
-    (c.in_default.ensures.none c.removing.invariant.found) ∙ c.removing.invariant.rows
+pub returns : goal.returns
+returns g c = record {
+  rows = none_left g.T.IndexedRow.same c.args.row.now c.removing.self
+      (c.in_default.ensures.none c.removing.invariant.found) ∙ c.removing.invariant.rows;
+  index = c.removing.invariant.found;
+  room = c.removing.invariant.ready;
+}

@@ -8,8 +8,8 @@ use Rattle.thes_tables.specs.Tables.{Tables}
 use Rattle.thes_tables.specs.Rows.{tables_after_change, tables_after_delta}
 use Rattle.thes_tables.proofs.DeltaAppendLemmas.{all_append}
 use Rattle.thes_store.specs.Covers.{IndexesByPlace}
-use Rattle.thes_store.specs.Room.{tables_in_memory, HasRoomForRows}
-use Rattle.thes_store.proofs.RoomLemmas.{drop_none, drop_next, room_first}
+use Rattle.thes_store.specs.Room.{tables_in_memory, IsReadyForChanges}
+use Rattle.thes_store.proofs.RoomLemmas.{drop_none, ready_next, room_first}
 use Rattle.thes_store.proofs.tables.MemTables.apply_changes.Goals as goal
 
 pub loop-change-init : goal.loop-change-init
@@ -27,8 +27,8 @@ apply_change-requires-clause-standing c =
     (ap (λ (l : List Change). tables_after_delta l (tables_in_memory c.args.self.now)) first
     ∙ sym c.loop-change.invariant.tables) (c.requires.standing (length done))
 
-pub apply_change-requires-clause-room : goal.apply_change-requires-clause-room
-apply_change-requires-clause-room c =
+pub apply_change-requires-clause-ready : goal.apply_change-requires-clause-ready
+apply_change-requires-clause-ready c =
     let done = c.loop-change.yielded in
     let change = c.in-Some.change in
     let all = c.args.changes.items in
@@ -36,12 +36,8 @@ apply_change-requires-clause-room c =
     let t = YieldsList-turn (YieldsList-from_vec {s = c.into_iter-change-iterator.result} all given.0
     (given.1 ∙ c.args.changes.ok.0)) done c.loop-change.change-iterator c.loop-change.yielded_by c.next.result
     c.next.new.self change c.in-Some.is c.next.ensures.steps in
-    room_first c.loop-change.self change (drop (length done + 1) all)
-    (subst (λ l. HasRoomForRows l c.loop-change.self) (drop_next all (length done) change t.0 t.1)
-    c.loop-change.invariant.room)
-
-pub apply_change-requires-clause-found : goal.apply_change-requires-clause-found
-apply_change-requires-clause-found c = c.loop-change.invariant.found
+    let ready = ready_next c.loop-change.self all (length done) change t.0 t.1 c.loop-change.invariant.ready in
+    record { room = room_first c.loop-change.self change (drop (length done + 1) all) ready.room; index = ready.index }
 
 pub loop-change-preserved : goal.loop-change-preserved
 loop-change-preserved c =
@@ -53,12 +49,10 @@ loop-change-preserved c =
     (given.1 ∙ c.args.changes.ok.0)) done c.loop-change.change-iterator c.loop-change.yielded_by c.next.result
     c.next.new.self change c.in-Some.is c.next.ensures.steps in
     let e : length (done ++ change ∷ []) ≡ length done + 1 = length-append done (change ∷ []) in
-    let rest = c.apply_change.ensures.room (drop (length done + 1) all)
-    (subst (λ l. HasRoomForRows l c.loop-change.self)
-    (drop_next all (length done) change t.0 t.1) c.loop-change.invariant.room) in
+    let rest = c.apply_change.ensures.ready (drop (length done + 1) all)
+    (ready_next c.loop-change.self all (length done) change t.0 t.1 c.loop-change.invariant.ready) in
     record {
       tables = c.apply_change.ensures.tables ∙ ap (tables_after_change change) c.loop-change.invariant.tables
           ∙ sym (all_append done (change ∷ []) (tables_in_memory c.args.self.now));
-      room = subst (λ n. HasRoomForRows (drop n all) c.apply_change.new.self) (sym e) rest;
-      found = c.apply_change.ensures.found;
+      ready = subst (λ n. IsReadyForChanges (drop n all) c.apply_change.new.self) (sym e) rest;
     }
