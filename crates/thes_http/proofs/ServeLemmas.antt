@@ -5,7 +5,9 @@ use Rattle.std.proofs.lemmas.List.{length-take, take-append-drop, drop-append-le
 use Rattle.std.specs.Io.KnownBytes.{Consumes}
 use Rattle.httparse.specs.Grammar.{RequestHead, print_request}
 use Rattle.std.proofs.KnownBytes.{Consumes-trans}
+use Rattle.thes_base.specs.Pipe.{unread_bytes, PaysCalls}
 use Rattle.thes_base.specs.declared.fault.Fault.TheVariants.{OutOfMemory}
+use Rattle.thes_base.specs.declared.pipe.Pipe.{Pipe}
 use Rattle.thes_http_request.specs.declared.problem.Problem.{Problem}
 use Rattle.thes_http_request.specs.declared.problem.Problem.TheVariants.{BadHead}
 use Rattle.thes_http.specs.declared.response.Response.{Response}
@@ -15,7 +17,7 @@ use Rattle.thes_http_request.specs.HeadRequests.{HeadRequest}
 use Rattle.thes_http.specs.Responses.{problem_response, fault_response}
 use Rattle.thes_http.specs.ServiceBehaviour.{ServiceBehaviour}
 use Rattle.thes_http.specs.Serving.{EndpointEffectOrFailure}
-use Rattle.thes_http.specs.Connection.{IsConnectionAnswer, IsCutOff}
+use Rattle.thes_http.specs.Connection.{IsConnectionAnswer, IsCutOff, RequestOutcome}
 
 -- A head at the beginning of bytes remains one when more bytes follow.
 pub has_more : (bytes : List ℕ) (h : RequestHead) (rest more : List ℕ) → HasHead bytes h rest
@@ -128,3 +130,12 @@ pub cut_all : (known mid left : Option (List ℕ)) (bytes front start : List ℕ
 cut_all known mid left bytes front start len w t e l a s c =
     cut_body known mid left bytes (drop len bytes) w t (head_outcome_front bytes front len (Ok w) e l a)
     (subst (λ (x : List ℕ). CutsBody mid left x w.body) s c)
+
+-- A response is the outcome of a request.
+pub outcome_of_answer : {R S : Type 0} {remaining : R → Option (List ℕ)} {d : ServiceBehaviour S} {reader reader' : Pipe R}
+    {before after : ℕ} {old new : S} {response : Response}
+    → IsConnectionAnswer d (unread_bytes remaining reader) (unread_bytes remaining reader') old response new
+    → PaysCalls reader reader' before after
+    → RequestOutcome remaining d reader reader' before after old new (Ok response)
+outcome_of_answer answer calls =
+    record { answer = answer; cut = λ h. absurd (cc); fault = λ h. absurd (cc); same = tt; calls = calls }

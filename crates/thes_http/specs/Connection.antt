@@ -1,9 +1,12 @@
 -- The outcome of one connection: the bytes consumed, the response, and the bytes written.
-use Rattle.std.specs.Prelude.{ℕ, ◌≡◌, true, List, Option}
+use Rattle.std.specs.Prelude.{ℕ, ◌≡◌, true, List, Option, Result, IfOk, OnErr, IsErrOf}
 use Rattle.std.specs.Io.KnownBytes.{Consumes, IsAtEnd}
-use Rattle.thes_base.specs.Pipe.{ended_of, unread_bytes}
+use Rattle.thes_base.specs.Pipe.{ended_of, unread_bytes, PaysCalls}
+use Rattle.thes_base.specs.declared.pipe.Pipe.{Pipe}
 use Rattle.thes_requests.specs.Script.{Session}
 use Rattle.thes_http_request.specs.Inbox.{HasStopped}
+use Rattle.thes_http_request.specs.declared.inbox.InputFault.{InputFault}
+use Rattle.thes_http_request.specs.declared.inbox.InputFault.TheVariants as input_fault
 use Rattle.thes_http.specs.declared.response.Status.{Status}
 use Rattle.thes_http.specs.declared.response.Response.{Response}
 use Rattle.thes_http.specs.declared.serve.ConnectionEnd.{ConnectionEnd}
@@ -25,6 +28,18 @@ pub record IsCutOff (known left : Option (List ℕ)) : Type 0 where
   pub taken : Consumes known left bytes
   pub at_end : IsAtEnd left
   pub cut : IsCutRequest bytes
+
+-- The outcome of a request, before anything is written: the response to it; or nothing was performed, since the input
+-- has ended within the request, or the reader has stopped. The budget falls by the number of reads.
+pub record RequestOutcome {R S : Type 0} (remaining : R → Option (List ℕ)) (d : ServiceBehaviour S)
+    (reader reader' : Pipe R) (before after : ℕ) (old new : S) (result : Result Response InputFault) : Type 0 where
+  pub answer : IfOk result (λ response.
+      IsConnectionAnswer d (unread_bytes remaining reader) (unread_bytes remaining reader') old response new)
+  pub cut : IsErrOf result input_fault.Cut
+      → IsCutOff (unread_bytes remaining reader) (unread_bytes remaining reader') × (ended_of reader' ≡ true)
+  pub fault : IsErrOf result input_fault.ReadFault → HasStopped reader'
+  pub same : OnErr result (new ≡ old)
+  pub calls : PaysCalls reader reader' before after
 
 -- Nothing was performed or written.
 abbrev pub IsUntouched : {R W S : Type 0} → Session R W S → Session R W S → Type 0

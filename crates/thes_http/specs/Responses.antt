@@ -1,10 +1,12 @@
 -- Responses, each with a status, a media type and a body, and their bytes.
-use Rattle.std.specs.Prelude.{ℕ, ◌++◌, [], List, Option, unwrap_or, length, codes, decimal, Result, Ok, Err}
+use Rattle.std.specs.Prelude.{ℕ, ◌++◌, [], List, Option, unwrap_or, length, codes, decimal, Result, Ok, Err, OnOk, OnErr}
 use Rattle.std.specs.Io.KnownBytes.{Appends}
 use Rattle.thes_base.specs.declared.fault.Fault.{Fault}
 use Rattle.thes_base.specs.declared.fault.FormFault.{FormFault}
 use Rattle.thes_base.specs.declared.pipe.Pipe.{Pipe}
+use Rattle.thes_base.specs.declared.pipe.Stop.{Stop}
 use Rattle.thes_base.specs.Pipe.{AppendsPrefix, written_bytes}
+use Rattle.thes_base.specs.PipeFrames.{WriteFrame}
 use Rattle.thes_base.specs.declared.request.Answer.{Answer}
 use Rattle.thes_base.specs.declared.request.Answer.TheVariants.{No}
 use Rattle.thes_requests.specs.declared.answer.Reply.{Reply}
@@ -125,6 +127,13 @@ WritesResponse contents r old new = Appends (written_bytes contents old) (writte
 abbrev pub WritesPrefix : {W : Type 0} → (W → Option (List ℕ)) → Response → Pipe W → Pipe W → Type 0
 WritesPrefix contents r old new = AppendsPrefix (written_bytes contents old) (written_bytes contents new)
     (response_text r)
+
+-- The outcome of writing a response: all of it was written, or a prefix before the writer stopped.
+pub record ResponseWriteOutcome {W : Type 0} (contents : W → Option (List ℕ)) (r : Response) (old new : Pipe W)
+    (before after : ℕ) (result : Result (Unit {0}) Stop) : Type 0 where
+  pub whole : OnOk result (WritesResponse contents r old new)
+  pub part : OnErr result (WritesPrefix contents r old new)
+  pub frame : WriteFrame old new before after result
 
 -- A response whose body is a line of JSON.
 abbrev pub reply_response : Status → Reply → Response

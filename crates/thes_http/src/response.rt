@@ -1,8 +1,7 @@
 //! Responses, each with a status, a media type and a body, and their bytes.
-ghost use Rattle.std.specs.Prelude.{◌≡◌, ◌≤◌, false, length, OnOk, OnErr};
+ghost use Rattle.std.specs.Prelude.{◌≡◌, ◌≤◌, false, length};
 ghost use Rattle.thes_base.specs.Pipe.{failed_of};
-ghost use Rattle.thes_base.specs.PipeFrames.{WriteFrame};
-ghost use Rattle.thes_http.specs.Responses.{status_code, status_line, media_type, problem_text, problem_status, allow_line, allow_text, body_text, head_text, WritesPrefix, WritesResponse, reply_response, page_response, problem_response, form_response, fault_response, command_response, query_response, import_response, export_response, display_response};
+ghost use Rattle.thes_http.specs.Responses.{status_code, status_line, media_type, problem_text, problem_status, allow_line, allow_text, body_text, head_text, ResponseWriteOutcome, reply_response, page_response, problem_response, form_response, fault_response, command_response, query_response, import_response, export_response, display_response};
 
 use crate::head_text::HeadText;
 use crate::service::{DisplayAnswer, ImportAnswer, Page};
@@ -307,9 +306,8 @@ impl Response {
     ) -> Result<(), Stop>
         requires fresh { failed_of writer.old ≡ false }
         requires body { body.now ≡ body_text self.now.body }
-        ensures ok { OnOk result (WritesResponse W.contents self.now writer.old writer.new) }
-        ensures err { OnErr result (WritesPrefix W.contents self.now writer.old writer.new) }
-        ensures frame { WriteFrame writer.old writer.new budget.old budget.new result }
+        ensures { ResponseWriteOutcome W.contents self.now writer.old writer.new
+            budget.old budget.new result }
     {
         let head = self.head(body.len() as u64);
         let mut whole = ArrayVec::<u8, 512>::new();
@@ -325,9 +323,8 @@ impl Response {
     /// Writes the response; allocates nothing.
     pub fn write<W: Write>(&self, writer: &mut Pipe<W>, budget: &mut Budget) -> Result<(), Stop>
         requires { failed_of writer.old ≡ false }
-        ensures ok { OnOk result (WritesResponse W.contents self.now writer.old writer.new) }
-        ensures err { OnErr result (WritesPrefix W.contents self.now writer.old writer.new) }
-        ensures frame { WriteFrame writer.old writer.new budget.old budget.new result }
+        ensures { ResponseWriteOutcome W.contents self.now writer.old writer.new
+            budget.old budget.new result }
     {
         match &self.body {
             Body::Problem(problem) => self.write_with(

@@ -1,10 +1,8 @@
 //! Serves one connection.
-ghost use Rattle.std.specs.Prelude.{◌≡◌, ◌≤◌, ◌⊎◌, true, ℕ, List, length, drop, Ok, Err, IfOk, IfErr, OnOk, OnErr, IsErrOf};
-ghost use Rattle.std.specs.Io.KnownBytes.{Consumes, IsAtEnd};
-ghost use Rattle.thes_base.specs.Pipe.{failed_of, ended_of, denied_of, IsFresh, PaysCalls, KeepsSharedCallLimit, unread_bytes, written_bytes};
+ghost use Rattle.std.specs.Prelude.{◌≡◌, true};
+ghost use Rattle.thes_base.specs.Pipe.{IsFresh, KeepsSharedCallLimit};
 ghost use Rattle.thes_requests.specs.Script.{session, IsFreshSession};
-ghost use Rattle.thes_http_request.specs.Inbox.{HasStopped};
-ghost use Rattle.thes_http.specs.Connection.{IsConnectionAnswer, IsCutOff, EndsAs};
+ghost use Rattle.thes_http.specs.Connection.{RequestOutcome, EndsAs};
 
 use crate::act::act;
 use crate::response::{Response, Status};
@@ -44,15 +42,8 @@ fn answer<R: Read, S: Service>(
 ) -> Result<Response, InputFault>
     requires reader { IsFresh reader.old }
     requires open { S.is_open service.old ≡ true }
-    ensures answered { IfOk result (λ response.
-        IsConnectionAnswer S.behaviour (unread_bytes R.remaining reader.old)
-        (unread_bytes R.remaining reader.new) service.old response service.new) }
-    ensures cut { IsErrOf result InputFault.Cut →
-        IsCutOff (unread_bytes R.remaining reader.old) (unread_bytes R.remaining reader.new)
-        × (ended_of reader.new ≡ true) }
-    ensures fault { IsErrOf result InputFault.ReadFault → HasStopped reader.new }
-    ensures kept { OnErr result (service.new ≡ service.old) }
-    ensures paid { PaysCalls reader.old reader.new budget.old budget.new }
+    ensures { RequestOutcome R.remaining S.behaviour reader.old reader.new budget.old budget.new
+        service.old service.new result }
 {
     let (Some(routes), Ok(mut inbox)) = (routes, Inbox::new(alloc)) else {
         return Ok(Response::fault(Fault::OutOfMemory));

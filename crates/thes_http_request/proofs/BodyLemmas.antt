@@ -31,9 +31,9 @@ body_so_far_append old mid new start count body body' s l g h =
           all ∙ sym (take_all count (start ++ (s.more ++ g.more)) (subst (λ (t : List ℕ). length t ≤ count) all h));
     }
 
-pub consumes_some_then : (old mid new : Option (List ℕ)) (start : List ℕ) (count : ℕ) (body : List ℕ)
-    → BodySoFar old mid start count body → ConsumesSome mid new → ConsumesSome old new
-consumes_some_then old mid new start count body s t = grind (arith, common_steps, Consumes-trans)
+pub consumes_some_then : (old mid new : Option (List ℕ)) (start : List ℕ) (count : ℕ) (body held held' : List ℕ)
+    → BodySoFar old mid start count body → BufferGrowth mid new held held' → ConsumesSome old new
+consumes_some_then old mid new start count body held held' s g = grind (arith, common_steps, Consumes-trans)
 
 -- A buffer with the same bytes, whatever its capacity, holds the same body.
 pub body_so_far_same : (old new : Option (List ℕ)) (start : List ℕ) (count : ℕ) (body body' : List ℕ)

@@ -1,6 +1,6 @@
 -- Proves bounds on the number of complete lines of a head, from the number of its fields.
 use Rattle.std.proofs.lemmas.Grind.{common_steps}
-use Rattle.std.proofs.Common.{◌≡◌, ◌∙◌, sym, ap, subst, refl, ℕ, zero, ◌+◌, ◌≤◌, ◌==◌, Bool, true, false, cond, List}
+use Rattle.std.proofs.Common.{◌≡◌, ◌∙◌, sym, ap, subst, refl, ℕ, ◌+◌, ◌≤◌, ◌==◌, Bool, true, false, cond, List}
 use Rattle.std.proofs.Common.{[], ◌∷◌, ◌++◌, length, append-nil, All, append_assoc, arith}
 use Rattle.std.specs.List.{flat_map, count_by}
 use Rattle.std.proofs.lemmas.List.{append_cancel_right}

@@ -1,17 +1,23 @@
--- The bytes read from a connection, and the head at their beginning.
-use Rattle.std.specs.Prelude.{ℕ, ◌≡◌, ◌≤◌, ◌<◌, ◌⊎◌, ◌+◌, ◌*◌, ◌++◌, Bool, true, List, length, take, map, Option}
-use Rattle.std.specs.Prelude.{Result}
+-- The bytes read from a connection: the head at their beginning, and the body after it.
+use Rattle.std.specs.Prelude.{ℕ, ◌≡◌, ◌≤◌, ◌<◌, ◌⊎◌, ◌+◌, ◌*◌, ◌++◌, Bool, true, false, List, length, take, map, Option}
+use Rattle.std.specs.Prelude.{Result, IfOk, IfErr, OnOk, IsErrOf, Vec, vec_len, vec_capacity}
 use Rattle.std.specs.Char.{to_ascii_lowercase}
 use Rattle.std.specs.List.{position_or_len}
 use Rattle.std.specs.Io.KnownBytes.{Consumes, IsAtEnd}
-use Rattle.thes_base.specs.Pipe.{failed_of, ended_of, denied_of, unread_bytes}
+use Rattle.thes_base.specs.Pipe.{failed_of, ended_of, denied_of, unread_bytes, IsFresh, PaysCalls}
 use Rattle.thes_base.specs.declared.pipe.Pipe.{Pipe}
 use Rattle.httparse.specs.Grammar.{RequestHead}
 use Rattle.httparse.specs.Spans.{IsRequestAt, IsRequestWithin, header_bytes}
 use Rattle.httparse.specs.declared.spans.HeaderSpan.{HeaderSpan}
 use Rattle.httparse.specs.declared.spans.RequestSpans.{RequestSpans}
+use Rattle.thes_http_request.specs.declared.body.BodyStop.{BodyStop}
+use Rattle.thes_http_request.specs.declared.body.BodyStop.TheVariants as body_stop
+use Rattle.thes_http_request.specs.declared.inbox.HeadStop.{HeadStop}
+use Rattle.thes_http_request.specs.declared.inbox.HeadStop.TheVariants as head_stop
+use Rattle.thes_http_request.specs.declared.inbox.InputFault.{InputFault}
+use Rattle.thes_http_request.specs.declared.inbox.InputFault.TheVariants.{Cut, ReadFault}
 use Rattle.thes_http_request.specs.declared.problem.Problem.{Problem}
-use Rattle.thes_http_request.specs.Heads.{HasHead, fields_limit, parts_of}
+use Rattle.thes_http_request.specs.Heads.{HasHead, IsBadHead, IsCutHead, fields_limit, head_limit, parts_of}
 use Rattle.thes_http_request.specs.Fields.{is_named}
 use Rattle.thes_http_request.specs.HeadRequests.{HeadRequest, head_request_of}
 
@@ -79,3 +85,50 @@ HasBoundedCapacity count came room = (room ≤ count) × (room ≤ 2 * came + 40
 -- that arrived.
 abbrev pub HasGrowingCapacity : ℕ → ℕ → ℕ → Type 0
 HasGrowingCapacity count came room = (count ≤ room) ⊎ (2 * came + 4096 ≤ room)
+
+-- Room is made in the buffer of a body of `count` bytes. A full buffer gets a growing capacity.
+pub record GainsRoom {A T E : Type 0} (count : ℕ) (old new : Vec ℕ A) (result : Result T E) : Type 0 where
+  pub items : new.items ≡ old.items
+  pub same_length : vec_len new ≡ vec_len old
+  pub room : OnOk result (vec_len new < vec_capacity new)
+  pub growth : vec_capacity old ≤ vec_len old → OnOk result (HasGrowingCapacity count (vec_len old) (vec_capacity new))
+  pub bound : HasBoundedCapacity count (vec_len new) (vec_capacity new)
+
+-- The buffer has at most `most` bytes more, for which its capacity sufficed.
+pub record GrowsInPlace {A : Type 0} (most : ℕ) (old new : Vec ℕ A) : Type 0 where
+  pub least : vec_len old ≤ vec_len new
+  pub greatest : vec_len new ≤ vec_len old + most
+  pub capacity : vec_capacity new ≡ vec_capacity old
+
+module _ {R : Type 0} (remaining : R → Option (List ℕ)) (old new : Pipe R) (before after : ℕ) where
+  -- The effect of a read into a buffer: the bytes read are appended. There were some, and the pipe is still fresh; or
+  -- none, since the input has ended; or the pipe has stopped. The budget falls by the number of reads.
+  pub record FillsBuffer (held held' : List ℕ) (result : Result Bool InputFault) : Type 0 where
+    pub growth : BufferGrowth (unread_bytes remaining old) (unread_bytes remaining new) held held'
+    pub more : IfOk result (λ more. more ≡ true → (length held < length held') × IsFresh new)
+    pub end : IfOk result (λ more. more ≡ false → (held' ≡ held) × HasEnded remaining new)
+    pub stop : IfErr result (λ fault. (fault ≡ ReadFault) × HasStopped new)
+    pub calls : PaysCalls old new before after
+
+  -- The outcome of reading a head from the bytes consumed: they begin with a head, and the pipe is still fresh; or they
+  -- are a bad head; or the input has ended within a head; or the pipe has stopped. The budget falls by the number of
+  -- reads.
+  pub record HeadReadOutcome (bytes : List ℕ) (headers : List HeaderSpan) (result : Result RequestSpans HeadStop) :
+      Type 0 where
+    pub taken : Consumes (unread_bytes remaining old) (unread_bytes remaining new) bytes
+    pub whole : IfOk result (λ spans. IsHeadAt (take head_limit bytes) headers spans × IsFresh new)
+    pub bad : IsErrOf result head_stop.Bad → IsBadHead bytes
+    pub cut : IsErrOf result (head_stop.InputFault Cut) → IsCutHead bytes × HasEnded remaining new
+    pub fault : IsErrOf result (head_stop.InputFault ReadFault) → HasStopped new
+    pub calls : PaysCalls old new before after
+
+  -- The outcome of reading a body that begins with `start`: all of it was read; or the input has ended within it; or
+  -- the pipe has stopped; or memory ran out. The budget falls by the number of reads.
+  pub record BodyReadOutcome (start : List ℕ) (count : ℕ) (items : List ℕ) (result : Result (Unit {0}) BodyStop) :
+      Type 0 where
+    pub taken : ConsumesSome (unread_bytes remaining old) (unread_bytes remaining new)
+    pub whole : OnOk result (ReadsBody (unread_bytes remaining old) (unread_bytes remaining new) start count items)
+    pub cut : IsErrOf result (body_stop.InputFault Cut)
+        → CutsBody (unread_bytes remaining old) (unread_bytes remaining new) start count × (ended_of new ≡ true)
+    pub fault : IsErrOf result (body_stop.InputFault ReadFault) → HasStopped new
+    pub calls : PaysCalls old new before after

@@ -1,7 +1,7 @@
 //! Reads the body of an HTTP request.
-ghost use Rattle.std.specs.Prelude.{◌≡◌, ◌≤◌, ◌<◌, ◌+◌, ◌++◌, [], length, true, false, vec_len, vec_capacity, IfOk, OnOk, IsErrOf};
-ghost use Rattle.thes_base.specs.Pipe.{ended_of, IsFresh, PaysCalls, unread_bytes};
-ghost use Rattle.thes_http_request.specs.Inbox.{ReadsBody, CutsBody, ConsumesSome, BufferGrowth, HasBoundedCapacity, HasGrowingCapacity, HasStopped, HasEnded};
+ghost use Rattle.std.specs.Prelude.{◌≡◌, ◌≤◌, ◌<◌, ◌+◌, ◌++◌, [], length, vec_len, vec_capacity};
+ghost use Rattle.thes_base.specs.Pipe.{IsFresh};
+ghost use Rattle.thes_http_request.specs.Inbox.{BodyReadOutcome, FillsBuffer, GainsRoom, GrowsInPlace, HasBoundedCapacity};
 
 use crate::inbox::InputFault;
 use std::alloc::AllocError;
@@ -44,12 +44,7 @@ impl From<InputFault> for BodyStop {
 fn make_room(body: &mut Vec<u8>, count: usize) -> Result<(), AllocError>
     requires short { vec_len body.old < count }
     requires room { HasBoundedCapacity count (vec_len body.old) (vec_capacity body.old) }
-    ensures items { body.new.items ≡ body.old.items }
-    ensures len { vec_len body.new ≡ vec_len body.old }
-    ensures some { OnOk result (vec_len body.new < vec_capacity body.new) }
-    ensures grows { vec_capacity body.old ≤ vec_len body.old →
-        OnOk result (HasGrowingCapacity count (vec_len body.old) (vec_capacity body.new)) }
-    ensures room { HasBoundedCapacity count (vec_len body.new) (vec_capacity body.new) }
+    ensures { GainsRoom count body.old body.new result }
 {
     let len = body.len();
     if body.capacity() > len {
@@ -78,24 +73,11 @@ fn read_more<R: Read>(
     body: &mut Vec<u8>,
 ) -> Result<bool, InputFault>
     requires fresh { IsFresh reader.old }
-    requires some { 0 < length chunk.old }
-    requires room { vec_len body.old + length chunk.old ≤ vec_capacity body.old }
-    ensures taken { ConsumesSome
-        (unread_bytes R.remaining reader.old)
-        (unread_bytes R.remaining reader.new) }
-    ensures more { OnOk result (BufferGrowth (unread_bytes R.remaining reader.old)
-        (unread_bytes R.remaining reader.new) body.old.items body.new.items) }
-    ensures going { IfOk result (λ more. more ≡ true →
-        (vec_len body.old < vec_len body.new)
-        × (vec_len body.new ≤ vec_len body.old + length chunk.old)
-        × IsFresh reader.new) }
-    ensures end { IfOk result (λ more. more ≡ false →
-        (body.new.items ≡ body.old.items) × HasEnded R.remaining reader.new) }
-    ensures fault { IsErrOf result InputFault.ReadFault → HasStopped reader.new }
-    ensures not_cut { ¬ IsErrOf result InputFault.Cut }
-    ensures len { vec_len body.old ≤ vec_len body.new }
-    ensures capacity { vec_capacity body.new ≡ vec_capacity body.old }
-    ensures paid { PaysCalls reader.old reader.new budget.old budget.new }
+    requires room { (0 < length chunk.old)
+        × (vec_len body.old + length chunk.old ≤ vec_capacity body.old) }
+    ensures fills { FillsBuffer R.remaining reader.old reader.new budget.old budget.new
+        body.old.items body.new.items result }
+    ensures size { GrowsInPlace (length chunk.old) body.old body.new }
 {
     match reader.read(budget, chunk) {
         Ok(count) => {
@@ -119,19 +101,9 @@ pub fn read_body<R: Read>(
 ) -> Result<(), BodyStop>
     requires fresh { IsFresh reader.old }
     requires empty { (body.old.items ≡ []) × (vec_capacity body.old ≡ 0) }
-    ensures taken { ConsumesSome
-        (unread_bytes R.remaining reader.old)
-        (unread_bytes R.remaining reader.new) }
-    ensures whole { OnOk result (ReadsBody (unread_bytes R.remaining reader.old)
-        (unread_bytes R.remaining reader.new) start.now count body.new.items) }
-    ensures cut { IsErrOf result (BodyStop.InputFault InputFault.Cut) →
-        CutsBody (unread_bytes R.remaining reader.old)
-        (unread_bytes R.remaining reader.new) start.now count
-        × (ended_of reader.new ≡ true) }
-    ensures fault { IsErrOf result (BodyStop.InputFault InputFault.ReadFault) →
-        HasStopped reader.new }
+    ensures outcome { BodyReadOutcome R.remaining reader.old reader.new budget.old budget.new
+        start.now count body.new.items result }
     ensures room { HasBoundedCapacity count (vec_len body.new) (vec_capacity body.new) }
-    ensures paid { PaysCalls reader.old reader.new budget.old budget.new }
 {
     let here = count.min(start.len());
     body.reserve_exact(here)?;

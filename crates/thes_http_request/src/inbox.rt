@@ -1,9 +1,8 @@
 //! Reads the head of an HTTP request.
-ghost use Rattle.std.specs.Prelude.{◌≡◌, ◌≤◌, ◌<◌, [], length, take, drop, true, false, IfOk, OnErr, IsErrOf};
-ghost use Rattle.std.specs.Io.KnownBytes.{Consumes};
-ghost use Rattle.thes_base.specs.Pipe.{IsFresh, PaysCalls, unread_bytes};
-ghost use Rattle.thes_http_request.specs.Heads.{head_limit, IsBadHead, IsCutHead};
-ghost use Rattle.thes_http_request.specs.Inbox.{IsHeadAt, BufferGrowth, HasStopped, HasEnded};
+ghost use Rattle.std.specs.Prelude.{◌≡◌, ◌≤◌, ◌<◌, [], length, take, drop, true, false, IfOk};
+ghost use Rattle.thes_base.specs.Pipe.{IsFresh};
+ghost use Rattle.thes_http_request.specs.Heads.{head_limit};
+ghost use Rattle.thes_http_request.specs.Inbox.{FillsBuffer, HeadReadOutcome};
 
 use crate::head::{Head, head_of};
 use httparse::spans::{HeaderSpan, RequestSpans};
@@ -102,16 +101,8 @@ impl Inbox {
     ) -> Result<bool, InputFault>
         requires fresh { IsFresh reader.old }
         requires room { length self.old ≤ head_limit }
-        ensures taken { BufferGrowth
-            (unread_bytes R.remaining reader.old)
-            (unread_bytes R.remaining reader.new) self.old self.new }
-        ensures more { IfOk result (λ more. more ≡ true →
-            (length self.old < length self.new) × IsFresh reader.new) }
-        ensures end { IfOk result (λ more. more ≡ false →
-            (self.new ≡ self.old) × HasEnded R.remaining reader.new) }
-        ensures err { OnErr result (HasStopped reader.new) }
-        ensures not_cut { ¬ IsErrOf result InputFault.Cut }
-        ensures paid { PaysCalls reader.old reader.new budget.old budget.new }
+        ensures { FillsBuffer R.remaining reader.old reader.new budget.old budget.new
+            self.old self.new result }
     {
         match reader.read(budget, &mut self.buffer[self.filled..]) {
             Ok(count) => {
@@ -133,17 +124,8 @@ impl Inbox {
         requires fresh { IsFresh reader.old }
         requires empty { self.old ≡ [] }
         requires room { length headers.old ≡ 64 }
-        ensures taken { Consumes
-            (unread_bytes R.remaining reader.old)
-            (unread_bytes R.remaining reader.new) self.new }
-        ensures whole { IfOk result (λ spans.
-            IsHeadAt (take head_limit self.new) headers.new spans × IsFresh reader.new) }
-        ensures bad { IsErrOf result HeadStop.Bad → IsBadHead self.new }
-        ensures cut { IsErrOf result (HeadStop.InputFault InputFault.Cut) →
-            IsCutHead self.new × HasEnded R.remaining reader.new }
-        ensures fault { IsErrOf result (HeadStop.InputFault InputFault.ReadFault) →
-            HasStopped reader.new }
-        ensures paid { PaysCalls reader.old reader.new budget.old budget.new }
+        ensures { HeadReadOutcome R.remaining reader.old reader.new budget.old budget.new
+            self.new headers.new result }
     {
         loop {
             match head_of(self.head_bytes(), headers) {

@@ -1,8 +1,8 @@
 -- The import of a posting file from a reader, with the outcomes written to a writer, block by block.
 use Rattle.std.specs.Prelude.{◌≡◌, ◌⊎◌, ◌≤◌, ◌++◌, ℕ, true, false, List, [], take, length, Option, Result, Ok, Err}
-use Rattle.std.specs.Prelude.{IfErr}
+use Rattle.std.specs.Prelude.{IfErr, OnOk}
 use Rattle.std.specs.Io.KnownBytes.{Appends}
-use Rattle.thes_base.specs.Pipe.{AppendsPrefix, denied_of, failed_of, written_bytes}
+use Rattle.thes_base.specs.Pipe.{AppendsPrefix, IsFresh, PaysCalls, denied_of, failed_of, written_bytes}
 use Rattle.thes_base.specs.declared.fault.Fault.{Fault as OfficeFault}
 use Rattle.thes_base.specs.declared.fault.Fault.TheVariants.{OutOfMemory}
 use Rattle.thes_base.specs.declared.fault.PipeFault.{PipeFault}
@@ -21,6 +21,7 @@ use Rattle.thes_import.specs.declared.import.ImportEnd.TheVariants as ended
 use Rattle.thes_import.specs.declared.import.ImportStop.{ImportStop}
 use Rattle.thes_posting_files.specs.declared.outcome.Outcome.{Outcome}
 use Rattle.thes_posting_files.specs.declared.report.Counts.{Counts}
+use Rattle.thes_posting_files.specs.declared.report.Report.{Report}
 
 -- The greatest size of a file, in bytes: 16 MiB.
 abbrev pub file_limit : ℕ
@@ -46,6 +47,18 @@ module _ {W : Type 0} (contents : W → Option (List ℕ)) (old new : Pipe W) wh
   abbrev pub IsReportCut : List ℕ → PipeFault → Type 0
   IsReportCut text fault =
       AppendsPrefix (written_bytes contents old) (written_bytes contents new) text × IsWriterFault fault
+
+  -- The effect of writing a report: its text was written and cleared, and the writer is still fresh; or a prefix of it
+  -- was written. The counts are unchanged, and the budget falls by the number of writes.
+  pub record WritesReport (before after : ℕ) (report report' : Report) (result : Result (Unit {0}) ImportStop) :
+      Type 0 where
+    pub whole : OnOk result (WritesWhole report.text.items)
+    pub fresh : OnOk result (IsFresh new)
+    pub empty : OnOk result (report'.text.items ≡ [])
+    pub stop : IfErr result (λ stopped. (stopped.counts ≡ report.counts)
+        × IsReportCut report.text.items stopped.fault)
+    pub counts : report'.counts ≡ report.counts
+    pub calls : PaysCalls old new before after
 
   -- A prefix of the text of these outcomes was written. At most the outcomes of the last block are
   -- missing or cut short, or part of the heading if there are no outcomes.
@@ -111,7 +124,7 @@ module _ {W K : Type 0} (contents : W → Option (List ℕ)) (view : K → Stora
   -- All rows were performed, and all outcomes were written.
   pub record ImportsRows (file : List ℕ) (counts : Counts) : Type 0 where
     pub outcomes : List Outcome
-    pub first : PerformsFirst file outcomes [] (let x : Result (Unit {0}) OfficeFault = Ok tt in x)
+    pub first : PerformsFirst file outcomes [] (Ok tt)
     pub counts_are : counts ≡ counts_of outcomes
     pub writes : WritesWhole contents old new (outcomes_text outcomes)
 

@@ -18,6 +18,11 @@ use Rattle.thes_posting_files.specs.RowReading.{HasReadRows}
 use Rattle.thes_posting_files.specs.declared.reading.RowReader.{RowReader}
 use Rattle.thes_posting_files.specs.declared.report.Report.{Report}
 
+-- The rows of a block: from 1 to 1,000.
+pub record IsRowBlock (rows : List CsvRow) : Type 0 where
+  pub some : 0 < length rows
+  pub few : length rows ≤ 1000
+
 -- A run of the machine over the requests of the rows has the answers in these outcomes, and leads
 -- to the new tables. The tables are unchanged if no answer changes anything.
 pub record PerformsRows (limits : Limits) (old : Raw) (rows : List CsvRow) (outcomes : List Outcome)

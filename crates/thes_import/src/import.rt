@@ -1,7 +1,7 @@
 //! Imports a posting file from a reader, and writes the outcomes to a writer.
-ghost use Rattle.std.specs.Prelude.{◌≡◌, [], IfErr, OnOk};
+ghost use Rattle.std.specs.Prelude.{◌≡◌};
 ghost use Rattle.thes_base.specs.Pipe.{IsFresh, KeepsSharedCallLimit, PaysCalls};
-ghost use Rattle.thes_import.specs.ImportEngine.{EndsFileImport, ImportsBytes, IsReportCut, WritesWhole, import_streams};
+ghost use Rattle.thes_import.specs.ImportEngine.{EndsFileImport, ImportsBytes, WritesReport, import_streams};
 ghost use Rattle.thes_posting_files.specs.Outcomes.{no_counts};
 
 use crate::perform::import_block;
@@ -54,14 +54,8 @@ fn write_report<W: Write>(
     report: &mut Report,
 ) -> Result<(), ImportStop>
     requires { IsFresh writer.old }
-    ensures ok { OnOk result
-        (WritesWhole W.contents writer.old writer.new report.old.text.items) }
-    ensures fresh { OnOk result (IsFresh writer.new) }
-    ensures cleared { OnOk result (report.new.text.items ≡ []) }
-    ensures err { IfErr result (λ stopped. (stopped.counts ≡ report.old.counts)
-        × IsReportCut W.contents writer.old writer.new report.old.text.items stopped.fault) }
-    ensures counts { report.new.counts ≡ report.old.counts }
-    ensures paid { PaysCalls writer.old writer.new budget.old budget.new }
+    ensures { WritesReport W.contents writer.old writer.new budget.old budget.new
+        report.old report.new result }
 {
     let counts = report.counts;
     match writer.write_all(budget, &report.text) {

@@ -1,8 +1,8 @@
 //! Performs the rows of a posting file, block by block.
-ghost use Rattle.std.specs.Prelude.{◌<◌, ◌≤◌, ◌+◌, ◌^◌, length};
+ghost use Rattle.std.specs.Prelude.{◌<◌, ◌+◌, ◌^◌, length};
 ghost use Rattle.thes_posting_files.specs.Outcomes.{row_count};
 ghost use Rattle.thes_office.specs.Office.{FaultBehaviour};
-ghost use Rattle.thes_import.specs.Imports.{ImportsBlock, ReportsRows};
+ghost use Rattle.thes_import.specs.Imports.{ImportsBlock, IsRowBlock, ReportsRows};
 
 use std::alloc::Global;
 use thes_base::fault::Fault;
@@ -21,8 +21,7 @@ fn perform_rows<K: Keeper>(
     rows: Vec<CsvRow>,
     report: &mut Report,
 ) -> Result<(), Fault>
-    requires some { 0 < length rows.items }
-    requires few { length rows.items ≤ 1000 }
+    requires block { IsRowBlock rows.items }
     requires fits { row_count report.old.counts + length rows.items < 2 ^ 64 }
     ensures fault_behaviour { FaultBehaviour K.view office.old office.new result }
     ensures reports { ReportsRows K.view office.old rows.items report.old result report.new

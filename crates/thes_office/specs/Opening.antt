@@ -1,15 +1,32 @@
 -- The opening of an office over the tables of a storage.
-use Rattle.std.specs.Prelude.{◌≡◌, ◌⊎◌, ℕ, List, false, Result, Err}
+use Rattle.std.specs.Prelude.{◌≡◌, ◌⊎◌, ℕ, List, false, Err}
 use Rattle.thes_base.specs.declared.data.Limits.{Limits}
 use Rattle.thes_base.specs.declared.fault.Fault.{Fault}
 use Rattle.thes_base.specs.declared.fault.Fault.TheVariants.{OutOfMemory, Store}
 use Rattle.thes_base.specs.State.{State}
+use Rattle.thes_tables.specs.Cells.{Raw}
 use Rattle.thes_core.specs.CoreView.{CoreView}
 use Rattle.thes_store.specs.Storage.{KeepsStorage, StorageView}
 use Rattle.thes_load_rules.specs.Verdicts.{HasVerdict}
-use Rattle.thes_office.specs.Office.{OfficeView}
+use Rattle.thes_office.specs.FoundStates.{IsCopyOfFound, IsFaultOfFound}
+use Rattle.thes_office.specs.Office.{IsCopy, OfficeView}
 use Rattle.thes_office.specs.QueryFrames.{LoadFrame}
 use Rattle.thes_office.specs.TablesOfState.{TablesOfState}
+
+-- A load of the tables of a storage, which is then `back`; if it is open, a load finds rows that have the property.
+module _ {K : Type 0} (view : K → StorageView) (is_open : K → Type 0) (finds : K → Raw → Type 0) (keeper back : K) where
+  -- The load built a usable core with these limits, which holds the state of the tables, or of rows that it found.
+  pub record LoadsCore (limits : Limits) (core : CoreView) : Type 0 where
+    pub unspent : core.spent ≡ false
+    pub copy : (view back).is_up → IsCopy (view keeper).rows limits core
+    pub copy_of_found : is_open back → IsCopyOfFound (finds keeper) limits core
+
+  -- The load built no core: memory ran out, the storage failed, or the fault is the verdict on the tables, or on rows
+  -- that it found.
+  pub record LoadsNone (fault : Fault) : Type 0 where
+    pub verdict : (view back).is_up → (fault ≡ OutOfMemory) ⊎ (fault ≡ Store)
+        ⊎ HasVerdict (view keeper).rows (Err fault)
+    pub verdict_on_found : is_open back → IsFaultOfFound (finds keeper) fault
 
 module _ {K : Type 0} (view : K → StorageView) where
   -- The office is opened with these limits over the tables of the storage, which encode a state and
@@ -24,6 +41,6 @@ module _ {K : Type 0} (view : K → StorageView) where
   -- No office is opened: memory ran out, the storage failed, or the fault is the verdict on the
   -- rows. The load of the tables leaves them unchanged.
   pub record IsUnopened (keeper : K) (fault : Fault) (back : K) : Type 0 where
-    pub keeps : LoadFrame (view keeper) (view back) (let x : Result CoreView Fault = Err fault in x)
+    pub keeps : LoadFrame {T = CoreView} (view keeper) (view back) (Err fault)
     pub verdict : (view back).is_up → (fault ≡ OutOfMemory) ⊎ (fault ≡ Store)
         ⊎ HasVerdict (view keeper).rows (Err fault)

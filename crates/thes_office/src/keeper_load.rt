@@ -1,9 +1,7 @@
 //! Builds a core from the tables of the storage.
-ghost use Rattle.std.specs.Prelude.{◌≡◌, ◌≢◌, ◌⊎◌, false, Err, IfOk, IfErr};
-ghost use Rattle.thes_load_rules.specs.Verdicts.{HasVerdict};
+ghost use Rattle.std.specs.Prelude.{◌≡◌, ◌≢◌, IfOk, IfErr};
+ghost use Rattle.thes_office.specs.Opening.{LoadsCore, LoadsNone};
 ghost use Rattle.thes_office.specs.QueryFrames.{LoadFrame};
-ghost use Rattle.thes_office.specs.Office.{IsCopy};
-ghost use Rattle.thes_office.specs.FoundStates.{IsCopyOfFound, IsFaultOfFound};
 
 use crate::loader::Loader;
 use std::alloc::Global;
@@ -15,16 +13,8 @@ use thes_store::keeper::Keeper;
 /// Builds a core from the tables of the storage. Any fault but OutOfMemory and Store is the verdict
 /// on the rows of the tables.
 pub fn load<K: Keeper>(alloc: Global, keeper: &mut K, limits: Limits) -> Result<Core, Fault>
-    ensures unspent { IfOk result (λ core. core.spent ≡ false) }
-    ensures copies { IfOk result (λ core. (K.view keeper.new).is_up
-        → IsCopy (K.view keeper.old).rows limits core) }
-    ensures verdict { IfErr result (λ fault. (K.view keeper.new).is_up
-        → (fault ≡ Fault.OutOfMemory) ⊎ (fault ≡ Fault.Store)
-        ⊎ HasVerdict (K.view keeper.old).rows (Err fault)) }
-    ensures found { IfOk result (λ core. K.is_open keeper.new
-        → IsCopyOfFound (K.finds keeper.old) limits core) }
-    ensures refused { IfErr result (λ fault. K.is_open keeper.new
-        → IsFaultOfFound (K.finds keeper.old) fault) }
+    ensures ok { IfOk result (LoadsCore K.view K.is_open K.finds keeper.old keeper.new limits) }
+    ensures err { IfErr result (LoadsNone K.view K.is_open K.finds keeper.old keeper.new) }
     ensures reads { LoadFrame (K.view keeper.old) (K.view keeper.new) result }
 {
     let mut loader = Loader::new(alloc, limits);

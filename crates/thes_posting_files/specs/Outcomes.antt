@@ -1,6 +1,6 @@
 -- The outcomes of a posting file's rows, as lines and as counts.
-use Rattle.std.specs.Prelude.{◌≡◌, ◌+◌, ℕ, Bool, true, false, List, [], ◌∷◌, ◌++◌, codes, decimal, count_by, length}
-use Rattle.std.specs.Prelude.{filter_map, Option, None, Some}
+use Rattle.std.specs.Prelude.{◌≡◌, ◌≤◌, ◌+◌, ℕ, Bool, true, false, List, [], ◌∷◌, ◌++◌, codes, decimal, count_by, length}
+use Rattle.std.specs.Prelude.{filter_map, Option, None, Some, vec_len, vec_capacity}
 use Rattle.thes_base.specs.declared.request.Answer.{Answer}
 use Rattle.thes_base.specs.declared.request.Answer.TheVariants as reply
 use Rattle.thes_base.specs.declared.request.Command.{Command}
@@ -129,6 +129,13 @@ abbrev pub AddsOutcomes : List Outcome → Report → Report → Type 0
 AddsOutcomes outcomes old new =
     (earlier : List Outcome) → old.counts ≡ counts_of earlier → (new.counts ≡ counts_of (earlier ++ outcomes))
     × (new.text.items ≡ old.text.items ++ outcome_lines (1 + length earlier) outcomes)
+
+-- The outcome of one row, whose line has at most `most` bytes, is added to the report, and the row is counted.
+pub record AddsRow (most : ℕ) (outcome : Outcome) (old new : Report) : Type 0 where
+  pub outcomes : AddsOutcomes (outcome ∷ []) old new
+  pub rows : row_count new.counts ≡ row_count old.counts + 1
+  pub size : vec_len new.text ≤ vec_len old.text + most
+  pub capacity : vec_capacity old.text ≤ vec_capacity new.text
 
 -- The report is empty.
 pub record IsBlankReport (report : Report) : Type 0 where

@@ -1,7 +1,7 @@
 -- The bytes of an input that is read to its end, within a limit, and the faults that prevent this.
-use Rattle.std.specs.Prelude.{◌≡◌, ◌⊎◌, ◌≤◌, ◌<◌, ℕ, true, false, List, length, Option}
+use Rattle.std.specs.Prelude.{◌≡◌, ◌⊎◌, ◌≤◌, ◌<◌, ℕ, Bool, true, false, List, length, Option, Result, IfOk, IfErr, OnOk}
 use Rattle.std.specs.Io.KnownBytes.{Consumes, IsAtEnd}
-use Rattle.thes_base.specs.Pipe.{denied_of, ended_of, failed_of, unread_bytes}
+use Rattle.thes_base.specs.Pipe.{IsFresh, PaysCalls, denied_of, ended_of, failed_of, unread_bytes}
 use Rattle.thes_base.specs.declared.fault.Fault.TheVariants.{OutOfMemory}
 use Rattle.thes_base.specs.declared.fault.PipeFault.{PipeFault}
 use Rattle.thes_base.specs.declared.fault.PipeFault.TheVariants.{Read, Write, TooLong, Fault}
@@ -33,3 +33,17 @@ module _ {R : Type 0} (remaining : R → Option (List ℕ)) (limit : ℕ) (old n
   IsInputFault Write = ⊥
   IsInputFault TooLong = (failed_of new ≡ false) × ((denied_of new ≡ true) ⊎ GivesMore)
   IsInputFault (Fault fault) = (failed_of new ≡ false) × (fault ≡ OutOfMemory)
+
+-- The effect of the next read of an input of which `bytes` were read, which becomes `bytes'`: more of it was read; or it
+-- is whole; or it can't be read to its end. The budget falls by the number of reads, and a result costs at least one.
+pub record ReadsNext {R : Type 0} (remaining : R → Option (List ℕ)) (limit : ℕ) (old new : Pipe R) (before after : ℕ)
+    (bytes bytes' : List ℕ) (result : Result Bool PipeFault) : Type 0 where
+  pub fresh : IfOk result (λ more. more ≡ true → IsFresh new)
+  pub more : IfOk result (λ more. more ≡ true → (start : Pipe R) → HasReadBytes remaining limit start old bytes
+      → HasReadBytes remaining limit start new bytes')
+  pub end : IfOk result (λ more. more ≡ false → (start : Pipe R) → HasReadBytes remaining limit start old bytes
+      → IsWhole remaining limit start new bytes')
+  pub fault : IfErr result (λ fault. (start : Pipe R) → HasReadBytes remaining limit start old bytes
+      → IsInputFault remaining limit start new fault)
+  pub calls : PaysCalls old new before after
+  pub cost : OnOk result (after < before)

@@ -2,7 +2,7 @@
 ghost use Rattle.std.specs.Prelude.{◌≡◌, ◌≤◌, ◌<◌, ◌+◌, ◌*◌, ◌^◌, ◌++◌, [], ◌∷◌, List, IfOk, OnOk, length};
 ghost use Rattle.std.specs.Prelude.{vec_len, vec_capacity};
 ghost use Rattle.thes_posting_files.specs.Outcomes.{AddsOutcomes, IsBlankReport, ReportsOutcomes, counts_of, no_counts};
-ghost use Rattle.thes_posting_files.specs.Outcomes.{outcomes_of, row_count};
+ghost use Rattle.thes_posting_files.specs.Outcomes.{AddsRow, outcomes_of, row_count};
 ghost use Rattle.thes_posting_files.specs.declared.outcome.Outcome.{Outcome};
 
 use crate::outcome::{LINE_LIMIT, Outcome, next_outcome};
@@ -102,10 +102,7 @@ impl Report {
     fn push(&mut self, outcome: Outcome)
         requires room { vec_len self.old.text + LINE_LIMIT ≤ vec_capacity self.old.text }
         requires fits { row_count self.old.counts + 1 < 2 ^ 64 }
-        ensures adds { AddsOutcomes (outcome ∷ []) self.old self.new }
-        ensures count { row_count self.new.counts ≡ row_count self.old.counts + 1 }
-        ensures len { vec_len self.new.text ≤ vec_len self.old.text + LINE_LIMIT }
-        ensures capacity { vec_capacity self.old.text ≤ vec_capacity self.new.text }
+        ensures { AddsRow LINE_LIMIT outcome self.old self.new }
     {
         outcome.push_line(self.counts.rows() + 1, &mut self.text);
         self.counts.add(outcome);

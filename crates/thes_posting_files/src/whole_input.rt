@@ -1,8 +1,7 @@
 //! Reads an input to its end, within a limit.
-ghost use Rattle.std.specs.Prelude.{◌≡◌, ◌≤◌, ◌<◌, length, true, false, IfOk, IfErr};
+ghost use Rattle.std.specs.Prelude.{◌≤◌, ◌<◌, length, IfOk, IfErr};
 ghost use Rattle.thes_base.specs.Pipe.{IsFresh, PaysCalls};
-ghost use Rattle.thes_base.specs.declared.pipe.Pipe.{Pipe};
-ghost use Rattle.thes_posting_files.specs.WholeInput.{HasReadBytes, IsInputFault, IsWhole};
+ghost use Rattle.thes_posting_files.specs.WholeInput.{IsInputFault, IsWhole, ReadsNext};
 
 use std::alloc::Global;
 use std::io::Read;
@@ -22,18 +21,8 @@ fn read_more<R: Read>(
     requires fresh { IsFresh reader.old }
     requires room { 0 < length chunk.old }
     requires in_limit { length bytes.old.items ≤ limit }
-    ensures fresh { IfOk result (λ more. more ≡ true → IsFresh reader.new) }
-    ensures more { IfOk result (λ more. more ≡ true → (start : Pipe R)
-        → HasReadBytes R.remaining limit start reader.old bytes.old.items
-        → HasReadBytes R.remaining limit start reader.new bytes.new.items) }
-    ensures end { IfOk result (λ more. more ≡ false → (start : Pipe R)
-        → HasReadBytes R.remaining limit start reader.old bytes.old.items
-        → IsWhole R.remaining limit start reader.new bytes.new.items) }
-    ensures err { IfErr result (λ fault. (start : Pipe R)
-        → HasReadBytes R.remaining limit start reader.old bytes.old.items
-        → IsInputFault R.remaining limit start reader.new fault) }
-    ensures paid { PaysCalls reader.old reader.new budget.old budget.new }
-    ensures call_paid { IfOk result (λ more. budget.new < budget.old) }
+    ensures { ReadsNext R.remaining limit reader.old reader.new budget.old budget.new
+        bytes.old.items bytes.new.items result }
 {
     let count = match reader.read(budget, chunk) {
         Ok(count) => count,

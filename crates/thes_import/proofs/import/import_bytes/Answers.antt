@@ -13,7 +13,7 @@ use Rattle.thes_import.proofs.import.import_bytes.Goals as goal
 
 pub returns-in_err-write_report-clause-imports : goal.returns-in_err-write_report-clause-imports
 returns-in_err-write_report-clause-imports g c =
-    let e = c.in_err-write_report.ensures.err in
+    let e = c.in_err-write_report.ensures.stop in
     let reads = c.in-Ok.ensures.rows in
     let same : c.from_residual.result ≡ Err c.in_err-write_report.field-0.0 = search rules in
     subst (ImportsBytes g.W.Write.contents g.K.Keeper.view c.args.writer.now
@@ -42,12 +42,12 @@ loop-reader-init g c =
       so_far = importing_none g.K.Keeper.view c.args.office.now c.args.file.now
           reads.0 c.in-Ok.reader c.write_report.new.report.counts c.is_stale.ensures.shows reads.1
           (c.write_report.ensures.counts ∙ c.in-Ok-new.ensures.counts);
-      cleared = c.in_ok-write_report.ensures.cleared;
+      cleared = c.in_ok-write_report.ensures.empty;
       appends_text = subst (Appends (written_bytes g.W.Write.contents c.args.writer.now)
           (written_bytes g.W.Write.contents c.write_report.new.writer)) c.in-Ok-new.ensures.text
-          c.in_ok-write_report.ensures.ok.appends_text;
+          c.in_ok-write_report.ensures.whole.appends_text;
       fresh = c.in_ok-write_report.ensures.fresh;
-      paid = c.write_report.ensures.paid;
+      paid = c.write_report.ensures.calls;
     }
 
 pub import_block-done-requires-clause-fits : goal.import_block-done-requires-clause-fits
@@ -58,7 +58,7 @@ import_block-done-requires-clause-fits g c =
 pub returns-in_err-write_report-2-clause-imports : goal.returns-in_err-write_report-2-clause-imports
 returns-in_err-write_report-2-clause-imports g c =
     let i = c.loop-reader.invariant in
-    let e = c.in_err-write_report-2.ensures.err in
+    let e = c.in_err-write_report-2.ensures.stop in
     let same : c.from_residual-in_err-write_report-2.result ≡ Err c.in_err-write_report-2.field-0.0 = search rules in
     subst (ImportsBytes g.W.Write.contents g.K.Keeper.view c.args.writer.now
     c.write_report-in-loop-reader.new.writer c.args.office.now c.import_block-done.new.office c.args.file.now)
@@ -80,7 +80,7 @@ returns-in-Err-clause-imports g c =
     let adds = stop.reports i.so_far.outcomes i.so_far.counts in
     let lines = adds.1
     ∙ ap (λ (l : List ℕ). l ++ outcome_lines (1 + length i.so_far.outcomes) stop.outcomes) i.cleared in
-    let whole = c.in_ok-write_report-2.ensures.ok in
+    let whole = c.in_ok-write_report-2.ensures.whole in
     inr (
       i.so_far.outcomes ++ stop.outcomes,
       c.write_report-in-loop-reader.ensures.counts ∙ adds.0,
@@ -126,11 +126,11 @@ loop-reader-preserved g c =
         performs = more.performs;
         counts = c.write_report-in-loop-reader.ensures.counts ∙ more.counts;
       };
-      cleared = c.in_ok-write_report-2.ensures.cleared;
+      cleared = c.in_ok-write_report-2.ensures.empty;
       appends_text = block_whole g.W.Write.contents c.args.writer.now c.loop-reader.writer
           c.write_report-in-loop-reader.new.writer
           i.so_far.outcomes block.outcomes c.import_block-done.new.report.text.items i.appends_text
-          c.in_ok-write_report-2.ensures.ok lines;
+          c.in_ok-write_report-2.ensures.whole lines;
       fresh = c.in_ok-write_report-2.ensures.fresh;
       paid = search rules;
     }

@@ -28,10 +28,10 @@ returns-clause-reports g c =
 pub returns-in_default-clause-reports : goal.returns-in_default-clause-reports
 returns-in_default-clause-reports g c =
     rows_unread g.K.Keeper.view c.args.office.now c.args.rows.items c.args.report.now
-    c.args.report.now faults.OutOfMemory c.is_stale.ensures.shows c.requires.some refl refl
+    c.args.report.now faults.OutOfMemory c.is_stale.ensures.shows c.requires.block.some refl refl
 
 pub returns-then-is_err-clause-reports : goal.returns-then-is_err-clause-reports
 returns-then-is_err-clause-reports g c =
     rows_unread g.K.Keeper.view c.args.office.now c.args.rows.items c.args.report.now
-    c.make_room.new.self faults.OutOfMemory c.is_stale.ensures.shows c.requires.some c.make_room.ensures.text
+    c.make_room.new.self faults.OutOfMemory c.is_stale.ensures.shows c.requires.block.some c.make_room.ensures.text
     c.make_room.ensures.counts

@@ -1,23 +1,27 @@
-use Rattle.std.proofs.Common.{rules}
+use Rattle.std.proofs.lemmas.Grind.{common_steps}
+use Rattle.std.proofs.Common.{arith, rules}
 use Rattle.thes_http.proofs.WriteLemmas.{err_after, err_before}
 use Rattle.thes_base.proofs.PipeLemmas.{pays_then}
 use Rattle.thes_http.proofs.response.Response.write_with.Goals as goal
 
-pub returns-in_err-write_all-clause-err : goal.returns-in_err-write_all-clause-err
-returns-in_err-write_all-clause-err g c =
-    rw (← c.requires.body, ← c.head-head.ensures, ← c.as_bytes-2.ensures)
-    (err_before c.from_residual.result _ _ _ _ c.in_err-write_all.ensures.err)
+pub returns-in_err-write_all : goal.returns-in_err-write_all
+returns-in_err-write_all g c = record {
+  whole = grind (arith, common_steps);
+  part = rw (← c.requires.body, ← c.head-head.ensures, ← c.as_bytes-2.ensures)
+      (err_before c.from_residual.result _ _ _ _ c.in_err-write_all.ensures.err);
+  frame = grind (arith, common_steps);
+}
 
-pub returns-clause-err : goal.returns-clause-err
-returns-clause-err g c =
-    rw (← c.requires.body, ← c.head-head.ensures, ← c.as_bytes-2.ensures)
-    (err_after c.write_all-3.result _ _ _ _ _ c.in_ok-write_all.ensures.ok c.write_all-3.ensures.err)
-
-pub returns-clause-frame : goal.returns-clause-frame
-returns-clause-frame g c = record {
-  end = search rules;
-  failure = search rules;
-  denial = search rules;
-  too_long = search rules;
-  calls = pays_then c.write_all-2.ensures.frame.calls c.write_all-3.ensures.frame.calls;
+pub returns : goal.returns
+returns g c = record {
+  whole = grind (arith, common_steps);
+  part = rw (← c.requires.body, ← c.head-head.ensures, ← c.as_bytes-2.ensures)
+      (err_after c.write_all-3.result _ _ _ _ _ c.in_ok-write_all.ensures.ok c.write_all-3.ensures.err);
+  frame = record {
+    end = search rules;
+    failure = search rules;
+    denial = search rules;
+    too_long = search rules;
+    calls = pays_then c.write_all-2.ensures.frame.calls c.write_all-3.ensures.frame.calls;
+  };
 }

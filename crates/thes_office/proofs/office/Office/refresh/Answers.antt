@@ -12,10 +12,10 @@ pub returns-in-Err : goal.returns-in-Err
 returns-in-Err g c =
     frame_of_load_fault g.K.Keeper.view c.self.inside.keeper c.load.new.keeper
     c.self.inside.core c.self.inside.limits c.self.inside.stale c.in-Err.fault c.args.self.now
-    c.in-Err.ensures.reads c.in-Err.ensures.verdict c.self.invariant (search rules) c.self.view_is
+    c.in-Err.ensures.reads c.in-Err.ensures.err.verdict c.self.invariant (search rules) c.self.view_is
 
 pub invariant_of-self-2 : goal.invariant_of-self-2
 invariant_of-self-2 g c =
     consistent_after_load g.K.Keeper.view c.self.inside.keeper c.load.new.keeper
     c.in-Ok.core c.self.inside.limits c.self.invariant.few
-    c.in-Ok.ensures.unspent c.in-Ok.ensures.copies c.in-Ok.ensures.reads.same
+    c.in-Ok.ensures.ok.unspent c.in-Ok.ensures.ok.copy c.in-Ok.ensures.reads.same

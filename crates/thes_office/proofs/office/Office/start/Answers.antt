@@ -14,7 +14,7 @@ invariant_of-result g c =
       postings = omega arith;
       moves = omega arith;
     }
-    c.in-Ok.ensures.unspent c.in-Ok.ensures.copies c.in-Ok.ensures.reads.same
+    c.in-Ok.ensures.ok.unspent c.in-Ok.ensures.ok.copy c.in-Ok.ensures.reads.same
 
 pub returns-in-Ok-clause-opened : goal.returns-in-Ok-clause-opened
 returns-in-Ok-clause-opened g c =
@@ -24,11 +24,11 @@ returns-in-Ok-clause-opened g c =
       keeps = record { same = reads.same; was = reads.was; count = reads.count };
       shows = λ up. let here = copies_over (g.K.Keeper.view c.args.keeper).rows
           (g.K.Keeper.view c.load.new.keeper).rows c.args.limits
-          c.in-Ok.core (reads.same up) (c.in-Ok.ensures.copies up) in
+          c.in-Ok.core (reads.same up) (c.in-Ok.ensures.ok.copy up) in
           (c.in-Ok.core.setting.base, here.state, here.shows);
     }
 
 pub returns-in-Ok-clause-found : goal.returns-in-Ok-clause-found
 returns-in-Ok-clause-found g c up =
-    let here = c.in-Ok.ensures.found up in
+    let here = c.in-Ok.ensures.ok.copy_of_found up in
     (here.0, here.1, (c.in-Ok.core.setting.base, here.2.state, here.2.shows))

@@ -12,12 +12,12 @@ loop-fault-preserved c =
     record {
       done = i.done ++ c.in-Some.outcome ∷ [];
       adds = adds_both i.done (c.in-Some.outcome ∷ []) c.args.self.now c.loop-fault.self c.push.new.self i.adds
-          c.push.ensures.adds;
+          c.push.ensures.outcomes;
       all = i.all ∙ ap (λ (l : List Outcome). i.done ++ l)
           (ap (λ l. outcomes_of l c.loop-fault.unread.now)
           (drop_more c.args.faults.now c.loop-fault.fault-index _ c.loop-fault-test.true)
           ∙ c.in-Some.ensures.some (drop (c.loop-fault.fault-index + 1) c.args.faults.now))
           ∙ sym (append_assoc i.done (c.in-Some.outcome ∷ []) rest);
-      count = omega (arith, c.push.ensures.count, i.count);
-      room = omega (arith, c.push.ensures.len, c.push.ensures.capacity, i.room, c.loop-fault-test.true);
+      count = omega (arith, c.push.ensures.rows, i.count);
+      room = omega (arith, c.push.ensures.size, c.push.ensures.capacity, i.room, c.loop-fault-test.true);
     }
