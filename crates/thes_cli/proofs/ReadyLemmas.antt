@@ -1,6 +1,6 @@
 -- Proves that the results computed from an office's core are those of the state that its tables encode.
 use Rattle.std.proofs.Common.{◌≡◌, ◌∙◌, ap, subst, ℕ, List, Option, Result, Ok, Err}
-use Rattle.std.specs.Prelude.{length, IfOk, IfErr, OnOk}
+use Rattle.std.specs.Prelude.{length}
 use Rattle.std.specs.Borrow.{Bor}
 use Rattle.std.specs.FinSet as set
 use Rattle.thes_base.specs.State.{State}
@@ -18,16 +18,8 @@ use Rattle.thes_core.specs.declared.reading.Sizes.{Sizes}
 use Rattle.thes_office.specs.Office.{FaultBehaviour, IsCopy, OfficeView, ReadyResult}
 use Rattle.thes_office.proofs.StateTableLemmas.{state_is_unique}
 use Rattle.thes_office.proofs.OfficeViewLemmas.{behaviour_with_value}
-use Rattle.thes_service.proofs.StateViewLemmas.{holds_in_encoded_states}
-use Rattle.thes_export.specs.ExportWrites as export
-use Rattle.thes_display.specs.DisplayWrites as display
-use Rattle.thes_display.specs.declared.writing.DisplayOutcome.{DisplayOutcome}
-use Rattle.thes_http.specs.declared.service.Display.{Display}
 use Rattle.thes_cli.specs.Checking.{sizes_of, FindsSizes}
-use Rattle.thes_cli.specs.Displaying.{WritesDisplay}
-use Rattle.thes_service.specs.Service.{IsDisplay}
-use Rattle.thes_cli.specs.Exporting.{WritesExport}
-use Rattle.thes_cli.specs.Opening.{InStore}
+use Rattle.thes_cli.specs.Writing.{InStore, WritesState}
 
 -- The sizes of a core are those of each state that it holds.
 pub sizes_are : (z : Sizes) (copy : core.CoreView) (s : State) → IsViewOf copy s → z.resources ≡ length copy.resources
@@ -52,21 +44,20 @@ held_in_store raw limits copy P is so base s x =
     subst (P base) one.1 (subst (λ (b : List ℕ). P b is.state) one.0 (so is.state is.holds))
 
 module _ {K : Type 0} (view : K → StorageView) where
-  -- What holds for the result of `ready` holds for the core that it returned.
-  handed : (old new : OfficeView K) (result : Result (Bor core.CoreView) Fault) (copy : Bor core.CoreView)
-      → ReadyResult view old result new → result ≡ Ok copy → ReadyResult view old (Ok copy)
-      new
-  handed old new result copy ready is =
+  -- What holds of the result of `ready` holds of an equal one.
+  ready_with : (old new : OfficeView K) (result same : Result (Bor core.CoreView) Fault)
+      → ReadyResult view old result new → result ≡ same → ReadyResult view old same new
+  ready_with old new result same ready is =
       subst (λ (r : Result (Bor core.CoreView) Fault). ReadyResult view old r new) is ready
 
   pub sizes_found : (old new : OfficeView K) (result : Result (Bor core.CoreView) Fault) (copy : Bor core.CoreView)
       (z : Sizes) → ReadyResult view old result new → result ≡ Ok copy
       → ((s : State) → IsViewOf copy.now s → z ≡ sizes_of s) → FindsSizes view old (Ok z) new
   sizes_found old new result copy z ready is so =
-      let here = handed old new result copy ready is in record {
+      let here = ready_with old new result (Ok copy) ready is in record {
         fault_behaviour = behaviour_with_value view old new copy z here.fault_behaviour;
         same = here.same;
-        sizes = λ up. holds_in_encoded_states (view new.keeper).rows new.limits copy.now (λ s. z ≡ sizes_of s)
+        sizes = λ up. held_in_store (view new.keeper).rows new.limits copy.now (λ base s. z ≡ sizes_of s)
             (here.shown.copies up) so;
       }
 
@@ -85,104 +76,33 @@ module _ {K : Type 0} (view : K → StorageView) where
     fault = fault_behaviour.fault;
   }
 
-  failed_as : (old new : OfficeView K) (result : Result (Bor core.CoreView) Fault) (fault : Fault)
-      → ReadyResult view old result new → result ≡ Err fault → ReadyResult view old
-      (Err fault) new
-  failed_as old new result fault ready is =
-      subst (λ (r : Result (Bor core.CoreView) Fault). ReadyResult view old r new) is ready
-
-  module _ {W : Type 0} (out : W → Option (List ℕ)) (output output' : Pipe W) where
-    -- An export from the office's core is that of the state that the tables encode.
-    pub export_written : (old new : OfficeView K) (result : Result (Bor core.CoreView) Fault)
-        (copy : Bor core.CoreView) (ended : Result (Unit {0}) PipeFault) → ReadyResult view old result
-        new → result ≡ Ok copy
-        → ((s : State) → IsViewOf copy.now s → OnOk ended (export.IsExportWritten out copy.now.setting.base s output
-        output'))
-        → ((s : State) → IsViewOf copy.now s → IfErr ended (export.IsExportStopped out copy.now.setting.base s output
-        output'))
-        → KeepsCallLimit output output' → WritesExport view out old output ended new output'
-    export_written old new result copy (Ok done) ready is ok err calls =
-        let here = handed old new result copy ready is in record {
+  module _ {W A : Type 0} (Writes : List ℕ → State → Pipe W → Pipe W → Result A PipeFault → Type 0)
+      (output output' : Pipe W) where
+    -- What is written of each state that the office's core holds is written of the state that the tables encode.
+    pub state_written : (old new : OfficeView K) (result : Result (Bor core.CoreView) Fault)
+        (copy : Bor core.CoreView) (ended : Result A PipeFault) → ReadyResult view old result new → result ≡ Ok copy
+        → ((s : State) → IsViewOf copy.now s → Writes copy.now.setting.base s output output' ended)
+        → KeepsCallLimit output output' → WritesState view Writes old output ended new output'
+    state_written old new result copy ended ready is so calls =
+        let here = ready_with old new result (Ok copy) ready is in record {
           ready = Ok tt;
           fault_behaviour = behaviour_with_value view old new copy tt here.fault_behaviour;
           same = here.same;
           writes = (
             λ up. held_in_store (view new.keeper).rows new.limits copy.now
-                (λ base s. export.IsExportWritten out base s output output') (here.shown.copies up) ok,
-            calls,
-          );
-        }
-    export_written old new result copy (Err fault) ready is ok err calls =
-        let here = handed old new result copy ready is in record {
-          ready = Ok tt;
-          fault_behaviour = behaviour_with_value view old new copy tt here.fault_behaviour;
-          same = here.same;
-          writes = (
-            λ up. held_in_store (view new.keeper).rows new.limits copy.now
-                (λ base s. export.IsExportStopped out base s output output' fault) (here.shown.copies up) err,
+                (λ base s. Writes base s output output' ended) (here.shown.copies up) so,
             calls,
           );
         }
 
-    -- A display from the office's core is that of the state that the tables encode.
-    pub display_written : (kind : Display) (scheme : ℕ) (tag : List ℕ) (old new : OfficeView K)
-        (result : Result (Bor core.CoreView) Fault) (copy : Bor core.CoreView)
-        (ended : Result DisplayOutcome PipeFault)
-        → ReadyResult view old result new → result ≡ Ok copy
-        → ((s : State) → IsViewOf copy.now s
-        → IfOk ended (display.IsDisplayWritten out s.resources scheme (IsDisplay kind scheme tag s) output
-        output'))
-        → ((s : State) → IsViewOf copy.now s → IfErr ended (display.IsDisplayStopped out (IsDisplay kind scheme tag s)
-        output output'))
-        → KeepsCallLimit output output' → WritesDisplay view out kind scheme tag old output ended new
-        output'
-    display_written kind scheme tag old new result copy (Ok shown) ready is ok err calls =
-        let here = handed old new result copy ready is in record {
-          ready = Ok tt;
-          fault_behaviour = behaviour_with_value view old new copy tt here.fault_behaviour;
-          same = here.same;
-          shows = (
-            λ up. held_in_store (view new.keeper).rows new.limits copy.now
-                (λ base s. display.IsDisplayWritten out s.resources scheme (IsDisplay kind scheme tag s) output
-                output' shown) (here.shown.copies up) ok,
-            calls,
-          );
-        }
-    display_written kind scheme tag old new result copy (Err fault) ready is ok err calls =
-        let here = handed old new result copy ready is in record {
-          ready = Ok tt;
-          fault_behaviour = behaviour_with_value view old new copy tt here.fault_behaviour;
-          same = here.same;
-          shows = (
-            λ up. held_in_store (view new.keeper).rows new.limits copy.now
-                (λ base s. display.IsDisplayStopped out (IsDisplay kind scheme tag s) output output' fault)
-                (here.shown.copies up) err,
-            calls,
-          );
-        }
-
-    pub export_unready : (old new : OfficeView K) (result : Result (Bor core.CoreView) Fault) (fault : Fault)
-        (ended : Result (Unit {0}) PipeFault) → ReadyResult view old result new → result ≡ Err fault
-        → ended ≡ Err (pipe.Fault fault) → output' ≡ output → WritesExport view out old output ended new
-        output'
-    export_unready old new result fault ended ready is reports same =
-        let here = failed_as old new result fault ready is in
-        record {
+    -- If the office has no core, since a load failed, nothing is written.
+    pub state_unwritten : (old new : OfficeView K) (result : Result (Bor core.CoreView) Fault) (fault : Fault)
+        (ended : Result A PipeFault) → ReadyResult view old result new → result ≡ Err fault
+        → ended ≡ Err (pipe.Fault fault) → output' ≡ output → WritesState view Writes old output ended new output'
+    state_unwritten old new result fault ended ready is reports same =
+        let here = ready_with old new result (Err fault) ready is in record {
           ready = Err fault;
           fault_behaviour = unready old new fault here.fault_behaviour;
           same = here.same;
           writes = (reports, same);
-        }
-
-    pub display_unready : (kind : Display) (scheme : ℕ) (tag : List ℕ) (old new : OfficeView K)
-        (result : Result (Bor core.CoreView) Fault) (fault : Fault) (ended : Result DisplayOutcome PipeFault)
-        → ReadyResult view old result new → result ≡ Err fault → ended ≡ Err (pipe.Fault fault) → output'
-        ≡ output → WritesDisplay view out kind scheme tag old output ended new output'
-    display_unready kind scheme tag old new result fault ended ready is reports same =
-        let here = failed_as old new result fault ready is in
-        record {
-          ready = Err fault;
-          fault_behaviour = unready old new fault here.fault_behaviour;
-          same = here.same;
-          shows = (reports, same);
         }

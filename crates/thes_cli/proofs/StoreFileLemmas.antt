@@ -15,7 +15,7 @@ use Rattle.thes_sqlite.specs.Reopening.{IsStillOpen, ReturnsFirst, rows_of_first
 use Rattle.thes_sqlite.specs.declared.reopening.Leaving.{Leaving}
 use Rattle.thes_jobs.specs.Databases.{ClosesStore}
 use Rattle.thes_jobs.specs.declared.work.DatabaseWork.{DatabaseWork}
-use Rattle.thes_cli.specs.Stores.{storage_of_connection, ClosesLeft, LeadsIfClosed, LeadsInFiles, LeavesInFiles}
+use Rattle.thes_cli.specs.Stores.{storage_of_connection, ClosesLeft, LeadsInFiles, LeavesInFiles}
 use Rattle.thes_cli.specs.Stores.{RunsIfOpened, WorksInDatabase, WorksToClosing}
 use Rattle.thes_cli.specs.Work.{ReportsUnopened, WorksOpened, WorksOverKeeper}
 use Rattle.thes_cli.specs.declared.closing.Closed.{Closed}
@@ -106,6 +106,33 @@ module _ {S : Type 0} (g : Ghosts S) where
               (rows_still g opened.old_office.keeper) run.0 run.1 r) rows_last run.2)),
         )
 
+    -- The tables that the storage had are those to which a run of the machine leads, or a fault of opening is printed.
+    to_leads : {O P L : Type 0} (job : DatabaseWork S O P F L) (old new : Streams R W E) (status : ℕ)
+        (keeper : ReopeningView S) (t : Tables) (holds : Tables → Type 0)
+        (works : WorksOpened (storage_still g) given remaining out err job.work job.limits
+        (storage_of_connection job.conn) old status keeper new
+        ⊎ ReportsUnopened (storage_still g) given remaining out err (Some (string_bytes job.file))
+        (storage_of_connection job.conn) old status keeper new)
+        → LeavesInFiles g works job.limits t keeper holds
+        → LeadsInFiles err old.errors new.errors status t holds
+    to_leads job old new status keeper t holds (inl opened) x = record {
+      limits = job.limits;
+      tables_after = x.tables_after;
+      run = inl x.run;
+      holds_after = x.holds_after;
+    }
+    to_leads job old new status keeper t holds (inr unopened) x = record {
+      limits = job.limits;
+      tables_after = x.tables_after;
+      run = inr record {
+        file = Some (string_bytes job.file);
+        fault = unopened.fault;
+        prints_it = unopened.prints_it;
+        status_is = unopened.status_is;
+      };
+      holds_after = x.holds_after;
+    }
+
     module _ {O P L C : Type 0} (is_clean : C → Type 0) (holds : C → Tables → Type 0)
         (job : DatabaseWork S O P F L) (old new : Streams R W E) (status : ℕ) (left : Leaving S)
         (works : WorksInDatabase given remaining out err g held job old status left new)
@@ -136,41 +163,11 @@ module _ {S : Type 0} (g : Ghosts S) where
         leaving = left;
         works = works;
         closes = closes;
-        leaves = λ kept. closed_leaves left.conn closed.files refl (sym closes.is_reopened ∙ kept) closes.files;
+        leaves = leaves;
+        leads = λ kept. if_some_weaker closed.files _ _ (λ files leaves clean t was_held.
+            to_leads job old new status works.keeper t (holds files) works.works.0 (leaves clean t was_held)) (leaves kept);
       }
-
-    to_leads : {O P L : Type 0} (job : DatabaseWork S O P F L) (old new : Streams R W E) (status : ℕ)
-        (keeper : ReopeningView S) (t : Tables) (holds : Tables → Type 0)
-        (works : WorksOpened (storage_still g) given remaining out err job.work job.limits
-        (storage_of_connection job.conn) old status keeper new
-        ⊎ ReportsUnopened (storage_still g) given remaining out err (Some (string_bytes job.file))
-        (storage_of_connection job.conn) old status keeper new)
-        → LeavesInFiles g works job.limits t keeper holds
-        → LeadsInFiles err old.errors new.errors status t holds
-    to_leads job old new status keeper t holds (inl opened) x = record {
-      limits = job.limits;
-      tables_after = x.tables_after;
-      run = inl x.run;
-      holds_after = x.holds_after;
-    }
-    to_leads job old new status keeper t holds (inr unopened) x = record {
-      limits = job.limits;
-      tables_after = x.tables_after;
-      run = inr record {
-        file = Some (string_bytes job.file);
-        fault = unopened.fault;
-        prints_it = unopened.prints_it;
-        status_is = unopened.status_is;
-      };
-      holds_after = x.holds_after;
-    }
-
-    -- The promise of a run, from that of its work.
-    pub leads_if_closed : {O P L C : Type 0} (is_clean : C → Type 0) (holds : C → Tables → Type 0)
-        (job : DatabaseWork S O P F L) (old new : Streams R W E) (status : ℕ) (closed : Closed C)
-        → WorksToClosing given remaining out err g held is_clean holds job old status closed new
-        → LeadsIfClosed err held is_clean holds old.errors new.errors status closed
-    leads_if_closed is_clean holds job old new status closed x = λ kept.
-        let works = x.works in
-        if_some_weaker closed.files _ _ (λ files leaves clean t was_held.
-        to_leads job old new status works.keeper t (holds files) works.works.0 (leaves clean t was_held)) (x.leaves kept)
+        where
+          leaves : closed.is_reopened ≡ false → IfSome closed.files (λ files. is_clean files → (t : Tables) → held t
+              → LeavesInFiles g works.works.0 job.limits t works.keeper (holds files))
+          leaves kept = closed_leaves left.conn closed.files refl (sym closes.is_reopened ∙ kept) closes.files

@@ -1,6 +1,6 @@
 pub mod Ending
 pub mod Streams
-pub mod Opening
+pub mod Writing
 pub mod Scripting
 pub mod Checking
 pub mod Exporting

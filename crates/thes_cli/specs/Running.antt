@@ -1,5 +1,5 @@
 -- The run of a command line: its job is opened and done, or the reason why not is reported.
-use Rattle.std.specs.Prelude.{◌≡◌, ℕ, List, Option, Result, Ok, Err, string_bytes}
+use Rattle.std.specs.Prelude.{◌≡◌, ℕ, List, Option, None, Result, Ok, Err, false, string_bytes}
 use Rattle.std.specs.Global.{Global}
 use Rattle.std.specs.declared.fs.File.{File}
 use Rattle.std.specs.declared.string.String.{String}
@@ -18,6 +18,10 @@ use Rattle.thes_jobs.specs.declared.starting.OpenJob.TheVariants.{InFile, InMemo
 use Rattle.thes_cli.specs.Stores.{WorksInMemory, WorksToClosing}
 use Rattle.thes_cli.specs.declared.closing.Closed.{Closed}
 use Rattle.thes_cli.specs.declared.streams.Streams.{Streams}
+
+-- Nothing is left of a store's files, and no request is in doubt.
+abbrev pub LeavesNoFiles : {C : Type 0} → Closed C → Type 0
+LeavesNoFiles closed = closed ≡ record { files = None; is_in_doubt = false; is_reopened = false }
 
 module _ {R W E S : Type 0} (out : W → Option (List ℕ)) (err : E → Option (List ℕ)) (store : Ghosts S)
     (old : Streams R W E) (status : ℕ) (new : Streams R W E) where
@@ -42,14 +46,18 @@ module _ {R W E S C : Type 0} (given : File → Option (List ℕ)) (remaining : 
     (out : W → Option (List ℕ)) (err : E → Option (List ℕ)) (store : Ghosts S) (held : Tables → Type 0)
     (is_clean : C → Type 0) (holds : C → Tables → Type 0) where
   -- The work of the job that was opened was done and its store closed, or the reason why none was opened is reported.
+  -- Only work over a store in files leaves something of them.
   abbrev pub DoesOpened : {O : Type 0} → Result (OpenJob S O) StartFailure → Streams R W E → ℕ → Closed C
       → Streams R W E → Type 0
   DoesOpened (Ok (InFile work)) old status closed new =
       WorksToClosing given remaining out err store held is_clean holds work old status closed new
-  DoesOpened (Ok (InMemory work)) old status closed new = WorksInMemory given remaining out err work old status new
-  DoesOpened (Ok (Migration file conn)) old status closed new = MigratesInFile out err store old status new file conn
-  DoesOpened (Ok Version) old status closed new = PrintsVersion out err store old status new
-  DoesOpened (Err failure) old status closed new = ReportsNoJob out err store old status new failure
+  DoesOpened (Ok (InMemory work)) old status closed new =
+      WorksInMemory given remaining out err work old status new × LeavesNoFiles closed
+  DoesOpened (Ok (Migration file conn)) old status closed new =
+      MigratesInFile out err store old status new file conn × LeavesNoFiles closed
+  DoesOpened (Ok Version) old status closed new = PrintsVersion out err store old status new × LeavesNoFiles closed
+  DoesOpened (Err failure) old status closed new =
+      ReportsNoJob out err store old status new failure × LeavesNoFiles closed
 
   -- The job of a command line was opened as the command line says, and done.
   pub record RunsPlan (O : Type 0) (planned : Result Job EarlyExit) (old : Streams R W E) (status : ℕ)

@@ -123,7 +123,7 @@ module _ {F R W E : Type 0} (given : F → Option (List ℕ)) (remaining : R →
       pub returns : left.is_reopened ≡ false → ReturnsFirst store held keeper left.conn
 
     -- The work was done on the tables of the database, and the database was closed. If no failure has shut it, the files
-    -- held a store and the closed files are clean, they hold the store after the work.
+    -- held a store and the closed files are clean, they hold the store after the work, and so after a run of the machine.
     pub record WorksToClosing {O P L C : Type 0} (held : Tables → Type 0) (is_clean : C → Type 0)
         (holds : C → Tables → Type 0) (job : DatabaseWork S O P F L) (old : Streams R W E) (status : ℕ)
         (closed : Closed C) (new : Streams R W E) : Type 0 where
@@ -132,3 +132,4 @@ module _ {F R W E : Type 0} (given : F → Option (List ℕ)) (remaining : R →
       pub closes : ClosesLeft store is_clean holds leaving closed
       pub leaves : closed.is_reopened ≡ false → IfSome closed.files (λ files. is_clean files → (t : Tables) → held t
           → LeavesInFiles store works.works.0 job.limits t works.keeper (holds files))
+      pub leads : LeadsIfClosed err held is_clean holds old.errors new.errors status closed

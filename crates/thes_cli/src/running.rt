@@ -2,7 +2,7 @@
 ghost use Rattle.std.specs.Prelude.{◌≡◌, false};
 ghost use Rattle.sqlite_wal.specs.Files.{image_at};
 ghost use Rattle.thes_sqlite.specs.DatabaseFiles.{HoldsStore};
-ghost use Rattle.thes_jobs.specs.Databases.{AreCleanFiles, ClosesStores, HoldTables, OpensStores};
+ghost use Rattle.thes_jobs.specs.Databases.{AreCleanFiles, HoldTables, KeepsStores};
 ghost use Rattle.thes_jobs.specs.declared.store_files.StoreFiles.{StoreFiles};
 ghost use Rattle.thes_cli.specs.Running.{MigratesInFile, RunsPlan};
 ghost use Rattle.thes_cli.specs.Stores.{LeadsIfClosed};
@@ -58,8 +58,7 @@ fn run_job<
     planned: Result<Job, EarlyExit>,
     streams: &mut Streams<R, W, E>,
 ) -> (u8, Closed<L>)
-    requires opens { OpensStores S.Store O.held D.opens }
-    requires closes { ClosesStores S.Store D.closes D.is_clean D.holds }
+    requires databases { KeepsStores S.Store O.held D.opens D.closes D.is_clean D.holds }
     requires streams { AreFresh streams.old }
     ensures runs { RunsPlan ⟦<File as Read>⟧.remaining R.remaining W.contents E.contents S.Store
         O.held D.is_clean D.holds O planned streams.old result.0 result.1 streams.new }

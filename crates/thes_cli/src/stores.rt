@@ -1,9 +1,6 @@
 //! Work over the stores of the program: in a database, and in memory.
-ghost use Rattle.std.specs.Prelude.{◌≡◌, false};
-ghost use Rattle.sqlite.specs.Held.{state};
-ghost use Rattle.thes_sqlite.specs.KeeperView.{ServesTables};
-ghost use Rattle.thes_jobs.specs.Databases.{ClosesStores};
-ghost use Rattle.thes_cli.specs.Stores.{ClosesLeft, LeadsIfClosed, WorksInDatabase, WorksInMemory, WorksToClosing};
+ghost use Rattle.thes_jobs.specs.Databases.{ClosesStores, IsReadyConnection};
+ghost use Rattle.thes_cli.specs.Stores.{ClosesLeft, WorksInDatabase, WorksInMemory, WorksToClosing};
 ghost use Rattle.thes_cli.specs.Streams.{AreFresh};
 
 use crate::closing::Closed;
@@ -27,7 +24,7 @@ pub fn work_in_database<
     N: Net + Clock,
     S: Alter + Drop,
     O: Reopen<Connection<S>> + HeldTables + Drop,
-    P: Progress + Copy,
+    P: Progress,
     F: Read + Drop,
     R: Read,
     W: Write,
@@ -38,8 +35,7 @@ pub fn work_in_database<
     job: DatabaseWork<S, O, P, F, N::Listener>,
     streams: &mut Streams<R, W, E>,
 ) -> (u8, Leaving<S>)
-    requires idle { job.conn.in_transaction ≡ false }
-    requires serves { ServesTables O.held (state S.Store job.conn) }
+    requires ready { IsReadyConnection S.Store O.held job.conn }
     requires streams { AreFresh streams.old }
     ensures { WorksInDatabase F.remaining R.remaining W.contents E.contents S.Store O.held job
         streams.old result.0 result.1 streams.new }
@@ -101,7 +97,7 @@ pub fn work_and_close<
     O: Reopen<Connection<S>> + HeldTables + Drop,
     L,
     D: Databases<Connection<S>, O, L>,
-    P: Progress + Copy,
+    P: Progress,
     F: Read + Drop,
     R: Read,
     W: Write,
@@ -114,27 +110,17 @@ pub fn work_and_close<
     streams: &mut Streams<R, W, E>,
 ) -> (u8, Closed<L>)
     requires closes { ClosesStores S.Store D.closes D.is_clean D.holds }
-    requires idle { job.conn.in_transaction ≡ false }
-    requires serves { ServesTables O.held (state S.Store job.conn) }
+    requires ready { IsReadyConnection S.Store O.held job.conn }
     requires streams { AreFresh streams.old }
-    ensures works { WorksToClosing F.remaining R.remaining W.contents E.contents S.Store O.held
+    ensures { WorksToClosing F.remaining R.remaining W.contents E.contents S.Store O.held
         D.is_clean D.holds job streams.old result.0 result.1 streams.new }
-    ensures leads { LeadsIfClosed E.contents O.held D.is_clean D.holds streams.old.errors
-        streams.new.errors result.0 result.1 }
 {
     let (status, left) = work_in_database::<N, S, O, P, F, R, W, E>(alloc, clock, job, streams);
     (status, close_left::<S, O, L, D>(databases, left))
 }
 
 /// Works over a new store in memory with this base and these limits, and returns the exit status.
-pub fn work_in_memory<
-    N: Net + Clock,
-    P: Progress + Copy,
-    F: Read + Drop,
-    R: Read,
-    W: Write,
-    E: Write,
->(
+pub fn work_in_memory<N: Net + Clock, P: Progress, F: Read + Drop, R: Read, W: Write, E: Write>(
     alloc: Global,
     clock: &N,
     job: MemoryWork<P, F, N::Listener>,

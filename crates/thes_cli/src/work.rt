@@ -115,7 +115,7 @@ pub fn work_over_keeper<N: Net + Clock, K: Keeper, F: Read + Drop, R: Read, W: W
 pub fn work_with_progress<
     N: Net + Clock,
     K: Keeper,
-    P: Progress + Copy,
+    P: Progress,
     F: Read + Drop,
     R: Read,
     W: Write,

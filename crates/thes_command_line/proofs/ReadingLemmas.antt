@@ -11,7 +11,7 @@ use Rattle.clap.specs.Matches.{ReadsOne, one_text}
 use Rattle.clap.specs.Values.{IsUnsignedIn}
 use Rattle.clap.specs.Walk.{Row, Text, first_of, one_of, rows_of}
 use Rattle.clap.specs.Simple.{subcommand_rows}
-use Rattle.clap.proofs.WalkLemmas.{one_text-rows}
+use Rattle.clap.proofs.WalkLemmas.{first_value-rows, one_text-rows}
 use Rattle.clap.specs.declared.parser.matches.Found.{Found}
 use Rattle.clap.specs.declared.parser.matches.SubCommand.{SubCommand}
 use Rattle.clap.specs.declared.parser.matches.ArgMatches.TheViews.{out-SubCommand}
@@ -92,3 +92,8 @@ pub command_rows : {Z : Type 0} (found : Option (Box SubCommand Z)) (name : Text
     ≡ option_map (λ p. p.1) (subcommand_rows found)
     → subcommand_rows found ≡ Some (name, arguments)
 command_rows found name arguments command_is reports = grind (arith, common_steps, true≢false)
+
+-- What the getters return, as the proofs of the functions that call them name it.
+pub ruleset values_read = (common_steps, first_value-rows, gives_text)
+
+pub ruleset display_values_read = (values_read, some_and, no_scheme, no_lang)

@@ -168,6 +168,7 @@ fn early_exit_of(alloc: Global, error: &Error) -> EarlyExit
 }
 
 // Returns the value of `--base`, or the default base.
+#[tactic(auto, using(crate::proofs::ReadingLemmas::values_read))]
 fn base_argument<'a>(options: &ArgMatches<'a>) -> &'a str
     ensures { result.now ≡ base_in (rows_of (found_of options.now)) }
 {
@@ -202,6 +203,7 @@ fn limits_argument(options: &ArgMatches<'_>) -> Limits
 }
 
 // Returns a copy of the value of `--db`, if it is given.
+#[tactic(auto, using(crate::proofs::ReadingLemmas::values_read))]
 fn file_argument(alloc: Global, options: &ArgMatches<'_>) -> Result<Option<String>, AllocError>
     ensures { IfOk result (λ file. option_map string_bytes file
         ≡ first_of (codes "db") (rows_of (found_of options.now))) }
@@ -213,6 +215,7 @@ fn file_argument(alloc: Global, options: &ArgMatches<'_>) -> Result<Option<Strin
 }
 
 // Returns the task of the command `import`, with the name of its file.
+#[tactic(auto, using(crate::proofs::ReadingLemmas::values_read))]
 fn import_task(alloc: Global, arguments: &ArgMatches<'_>) -> Result<Task, EarlyExit>
     requires { IsSome (first_of (codes "file") (rows_of (found_of arguments.now))) }
     ensures { PlansTask (codes "import") (rows_of (found_of arguments.now)) result }
@@ -223,6 +226,7 @@ fn import_task(alloc: Global, arguments: &ArgMatches<'_>) -> Result<Task, EarlyE
 
 // Returns the scheme and the language of a display, or the form fault of the first value that lacks
 // its form.
+#[tactic(auto, using(crate::proofs::ReadingLemmas::display_values_read))]
 fn display_options(alloc: Global, arguments: &ArgMatches<'_>) -> Result<DisplayOptions, EarlyExit>
     requires { HasOptions (rows_of (found_of arguments.now)) }
     ensures { ReadsDisplayOptions (rows_of (found_of arguments.now)) result }

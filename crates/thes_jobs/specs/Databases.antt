@@ -26,16 +26,26 @@ pub record ClosesStore (holds : Tables → Type 0) (s : State) : Type 0 where
   pub was_up : IsUp s
   pub leaves : s.now ≡ s.committed → (t : Tables) → Keeps s.now t → holds t
 
--- A way to open databases opens them outside a transaction, and they serve the tables that their files held.
-pub record OpensStores {S : Type 0} (g : Ghosts S) (held : Tables → Type 0) (opens : Held S → Type 0) : Type 0 where
-  pub idle : (conn : Held S) → opens conn → conn.in_transaction ≡ false
-  pub serves : (conn : Held S) → opens conn → ServesTables held (state g conn)
+-- A connection is ready for work: it is in no transaction, and if its files held a store, its database is this store.
+pub record IsReadyConnection {S : Type 0} (g : Ghosts S) (held : Tables → Type 0) (conn : Held S) : Type 0 where
+  pub idle : conn.in_transaction ≡ false
+  pub serves : ServesTables held (state g conn)
+
+-- A way to open databases gives connections that are ready for work.
+abbrev pub OpensStores : {S : Type 0} → Ghosts S → (Tables → Type 0) → (Held S → Type 0) → Type 0
+OpensStores {S} g held opens = (conn : Held S) → opens conn → IsReadyConnection g held conn
 
 -- A way to close databases leaves the stores in their files.
 abbrev pub ClosesStores : {S L : Type 0} → Ghosts S → (Held S → L → Type 0) → (L → Type 0) → (L → Tables → Type 0)
     → Type 0
 ClosesStores {S} {L} g closes is_clean holds = (conn : Held S) (left : L) → closes conn left → is_clean left
     → ClosesStore (holds left) (state g conn)
+
+-- A way to open and to close databases keeps the stores of their files.
+pub record KeepsStores {S L : Type 0} (g : Ghosts S) (held : Tables → Type 0) (opens : Held S → Type 0)
+    (closes : Held S → L → Type 0) (is_clean : L → Type 0) (holds : L → Tables → Type 0) : Type 0 where
+  pub opening : OpensStores g held opens
+  pub closing : ClosesStores g closes is_clean holds
 
 -- The files were closed, and the disk has returned what was written.
 abbrev pub AreCleanFiles : {D : Type 0} → disk.Ghosts D → Option (Files D) → Type 0

@@ -4,11 +4,10 @@ use Rattle.std.specs.Global.{Global}
 use Rattle.std.specs.declared.fs.File.{File}
 use Rattle.std.specs.declared.net.tcp.TcpListener.{TcpListener}
 use Rattle.std.specs.declared.string.String.{String}
-use Rattle.sqlite.specs.Held.{Held, state}
+use Rattle.sqlite.specs.Held.{Held}
 use Rattle.sqlite_trees.specs.declared.store.Store.{Ghosts}
 use Rattle.thes_base.specs.declared.fault.Fault.{Fault}
 use Rattle.thes_tables.specs.Tables.{Tables}
-use Rattle.thes_sqlite.specs.KeeperView.{ServesTables}
 use Rattle.thes_command_line.specs.Opening.{is_import}
 use Rattle.thes_command_line.specs.declared.arguments.EarlyExit.{EarlyExit}
 use Rattle.thes_command_line.specs.declared.arguments.Job.{Job}
@@ -19,6 +18,7 @@ use Rattle.thes_command_line.specs.declared.start_failure.StartFailure.{StartFai
 use Rattle.thes_command_line.specs.declared.start_failure.StartFailure.TheVariants as failures
 use Rattle.thes_command_line.specs.declared.trouble.StoreTrouble.{StoreTrouble}
 use Rattle.thes_command_line.specs.declared.trouble.StoreTrouble.TheVariants.{Unreadable}
+use Rattle.thes_jobs.specs.Databases.{IsReadyConnection}
 use Rattle.thes_jobs.specs.NewStore.{PreparesStore}
 use Rattle.thes_jobs.specs.OpenStore.{IsOpenedFor, IsUnopenedStore}
 use Rattle.thes_jobs.specs.PlannedWork.{OpensPlanned, planned_work}
@@ -29,19 +29,12 @@ use Rattle.thes_jobs.specs.declared.starting.StoreDatabase.{StoreDatabase}
 use Rattle.thes_jobs.specs.declared.work.DatabaseWork.{DatabaseWork}
 use Rattle.thes_jobs.specs.declared.work.MemoryWork.{MemoryWork}
 
--- The connection of the job, if it has one, is in no transaction.
-abbrev pub IsIdle : {S O : Type 0} → OpenJob S O → Type 0
-IsIdle (InFile work) = work.conn.in_transaction ≡ false
-IsIdle (InMemory work) = Unit {0}
-IsIdle (Migration file conn) = conn.in_transaction ≡ false
-IsIdle Version = Unit {0}
-
--- The database of work over a store, if its files held a store, is this store.
-abbrev pub ServesInFile : {S O : Type 0} → Ghosts S → (Tables → Type 0) → OpenJob S O → Type 0
-ServesInFile g held (InFile work) = ServesTables held (state g work.conn)
-ServesInFile g held (InMemory work) = Unit {0}
-ServesInFile g held (Migration file conn) = Unit {0}
-ServesInFile g held Version = Unit {0}
+-- The connection of work over a store in a file is ready for it, and that of a migration is in no transaction.
+abbrev pub IsReadyJob : {S O : Type 0} → Ghosts S → (Tables → Type 0) → OpenJob S O → Type 0
+IsReadyJob g held (InFile work) = IsReadyConnection g held work.conn
+IsReadyJob g held (InMemory work) = Unit {0}
+IsReadyJob g held (Migration file conn) = conn.in_transaction ≡ false
+IsReadyJob g held Version = Unit {0}
 
 -- A listener for progress, if there is one, reports the rows of an import exactly when the task is one.
 abbrev pub ListensTo : {R : Type 0} → Task → Option (Screen R) → Type 0

@@ -2,8 +2,8 @@
 mod counting_sink;
 pub mod reporting_keeper;
 
-/// A listener for progress. Its calls don't affect the work.
-pub trait Progress {
+/// A listener for progress, which can be copied. Its calls don't affect the work.
+pub trait Progress: Copy {
     /// Reports the number of rows of the tables read so far, during a load.
     fn report_rows(&mut self, rows: u64);
 

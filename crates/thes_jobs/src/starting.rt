@@ -4,12 +4,12 @@ ghost use Rattle.std.specs.Result.{result_map_both};
 ghost use Rattle.sqlite.specs.Held.{state};
 ghost use Rattle.thes_sql.specs.Schema.{empty_schema};
 ghost use Rattle.thes_sqlite.specs.KeeperView.{ServesTables};
-ghost use Rattle.thes_jobs.specs.Databases.{KeepsTables, OpensStores};
+ghost use Rattle.thes_jobs.specs.Databases.{IsReadyConnection, KeepsTables, OpensStores};
 ghost use Rattle.thes_jobs.specs.NewStore.{MakesStore, PreparesStore};
 ghost use Rattle.thes_jobs.specs.OpenStore.{ChoosesOpening, IsOpenedFor, IsTroubleOf, IsUnopenedDatabase, OpensStore};
 ghost use Rattle.thes_jobs.specs.PlannedWork as work;
 ghost use Rattle.thes_jobs.specs.PlannedWork.{IsSocketFailure, OpensPlanned};
-ghost use Rattle.thes_jobs.specs.Starting.{IsIdle, ListensTo, OpensJob, OpensPlan, ServesInFile, job_in_file, job_in_memory};
+ghost use Rattle.thes_jobs.specs.Starting.{IsReadyJob, ListensTo, OpensJob, OpensPlan, job_in_file, job_in_memory};
 
 use crate::databases::Databases;
 use crate::making::MakingMark;
@@ -92,8 +92,7 @@ fn open_database<S: Alter + Drop, O: HeldTables, L, D: Databases<Connection<S>, 
     file: &str,
 ) -> Result<Connection<S>, (StoreTrouble, Fault)>
     requires { OpensStores S.Store O.held D.opens }
-    ensures idle { IfOk result (λ conn. conn.in_transaction ≡ false) }
-    ensures serves { IfOk result (λ conn. ServesTables O.held (state S.Store conn)) }
+    ensures ready { IfOk result (IsReadyConnection S.Store O.held) }
     ensures err { IfErr result (IsUnopenedDatabase opening found) }
 {
     if opening == Opening::New {
@@ -285,8 +284,7 @@ fn open_over<'r, S: Alter + Drop, O: HeldTables + Drop, L, D: Databases<Connecti
     requires opens { IsOpenedFor task store }
     requires serves { ServesTables O.held (state S.Store store.conn) }
     ensures opens { OpensJob S.Store (job_in_file task file setting) result }
-    ensures idle { IfOk result IsIdle }
-    ensures serves { IfOk result (ServesInFile S.Store O.held) }
+    ensures ready { IfOk result (IsReadyJob S.Store O.held) }
 {
     let StoreSetting { base, limits } = setting;
     let progress = screen_of(rt, &task);
@@ -334,8 +332,7 @@ fn open_in_file<'r, S: Alter + Drop, O: HeldTables + Drop, L, D: Databases<Conne
 ) -> Result<OpenJob<'r, S, O>, StartFailure>
     requires { OpensStores S.Store O.held D.opens }
     ensures opens { OpensJob S.Store (job_in_file task file setting) result }
-    ensures idle { IfOk result IsIdle }
-    ensures serves { IfOk result (ServesInFile S.Store O.held) }
+    ensures ready { IfOk result (IsReadyJob S.Store O.held) }
 {
     match open_store(rt, databases, &task, file.as_str()) {
         Ok(store) => open_over(rt, databases, task, store, file, setting),
@@ -350,8 +347,7 @@ fn open_in_memory<S: Alter, O: HeldTables>(
     setting: StoreSetting,
 ) -> Result<OpenJob<'_, S, O>, StartFailure>
     ensures opens { OpensJob S.Store (job_in_memory task setting) result }
-    ensures idle { IfOk result IsIdle }
-    ensures serves { IfOk result (ServesInFile S.Store O.held) }
+    ensures ready { IfOk result (IsReadyJob S.Store O.held) }
 {
     let StoreSetting { base, limits } = setting;
     let progress = screen_of(rt, &task);
@@ -376,8 +372,7 @@ pub fn open_job<'r, S: Alter + Drop, O: HeldTables + Drop, L, D: Databases<Conne
 ) -> Result<OpenJob<'r, S, O>, StartFailure>
     requires { OpensStores S.Store O.held D.opens }
     ensures opens { OpensPlan S.Store planned result }
-    ensures idle { IfOk result IsIdle }
-    ensures serves { IfOk result (ServesInFile S.Store O.held) }
+    ensures ready { IfOk result (IsReadyJob S.Store O.held) }
 {
     match planned {
         Ok(

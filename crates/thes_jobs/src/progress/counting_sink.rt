@@ -12,7 +12,7 @@ pub(crate) struct CountingSink<'a, S, P> {
     pub(crate) rows: u64,
 }
 
-impl<S: RowSink, P: Progress + Copy> RowSink for CountingSink<'_, S, P> {
+impl<S: RowSink, P: Progress> RowSink for CountingSink<'_, S, P> {
     ghost use Rattle.thes_jobs.specs.Passing.{Passes};
 
     ghost gives = { Passes S.gives };

@@ -32,7 +32,7 @@ impl<K: Keeper, P> Model for ReportingKeeper<K, P> {
     ghost view = { λ a. a.keeper };
 }
 
-impl<K: Keeper, P: Progress + Copy> ReportingKeeper<K, P> {
+impl<K: Keeper, P: Progress> ReportingKeeper<K, P> {
     /// Wraps a storage, with a listener for its progress.
     pub fn new(keeper: K, progress: P) -> ReportingKeeper<K, P>
         ensures { result ≡ keeper }
@@ -58,7 +58,7 @@ impl<K: Keeper, P: Progress + Copy> ReportingKeeper<K, P> {
 }
 
 /// Each call is passed to the inner storage.
-impl<K: Keeper, P: Progress + Copy> Keeper for ReportingKeeper<K, P> {
+impl<K: Keeper, P: Progress> Keeper for ReportingKeeper<K, P> {
     ghost view = { K.view };
 
     ghost is_open = { K.is_open };

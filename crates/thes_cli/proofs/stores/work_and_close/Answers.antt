@@ -1,16 +1,9 @@
-use Rattle.thes_cli.proofs.StoreFileLemmas.{leads_if_closed, works_to_closing}
+use Rattle.thes_cli.proofs.StoreFileLemmas.{works_to_closing}
 use Rattle.thes_cli.proofs.stores.work_and_close.Goals as goal
 
-pub returns-clause-works : goal.returns-clause-works
-returns-clause-works g c =
+pub returns : goal.returns
+returns g c =
     works_to_closing g.S.Store g.F.Read.remaining g.R.Read.remaining g.W.Write.contents g.E.Write.contents
     g.O.HeldTables.held g.D.Databases.is_clean g.D.Databases.holds c.args.job c.args.streams.now
     c.work_in_database-status.new.streams c.work_in_database-status.result.0 c.work_in_database-status.result.1
-    c.work_in_database-status.ensures c.requires.serves c.close_left.result c.close_left.ensures
-
-pub returns-clause-leads : goal.returns-clause-leads
-returns-clause-leads g c =
-    leads_if_closed g.S.Store g.F.Read.remaining g.R.Read.remaining g.W.Write.contents g.E.Write.contents
-    g.O.HeldTables.held g.D.Databases.is_clean g.D.Databases.holds c.args.job c.args.streams.now
-    c.work_in_database-status.new.streams c.work_in_database-status.result.0 c.close_left.result
-    (returns-clause-works g c)
+    c.work_in_database-status.ensures c.requires.ready.serves c.close_left.result c.close_left.ensures

@@ -1,5 +1,6 @@
-use Rattle.std.proofs.Common.{rules, ◌≡◌, ◌∙◌, ap, sym, refl, subst, true, string_bytes, map, inr}
-use Rattle.clap.specs.Words.{App, HasKind, HasMatchesOf, fault_of, is_simple, is_simple_and_free}
+use Rattle.std.proofs.Common.{rules, ◌≡◌, ◌∙◌, ap, sym, refl, subst, true, string_bytes, map, inr, List, []}
+use Rattle.clap.specs.Words.{App, HasKind, HasMatchesOf, Text, fault_of, is_simple, is_simple_and_free}
+use Rattle.clap.specs.declared.parser.matches.ArgMatches.{ArgMatches}
 use Rattle.clap.proofs.OnLiterals.{clap_on_literals}
 use Rattle.thes_command_line.specs.Commands.{program}
 use Rattle.thes_command_line.specs.CommandLine.{HasCommand, HasLimits}
@@ -16,31 +17,34 @@ is_plain : is_simple program ≡ true
 unfolding clap_on_literals
 is_plain = refl
 
+-- Arguments that `clap` accepts have no fault, and what it found in them are their matches.
+matches_found : (app : App) (arguments : List Text) (m : ArgMatches) → app ≡ program
+    → (is_simple_and_free app ≡ true → fault_of app arguments ≡ []) → HasMatchesOf app arguments m
+    → (fault_of program arguments ≡ []) × HasMatchesOf program arguments m
+matches_found app arguments m is_program none matches = (
+  ap (λ (a : App). fault_of a arguments) (sym is_program) ∙ none (ap is_simple_and_free is_program ∙ is_free),
+  subst (λ (a : App). HasMatchesOf a arguments m) is_program matches,
+)
+
 pub returns-in_err-program : goal.returns-in_err-program
 returns-in_err-program c = inr (search rules)
 
 pub job_of-requires : goal.job_of-requires
 job_of-requires c =
-    let is_program = c.in_ok-program.ensures in
     let arguments = map string_bytes c.args.arguments.now in
-    let none = ap (λ (a : App). fault_of a arguments) (sym is_program)
-    ∙ c.in-Ok.ensures.kinds (ap is_simple_and_free is_program ∙ is_free) in
-    let found = subst (λ (a : App). HasMatchesOf a arguments c.in-Ok.options) is_program c.in-Ok.ensures.matches
-    is_plain in
+    let found = matches_found _ arguments c.in-Ok.options c.in_ok-program.ensures c.in-Ok.ensures.kinds
+    c.in-Ok.ensures.matches in
     record {
-      command = subst HasCommand (sym found.1) (has_command arguments none);
-      limits = subst HasLimits (sym found.0) (has_limits arguments none);
+      command = subst HasCommand (sym (found.1 is_plain).1) (has_command arguments found.0);
+      limits = subst HasLimits (sym (found.1 is_plain).0) (has_limits arguments found.0);
     }
 
 pub returns-in-Ok : goal.returns-in-Ok
 returns-in-Ok c =
-    let is_program = c.in_ok-program.ensures in
     let arguments = map string_bytes c.args.arguments.now in
-    let none = ap (λ (a : App). fault_of a arguments) (sym is_program)
-    ∙ c.in-Ok.ensures.kinds (ap is_simple_and_free is_program ∙ is_free) in
-    let found = subst (λ (a : App). HasMatchesOf a arguments c.in-Ok.options) is_program c.in-Ok.ensures.matches
-    is_plain in
-    plan_found arguments c.in-Ok.options c.job_of.result found none c.job_of.ensures
+    let found = matches_found _ arguments c.in-Ok.options c.in_ok-program.ensures c.in-Ok.ensures.kinds
+    c.in-Ok.ensures.matches in
+    plan_found arguments c.in-Ok.options c.job_of.result (found.1 is_plain) found.0 c.job_of.ensures
 
 pub returns-in-Err : goal.returns-in-Err
 returns-in-Err c =

@@ -40,7 +40,9 @@ returns-clause-opens g c = (
   },
 )
 
-pub returns-in-Some-clause-serves : goal.returns-in-Some-clause-serves
-returns-in-Some-clause-serves g c =
-    serves_after g.O.HeldTables.held (state g.S.Store c.args.store.conn) (state g.S.Store c.prepare_store.new.store.conn)
-    c.requires.serves c.prepare_store.ensures.keeps
+pub returns-in-Some-clause-ready : goal.returns-in-Some-clause-ready
+returns-in-Some-clause-ready g c = record {
+  idle = c.prepare_store.ensures.idle;
+  serves = serves_after g.O.HeldTables.held (state g.S.Store c.args.store.conn)
+      (state g.S.Store c.prepare_store.new.store.conn) c.requires.serves c.prepare_store.ensures.keeps;
+}
