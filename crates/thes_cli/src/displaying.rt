@@ -1,10 +1,10 @@
 //! The commands `alphabetical` and `hierarchical`: write a display of a scheme in a language.
 ghost use Rattle.std.specs.Prelude.{◌≡◌, false, Ok};
-ghost use Rattle.thes_base.specs.Pipe.{IsFresh, KeepsCallLimit};
-ghost use Rattle.thes_base.specs.State.{State};
-ghost use Rattle.thes_core.specs.CoreView.{IsViewOf};
+ghost use Rattle.thes_base.specs.Pipe.{IsFresh};
+ghost use Rattle.thes_display.specs.DisplayWrites.{DisplayResult};
+ghost use Rattle.thes_service.specs.Service.{IsDisplay};
 ghost use Rattle.thes_command_line.specs.Printing.{AreFreshOutputs};
-ghost use Rattle.thes_cli.specs.Displaying.{DisplaysStore, EndsDisplay, WritesDisplay, WritesDisplayOf};
+ghost use Rattle.thes_cli.specs.Displaying.{DisplaysStore, EndsDisplay, WritesDisplay};
 
 use std::alloc::Global;
 use std::io::Write;
@@ -30,9 +30,8 @@ fn write_core_display<W: Write>(
 ) -> Result<DisplayOutcome, PipeFault>
     requires unspent { core.now.spent ≡ false }
     requires output { IsFresh output.old }
-    ensures written { (s : State) → IsViewOf core.now s →
-        WritesDisplayOf W.contents display scheme tag.now s output.old output.new result }
-    ensures calls { KeepsCallLimit output.old output.new }
+    ensures { let is_text = IsDisplay display scheme tag.now in
+        DisplayResult W.contents core.now scheme is_text output.old output.new result }
 {
     match display {
         Display::Alphabetical => alphabetical(alloc, core, scheme, tag, output),
