@@ -1,7 +1,7 @@
 //! Examples of connections: the steps are requests, each followed by a line `%`.
-use crate::page::FixedPage;
-use crate::run::{End, ExampleRun};
-use crate::script::FAULT;
+use crate::failing::page::FixedPage;
+use crate::failing::run::{End, ExampleRun};
+use crate::failing::script::FAULT;
 use std::alloc::Global;
 use test_office::Store;
 use test_office::ways::connect_in;

@@ -1,5 +1,5 @@
 //! The results of running an example.
-use crate::page::FixedPage;
+use crate::failing::page::FixedPage;
 use std::io::Write;
 use thes_base::fault::{Fault, PipeFault};
 

@@ -1,11 +1,7 @@
-//! Runs examples, each in a new store, and checks that they are answered correctly if an
-//! allocation, a reader or a writer fails.
+//! Examples that must be answered correctly if an allocation, a reader or a writer fails, each in a new store.
 //!
-//! The arguments are the number of allocations to make first, and the files of the examples, whose
-//! form "Stored examples" in CONTRIBUTING.md defines. `tests/builds/refuse-memory` makes one later
-//! allocation fail. If the number is 0, no allocation should fail, and the readers and writers of
-//! imports, exports and displays fail instead.
-#![tactic(auto)]
+//! `tests/builds/refuse-memory` has a late allocation fail, and as many made before the example as an argument says. If
+//! that is 0, no allocation should fail, and the readers and writers of imports, exports and displays fail instead.
 
 mod check;
 mod connections;
@@ -17,13 +13,12 @@ mod run;
 mod script;
 mod texts;
 
-use crate::check::{ExampleOutcome, outcome_of};
-use crate::example::{Example, ExampleKind};
-use crate::pipes::{FaultResult, check_import, check_text};
+use crate::failing::check::{ExampleOutcome, outcome_of};
+use crate::failing::example::{Example, ExampleKind};
+use crate::failing::pipes::{FaultResult, check_import, check_text};
 use std::alloc::Global;
-use std::{env, fs, io};
+use std::io;
 use test_office::invalid;
-use thes_base::number::ResNo;
 
 // Prints the outcome of an example, with its answers if no allocation failed.
 fn print_outcome<R: Print>(rt: &R, name: &str, outcome: &ExampleOutcome) -> io::Result<()> {
@@ -69,22 +64,22 @@ fn print_fault_results<R: Print>(
     }
 }
 
-fn main(rt: HostRuntime) -> io::Result<()> {
-    let mut words = env::args(&rt)?.skip(1);
-    let before = match words.next() {
-        Some(word) => ResNo::read(word.as_str()).map_or(0, ResNo::get),
-        None => 0,
+/// Makes `before` allocations, runs the example in the text of a file, and prints its outcome. If `before` is 0, also
+/// runs it with failing readers and writers.
+pub fn run_failing<R: Print>(
+    rt: &R,
+    alloc: Global,
+    before: u32,
+    name: &str,
+    text: &str,
+) -> io::Result<()> {
+    let Some(example) = Example::read(text) else {
+        return Err(invalid());
     };
-    for name in words {
-        let text = fs::read_to_string(&rt, name.as_str())?;
-        let Some(example) = Example::read(text.as_str()) else {
-            return Err(invalid());
-        };
-        let outcome = outcome_of(rt.alloc(), before, &example);
-        print_outcome(&rt, name.as_str(), &outcome)?;
-        if before == 0 {
-            print_fault_results(&rt, rt.alloc(), name.as_str(), &example)?;
-        }
+    let outcome = outcome_of(alloc, before, &example);
+    print_outcome(rt, name, &outcome)?;
+    if before > 0 {
+        return Ok(());
     }
-    Ok(())
+    print_fault_results(rt, alloc, name, &example)
 }

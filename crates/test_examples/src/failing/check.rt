@@ -1,7 +1,7 @@
 //! Checks of the answers to an example, with or without a failed allocation.
-use crate::example::Example;
-use crate::page::FixedPage;
-use crate::run::{End, ExampleRun};
+use crate::failing::example::Example;
+use crate::failing::page::FixedPage;
+use crate::failing::run::{End, ExampleRun};
 use std::alloc::{AllocError, Global};
 use std::io;
 use test_office::{Store, store_after};

@@ -1,7 +1,7 @@
 //! Examples of exports and displays: the steps are lines, each `export`, or a display with its
 //! scheme and its language.
-use crate::page::FixedPage;
-use crate::run::{End, ExampleRun};
+use crate::failing::page::FixedPage;
+use crate::failing::run::{End, ExampleRun};
 use std::alloc::Global;
 use std::io::Write;
 use test_office::Store;

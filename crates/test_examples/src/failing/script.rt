@@ -1,6 +1,6 @@
 //! Examples of scripts: the steps are lines, none of them blank.
-use crate::page::FixedPage;
-use crate::run::{End, ExampleRun};
+use crate::failing::page::FixedPage;
+use crate::failing::run::{End, ExampleRun};
 use std::alloc::Global;
 use test_office::Store;
 use thes_base::fault::Fault;

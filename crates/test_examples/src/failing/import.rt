@@ -1,6 +1,6 @@
 //! Examples of posting files: the steps are lines, of which the first is answered by a heading.
-use crate::page::FixedPage;
-use crate::run::{End, ExampleRun};
+use crate::failing::page::FixedPage;
+use crate::failing::run::{End, ExampleRun};
 use std::alloc::Global;
 use std::io::{Read, Write};
 use test_office::Store;

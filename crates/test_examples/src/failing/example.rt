@@ -1,7 +1,7 @@
 //! Examples, and the parsing of their files.
-use crate::connections::BEHIND;
-use crate::run::ExampleRun;
-use crate::{connections, import, script, texts};
+use crate::failing::connections::BEHIND;
+use crate::failing::run::ExampleRun;
+use crate::failing::{connections, import, script, texts};
 use std::alloc::{AllocError, Global};
 use test_office::Store;
 

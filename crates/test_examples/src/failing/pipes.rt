@@ -1,8 +1,8 @@
 //! Imports, exports and displays with a reader or a writer that fails after each number of calls.
 //! The output must be a prefix of the whole text. If the reader failed, no row may have been
 //! performed; if the writer failed after an import's heading, all rows must have been.
-use crate::import::import_file;
-use crate::texts::write_text;
+use crate::failing::import::import_file;
+use crate::failing::texts::write_text;
 use Failing::{FullWriter, Reader, Writer};
 use std::alloc::Global;
 use std::io;
