@@ -1,7 +1,7 @@
 //! Tests with a reader and a writer that fail after each number of calls: the output is a prefix of
 //! the response, and the service has performed the request, or nothing if the request is
 //! incomplete.
-use crate::counter::{CountingService, PAGE, serve_counting};
+use crate::connections::counter::{CountingService, PAGE, serve_counting};
 use std::alloc::{AllocError, Global};
 use std::process::Abort;
 use test_devices::{Filling, Halting};

@@ -1,5 +1,5 @@
 //! Tests of heads at the limits on bytes and lines.
-use crate::counter::{CountingService, serve_counting};
+use crate::connections::counter::{CountingService, serve_counting};
 use std::alloc::{AllocError, Global};
 use std::process::Abort;
 use thes_base::pipe::Pipe;

@@ -1,6 +1,8 @@
 //! The worked examples on resources and labels, each a table of steps: a call with its answer, or a
 //! fact. The tables are items of their own, because a proof that sees a table computes with it.
-use crate::fixture::{Answer, Change, Fixture, no};
+mod fixture;
+
+use crate::vocab::fixture::{Answer, Change, Fixture, no};
 use Answer::{Done, Gained, No, Number};
 use Call::{
     Collection, Concept, Deprecate, LabelChange, Outside, Relabel, Replace, Scheme, TakeLabels,

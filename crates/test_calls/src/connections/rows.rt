@@ -1,5 +1,5 @@
 //! Tests of requests and their responses, byte for byte.
-use crate::counter::{CountingService, serve_counting};
+use crate::connections::counter::{CountingService, serve_counting};
 use std::alloc::Global;
 use std::process::Abort;
 use thes_base::pipe::Pipe;

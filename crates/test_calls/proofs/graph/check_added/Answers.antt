@@ -1,7 +1,7 @@
 use Rattle.std.proofs.Common.{inl, refl}
 use Rattle.thes_links.specs.GraphView.{is_marked}
 use Rattle.thes_links.proofs.NormLemmas.{away_of_added}
-use Rattle.test_graph.proofs.tests.check_added.Goals as goal
+use Rattle.test_calls.proofs.graph.check_added.Goals as goal
 
 pub check_at-requires : goal.check_at-requires
 check_at-requires c =
