@@ -1,9 +1,12 @@
 //! Runs stored examples, each over a new store, and prints those whose answers or text differ from the stored ones. The
 //! arguments name the files; "Stored examples" in CONTRIBUTING.md defines their form. Files with names that begin with
-//! `tables` hold the tables of stores instead, each with the expected verdict of its load.
+//! `tables` hold the tables of stores instead, each with the expected verdict of its load. Those with names that begin
+//! with `failing` hold an example that is run while an allocation or a device fails; a number before such a name is that
+//! of allocations to make first.
 #![tactic(auto)]
 
 mod example;
+mod failing;
 mod fixed_answers;
 mod halting;
 mod list;
@@ -14,10 +17,13 @@ mod tables;
 mod texts;
 
 use crate::example::Example;
+use crate::failing::run_failing;
 use crate::modes::run;
 use crate::tables::{TableExample, load_verdict};
 use std::alloc::Global;
+use std::rt::HostRuntime;
 use std::{env, fs, io};
+use thes_base::number::ResNo;
 
 // Prints the first line that differs from the stored one.
 fn report_difference<R: Print>(rt: &R, example: &Example, answers: &str) -> io::Result<()> {
@@ -70,15 +76,24 @@ fn run_tables<R: Print>(rt: &R, alloc: Global, name: &str, text: &str) -> io::Re
     println!(rt; "  {stores} stores, {differing} judged otherwise than stored")
 }
 
+// Runs what the file of this name holds. Before a failing example, makes `before` allocations.
+fn run_named(rt: &HostRuntime, name: &str, before: u32) -> io::Result<()> {
+    let text = fs::read_to_string(rt, name)?;
+    if name.starts_with("failing") {
+        run_failing(rt, rt.alloc(), before, name, text.as_str())
+    } else if name.starts_with("tables") {
+        run_tables(rt, rt.alloc(), name, text.as_str())
+    } else {
+        run_file(rt, rt.alloc(), name, text.as_str())
+    }
+}
+
 fn main(rt: HostRuntime) -> io::Result<()> {
-    let mut names = env::args(&rt)?;
-    let _program = names.next();
-    for name in names {
-        let text = fs::read_to_string(&rt, name.as_str())?;
-        if name.as_str().starts_with("tables") {
-            run_tables(&rt, rt.alloc(), name.as_str(), text.as_str())?;
-        } else {
-            run_file(&rt, rt.alloc(), name.as_str(), text.as_str())?;
+    let mut before = 0;
+    for word in env::args(&rt)?.skip(1) {
+        match ResNo::read(word.as_str()) {
+            Ok(number) => before = number.get(),
+            Err(_) => run_named(&rt, word.as_str(), before)?,
         }
     }
     Ok(())

@@ -1,5 +1,5 @@
 //! Calls of an office: scripts, imports, exports, displays and connections, each with a reader and a writer of its own.
-ghost use Rattle.std.specs.Prelude.{◌≡◌, false};
+ghost use Rattle.std.specs.Prelude.{◌≡◌, false, true};
 ghost use Rattle.thes_base.specs.Pipe.{IsFresh};
 
 use std::alloc::Global;
@@ -12,24 +12,27 @@ use thes_core::Core;
 use thes_display::writing::{DisplayOutcome, alphabetical, hierarchical};
 use thes_export::writing::export;
 use thes_http::serve::{ConnectionEnd, serve_one};
-use thes_http::service::Display;
+use thes_http::service::{Display, Service};
 use thes_http_request::endpoint::Routes;
 use thes_import::import;
 use thes_import::import::ImportStop;
-use thes_requests::script::ScriptEnd;
-use thes_service::{OfficeHandler, office_script};
+use thes_requests::handler::RequestHandler;
+use thes_requests::script::{ScriptEnd, script};
+use thes_service::OfficeHandler;
 use thes_store::keeper::Keeper;
 
-fn serve_pipes<K: Keeper, R: Read, W: Write>(
+// Serves a script by any handler: the contract of `office_script` would make the proof of this call much longer.
+fn serve_pipes<H: RequestHandler, R: Read, W: Write>(
     alloc: Global,
-    handler: &mut OfficeHandler<K>,
+    handler: &mut H,
     reader: &mut Pipe<R>,
     writer: &mut Pipe<W>,
 ) -> Result<ScriptEnd, PipeFault>
     requires reader { IsFresh reader.old }
     requires writer { IsFresh writer.old }
+    requires open { H.is_open handler.old ≡ true }
 {
-    office_script(alloc, reader, writer, handler)
+    script(alloc, reader, writer, handler)
 }
 
 /// Serves a script, and returns the writer and the end of the script.
@@ -137,17 +140,19 @@ pub fn display_in<K: Keeper, W: Write>(
     (writer.into_device(), shown)
 }
 
-fn connect_pipes<K: Keeper, R: Read, W: Write>(
+// Serves a connection by any service, for the same reason.
+fn connect_pipes<S: Service, R: Read, W: Write>(
     alloc: Global,
-    handler: &mut OfficeHandler<K>,
+    service: &mut S,
     reader: &mut Pipe<R>,
     writer: &mut Pipe<W>,
 ) -> ConnectionEnd
     requires reader { IsFresh reader.old }
     requires writer { IsFresh writer.old }
+    requires open { S.is_open service.old ≡ true }
 {
     let routes = Routes::new(alloc).ok();
-    serve_one(alloc, routes.as_ref(), reader, writer, handler)
+    serve_one(alloc, routes.as_ref(), reader, writer, service)
 }
 
 /// Serves a connection, and returns the writer and the outcome of the connection.

@@ -1,65 +1,39 @@
-//! A storage of which one call fails once.
-use crate::answers::{
-    answers, find_report, load_report, numbers_report, report, row_report, standing,
-    withdraw_report,
-};
+//! Runs examples over stores of which calls fail. Each is run once in a database in memory, without failures, where each
+//! answer must be as stored; in memory, where one call or two fail at each place, and each request answered by a fault
+//! is repeated; and in files. There the log or the database file stops working after n calls, for each n up to the
+//! first with which no call fails. The files are opened again as after a kill and as after a power cut: the store must
+//! be as after a prefix of the requests that includes each confirmed one.
+//!
+//! "Stored examples" in CONTRIBUTING.md defines the form of their files.
+mod disk;
+mod example;
+mod faltering;
+mod faults;
+mod migration;
+mod outcome;
+mod requests;
+mod run_report;
+mod stop;
+mod stores;
+mod trial;
+
+use crate::failing::trial::try_file;
 use std::alloc::Global;
-use std::fmt::Write;
-use test_keeper::failure::Failure;
-use test_keeper::workload::{merge, post_all};
-use thes_base::number::{PostNo, ResNo};
-use thes_base::text::Base;
-use thes_store::fail_once::{FailOnce, Next};
-use thes_store::keeper::Keeper;
-use thes_store::mem::MemKeeper;
+use std::rt::HostRuntime;
+use std::{fs, io};
 
-/// Returns a storage with ten postings, assigned to the concepts 2 to 11, of which the first was
-/// then moved to concept 3.
-pub fn filled_keeper(alloc: Global) -> Result<MemKeeper, Failure> {
-    let mut keeper = MemKeeper::new(alloc, Base::read(alloc, "http://example.org/")?);
-    post_all(alloc, &mut keeper, 10)?;
-    merge(alloc, &mut keeper, ResNo::new(2), ResNo::new(3), 10, 1)?;
-    Ok(keeper)
+// Runs the example in the text of a file, and prints its outcomes.
+fn run_file<R: Print>(rt: &R, alloc: Global, name: &str, text: &str) -> io::Result<()> {
+    let mut page = String::new(alloc);
+    try_file(alloc, name, text, &mut page)?;
+    print!(rt; "{}", page.as_str())
 }
 
-// Makes a call of this kind, and returns its result as a text.
-fn call_report(alloc: Global, keeper: &mut FailOnce, kind: Next) -> Result<String, Failure> {
-    match kind {
-        Next::Nothing => Ok(String::new(alloc)),
-        Next::Load => load_report(alloc, keeper),
-        Next::Commit => withdraw_report(alloc, keeper, PostNo::new(1)),
-        Next::Find => find_report(alloc, keeper, "k2"),
-        Next::Posting => report(alloc, keeper, PostNo::new(1)),
-        Next::Row => row_report(alloc, keeper, PostNo::new(1)),
-        Next::Standing => standing(alloc, keeper, ResNo::new(3)),
-        Next::StandingNumbers => numbers_report(alloc, keeper, ResNo::new(3)),
+/// Runs the examples of the files that the arguments name, and prints their outcomes.
+pub fn print_outcomes(rt: &HostRuntime, words: &[String]) -> io::Result<()> {
+    for name in words {
+        let text = fs::read_to_string(rt, name.as_str())?;
+        run_file(rt, rt.alloc(), name.as_str(), text.as_str())?;
     }
-}
-
-/// Reports a failing call: its result, whether the storage is unchanged, the result of the same call made again, and
-/// the count of failures after each.
-///
-/// The storage is dropped by one call, since a function that drops it at each `?` is slow to prove.
-pub fn fail_once_report(alloc: Global, next: Next) -> Result<String, Failure> {
-    let mut keeper = FailOnce {
-        keeper: filled_keeper(alloc)?,
-        next: Next::Nothing,
-        failures: 0,
-    };
-    let report = fail_once_lines(alloc, &mut keeper, next);
-    drop(keeper);
-    report
-}
-
-// Makes the failing call and the calls after it, and returns their results as lines.
-fn fail_once_lines(alloc: Global, keeper: &mut FailOnce, next: Next) -> Result<String, Failure> {
-    let before = answers(alloc, keeper)?;
-    keeper.next = next;
-    let mut text = call_report(alloc, keeper, next)?;
-    let same = answers(alloc, keeper)? == before;
-    writeln!(text, "failures: {}, as before: {same}", keeper.failures())?;
-    text.push_str(call_report(alloc, keeper, next)?.as_str())?;
-    text.push_str(standing(alloc, keeper, ResNo::new(3))?.as_str())?;
-    writeln!(text, "failures: {}", keeper.failures())?;
-    Ok(text)
+    Ok(())
 }

@@ -1,42 +1,58 @@
-//! Prints the result of each call to a storage in memory, and the results if one call of each kind fails once.
+//! Tests and benchmarks of stores in memory, in databases and in files. The first argument names what to do:
+//!
+//! - `tests FILE EXAMPLE ..`: all tests, those that the next three lines name
+//! - `calls`: prints the result of each call to a storage in memory, and the results if one call of each kind fails once
+//! - `make FILE`: creates a store in the file, makes changes of each kind in it, and prints its rows
+//! - `failing EXAMPLE ..`: runs the stored examples of these files over stores of which calls fail
+//! - `show FILE ..`: prints the rows of the stores in these files
+//! - `time`, `load` or `rows`, with numbers: a benchmark, for `bench/store` or `bench/load`
 #![tactic(auto)]
 
-mod answers;
+mod bench;
+mod calls;
+mod database;
 mod failing;
+mod failure;
+mod rows;
 
-use crate::answers::answers;
-use crate::failing::{fail_once_report, filled_keeper};
-use std::alloc::Global;
-use std::io;
+use crate::bench::print_benchmark;
+use crate::calls::print_calls;
+use crate::failing::print_outcomes;
+use crate::rows::{print_new_store, print_stores};
 use std::rt::HostRuntime;
-use test_keeper::failure::Failure;
-use thes_store::fail_once::Next;
+use std::{env, io};
 
-// Returns the results of all calls, those of failing ones included.
-fn full_report(alloc: Global) -> Result<String, Failure> {
-    let mut keeper = filled_keeper(alloc)?;
-    let text = answers(alloc, &mut keeper);
-    drop(keeper);
-    let mut text = text?;
-    let kinds = [
-        Next::Load,
-        Next::Find,
-        Next::Posting,
-        Next::Row,
-        Next::Standing,
-        Next::StandingNumbers,
-        Next::Commit,
-    ];
-    for next in kinds {
-        text.push_str(fail_once_report(alloc, next)?.as_str())?;
+// Returns the words after the first one.
+fn rest(words: &[String]) -> &[String] {
+    match words.split_first() {
+        Some((_, rest)) => rest,
+        None => words,
     }
-    Ok(text)
 }
 
-// Prints the results, or the reason why there are none.
-fn main(rt: HostRuntime) -> io::Result<()> {
-    match full_report(rt.alloc()) {
-        Ok(text) => print!(rt; "{text}"),
-        Err(failure) => println!(rt; "{failure:?}"),
+// Runs all tests. The first argument names the file of a new store, the others the files of examples.
+fn run_tests(rt: &HostRuntime, words: &[String]) -> io::Result<()> {
+    print_calls(rt)?;
+    print_new_store(rt, words)?;
+    print_outcomes(rt, rest(words))
+}
+
+// Runs the part of this name, with the arguments after the name.
+fn run_part(rt: &HostRuntime, part: &str, words: &[String]) -> io::Result<()> {
+    match part {
+        "tests" => run_tests(rt, words),
+        "calls" => print_calls(rt),
+        "make" => print_new_store(rt, words),
+        "show" => print_stores(rt, words),
+        "failing" => print_outcomes(rt, words),
+        _ => print_benchmark(rt, part, words),
     }
+}
+
+fn main(rt: HostRuntime) -> io::Result<()> {
+    let words: Vec<String> = env::args(&rt)?.skip(1).collect(rt.alloc())?;
+    let Some(part) = words.first() else {
+        return println!(rt; "nothing is named");
+    };
+    run_part(&rt, part.as_str(), rest(words.as_slice()))
 }

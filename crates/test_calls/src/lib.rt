@@ -1,0 +1,20 @@
+//! Tests of calls that no request reaches: of forms and values, vocabularies, graphs of links, and connections. Their
+//! functions have no contracts, and so are proved quickly.
+#![tactic(auto)]
+
+#[cfg(test)]
+mod connections;
+#[cfg(test)]
+mod forms;
+#[cfg(test)]
+mod graph;
+#[cfg(test)]
+mod names;
+#[cfg(test)]
+mod numbers;
+#[cfg(test)]
+mod pipes;
+#[cfg(test)]
+mod values;
+#[cfg(test)]
+mod vocab;
