@@ -1,8 +1,7 @@
-use Rattle.std.proofs.Common.{◌∙◌, List, ℕ, sym, ap, subst, arith}
+use Rattle.std.proofs.Common.{◌∙◌, List, sym, ap, subst, arith}
 use Rattle.std.specs.FinSet as set
 use Rattle.thes_base.specs.declared.data.Resource.{Resource}
 use Rattle.thes_base.specs.Labels.{Labels}
-use Rattle.thes_base.specs.Resources.{Iris}
 use Rattle.thes_base.specs.Machine.{owned_label}
 use Rattle.thes_vocab.specs.Vocabulary.{Vocabulary, vocabulary_from, with_labels}
 use Rattle.thes_vocab.specs.Loading.{IsLoading, IsFreeLabel, MayLoadLabel}
