@@ -5,7 +5,6 @@ pub mod NextStateLemmas
 pub mod RequestCheckLemmas
 pub mod OutsideLemmas
 pub mod ApplyLemmas
-pub mod MergeLemmas
 pub mod LabelListLemmas
 pub mod RequestMoveLemmas
 pub mod DeltaLemmas

@@ -1,5 +1,6 @@
 -- The check of the postings that a split lists, one after another.
-use Rattle.std.proofs.Common.{◌≡◌, ◌+◌, ◌<◌, ℕ, Bool, List, Option, true, false, not, ◌||◌, eqb, take, map, get_or, length, sym, ap, subst, ◌∙◌, arith}
+use Rattle.std.proofs.Common.{◌≡◌, ◌+◌, ◌<◌, ℕ, Bool, List, Option, true, false, not, ◌||◌, eqb, take, map, get_or, length}
+use Rattle.std.proofs.Common.{sym, ap, subst, ◌∙◌, arith}
 use Rattle.std.specs.Prelude.{Some}
 use Rattle.thes_base.specs.declared.data.History.{History}
 use Rattle.thes_base.specs.Postings.{place}
@@ -15,10 +16,10 @@ use Rattle.thes_core.proofs.FactLemmas.{named_at, row_found}
 pub record AreCheckedTo (i : ℕ) (hs : List History) (source : ℕ) (ns : List ℕ) (withdrawn elsewhere : Bool)
     : Type 0 where
   pub known : EachListed (IsKnownPosting hs) (take i ns)
-  pub stays : withdrawn ≡ false → EachListed (IsPostingThat hs (λ h. not h.withdrawn)) (take i ns)
-  pub gone : withdrawn ≡ true → EachListed (IsPostingThat hs (λ h. not h.withdrawn)) ns → ⊥
-  pub here : elsewhere ≡ false → EachListed (IsPostingThat hs (λ h. eqb (place h) source)) (take i ns)
-  pub away : elsewhere ≡ true → EachListed (IsPostingThat hs (λ h. eqb (place h) source)) ns → ⊥
+  pub none_withdrawn : withdrawn ≡ false → EachListed (IsPostingThat hs (λ h. not h.withdrawn)) (take i ns)
+  pub some_withdrawn : withdrawn ≡ true → EachListed (IsPostingThat hs (λ h. not h.withdrawn)) ns → ⊥
+  pub all_at_source : elsewhere ≡ false → EachListed (IsPostingThat hs (λ h. eqb (place h) source)) (take i ns)
+  pub some_elsewhere : elsewhere ≡ true → EachListed (IsPostingThat hs (λ h. eqb (place h) source)) ns → ⊥
 
 not_not : (b : Bool) → b ≡ not (not b)
 not_not b = grind (arith)
@@ -40,8 +41,12 @@ module _ (hs : List History) (source : ℕ) (ns : List ℕ) (rows : List (Option
       ∙ not_not (eqb row.place source) in
       record {
         known = each_more (IsKnownPosting hs) ns i n.0 n.1 was.known (subst (IsKnownPosting hs) n.2 (h, told.1));
-        stays = passes_more hs (λ g. not g.withdrawn) ns i n.0 h withdrawn row.withdrawn n.1 n.2 told.1 stays was.stays;
-        gone = passes_never hs (λ g. not g.withdrawn) ns i n.0 h withdrawn row.withdrawn n.1 n.2 told.1 stays was.gone;
-        here = passes_more hs (λ g. eqb (place g) source) ns i n.0 h elsewhere away n.1 n.2 told.1 here was.here;
-        away = passes_never hs (λ g. eqb (place g) source) ns i n.0 h elsewhere away n.1 n.2 told.1 here was.away;
+        none_withdrawn = passes_more hs (λ g. not g.withdrawn) ns i n.0 h withdrawn row.withdrawn n.1 n.2
+            told.1 stays was.none_withdrawn;
+        some_withdrawn = passes_never hs (λ g. not g.withdrawn) ns i n.0 h withdrawn row.withdrawn n.1 n.2
+            told.1 stays was.some_withdrawn;
+        all_at_source = passes_more hs (λ g. eqb (place g) source) ns i n.0 h elsewhere away n.1 n.2
+            told.1 here was.all_at_source;
+        some_elsewhere = passes_never hs (λ g. eqb (place g) source) ns i n.0 h elsewhere away n.1 n.2
+            told.1 here was.some_elsewhere;
       }

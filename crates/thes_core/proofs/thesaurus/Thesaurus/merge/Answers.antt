@@ -1,21 +1,45 @@
-use Rattle.std.proofs.Common.{arith}
-use Rattle.thes_base.specs.declared.request.Command.TheVariants as request
-use Rattle.thes_core.specs.Requests.{IsChangedBy}
-use Rattle.thes_core.proofs.MergeLemmas.{merged_parts, merge_has_room, merged_counts}
+use Rattle.std.proofs.Common.{[], refl, sym, ap, ◌∙◌, ◌+◌, arith}
+use Rattle.std.specs.Prelude.{Some}
+use Rattle.thes_base.specs.Links.{links_after_merge}
+use Rattle.thes_base.specs.Postings.{is_assigned_to, move_count}
+use Rattle.thes_base.specs.Changes.{state_after_merge}
+use Rattle.thes_vocab.specs.Vocabulary.{Vocabulary, vocabulary_after_death}
+use Rattle.thes_post.specs.PostingCounts.{count_of}
+use Rattle.thes_post.proofs.PostingCountLemmas.{all_assigned, sums_moved}
+use Rattle.thes_core.specs.PartsView.{parts_state}
+use Rattle.thes_core.proofs.RequestCheckLemmas.{outside_same}
+use Rattle.thes_core.proofs.ApplyLemmas.{parts_become_state, merge_apart, merge_fits, merge_there}
+use Rattle.thes_core.proofs.OutsideLemmas.{outside_marked_dead}
 use Rattle.thes_core.proofs.thesaurus.Thesaurus.merge.Goals as goal
-use Rattle.thes_core.proofs.thesaurus.Thesaurus.merge.Goals.{After-mark_dead}
-
--- The parts at the end are those of the next state, whatever is returned.
-merged : (c : After-mark_dead) → IsChangedBy (request.Merge c.args.source c.args.target) c.args.self.now
-    (record c.args.self.now { vocab = c.mark_dead.new.self; graph = c.contract.new.self; book = c.move_all.new.self })
-merged c = record {
-  becomes = merged_parts c.args.self.now c.args.source c.args.target c.take_labels.new.self c.mark_dead.new.self
-      c.contract.new.self c.move_all.new.self c.requires c.in_ok-take_labels.ensures.ok c.mark_dead.ensures
-      c.in_ok-contract.ensures.ok;
-  counts = λ hs ok are.
-      merged_counts c.args.self.now hs c.args.source c.args.target ok are c.move_all.new.self
-      (c.in_ok-move_all.ensures.ok (merge_has_room c.args.self.now hs c.args.source c.args.target ok are));
-}
 
 pub returns : goal.returns
-returns c = let done = merged (goal.at.returns c).After-mark_dead in grind (arith, done)
+returns c = record {
+  becomes = let t = c.args.self.now in
+      parts_become_state
+      (c.mark_dead.ensures ∙ ap (λ (v : Vocabulary). vocabulary_after_death v c.args.source (Some c.args.target))
+      c.in_ok-take_labels.ensures.ok)
+      c.in_ok-contract.ensures.ok
+      refl
+      (λ i. record (state_after_merge c.args.source c.args.target (parts_state t []))
+      { links = links_after_merge (outside_same t [] c.requires.kept i) c.args.source c.args.target t.graph.links })
+      refl (λ n. c.requires.kept.outside n
+      ∙ sym (outside_marked_dead t.vocab.resources c.args.source (Some c.args.target) n));
+  counts = λ hs ok are.
+      let t = c.args.self.now in
+      let source = c.args.source in
+      let target = c.args.target in
+      let apart = merge_apart t hs source target ok in
+      let there = merge_there t hs source target ok in
+      let fits = merge_fits t hs source target ok in
+      let at_source = are.standing source in
+      let at_target = are.standing target in
+      let moves = are.moves in
+      sums_moved (is_assigned_to source) source target apart (move_count hs + 1) hs
+      (all_assigned source target apart hs) (count_of t.book source) at_source t.book c.move_all.new.self are
+      (c.in_ok-move_all.ensures.ok
+      (record {
+        standing = omega arith;
+        there = omega (arith, there, at_source, at_target);
+        moves = omega (arith, fits, at_source, moves);
+      }));
+}
