@@ -1,7 +1,8 @@
 -- The rows of a store, in any order within each table.
-use Rattle.std.specs.Prelude.{◌≡◌, ◌↔◌, ℕ, List, None, Some, Ok, Err}
+use Rattle.std.specs.Prelude.{◌≡◌, ◌↔◌, ℕ, List, None, Some, Ok, Err, false}
 use Rattle.std.specs.List.Sorted.{IsPermutation}
 use Rattle.thes_base.specs.declared.fault.Fault.{Fault}
+use Rattle.thes_base.specs.declared.data.Limits.{Limits}
 use Rattle.thes_base.specs.Legal.{IsLegalState}
 use Rattle.thes_base.specs.State.{State}
 use Rattle.thes_tables.specs.Tables.{Tables, IsRowsOf}
@@ -9,6 +10,7 @@ use Rattle.thes_tables.specs.Cells.{Raw, RawTable, cells_of_tables}
 use Rattle.thes_load_rules.specs.Rules.{state_of}
 use Rattle.thes_load_rules.specs.Verdicts.{HasVerdict}
 use Rattle.thes_core.specs.CoreView.{CoreView, IsViewOf}
+use Rattle.thes_office.specs.LoadedCore.{IsLoaded}
 use Rattle.thes_row_lists.specs.SortedRows.{AreSorted}
 
 -- The tables have the same rows in any order, or neither can be queried.
@@ -46,6 +48,20 @@ pub record HoldsRows (raw : Raw) (core : CoreView) : Type 0 where
 pub record AreRefused (raw : Raw) (fault : Fault) : Type 0 where
   pub none : (base : List ℕ) (s : State) → AreRowsOfState base s raw → ⊥
   pub verdict : (other sorted : Raw) → AreArranged raw other → AreSorted other sorted → HasVerdict sorted (Err fault)
+
+-- The core is built from these rows, and can be used: it holds the state that they encode, and was loaded from them once
+-- numbered tables were sorted by number.
+pub record IsCoreOfRows (raw : Raw) (given : Limits) (core : CoreView) : Type 0 where
+  pub content : HoldsRows raw core
+  pub origin : (sorted : Raw) × AreSorted raw sorted × IsLoaded sorted core
+  pub limits : core.setting.limits ≡ given
+  pub readiness : core.spent ≡ false
+
+-- The fault of these rows: they encode no legal state, and it is the verdict on them once numbered tables are sorted by
+-- number.
+pub record IsFaultOfRows (raw : Raw) (fault : Fault) : Type 0 where
+  pub refusal : AreRefused raw fault
+  pub verdict : (sorted : Raw) × AreSorted raw sorted × HasVerdict sorted (Err fault)
 
 -- The rows load as tables that encode the same state as `t`, with the same base.
 abbrev pub LoadsSameState : Raw → Tables → Type 0

@@ -1,13 +1,10 @@
 //! Builds a core from lists of rows, in any order within each table.
-ghost use Rattle.std.specs.Prelude.{◌≡◌, ◌⊎◌, false, IfOk, IfErr, OnOk, Err};
+ghost use Rattle.std.specs.Prelude.{◌≡◌, ◌⊎◌, IfOk, IfErr, OnOk};
 ghost use Rattle.thes_base.specs.declared.fault.Fault.TheVariants as faults;
-ghost use Rattle.thes_tables.specs.Cells.{Raw};
-ghost use Rattle.thes_load_rules.specs.Verdicts.{HasVerdict};
 ghost use Rattle.thes_tables.specs.TableOrder.{raw_rows_of};
 ghost use Rattle.thes_store.specs.Sinks.{SinkAcceptsAll, sink_rows_of_table, sink_rows_of_tables};
 ghost use Rattle.thes_office.specs.LoaderFeed.{KnowsRows, FeedResult};
-ghost use Rattle.thes_office.specs.LoadedCore.{IsLoaded};
-ghost use Rattle.thes_row_lists.specs.RowOrder.{HoldsRows, AreRefused};
+ghost use Rattle.thes_row_lists.specs.RowOrder.{IsCoreOfRows, IsFaultOfRows};
 ghost use Rattle.thes_row_lists.specs.SortedRows.{first_number, table_of, raw_of, IsSortedCopy, AreSorted};
 
 use std::alloc::{AllocError, Global};
@@ -175,15 +172,9 @@ fn read_rows(alloc: Global, rows: &CellRows, limits: Limits) -> Result<Loader, F
 /// numbered tables first, so the result doesn't depend on the order of rows within a list. Only
 /// tests call it.
 pub fn from_rows(alloc: Global, rows: CellRows, limits: Limits) -> Result<Core, Fault>
-    ensures ok { IfOk result (λ core. (sorted : Raw) × AreSorted (raw_of rows) sorted
-        × IsLoaded sorted core) }
-    ensures legal { IfOk result (HoldsRows (raw_of rows)) }
-    ensures limits { IfOk result (λ core. core.setting.limits ≡ limits) }
-    ensures spent { IfOk result (λ core. core.spent ≡ false) }
+    ensures ok { IfOk result (IsCoreOfRows (raw_of rows) limits) }
     ensures err { IfErr result (λ fault. (fault ≡ faults.OutOfMemory)
-        ⊎ ((sorted : Raw) × AreSorted (raw_of rows) sorted × HasVerdict sorted (Err fault))) }
-    ensures refused { IfErr result (λ fault. (fault ≡ faults.OutOfMemory)
-        ⊎ AreRefused (raw_of rows) fault) }
+        ⊎ IsFaultOfRows (raw_of rows) fault) }
 {
     let mut sorted = rows;
     sorted.sort()?;
