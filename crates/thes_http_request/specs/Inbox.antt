@@ -92,7 +92,7 @@ pub record GainsRoom {A T E : Type 0} (count : ℕ) (old new : Vec ℕ A) (resul
   pub same_length : vec_len new ≡ vec_len old
   pub room : OnOk result (vec_len new < vec_capacity new)
   pub growth : vec_capacity old ≤ vec_len old → OnOk result (HasGrowingCapacity count (vec_len old) (vec_capacity new))
-  pub bound : HasBoundedCapacity count (vec_len new) (vec_capacity new)
+  pub limit : HasBoundedCapacity count (vec_len new) (vec_capacity new)
 
 -- The buffer has at most `most` bytes more, for which its capacity sufficed.
 pub record GrowsInPlace {A : Type 0} (most : ℕ) (old new : Vec ℕ A) : Type 0 where
