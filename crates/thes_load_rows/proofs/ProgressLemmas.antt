@@ -2,7 +2,7 @@
 -- row of its table is added or found faulty.
 use Rattle.std.proofs.lemmas.Grind.{common_steps}
 use Rattle.std.proofs.Common.{◌≡◌, List, [], ◌∷◌, ◌++◌, map, sym, ap, ◌∙◌, subst, true, arith}
-use Rattle.std.specs.Prelude.{Some, option_map}
+use Rattle.std.specs.Prelude.{Some}
 use Rattle.std.proofs.lemmas.Option.{same_Some}
 use Rattle.thes_base.specs.declared.fault.Fault.TheVariants.{BadStore}
 use Rattle.thes_base.specs.declared.fault.Table.TheVariants as table
@@ -19,7 +19,7 @@ use Rattle.thes_load_rules.proofs.VerdictByTableLemmas.{verdict_by_table}
 use Rattle.thes_load_rows.specs.declared.stage.Stage.TheVariants as stage
 use Rattle.thes_load_rows.specs.ReadResults.{IsFaulty, ReadResult}
 use Rattle.thes_load_rows.specs.Progress.{Grows, raw_with_row, HasRead, HasNames, NoneAfterOutside, NoneAfterLabel}
-use Rattle.thes_load_rows.specs.Progress.{NoneAfterLink, NoneAfterHier, NoneAfterPosting}
+use Rattle.thes_load_rows.specs.Progress.{NoneAfterLink, NoneAfterHier, NoneAfterPosting, with_row}
 use Rattle.thes_load_rows.specs.declared.names.OutsideLoad.{OutsideLoad}
 use Rattle.thes_load_rows.specs.declared.links.LinkedVocab.{LinkedVocab}
 use Rattle.thes_load_rows.specs.declared.postings.PostingLoad.{PostingLoad}
@@ -32,6 +32,20 @@ pub faulty_none : {A : Type 0} (cells_of : List A → List (List Cell)) (Rule : 
     (begun : List (List Cell)) → IsFaulty cells_of Rule begun → (queried : RawTable) → Grows (Some begun) queried
     → HasNoRows cells_of Rule queried
 faulty_none cells_of Rule begun faulty queried h rows k = grind (arith, common_steps, same_Some)
+
+-- A table whose next row is faulty breaks its rule, whatever rows follow.
+faulty_row : {A : Type 0} (cells_of : List A → List (List Cell)) (Rule : List A → Type 0) (cells : List Cell)
+    (begun : List (List Cell)) (queried more : RawTable) → queried ≡ Some begun
+    → IsFaulty cells_of Rule (begun ++ cells ∷ []) → Grows (with_row cells queried) more → HasNoRows cells_of Rule more
+faulty_row cells_of Rule cells begun queried more read faulty grown =
+    faulty_none cells_of Rule (begun ++ cells ∷ []) faulty more
+    (subst (λ (q : RawTable). Grows q more) (ap (with_row cells) read) grown)
+
+-- After one more row, the cells of the table are those read so far and those of the row.
+pub row_read : (cells : List Cell) (before after : List (List Cell)) (queried : RawTable) → queried ≡ Some before
+    → after ≡ before ++ cells ∷ [] → with_row cells queried ≡ Some after
+row_read cells before after queried read e =
+    ap (with_row cells) read ∙ ap (λ (rows : List (List Cell)). Some rows) (sym e)
 
 pub meta_stays : (raw more : Raw) (t : Tables) → more.meta ≡ raw.meta → MetaPasses raw t → MetaPasses more t
 meta_stays raw more t e passes = subst (λ (q : RawTable). IsMeta q t.base) (sym e) passes
@@ -75,10 +89,7 @@ pub outside_fault : (raw : Raw) (t : Tables) (cells : List Cell) → ResourcePas
     (raw_with_row table.Outside cells raw)
 outside_fault raw t cells passes read faulty more (e0, e1, grown) =
     (verdict_by_table more t).outside (resource_stays raw more t e0 e1 passes)
-    (faulty_none (map outside_cells) (OutsideRule t.base t.resource) (map outside_cells t.outside ++ cells ∷ [])
-    faulty more.outside
-    (subst (λ (q : RawTable). Grows q more.outside)
-    (ap (option_map (λ (rows : List (List Cell)). rows ++ cells ∷ [])) read) grown))
+    (faulty_row (map outside_cells) (OutsideRule t.base t.resource) cells _ raw.outside more.outside read faulty grown)
 
 -- If a row of table label is faulty, the verdict is the fault of this table, whatever rows follow.
 pub label_fault : (raw : Raw) (t : Tables) (cells : List Cell) → OutsidePasses raw t → raw.label
@@ -86,9 +97,7 @@ pub label_fault : (raw : Raw) (t : Tables) (cells : List Cell) → OutsidePasses
     ++ cells ∷ []) → HasRead (stage.Stopped (BadStore table.Label) table.Label) (raw_with_row table.Label cells raw)
 label_fault raw t cells passes read faulty more (e0, e1, e2, grown) =
     (verdict_by_table more t).label (outside_stays raw more t e0 e1 e2 passes)
-    (faulty_none (map label_cells) (LabelRule t.resource) (map label_cells t.label ++ cells ∷ []) faulty more.label
-    (subst (λ (q : RawTable). Grows q more.label)
-    (ap (option_map (λ (rows : List (List Cell)). rows ++ cells ∷ [])) read) grown))
+    (faulty_row (map label_cells) (LabelRule t.resource) cells _ raw.label more.label read faulty grown)
 
 -- If a row of table link is faulty, the verdict is the fault of this table, whatever rows follow.
 pub link_fault : (raw : Raw) (t : Tables) (cells : List Cell) → LabelPasses raw t → raw.link
@@ -96,9 +105,7 @@ pub link_fault : (raw : Raw) (t : Tables) (cells : List Cell) → LabelPasses ra
     ∷ []) → HasRead (stage.Stopped (BadStore table.Link) table.Link) (raw_with_row table.Link cells raw)
 link_fault raw t cells passes read faulty more (e0, e1, e2, e3, grown) =
     (verdict_by_table more t).link (label_stays raw more t e0 e1 e2 e3 passes)
-    (faulty_none (map link_cells) (LinkRule t.resource) (map link_cells t.link ++ cells ∷ []) faulty more.link
-    (subst (λ (q : RawTable). Grows q more.link)
-    (ap (option_map (λ (rows : List (List Cell)). rows ++ cells ∷ [])) read) grown))
+    (faulty_row (map link_cells) (LinkRule t.resource) cells _ raw.link more.link read faulty grown)
 
 -- If a row of table hier is faulty, the verdict is the fault of this table, whatever rows follow.
 pub hier_fault : (raw : Raw) (t : Tables) (cells : List Cell) → LinkPasses raw t → raw.hier
@@ -107,9 +114,7 @@ pub hier_fault : (raw : Raw) (t : Tables) (cells : List Cell) → LinkPasses raw
     (raw_with_row table.Hier cells raw)
 hier_fault raw t cells passes read faulty more (e0, e1, e2, e3, e4, grown) =
     (verdict_by_table more t).hier (link_stays raw more t e0 e1 e2 e3 e4 passes)
-    (faulty_none (map hier_cells) (HierRule t.resource t.link) (map hier_cells t.hier ++ cells ∷ []) faulty more.hier
-    (subst (λ (q : RawTable). Grows q more.hier)
-    (ap (option_map (λ (rows : List (List Cell)). rows ++ cells ∷ [])) read) grown))
+    (faulty_row (map hier_cells) (HierRule t.resource t.link) cells _ raw.hier more.hier read faulty grown)
 
 -- If a row of table posting is faulty, the verdict is the fault of this table, whatever rows follow.
 pub posting_fault : (raw : Raw) (t : Tables) (cells : List Cell) → HierPasses raw t → raw.posting
@@ -118,10 +123,7 @@ pub posting_fault : (raw : Raw) (t : Tables) (cells : List Cell) → HierPasses 
     (raw_with_row table.Posting cells raw)
 posting_fault raw t cells passes read faulty more (e0, e1, e2, e3, e4, e5, grown) =
     (verdict_by_table more t).posting (hier_stays raw more t e0 e1 e2 e3 e4 e5 passes)
-    (faulty_none (map posting_cells) (PostingRule t.resource) (map posting_cells t.posting ++ cells ∷ []) faulty
-    more.posting
-    (subst (λ (q : RawTable). Grows q more.posting)
-    (ap (option_map (λ (rows : List (List Cell)). rows ++ cells ∷ [])) read) grown))
+    (faulty_row (map posting_cells) (PostingRule t.resource) cells _ raw.posting more.posting read faulty grown)
 
 -- If a row of table move is faulty, the verdict is the fault of this table, whatever rows follow.
 pub move_fault : (raw : Raw) (t : Tables) (cells : List Cell) → PostingPasses raw t → raw.move
@@ -130,10 +132,7 @@ pub move_fault : (raw : Raw) (t : Tables) (cells : List Cell) → PostingPasses 
     (raw_with_row table.Move cells raw)
 move_fault raw t cells passes read faulty more (e0, e1, e2, e3, e4, e5, e6, grown) =
     (verdict_by_table more t).move (posting_stays raw more t e0 e1 e2 e3 e4 e5 e6 passes)
-    (faulty_none (map move_cells) (MoveRule t.resource t.posting) (map move_cells t.move ++ cells ∷ []) faulty
-    more.move
-    (subst (λ (q : RawTable). Grows q more.move)
-    (ap (option_map (λ (rows : List (List Cell)). rows ++ cells ∷ [])) read) grown))
+    (faulty_row (map move_cells) (MoveRule t.resource t.posting) cells _ raw.move more.move read faulty grown)
 
 -- The stage is right after a row of table outside is added.
 pub outside_taken : (raw : Raw) (t : Tables) (cells : List Cell) (new : OutsideLoad) → ResourcePasses raw t
@@ -143,8 +142,7 @@ pub outside_taken : (raw : Raw) (t : Tables) (cells : List Cell) (new : OutsideL
 outside_taken raw t cells new passes read (x, e, has) after = (
   record t { outside = t.outside ++ x ∷ [] },
   passes,
-  (ap (option_map (λ (rows : List (List Cell)). rows ++ cells ∷ [])) read
-      ∙ ap (λ (rows : List (List Cell)). Some rows) (sym e)),
+  row_read cells _ _ raw.outside read e,
   has,
   after,
 )
@@ -157,8 +155,7 @@ pub label_taken : (raw : Raw) (t : Tables) (cells : List Cell) (new : Vocabulary
 label_taken raw t cells new passes read (x, e, has) after = (
   record t { label = t.label ++ x ∷ [] },
   passes,
-  (ap (option_map (λ (rows : List (List Cell)). rows ++ cells ∷ [])) read
-      ∙ ap (λ (rows : List (List Cell)). Some rows) (sym e)),
+  row_read cells _ _ raw.label read e,
   has,
   after,
 )
@@ -172,8 +169,7 @@ link_taken raw t cells new passes names read (x, e, has) after = (
   record t { link = t.link ++ x ∷ [] },
   passes,
   names,
-  (ap (option_map (λ (rows : List (List Cell)). rows ++ cells ∷ [])) read
-      ∙ ap (λ (rows : List (List Cell)). Some rows) (sym e)),
+  row_read cells _ _ raw.link read e,
   has,
   after,
 )
@@ -187,8 +183,7 @@ hier_taken raw t cells new passes names read (x, e, has) after = (
   record t { hier = t.hier ++ x ∷ [] },
   passes,
   names,
-  (ap (option_map (λ (rows : List (List Cell)). rows ++ cells ∷ [])) read
-      ∙ ap (λ (rows : List (List Cell)). Some rows) (sym e)),
+  row_read cells _ _ raw.hier read e,
   has,
   after,
 )
@@ -205,8 +200,7 @@ posting_taken raw t cells linked_vocab new passes names links read (x, e, has) a
   passes,
   names,
   links,
-  (ap (option_map (λ (rows : List (List Cell)). rows ++ cells ∷ [])) read
-      ∙ ap (λ (rows : List (List Cell)). Some rows) (sym e)),
+  row_read cells _ _ raw.posting read e,
   has,
   after,
 )

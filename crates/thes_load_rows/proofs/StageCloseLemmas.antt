@@ -12,7 +12,7 @@ use Rattle.thes_base.specs.declared.fault.Table.TheVariants as table
 use Rattle.thes_base.specs.Labels.{EachHasPreferred}
 use Rattle.thes_tables.specs.declared.cells.Cell.{Cell}
 use Rattle.thes_tables.specs.declared.rows.PostingRow.{PostingRow}
-use Rattle.thes_tables.specs.Tables.{Tables}
+use Rattle.thes_tables.specs.Tables.{Tables, empty_tables}
 use Rattle.thes_tables.specs.Cells.{Raw, RawTable, outside_cells, label_cells, hier_cells}
 use Rattle.thes_tables.proofs.CellLemmas.{map_one, resources_one, outside_one, label_one, hier_one}
 use Rattle.thes_vocab.specs.Vocabulary.{Vocabulary}
@@ -34,14 +34,13 @@ use Rattle.thes_load_rows.specs.PostingPlaces.{ArePlaced}
 use Rattle.thes_tables.specs.TableOrder.{next_table}
 use Rattle.thes_load_rows.specs.Progress.{Grows, ExtendsTable, Closes}
 use Rattle.thes_load_rows.proofs.ProgressLemmas.{meta_stays, resource_stays, outside_stays, link_stays}
-use Rattle.thes_load_rows.proofs.StageRowLemmas.{tables_with_base}
 
 pub meta_base : (base : List ℕ) (load : ResourceLoad) → load.resources.items ≡ []
     → Closes (stage.Meta (Some (Base base))) (stage.Resource base load)
 meta_base base load none = (
   refl,
   λ raw ((cells, is, (form, spelled)), after). (
-    tables_with_base base,
+    empty_tables base,
     (is ∙ ap (λ (c : List Cell). Some (c ∷ [])) spelled, form),
     refl,
     after.0,

@@ -2,7 +2,7 @@
 use Rattle.std.proofs.lemmas.Grind.{common_steps}
 use Rattle.std.proofs.Common.{◌≡◌, ◌≢◌, ◌⊎◌, ◌<◌, ◌^◌, ℕ, length, List, [], ◌∷◌, ◌++◌, map, refl, sym, ap, ◌∙◌, subst}
 use Rattle.std.proofs.Common.{inl, inr, Bool, true, false, append_assoc, arith}
-use Rattle.std.specs.Prelude.{None, Some, Err, option_map}
+use Rattle.std.specs.Prelude.{None, Some, Err}
 use Rattle.std.proofs.lemmas.Option.{same_Some}
 use Rattle.thes_base.specs.declared.data.Resource.{Resource}
 use Rattle.thes_base.specs.declared.data.Link.{Link}
@@ -16,7 +16,7 @@ use Rattle.thes_tables.specs.declared.cells.Cell.{Cell}
 use Rattle.thes_tables.specs.declared.rows.HierRow.{HierRow}
 use Rattle.thes_tables.specs.declared.rows.PostingRow.{PostingRow}
 use Rattle.thes_tables.specs.declared.rows.MoveRow.{MoveRow}
-use Rattle.thes_tables.specs.Tables.{Tables}
+use Rattle.thes_tables.specs.Tables.{Tables, empty_tables}
 use Rattle.thes_tables.specs.Cells.{Raw, RawTable, meta_cells, resource_rows, outside_cells, label_cells, link_cells}
 use Rattle.thes_tables.specs.Cells.{hier_cells, posting_cells, move_cells}
 use Rattle.thes_tables.proofs.CellLemmas.{head_one}
@@ -37,22 +37,10 @@ use Rattle.thes_load_rows.specs.Version.{SpellsMeta, version_cells}
 use Rattle.thes_load_rows.specs.NamesSoFar.{HasOutside, HasLabels}
 use Rattle.thes_load_rows.specs.LinksSoFar.{HasLinks}
 use Rattle.thes_load_rows.specs.RowsSoFar.{HasPostings, HasMoves}
-use Rattle.thes_load_rows.specs.Progress.{Grows, ExtendsTable, raw_with_row, HasNames, ReadsRow}
+use Rattle.thes_load_rows.specs.Progress.{Grows, ExtendsTable, raw_with_row, with_row, HasNames, ReadsRow}
 use Rattle.thes_load_rows.proofs.ProgressLemmas.{resource_fault, outside_fault, label_fault, link_fault, hier_fault}
 use Rattle.thes_load_rows.proofs.ProgressLemmas.{posting_fault, move_fault, outside_taken, label_taken, link_taken}
-use Rattle.thes_load_rows.proofs.ProgressLemmas.{hier_taken, posting_taken}
-
-abbrev pub tables_with_base : List ℕ → Tables
-tables_with_base base = record {
-  base = base;
-  resource = [];
-  outside = [];
-  label = [];
-  link = [];
-  hier = [];
-  posting = [];
-  move = [];
-}
+use Rattle.thes_load_rows.proofs.ProgressLemmas.{hier_taken, posting_taken, row_read}
 
 -- A row of table meta that isn't one of any version makes the table faulty.
 pub meta_fault : (more : Raw)
@@ -60,7 +48,7 @@ pub meta_fault : (more : Raw)
     → ((base : List ℕ) → IsBase base → more.meta ≢ Some (meta_cells base ∷ []))
     → HasVerdict more (Err (BadStore table.Meta))
 meta_fault more none no_base =
-    (verdict_by_table more (tables_with_base [])).meta (λ (v, b, lt, e). none v b (inl lt) e)
+    (verdict_by_table more (empty_tables [])).meta (λ (v, b, lt, e). none v b (inl lt) e)
     (λ (v, b, is, e). none v b (inr is) e) (λ base (e, form). no_base base form e)
 
 grown_is : (one cells : List Cell) (queried : RawTable) → Grows (Some (one ∷ [])) queried → queried
@@ -68,16 +56,13 @@ grown_is : (one cells : List Cell) (queried : RawTable) → Grows (Some (one ∷
 grown_is one cells queried (inl none) e = let f = sym none ∙ e in absurd (cc)
 grown_is one cells queried (inr (more, is)) e = head_one (same_Some _ _ (sym is ∙ e))
 
-abbrev with_cells : List Cell → RawTable → RawTable
-with_cells cells queried = option_map (λ (rows : List (List Cell)). rows ++ cells ∷ []) queried
-
 pub meta_row : (row : MetaRow) (cells : List Cell) → SpellsMeta cells (Some row) → ReadsRow (stage.Meta None)
     (stage.Meta (Some row)) cells true
-meta_row row cells spells = (refl, λ raw (none, after). ((cells, ap (with_cells cells) none, spells), after))
+meta_row row cells spells = (refl, λ raw (none, after). ((cells, ap (with_row cells) none, spells), after))
 
 pub meta_unread : (cells : List Cell) → SpellsMeta cells None → ReadsRow (stage.Meta None) (stage.Meta None) cells false
 meta_unread cells spells raw (none, after) more grown =
-    let grows = subst (λ (q : RawTable). Grows q more.meta) (ap (with_cells cells) none) grown in
+    let grows = subst (λ (q : RawTable). Grows q more.meta) (ap (with_row cells) none) grown in
     meta_fault more (λ version base which e. spells.0 version base which (grown_is cells _ more.meta grows e))
     (λ base form e. spells.1 base form (grown_is cells _ more.meta grows e))
 
@@ -94,7 +79,7 @@ resource_row base old new cells true reads = (
         record t { resource = t.resource ++ x ∷ [] },
         passes,
         same,
-        ap (with_cells cells) read ∙ ap (λ (rows : List (List Cell)). Some rows) (sym e),
+        row_read cells _ _ raw.resource read e,
         has,
         after,
       ),
@@ -200,7 +185,7 @@ module _ (linked_vocab : LinkedVocab) (rs : List Resource) (is : rs ≡ linked_v
           names,
           links,
           are,
-          ap (with_cells cells) read ∙ ap (λ (rows : List (List Cell)). Some rows) (sym e),
+          row_read cells _ _ raw.move read e,
           next,
         ),
   )
@@ -208,7 +193,7 @@ module _ (linked_vocab : LinkedVocab) (rs : List Resource) (is : rs ≡ linked_v
       read (subst (ReadsMove old new false t.posting t.move) (is ∙ same_resources linked_vocab.vocab t names)
       (reads t.posting t.move) passes.1.1 has)
 
-less_grown : (cells : List Cell) (rows queried : RawTable) → Grows (with_cells cells rows) queried → Grows rows queried
+less_grown : (cells : List Cell) (rows queried : RawTable) → Grows (with_row cells rows) queried → Grows rows queried
 less_grown cells rows queried grows = grind (arith, common_steps, append_assoc)
 
 without_row : (at : Table) (cells : List Cell) (raw more : Raw) → ExtendsTable at (raw_with_row at cells raw) more

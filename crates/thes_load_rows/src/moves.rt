@@ -1,5 +1,5 @@
 //! The rows of table move, and the check that they lead postings to their places.
-ghost use Rattle.std.specs.Prelude.{◌≡◌, ◌<◌, ◌+◌, ◌↔◌, List, IsTrue, length, map, ◌^◌};
+ghost use Rattle.std.specs.Prelude.{◌≡◌, ◌<◌, ◌↔◌, List, IsTrue, length, map, ◌^◌};
 ghost use Rattle.thes_base.specs.declared.data.Resource.{Resource};
 ghost use Rattle.thes_base.specs.Resources.{entry_at};
 ghost use Rattle.thes_tables.specs.declared.rows.PostingRow.{PostingRow};
@@ -32,52 +32,21 @@ fn place_at(places: &[ResNo], number: PostNo) -> Option<ResNo>
     places.get(number.get() as usize - 1).copied()
 }
 
-// Checks whether a move may be the next one: it has the next number, starts at its posting's place,
-// and ends at another concept.
-fn is_next(places: &[ResNo], resources: &[Resource], taken: u64, step: &MoveRow) -> bool
-    requires { taken < u64.MAX }
-    ensures { IsTrue result ↔ IsNextMove resources.now places.now taken step.now }
-{
-    u64::from(step.number.get()) == taken + 1
-        && place_at(places, step.posting) == Some(step.source)
-        && step.source != step.target
-        && is_concept(resources, step.target)
-}
-
-// Applies a move to the places; changes nothing and returns false if it can't be the next move.
-fn follow(places: &mut [ResNo], resources: &[Resource], taken: u64, step: &MoveRow) -> bool
-    requires room { taken < u64.MAX }
-    requires form { HasMoveForm step.now }
-    ensures number { IsTrue result → step.now.number ≡ taken + 1 }
-    ensures takes { (postings : List PostingRow) (rows : List MoveRow)
-        → HasMoves resources.now postings taken places.old rows
-        → TakeResult (HasMoves resources.now postings (taken + 1) places.new)
-        (MoveRule resources.now postings) rows step.now result }
-{
-    if is_next(places, resources, taken, step) {
-        places[step.posting.get() as usize - 1] = step.target;
-        true
-    } else {
-        false
-    }
-}
-
-// Applies a move to the places in a vector; changes nothing and returns false if it can't be the
-// next move.
-fn follow_in(places: &mut Vec<ResNo>, resources: &[Resource], taken: u64, step: &MoveRow) -> bool
-    requires room { taken < u64.MAX }
-    requires form { HasMoveForm step.now }
-    ensures number { IsTrue result → step.now.number ≡ taken + 1 }
-    ensures takes { (postings : List PostingRow) (rows : List MoveRow)
-        → HasMoves resources.now postings taken places.old.items rows
-        → TakeResult (HasMoves resources.now postings (taken + 1) places.new.items)
-        (MoveRule resources.now postings) rows step.now result }
-{
-    follow(places.as_mut_slice(), resources, taken, step)
-}
-
 impl MoveLoad {
+    // Checks whether a move may be the next one: it has the next number, starts at its posting's
+    // place, and ends at another concept.
+    fn is_next(&self, resources: &[Resource], step: &MoveRow) -> bool
+        ensures { IsTrue result
+            ↔ IsNextMove resources.now self.now.places.items self.now.taken step.now }
+    {
+        u64::from(step.number.get()) == self.taken + 1
+            && place_at(self.places.as_slice(), step.posting) == Some(step.source)
+            && step.source != step.target
+            && is_concept(resources, step.target)
+    }
+
     /// Applies a move; changes nothing and returns false if it can't be the next one.
+    #[tactic(auto, using(thes_base::proofs::NumberedLemmas::numbered_bound))]
     pub fn take(&mut self, resources: &[Resource], step: &MoveRow) -> bool
         requires { HasMoveForm step.now }
         ensures { (postings : List PostingRow) (rows : List MoveRow)
@@ -85,7 +54,8 @@ impl MoveLoad {
             → TakeResult (HasMoves resources.now postings self.new.taken self.new.places.items)
             (MoveRule resources.now postings) rows step.now result }
     {
-        if follow_in(&mut self.places, resources, self.taken, step) {
+        if self.is_next(resources, step) {
+            self.places[step.posting.get() as usize - 1] = step.target;
             self.taken += 1;
             true
         } else {
