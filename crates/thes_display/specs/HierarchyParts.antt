@@ -5,6 +5,7 @@ use Rattle.thes_base.specs.Views.{HasLink}
 use Rattle.thes_base.specs.declared.data.LinkKind.{LinkKind}
 use Rattle.thes_base.specs.declared.data.LinkForm.TheVariants.{Within}
 use Rattle.thes_base.specs.Links.{Links, form_of}
+use Rattle.thes_core.specs.CoreView.{CoreView}
 use Rattle.thes_display.specs.ChildLists.{children_at, child_cmp}
 use Rattle.thes_display.specs.Lines.{untyped}
 use Rattle.thes_display.specs.declared.walk.Child.{Child}
@@ -19,6 +20,11 @@ pub record HaveOneRank (terms : List Term) : Type 0 where
 pub record AreRanks (terms : List Term) (ranks : ℕ → Option ℕ) : Type 0 where
   pub rank_is : (n k : ℕ) → ranks n ≡ Some k → HasRank terms n k
   pub all : (n k : ℕ) → HasRank terms n k → ranks n ≡ Some k
+
+-- Links can be followed from rank to rank: the core is usable, and the map has the ranks of the concepts.
+pub record CanFollowLinks (core : CoreView) (terms : List Term) (rank_of : ℕ → Option ℕ) : Type 0 where
+  pub unspent : core.spent ≡ false
+  pub ranks : AreRanks terms rank_of
 
 module _ (links : Links) (terms : List Term) where
   -- The concept with this rank has no broader concept with a rank.

@@ -10,7 +10,7 @@ ghost use Rattle.thes_vocab.specs.Vocabulary.{IsConceptOf};
 ghost use Rattle.thes_display.specs.ChildLists.{child_cmp, lists};
 ghost use Rattle.thes_display.specs.Lines.{untyped as no_types};
 ghost use Rattle.thes_display.specs.Hierarchical.{AreTerms, AreTypes, IsHierarchicalDisplay};
-ghost use Rattle.thes_display.specs.HierarchyParts.{AreHomes, AreRanks, HaveOneRank, IsClosed, IsChild, IsHomeRank, AreBelow, IsTopByHomes};
+ghost use Rattle.thes_display.specs.HierarchyParts.{AreHomes, AreRanks, CanFollowLinks, HaveOneRank, IsClosed, IsChild, IsHomeRank, AreBelow, IsTopByHomes};
 
 use crate::entry_terms::{has_link, sorted_terms_of};
 use crate::term::Term;
@@ -89,9 +89,8 @@ fn home_of(
     ranks: &BTreeMap<ResNo, usize>,
     rank: usize,
 ) -> Result<Option<usize>, AllocError>
-    requires unspent { core.now.spent ≡ false }
+    requires links { CanFollowLinks core.now terms.now (get nat_cmp ranks.now) }
     requires within { rank < length terms.now }
-    requires ranks { AreRanks terms.now (get nat_cmp ranks.now) }
     ensures { IfOk result (λ home. IsHomeRank core.now.links terms.now rank home) }
 {
     let broader = core.broader_of(alloc, terms[rank].concept())?;
@@ -145,9 +144,8 @@ fn children_of(
     homes: &[Option<usize>],
     rank: usize,
 ) -> Result<Vec<Child>, AllocError>
-    requires unspent { core.now.spent ≡ false }
+    requires links { CanFollowLinks core.now terms.now (get nat_cmp ranks.now) }
     requires within { rank < length terms.now }
-    requires ranks { AreRanks terms.now (get nat_cmp ranks.now) }
     requires homes { AreHomes core.now.links terms.now (length terms.now) homes.now }
     ensures { IfOk result
         (λ children. IsListing child_cmp (IsChild core.now.links terms.now rank) children.items) }
@@ -175,8 +173,7 @@ fn homes_of(
     terms: &[Term],
     ranks: &BTreeMap<ResNo, usize>,
 ) -> Result<Vec<Option<usize>>, AllocError>
-    requires unspent { core.now.spent ≡ false }
-    requires ranks { AreRanks terms.now (get nat_cmp ranks.now) }
+    requires { CanFollowLinks core.now terms.now (get nat_cmp ranks.now) }
     ensures { IfOk result
         (λ homes. AreHomes core.now.links terms.now (length terms.now) homes.items) }
 {
@@ -195,8 +192,7 @@ fn below_of(
     ranks: &BTreeMap<ResNo, usize>,
     homes: &[Option<usize>],
 ) -> Result<Vec<Vec<Child>>, AllocError>
-    requires unspent { core.now.spent ≡ false }
-    requires ranks { AreRanks terms.now (get nat_cmp ranks.now) }
+    requires links { CanFollowLinks core.now terms.now (get nat_cmp ranks.now) }
     requires homes { AreHomes core.now.links terms.now (length terms.now) homes.now }
     ensures { IfOk result
         (λ below. AreBelow core.now.links terms.now (length terms.now) (lists below.items)) }

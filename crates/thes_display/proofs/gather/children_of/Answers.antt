@@ -44,7 +44,7 @@ loop-child-init c = children_none c.args.core.now.links c.args.terms.now c.args.
 pub is_home-at_home-requires : goal.is_home-at_home-requires
 is_home-at_home-requires c =
     let r = narrower_at c.args.core.now.links c.args.terms.now c.args.rank (get nat_cmp c.args.ranks.now)
-    c.requires.ranks c.concept.ensures c.requires.within c.index-terms-rank.is c.in_ok-narrower.ensures
+    c.requires.links.ranks c.concept.ensures c.requires.within c.index-terms-rank.is c.in_ok-narrower.ensures
     c.deref-child-items.ensures.value c.as_slice.ensures.value c.in_ok-found.ensures c.loop-child.child-index
     (omega arith) in
     known_home c.args.core.now.links c.args.terms.now c.args.rank c.args.homes.now c.requires.homes _ r
@@ -52,7 +52,7 @@ is_home-at_home-requires c =
 pub types_at-types-requires-clause-within : goal.types_at-types-requires-clause-within
 types_at-types-requires-clause-within c =
     let r = narrower_at c.args.core.now.links c.args.terms.now c.args.rank (get nat_cmp c.args.ranks.now)
-    c.requires.ranks c.concept.ensures c.requires.within c.index-terms-rank.is c.in_ok-narrower.ensures
+    c.requires.links.ranks c.concept.ensures c.requires.within c.index-terms-rank.is c.in_ok-narrower.ensures
     c.deref-child-items.ensures.value c.as_slice.ensures.value c.in_ok-found.ensures c.loop-child.child-index
     (omega arith) in
     (rank_within c.args.terms.now r.lower _ r.lower_rank, c.requires.within)
@@ -62,7 +62,7 @@ loop-child-preserved c =
     let ks : List ℕ = c.deref-child-items.result.now in
     let i = c.loop-child.child-index in
     let r = narrower_at c.args.core.now.links c.args.terms.now c.args.rank (get nat_cmp c.args.ranks.now)
-    c.requires.ranks c.concept.ensures c.requires.within c.index-terms-rank.is c.in_ok-narrower.ensures
+    c.requires.links.ranks c.concept.ensures c.requires.within c.index-terms-rank.is c.in_ok-narrower.ensures
     c.deref-child-items.ensures.value c.as_slice.ensures.value c.in_ok-found.ensures i (omega arith) in
     children_more c.args.core.now.links c.args.terms.now c.args.rank c.args.homes.now c.requires.homes (take i ks)
     (take (i + 1) ks) _ _ _ c.types_at-types.result c.is_home-at_home.result c.loop-child.invariant r
@@ -73,7 +73,7 @@ loop-child-preserved c =
 pub returns : goal.returns
 returns c =
     let ks : List ℕ = c.deref-child-items.result.now in
-    children_are c.args.core.now.links c.args.terms.now c.args.rank (get nat_cmp c.args.ranks.now) c.requires.ranks
+    children_are c.args.core.now.links c.args.terms.now c.args.rank (get nat_cmp c.args.ranks.now) c.requires.links.ranks
     c.concept.ensures c.requires.within c.index-terms-rank.is c.in_ok-narrower.ensures
     c.deref-child-items.ensures.value c.as_slice.ensures.value c.in_ok-found.ensures c.loop-child.children.items _
     (subst (λ (xs : List ℕ). AreChildren c.args.core.now.links c.args.terms.now c.args.rank xs
