@@ -1,6 +1,6 @@
 -- Proves that the lists of top concepts and members are complete after each resource.
 use Rattle.std.proofs.lemmas.Grind.{common_steps}
-use Rattle.std.proofs.Common.{◌≡◌, ◌⊎◌, ◌∙◌, sym, refl, subst, inl, inr, ⊎_elim, ℕ, ◌+◌, ◌<◌}
+use Rattle.std.proofs.Common.{◌≡◌, ◌⊎◌, ◌∙◌, sym, refl, subst, inl, inr, ⊎_elim, ℕ, ◌+◌, ◌<◌, ◌≤◌}
 use Rattle.std.proofs.Common.{ap, List, [], ◌∷◌, ◌++◌, length, get_or, take, Contains, arith, eqb-true, None, Some}
 use borrow.Author.Tests.{eqb-false}
 use Rattle.std.specs.BTreeSet.{insert_key}
@@ -17,13 +17,30 @@ use Rattle.thes_core.specs.CoreView.{CoreView}
 use Rattle.thes_lists.specs.declared.lists.Lists.{Lists}
 use Rattle.thes_lists.specs.Lists.{listed_at, ChangesOnlyAt, AreListings}
 use Rattle.thes_lists.proofs.ListingLemmas.{listing_none, listings_same, listings_insert}
-use Rattle.thes_export.specs.Holdings.{IsTopIn, IsTopScheme, IsTopUpTo, IsMemberUpTo, IsUpTo}
+use Rattle.thes_export.specs.Holdings.{AreMembersUpTo, AreTopsUpTo, IsTopIn, IsTopScheme, IsTopUpTo, IsMemberUpTo}
+use Rattle.thes_export.specs.Holdings.{IsUpTo}
 
 -- Of no resources, none has the property.
-pub none_listed : (Is : ℕ → ℕ → Type 0) (lists : Lists ℕ) → ((n : ℕ) → listed_at lists n ≡ [])
+none_listed : (Is : ℕ → ℕ → Type 0) (lists : Lists ℕ) → ((n : ℕ) → listed_at lists n ≡ [])
     → AreListings nat_cmp (λ m. IsUpTo 0 (Is m)) lists
 none_listed Is lists none n = subst (IsListing nat_cmp (IsUpTo 0 (Is n))) (sym (none n))
     (listing_none nat_cmp (IsUpTo 0 (Is n)) (λ x is. let least = is.0 in let most = is.1 in omega arith))
+
+pub tops_none : (core : CoreView) (lists : Lists ℕ) → ((n : ℕ) → listed_at lists n ≡ []) → AreTopsUpTo core 0 lists
+tops_none core lists none = record { listings = none_listed (λ m n. IsTopIn core n m) lists none }
+
+pub tops_all : (core : CoreView) (i n : ℕ) (lists : Lists ℕ) → i ≤ n → n ≤ i → AreTopsUpTo core i lists
+    → AreTopsUpTo core n lists
+tops_all core i n lists least most are = subst (λ k. AreTopsUpTo core k lists) (let e : i ≡ n = omega arith in e) are
+
+pub members_none : (core : CoreView) (lists : Lists ℕ) → ((n : ℕ) → listed_at lists n ≡ [])
+    → AreMembersUpTo core 0 lists
+members_none core lists none = record { listings = none_listed (HasLink core.links kind.Member) lists none }
+
+pub members_all : (core : CoreView) (i n : ℕ) (lists : Lists ℕ) → i ≤ n → n ≤ i → AreMembersUpTo core i lists
+    → AreMembersUpTo core n lists
+members_all core i n lists least most are =
+    subst (λ k. AreMembersUpTo core k lists) (let e : i ≡ n = omega arith in e) are
 
 -- A number up to `i + 1` is one up to `i`, or `i + 1`.
 pub one_more : (Is : ℕ → Type 0) (i n : ℕ) → IsUpTo (i + 1) Is n → IsUpTo i Is n ⊎ ((n ≡ i + 1) × Is (i + 1))
@@ -38,33 +55,35 @@ IsMemberBefore core i n ks k x = IsMemberUpTo core i k x ⊎ ((x ≡ n) × Conta
 
 module _ (core : CoreView) (i n : ℕ) (next : n ≡ i + 1) where
   -- The next resource is no top concept.
-  pub tops_same : (lists : Lists ℕ) → IsTopScheme core n None → AreListings nat_cmp (IsTopUpTo core i) lists
-      → AreListings nat_cmp (IsTopUpTo core (i + 1)) lists
-  tops_same lists none listed =
-      listings_same nat_cmp (IsTopUpTo core i) (IsTopUpTo core (i + 1)) lists lists (λ m. refl)
-      (λ m x is. still_up (λ y. IsTopIn core y m) i x is)
-      (λ m x is. ⊎_elim (λ was. was)
-      (λ new. absurd (none m (subst (λ y. IsTopIn core y m) (sym next) new.1)))
-      (one_more (λ y. IsTopIn core y m) i x is)) listed
+  pub tops_same : (lists : Lists ℕ) → IsTopScheme core n None → AreTopsUpTo core i lists
+      → AreTopsUpTo core (i + 1) lists
+  tops_same lists none are = record {
+    listings = listings_same nat_cmp (IsTopUpTo core i) (IsTopUpTo core (i + 1)) lists lists (λ m. refl)
+        (λ m x is. still_up (λ y. IsTopIn core y m) i x is)
+        (λ m x is. ⊎_elim (λ was. was)
+        (λ new. absurd (none m (subst (λ y. IsTopIn core y m) (sym next) new.1)))
+        (one_more (λ y. IsTopIn core y m) i x is)) are.listings;
+  }
 
   -- The next resource is a top concept of the scheme.
   pub tops_more : (old new : Lists ℕ) (scheme : ℕ) → IsTopIn core n scheme
       → ChangesOnlyAt old new scheme (insert_key nat_cmp (listed_at old scheme) n)
-      → AreListings nat_cmp (IsTopUpTo core i) old → AreListings nat_cmp (IsTopUpTo core (i + 1)) new
-  tops_more old new scheme top changes listed =
-      listings_insert nat_cmp nat_cmp_total exact_unsigned (IsTopUpTo core i) (IsTopUpTo core (i + 1)) old new scheme
-      n listed changes (omega (arith, next), omega (arith, next), top)
-      (λ m x is. still_up (λ y. IsTopIn core y m) i x is)
-      (λ m x is. ⊎_elim inl
-      (λ one. let own = subst (λ y. IsTopIn core y m) (sym next) one.1 in
-      inr ((let q : Some m ≡ Some scheme = sym own.1 ∙ top.1 in cc), one.0 ∙ sym next))
-      (one_more (λ y. IsTopIn core y m) i x is))
+      → AreTopsUpTo core i old → AreTopsUpTo core (i + 1) new
+  tops_more old new scheme top changes are = record {
+    listings = listings_insert nat_cmp nat_cmp_total exact_unsigned (IsTopUpTo core i) (IsTopUpTo core (i + 1)) old
+        new scheme n are.listings changes (omega (arith, next), omega (arith, next), top)
+        (λ m x is. still_up (λ y. IsTopIn core y m) i x is)
+        (λ m x is. ⊎_elim inl
+        (λ one. let own = subst (λ y. IsTopIn core y m) (sym next) one.1 in
+        inr ((let q : Some m ≡ Some scheme = sym own.1 ∙ top.1 in cc), one.0 ∙ sym next))
+        (one_more (λ y. IsTopIn core y m) i x is));
+  }
 
-  pub members_first : (lists : Lists ℕ) → AreListings nat_cmp (IsMemberUpTo core i) lists
+  pub members_first : (lists : Lists ℕ) → AreMembersUpTo core i lists
       → AreListings nat_cmp (IsMemberBefore core i n []) lists
-  members_first lists listed =
+  members_first lists are =
       listings_same nat_cmp (IsMemberUpTo core i) (IsMemberBefore core i n []) lists lists (λ m. refl) (λ m x is. inl is)
-      (λ m x is. ⊎_elim (λ was. was) (λ new. absurd (Contains-none m new.1)) is) listed
+      (λ m x is. ⊎_elim (λ was. was) (λ new. absurd (Contains-none m new.1)) is) are.listings
 
   pub members_next : (ks : List ℕ) (j k : ℕ) (old new : Lists ℕ) → j < length ks → k ≡ get_or ks j k
       → ChangesOnlyAt old new k (insert_key nat_cmp (listed_at old k) n)
@@ -86,17 +105,18 @@ module _ (core : CoreView) (i n : ℕ) (next : n ≡ i + 1) where
   -- These are all collections of the next resource.
   pub members_done : (ks xs : List ℕ) (lists : Lists ℕ) → xs ≡ ks
       → IsListing nat_cmp (λ k. HasLink core.links kind.Member k n) ks
-      → AreListings nat_cmp (IsMemberBefore core i n xs) lists → AreListings nat_cmp (IsMemberUpTo core (i + 1)) lists
-  members_done ks xs lists e collections listed =
-      listings_same nat_cmp (IsMemberBefore core i n xs) (IsMemberUpTo core (i + 1)) lists lists (λ m. refl)
-      (λ k x is. ⊎_elim (λ was. still_up (HasLink core.links kind.Member k) i x was)
-      (λ one. subst (IsMemberUpTo core (i + 1) k) (sym one.0)
-      (omega (arith, next), omega (arith, next), collections.sound k (subst (λ ys. Contains ys k) e one.1))) is)
-      (λ k x is. ⊎_elim inl
-      (λ one. inr (
-        one.0 ∙ sym next,
-        subst (λ ys. Contains ys k) (sym e)
-            (collections.complete k (subst (HasLink core.links kind.Member k) (sym next) one.1)),
-      ))
-      (one_more (HasLink core.links kind.Member k) i x is))
-      listed
+      → AreListings nat_cmp (IsMemberBefore core i n xs) lists → AreMembersUpTo core (i + 1) lists
+  members_done ks xs lists e collections listed = record {
+    listings = listings_same nat_cmp (IsMemberBefore core i n xs) (IsMemberUpTo core (i + 1)) lists lists (λ m. refl)
+        (λ k x is. ⊎_elim (λ was. still_up (HasLink core.links kind.Member k) i x was)
+        (λ one. subst (IsMemberUpTo core (i + 1) k) (sym one.0)
+        (omega (arith, next), omega (arith, next), collections.sound k (subst (λ ys. Contains ys k) e one.1))) is)
+        (λ k x is. ⊎_elim inl
+        (λ one. inr (
+          one.0 ∙ sym next,
+          subst (λ ys. Contains ys k) (sym e)
+              (collections.complete k (subst (HasLink core.links kind.Member k) (sym next) one.1)),
+        ))
+        (one_more (HasLink core.links kind.Member k) i x is))
+        listed;
+  }

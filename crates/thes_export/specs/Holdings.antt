@@ -1,10 +1,11 @@
 -- The top concepts of each scheme, and the members of each collection.
-use Rattle.std.specs.Prelude.{◌≡◌, ◌≤◌, ℕ, Option, None, Some, length}
+use Rattle.std.specs.Prelude.{◌≡◌, ◌<◌, ◌≤◌, ℕ, Option, None, Some, false, length}
 use Rattle.std.specs.Ordering.{nat_cmp}
 use Rattle.thes_base.specs.declared.data.LinkKind.TheVariants as kind
 use Rattle.thes_base.specs.Resources.{IsLiveConcept, scheme_of}
 use Rattle.thes_base.specs.Views.{HasLink, HasBroader}
 use Rattle.thes_core.specs.CoreView.{CoreView}
+use Rattle.thes_lists.specs.declared.lists.Lists.{Lists}
 use Rattle.thes_lists.specs.Lists.{AreListings}
 use Rattle.thes_export.specs.declared.holdings.Holdings.{Holdings}
 
@@ -32,7 +33,22 @@ module _ (core : CoreView) where
   abbrev pub IsMemberUpTo : ℕ → ℕ → ℕ → Type 0
   IsMemberUpTo most k = IsUpTo most (HasLink core.links kind.Member k)
 
+  -- Under the number of each scheme are its top concepts, of the resources up to `most`.
+  pub record AreTopsUpTo (most : ℕ) (lists : Lists ℕ) : Type 0 where
+    pub listings : AreListings nat_cmp (IsTopUpTo most) lists
+
+  -- Under the number of each collection are its members, of the resources up to `most`.
+  pub record AreMembersUpTo (most : ℕ) (lists : Lists ℕ) : Type 0 where
+    pub listings : AreListings nat_cmp (IsMemberUpTo most) lists
+
   -- Under the number of each scheme are its top concepts, under that of each collection its members.
   pub record AreHoldings (h : Holdings) : Type 0 where
     pub tops : AreListings nat_cmp (IsTopUpTo (length core.resources)) h.tops
     pub members : AreListings nat_cmp (IsMemberUpTo (length core.resources)) h.members
+
+  -- The resource with the index `i`, counted from 0, can be exported: the core is usable and has that resource, and the
+  -- holdings are those of the core.
+  pub record CanExportAt (h : Holdings) (i : ℕ) : Type 0 where
+    pub unspent : core.spent ≡ false
+    pub index : i < length core.resources
+    pub holdings : AreHoldings h

@@ -1,5 +1,5 @@
 //! Collects the lines of an export, resource by resource, and joins them into its text.
-ghost use Rattle.std.specs.Prelude.{◌≡◌, ◌+◌, ◌++◌, ◌<◌, [], Contains, false, IfOk, OnOk, length};
+ghost use Rattle.std.specs.Prelude.{◌≡◌, ◌+◌, ◌++◌, [], Contains, false, IfOk, OnOk, length};
 ghost use Rattle.std.specs.List.{concat};
 ghost use Rattle.std.specs.Ordering.{nat_cmp};
 ghost use Rattle.std.specs.Cmp.Lexicographic.{slice_cmp};
@@ -7,7 +7,7 @@ ghost use Rattle.thes_base.specs.Listing.{IsListing};
 ghost use Rattle.thes_base.specs.State.{State};
 ghost use Rattle.thes_core.specs.CoreView.{IsViewOf};
 ghost use Rattle.thes_export.specs.Export.{IsExport};
-ghost use Rattle.thes_export.specs.Holdings.{AreHoldings};
+ghost use Rattle.thes_export.specs.Holdings.{CanExportAt};
 ghost use Rattle.thes_export.specs.Topics.{Adds, AreParts, IsPartOf, IsResourceTriple, IsLineOf};
 
 use crate::holdings::{Holdings, resource_count};
@@ -26,9 +26,7 @@ fn push_at(
     lines: &mut Vec<ExportPart>,
     i: usize,
 ) -> Result<(), AllocError>
-    requires unspent { core.now.spent ≡ false }
-    requires within { i < length core.now.resources }
-    requires held { AreHoldings core.now holdings.now }
+    requires { CanExportAt core.now holdings.now i }
     ensures { let is_about = IsResourceTriple core.now (i + 1) in
         OnOk result (Adds (IsLineOf is_about) lines.old.items lines.new.items) }
 {
@@ -81,9 +79,7 @@ fn part_at(
     holdings: &Holdings,
     i: usize,
 ) -> Result<ExportPart, AllocError>
-    requires unspent { core.now.spent ≡ false }
-    requires within { i < length core.now.resources }
-    requires held { AreHoldings core.now holdings.now }
+    requires { CanExportAt core.now holdings.now i }
     ensures { IfOk result (IsPartOf core.now (i + 1)) }
 {
     let mut lines = Vec::new(alloc);

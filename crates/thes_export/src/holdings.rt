@@ -2,8 +2,8 @@
 ghost use Rattle.std.specs.Prelude.{◌≡◌, ◌+◌, ◌<◌, false, IfOk, OnOk, length};
 ghost use Rattle.std.specs.BTreeSet.{insert_key};
 ghost use Rattle.std.specs.Ordering.{nat_cmp};
-ghost use Rattle.thes_lists.specs.Lists.{AreAllRising, AreListings, ChangesOnlyAt, listed_at};
-ghost use Rattle.thes_export.specs.Holdings.{AreHoldings, IsMemberUpTo, IsTopUpTo};
+ghost use Rattle.thes_lists.specs.Lists.{AreAllRising, ChangesOnlyAt, listed_at};
+ghost use Rattle.thes_export.specs.Holdings.{AreHoldings, AreMembersUpTo, AreTopsUpTo};
 
 use crate::resource_lines::top_scheme_of;
 use std::alloc::{AllocError, Global};
@@ -41,8 +41,8 @@ pub(crate) fn resource_count(core: &Core) -> usize
 fn add_top(alloc: Global, core: &Core, tops: &mut Lists<ResNo>, i: usize) -> Result<(), AllocError>
     requires unspent { core.now.spent ≡ false }
     requires within { i < length core.now.resources }
-    requires listed { AreListings nat_cmp (IsTopUpTo core.now i) tops.old }
-    ensures { OnOk result (AreListings nat_cmp (IsTopUpTo core.now (i + 1)) tops.new) }
+    requires listed { AreTopsUpTo core.now i tops.old }
+    ensures { OnOk result (AreTopsUpTo core.now (i + 1) tops.new) }
 {
     let resources = core.resources();
     let n = ResNo::new(i as u32 + 1);
@@ -64,8 +64,8 @@ fn add_member(
 ) -> Result<(), AllocError>
     requires unspent { core.now.spent ≡ false }
     requires within { i < length core.now.resources }
-    requires listed { AreListings nat_cmp (IsMemberUpTo core.now i) members.old }
-    ensures { OnOk result (AreListings nat_cmp (IsMemberUpTo core.now (i + 1)) members.new) }
+    requires listed { AreMembersUpTo core.now i members.old }
+    ensures { OnOk result (AreMembersUpTo core.now (i + 1) members.new) }
 {
     let _resources = core.resources();
     let n = ResNo::new(i as u32 + 1);
@@ -79,8 +79,7 @@ fn add_member(
 // Lists the top concepts of each scheme.
 fn tops_by_scheme(alloc: Global, core: &Core) -> Result<Lists<ResNo>, AllocError>
     requires { core.now.spent ≡ false }
-    ensures { let is_top = IsTopUpTo core.now (length core.now.resources) in
-        IfOk result (AreListings nat_cmp is_top) }
+    ensures { IfOk result (AreTopsUpTo core.now (length core.now.resources)) }
 {
     let mut tops = Lists::new(alloc);
     for i in 0..resource_count(core) {
@@ -92,8 +91,7 @@ fn tops_by_scheme(alloc: Global, core: &Core) -> Result<Lists<ResNo>, AllocError
 // Lists the members of each collection.
 fn members_by_collection(alloc: Global, core: &Core) -> Result<Lists<ResNo>, AllocError>
     requires { core.now.spent ≡ false }
-    ensures { let is_member = IsMemberUpTo core.now (length core.now.resources) in
-        IfOk result (AreListings nat_cmp is_member) }
+    ensures { IfOk result (AreMembersUpTo core.now (length core.now.resources)) }
 {
     let mut members = Lists::new(alloc);
     for i in 0..resource_count(core) {
