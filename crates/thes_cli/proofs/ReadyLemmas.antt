@@ -1,6 +1,6 @@
 -- Proves that the results computed from an office's core are those of the state that its tables encode.
 use Rattle.std.proofs.Common.{◌≡◌, ◌∙◌, ap, subst, ℕ, List, Option, Result, Ok, Err}
-use Rattle.std.specs.Prelude.{length, IfOk, IfErr, OnOk}
+use Rattle.std.specs.Prelude.{length}
 use Rattle.std.specs.Borrow.{Bor}
 use Rattle.std.specs.FinSet as set
 use Rattle.thes_base.specs.State.{State}
@@ -9,7 +9,6 @@ use Rattle.thes_base.specs.declared.fault.Fault.{Fault}
 use Rattle.thes_base.specs.declared.fault.PipeFault.{PipeFault}
 use Rattle.thes_base.specs.declared.fault.PipeFault.TheVariants as pipe
 use Rattle.thes_base.specs.declared.pipe.Pipe.{Pipe}
-use Rattle.thes_base.specs.Pipe.{KeepsCallLimit}
 use Rattle.thes_tables.specs.Cells.{Raw}
 use Rattle.thes_store.specs.Storage.{StorageView}
 use Rattle.thes_core.specs.CoreView as core
@@ -95,32 +94,28 @@ module _ {K : Type 0} (view : K → StorageView) where
     -- An export from the office's core is that of the state that the tables encode.
     pub export_written : (old new : OfficeView K) (result : Result (Bor core.CoreView) Fault)
         (copy : Bor core.CoreView) (ended : Result (Unit {0}) PipeFault) → ReadyResult view old result
-        new → result ≡ Ok copy
-        → ((s : State) → IsViewOf copy.now s → OnOk ended (export.IsExportWritten out copy.now.setting.base s output
-        output'))
-        → ((s : State) → IsViewOf copy.now s → IfErr ended (export.IsExportStopped out copy.now.setting.base s output
-        output'))
-        → KeepsCallLimit output output' → WritesExport view out old output ended new output'
-    export_written old new result copy (Ok done) ready is ok err calls =
+        new → result ≡ Ok copy → export.ExportResult out copy.now output output' ended
+        → WritesExport view out old output ended new output'
+    export_written old new result copy (Ok done) ready is wrote =
         let here = handed old new result copy ready is in record {
           ready = Ok tt;
           fault_behaviour = behaviour_with_value view old new copy tt here.fault_behaviour;
           same = here.same;
           writes = (
             λ up. held_in_store (view new.keeper).rows new.limits copy.now
-                (λ base s. export.IsExportWritten out base s output output') (here.shown.copies up) ok,
-            calls,
+                (λ base s. export.IsExportWritten out base s output output') (here.shown.copies up) wrote.text,
+            wrote.calls,
           );
         }
-    export_written old new result copy (Err fault) ready is ok err calls =
+    export_written old new result copy (Err fault) ready is wrote =
         let here = handed old new result copy ready is in record {
           ready = Ok tt;
           fault_behaviour = behaviour_with_value view old new copy tt here.fault_behaviour;
           same = here.same;
           writes = (
             λ up. held_in_store (view new.keeper).rows new.limits copy.now
-                (λ base s. export.IsExportStopped out base s output output' fault) (here.shown.copies up) err,
-            calls,
+                (λ base s. export.IsExportStopped out base s output output' fault) (here.shown.copies up) wrote.fault,
+            wrote.calls,
           );
         }
 
@@ -129,14 +124,9 @@ module _ {K : Type 0} (view : K → StorageView) where
         (result : Result (Bor core.CoreView) Fault) (copy : Bor core.CoreView)
         (ended : Result DisplayOutcome PipeFault)
         → ReadyResult view old result new → result ≡ Ok copy
-        → ((s : State) → IsViewOf copy.now s
-        → IfOk ended (display.IsDisplayWritten out s.resources scheme (IsDisplay kind scheme tag s) output
-        output'))
-        → ((s : State) → IsViewOf copy.now s → IfErr ended (display.IsDisplayStopped out (IsDisplay kind scheme tag s)
-        output output'))
-        → KeepsCallLimit output output' → WritesDisplay view out kind scheme tag old output ended new
-        output'
-    display_written kind scheme tag old new result copy (Ok shown) ready is ok err calls =
+        → display.DisplayResult out copy.now scheme (IsDisplay kind scheme tag) output output' ended
+        → WritesDisplay view out kind scheme tag old output ended new output'
+    display_written kind scheme tag old new result copy (Ok shown) ready is wrote =
         let here = handed old new result copy ready is in record {
           ready = Ok tt;
           fault_behaviour = behaviour_with_value view old new copy tt here.fault_behaviour;
@@ -144,11 +134,11 @@ module _ {K : Type 0} (view : K → StorageView) where
           shows = (
             λ up. held_in_store (view new.keeper).rows new.limits copy.now
                 (λ base s. display.IsDisplayWritten out s.resources scheme (IsDisplay kind scheme tag s) output
-                output' shown) (here.shown.copies up) ok,
-            calls,
+                output' shown) (here.shown.copies up) wrote.outcome,
+            wrote.calls,
           );
         }
-    display_written kind scheme tag old new result copy (Err fault) ready is ok err calls =
+    display_written kind scheme tag old new result copy (Err fault) ready is wrote =
         let here = handed old new result copy ready is in record {
           ready = Ok tt;
           fault_behaviour = behaviour_with_value view old new copy tt here.fault_behaviour;
@@ -156,8 +146,8 @@ module _ {K : Type 0} (view : K → StorageView) where
           shows = (
             λ up. held_in_store (view new.keeper).rows new.limits copy.now
                 (λ base s. display.IsDisplayStopped out (IsDisplay kind scheme tag s) output output' fault)
-                (here.shown.copies up) err,
-            calls,
+                (here.shown.copies up) wrote.fault,
+            wrote.calls,
           );
         }
 

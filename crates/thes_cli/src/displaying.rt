@@ -1,9 +1,7 @@
 //! The commands `alphabetical` and `hierarchical`: write a display of a scheme in a language.
-ghost use Rattle.std.specs.Prelude.{◌≡◌, false, Ok, IfOk, IfErr};
-ghost use Rattle.thes_base.specs.Pipe.{IsFresh, KeepsCallLimit};
-ghost use Rattle.thes_base.specs.State.{State};
-ghost use Rattle.thes_core.specs.CoreView.{IsViewOf};
-ghost use Rattle.thes_display.specs.DisplayWrites.{IsDisplayWritten, IsDisplayStopped};
+ghost use Rattle.std.specs.Prelude.{◌≡◌, false, Ok};
+ghost use Rattle.thes_base.specs.Pipe.{IsFresh};
+ghost use Rattle.thes_display.specs.DisplayWrites.{DisplayResult};
 ghost use Rattle.thes_service.specs.Service.{IsDisplay};
 ghost use Rattle.thes_command_line.specs.Printing.{AreFreshOutputs};
 ghost use Rattle.thes_cli.specs.Displaying.{DisplaysStore, EndsDisplay, WritesDisplay};
@@ -32,13 +30,8 @@ fn write_core_display<W: Write>(
 ) -> Result<DisplayOutcome, PipeFault>
     requires unspent { core.now.spent ≡ false }
     requires output { IsFresh output.old }
-    ensures shown { (s : State) → IsViewOf core.now s →
-        let is_text = IsDisplay display scheme tag.now s in
-        IfOk result (IsDisplayWritten W.contents s.resources scheme is_text output.old output.new) }
-    ensures stopped { (s : State) → IsViewOf core.now s →
-        let is_text = IsDisplay display scheme tag.now s in
-        IfErr result (IsDisplayStopped W.contents is_text output.old output.new) }
-    ensures calls { KeepsCallLimit output.old output.new }
+    ensures { let is_text = IsDisplay display scheme tag.now in
+        DisplayResult W.contents core.now scheme is_text output.old output.new result }
 {
     match display {
         Display::Alphabetical => alphabetical(alloc, core, scheme, tag, output),

@@ -1,12 +1,11 @@
 //! Displays of a scheme in a language, written to a pipe.
-ghost use Rattle.std.specs.Prelude.{◌≡◌, false, IfOk, IfErr, MatchOption};
-ghost use Rattle.thes_base.specs.Pipe.{IsFresh, KeepsCallLimit};
+ghost use Rattle.std.specs.Prelude.{◌≡◌, false, MatchOption};
+ghost use Rattle.thes_base.specs.Pipe.{IsFresh};
 ghost use Rattle.thes_base.specs.Resources.{IsScheme};
 ghost use Rattle.thes_base.specs.State.{State};
-ghost use Rattle.thes_core.specs.CoreView.{IsViewOf};
 ghost use Rattle.thes_display.specs.Alphabetical.{IsAlphabetical};
 ghost use Rattle.thes_display.specs.Hierarchical.{IsHierarchicalDisplay};
-ghost use Rattle.thes_display.specs.DisplayWrites.{IsSchemeRefusal, IsDisplayWritten, IsDisplayStopped};
+ghost use Rattle.thes_display.specs.DisplayWrites.{DisplayResult, IsSchemeRefusal};
 
 use crate::entry::alphabetical_text;
 use crate::gather::hierarchical_text;
@@ -55,13 +54,8 @@ pub fn hierarchical<W: Write>(
 ) -> Result<DisplayOutcome, PipeFault>
     requires unspent { core.now.spent ≡ false }
     requires writer { IsFresh writer.old }
-    ensures shown { (s : State) → IsViewOf core.now s →
-        let is_text = IsHierarchicalDisplay s scheme tag.now in
-        IfOk result (IsDisplayWritten W.contents s.resources scheme is_text writer.old writer.new) }
-    ensures stopped { (s : State) → IsViewOf core.now s →
-        let is_text = IsHierarchicalDisplay s scheme tag.now in
-        IfErr result (IsDisplayStopped W.contents is_text writer.old writer.new) }
-    ensures calls { KeepsCallLimit writer.old writer.new }
+    ensures { let is_text = λ (s : State). IsHierarchicalDisplay s scheme tag.now in
+        DisplayResult W.contents core.now scheme is_text writer.old writer.new result }
 {
     if let Some(refusal) = check_scheme(core, scheme) {
         return Ok(DisplayOutcome::No(refusal));
@@ -82,13 +76,8 @@ pub fn alphabetical<W: Write>(
 ) -> Result<DisplayOutcome, PipeFault>
     requires unspent { core.now.spent ≡ false }
     requires writer { IsFresh writer.old }
-    ensures shown { (s : State) → IsViewOf core.now s →
-        let is_text = IsAlphabetical s scheme tag.now in
-        IfOk result (IsDisplayWritten W.contents s.resources scheme is_text writer.old writer.new) }
-    ensures stopped { (s : State) → IsViewOf core.now s →
-        let is_text = IsAlphabetical s scheme tag.now in
-        IfErr result (IsDisplayStopped W.contents is_text writer.old writer.new) }
-    ensures calls { KeepsCallLimit writer.old writer.new }
+    ensures { let is_text = λ (s : State). IsAlphabetical s scheme tag.now in
+        DisplayResult W.contents core.now scheme is_text writer.old writer.new result }
 {
     if let Some(refusal) = check_scheme(core, scheme) {
         return Ok(DisplayOutcome::No(refusal));

@@ -1,12 +1,13 @@
 -- Exports written to a pipe.
-use Rattle.std.specs.Prelude.{◌≡◌, ℕ, List, Option}
+use Rattle.std.specs.Prelude.{◌≡◌, ℕ, List, Option, Result, OnOk, IfErr}
 use Rattle.std.specs.Io.KnownBytes.{Appends}
 use Rattle.thes_base.specs.declared.fault.Fault.TheVariants.{OutOfMemory}
 use Rattle.thes_base.specs.declared.fault.PipeFault.{PipeFault}
 use Rattle.thes_base.specs.declared.fault.PipeFault.TheVariants as pipe
 use Rattle.thes_base.specs.declared.pipe.Pipe.{Pipe}
-use Rattle.thes_base.specs.Pipe.{IsPartialWrite, written_bytes}
+use Rattle.thes_base.specs.Pipe.{IsPartialWrite, KeepsCallLimit, written_bytes}
 use Rattle.thes_base.specs.State.{State}
+use Rattle.thes_core.specs.CoreView.{CoreView, IsViewOf}
 use Rattle.thes_export.specs.Export.{IsExport, IsReadAs}
 
 module _ {W : Type 0} (contents : W → Option (List ℕ)) (base : List ℕ) (s : State) where
@@ -21,3 +22,11 @@ module _ {W : Type 0} (contents : W → Option (List ℕ)) (base : List ℕ) (s 
   IsExportStopped old new (pipe.Fault OutOfMemory) = new ≡ old
   IsExportStopped old new (pipe.Fault _) = ⊥
   IsExportStopped old new fault = (text : List ℕ) × IsExport base s text × IsPartialWrite contents text old new fault
+
+-- The whole export was written, and the only reading of its text is the triples of the state; or, after a fault, only a
+-- prefix of the export was written, or nothing if memory ran out. No more writes were made than one call may make.
+pub record ExportResult {W : Type 0} (contents : W → Option (List ℕ)) (core : CoreView) (old new : Pipe W)
+    (result : Result (Unit {0}) PipeFault) : Type 0 where
+  pub text : (s : State) → IsViewOf core s → OnOk result (IsExportWritten contents core.setting.base s old new)
+  pub fault : (s : State) → IsViewOf core s → IfErr result (IsExportStopped contents core.setting.base s old new)
+  pub calls : KeepsCallLimit old new

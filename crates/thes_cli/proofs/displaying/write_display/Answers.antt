@@ -8,8 +8,7 @@ returns g c =
     display_written g.K.Keeper.view g.W.Write.contents c.args.output.now
     c.write_core_display.new.output c.args.display c.args.scheme c.args.tag.now
     c.args.office.now c.ready.follows.lender-at-none c.ready.result c.in_ok-core.core c.write_core_display.result
-    c.ready.follows.holds-at-none c.in_ok-core.was c.write_core_display.ensures.shown
-    c.write_core_display.ensures.stopped c.write_core_display.ensures.calls
+    c.ready.follows.holds-at-none c.in_ok-core.was c.write_core_display.ensures
 
 pub returns-in_err-core : goal.returns-in_err-core
 returns-in_err-core g c =

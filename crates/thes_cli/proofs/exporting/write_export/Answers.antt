@@ -8,7 +8,7 @@ returns g c =
     export_written g.K.Keeper.view g.W.Write.contents c.args.output.now
     c.export.new.writer c.args.office.now c.ready.follows.lender-at-none c.ready.result c.in_ok-core.core
     c.export.result
-    c.ready.follows.holds-at-none c.in_ok-core.was c.export.ensures.ok c.export.ensures.stopped c.export.ensures.calls
+    c.ready.follows.holds-at-none c.in_ok-core.was c.export.ensures
 
 pub returns-in_err-core : goal.returns-in_err-core
 returns-in_err-core g c =
