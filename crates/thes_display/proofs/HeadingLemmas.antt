@@ -2,8 +2,7 @@
 -- the display.
 use Rattle.std.proofs.lemmas.Grind.{common_steps}
 use Rattle.std.proofs.Common.{◌≡◌, ◌∙◌, ◌⊎◌, ◌≤◌, ◌+◌, refl, sym, ap, subst, ℕ, Bool, true, false, cond, List, []}
-use Rattle.std.proofs.lemmas.List.{take_more}
-use Rattle.std.proofs.Common.{◌<◌, get_or, ◌∷◌, ◌++◌, take, take_all, length, append-nil, arith, Ordering, Less, Equal}
+use Rattle.std.proofs.Common.{◌∷◌, ◌++◌, take, take_all, length, append-nil, arith, Ordering, Less, Equal}
 use Rattle.std.proofs.Common.{⊎_elim, inl, inr, IsPermutation, IsSorted}
 use Rattle.std.specs.Ordering.{nat_cmp, ordering_then}
 use Rattle.std.specs.Cmp.{IsTotalOrder, nat_cmp_total, tied_itself}
@@ -115,41 +114,36 @@ module _ (s : State) (tag : List ℕ) (concepts : List ℕ) where
   abbrev pub IsOfThese : List ℕ → Heading → Type 0
   IsOfThese ns h = IsOneOf h.term.concept ns × IsHeadedBy s tag h.lead_in h.term
 
-  -- The list has the headings of the first `count` of these concepts, in the order in which they are collected.
-  pub record AreHeadingsBelow (count : ℕ) (headings : List Heading) : Type 0 where
-    pub listing : IsListing heading_key (IsOfThese (take count concepts)) headings
+  pub these_none : (headings : List Heading) → headings ≡ [] → IsListing heading_key (IsOfThese []) headings
+  these_none headings e = listing_none heading_key _ headings e (λ x p. p.0)
 
-  pub headings_none : (headings : List Heading) → headings ≡ [] → AreHeadingsBelow 0 headings
-  headings_none headings e = record { listing = listing_none heading_key _ headings e (λ x p. p.0) }
+  pub these_more : (i n : ℕ) (headings more new : List Heading) → IsStrictlySortedBy nat_cmp concepts
+      → take (i + 1) concepts ≡ take i concepts ++ n ∷ [] → IsListing heading_key (IsOfThese (take i concepts))
+      headings
+      → IsListing heading_key (IsHeadingAt s tag n) more → new ≡ headings ++ more → IsListing heading_key
+      (IsOfThese (take (i + 1) concepts)) new
+  these_more i n headings more new rises e l m f =
+      listing_joined heading_key _ _ _ headings more new l m f
+      (λ x y p r. let less = before_taken nat_cmp concepts i n x.term.concept rises e p.0 in
+      ap (λ k. ordering_then (nat_cmp x.term.concept k)
+      (ordering_then (nat_cmp (rank x) (rank y)) (term_cmp x.term y.term))) r.0
+      ∙ ap (λ o. ordering_then o (ordering_then (nat_cmp (rank x) (rank y)) (term_cmp x.term y.term))) less)
+      (λ x p. ⊎_elim (λ old. inl (old, p.1)) (λ last. ⊎_elim (λ same. inr (same, p.1)) (λ no. absurd no) last)
+      (among_append x.term.concept (take i concepts) (n ∷ []) (subst (IsOneOf x.term.concept) e p.0)))
+      (λ x p. (subst (IsOneOf x.term.concept) (sym e) (among_left x.term.concept (take i concepts) (n ∷ []) p.0), p.1))
+      (λ x p. (
+        subst (IsOneOf x.term.concept) (sym e) (among_right x.term.concept (take i concepts) (n ∷ []) (inl p.0)),
+        p.1,
+      ))
 
-  pub headings_more : (i n : ℕ) (headings more new : List Heading) → IsStrictlySortedBy nat_cmp concepts
-      → i < length concepts → n ≡ get_or concepts i n → AreHeadingsBelow i headings
-      → IsListing heading_key (IsHeadingAt s tag n) more → new ≡ headings ++ more → AreHeadingsBelow (i + 1) new
-  headings_more i n headings more new rises below at are m f =
-      let e : take (i + 1) concepts ≡ take i concepts ++ n ∷ [] = take_more concepts i n below
-      ∙ ap (λ z. take i concepts ++ z ∷ []) (sym at) in
-      record {
-        listing = listing_joined heading_key _ _ _ headings more new are.listing m f
-            (λ x y p r. let less = before_taken nat_cmp concepts i n x.term.concept rises e p.0 in
-            ap (λ k. ordering_then (nat_cmp x.term.concept k)
-            (ordering_then (nat_cmp (rank x) (rank y)) (term_cmp x.term y.term))) r.0
-            ∙ ap (λ o. ordering_then o (ordering_then (nat_cmp (rank x) (rank y)) (term_cmp x.term y.term))) less)
-            (λ x p. ⊎_elim (λ old. inl (old, p.1)) (λ last. ⊎_elim (λ same. inr (same, p.1)) (λ no. absurd no) last)
-            (among_append x.term.concept (take i concepts) (n ∷ []) (subst (IsOneOf x.term.concept) e p.0)))
-            (λ x p. (subst (IsOneOf x.term.concept) (sym e) (among_left x.term.concept (take i concepts) (n ∷ []) p.0), p.1))
-            (λ x p. (
-              subst (IsOneOf x.term.concept) (sym e) (among_right x.term.concept (take i concepts) (n ∷ []) (inl p.0)),
-              p.1,
-            ));
-      }
-
-  pub headings_sorted : (scheme i : ℕ) (headings sorted : List Heading)
+  pub these_whole : (scheme i : ℕ) (headings sorted : List Heading)
       → IsListing nat_cmp (IsConceptOf s.resources scheme) concepts → length concepts ≤ i
-      → AreHeadingsBelow i headings → IsPermutation headings sorted → IsSorted heading_cmp sorted
-      → IsListing heading_cmp (IsHeading s tag scheme) sorted
-  headings_sorted scheme i headings sorted listed long are p q =
+      → IsListing heading_key (IsOfThese (take i concepts)) headings
+      → IsPermutation headings sorted → IsSorted heading_cmp sorted → IsListing heading_cmp (IsHeading s tag scheme)
+      sorted
+  these_whole scheme i headings sorted listed long l p q =
       listing_as heading_cmp (IsOfThese concepts) _ sorted
       (λ x r. (listed.sound x.term.concept (contains_of x.term.concept concepts r.0), r.1))
       (λ x r. (among_from x.term.concept concepts (listed.complete x.term.concept r.0), r.1))
       (listing_in_order heading_key heading_cmp rank_total heading_total heading_ties (IsOfThese concepts) headings
-      sorted (subst (λ ns. IsListing heading_key (IsOfThese ns) headings) (take_all i concepts long) are.listing) p q)
+      sorted (subst (λ ns. IsListing heading_key (IsOfThese ns) headings) (take_all i concepts long) l) p q)

@@ -22,9 +22,9 @@ pub record AreRanks (terms : List Term) (ranks : ℕ → Option ℕ) : Type 0 wh
   pub all : (n k : ℕ) → HasRank terms n k → ranks n ≡ Some k
 
 -- Links can be followed from rank to rank: the core is usable, and the map has the ranks of the concepts.
-pub record CanFollowLinks (core : CoreView) (terms : List Term) (ranks : ℕ → Option ℕ) : Type 0 where
+pub record CanFollowLinks (core : CoreView) (terms : List Term) (rank_of : ℕ → Option ℕ) : Type 0 where
   pub unspent : core.spent ≡ false
-  pub ranks : AreRanks terms ranks
+  pub ranks : AreRanks terms rank_of
 
 module _ (links : Links) (terms : List Term) where
   -- The concept with this rank has no broader concept with a rank.

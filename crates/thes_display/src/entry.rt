@@ -74,7 +74,6 @@ fn sort_headings(headings: &mut Vec<Heading>) -> Result<(), AllocError>
 }
 
 // Returns the headings of all live concepts of a scheme, in the order of the display.
-#[tactic(auto, using(crate::proofs::HeadingLemmas::headings_none, crate::proofs::HeadingLemmas::headings_more, crate::proofs::HeadingLemmas::headings_sorted))]
 fn headings_of(
     alloc: Global,
     core: &Core,

@@ -1,6 +1,6 @@
 -- Proves that the lists of top concepts and members are complete after each resource.
 use Rattle.std.proofs.lemmas.Grind.{common_steps}
-use Rattle.std.proofs.Common.{◌≡◌, ◌⊎◌, ◌∙◌, sym, refl, subst, inl, inr, ⊎_elim, ℕ, ◌+◌, ◌<◌}
+use Rattle.std.proofs.Common.{◌≡◌, ◌⊎◌, ◌∙◌, sym, refl, subst, inl, inr, ⊎_elim, ℕ, ◌+◌, ◌<◌, ◌≤◌}
 use Rattle.std.proofs.Common.{ap, List, [], ◌∷◌, ◌++◌, length, get_or, take, Contains, arith, eqb-true, None, Some}
 use borrow.Author.Tests.{eqb-false}
 use Rattle.std.specs.BTreeSet.{insert_key}
@@ -29,9 +29,18 @@ none_listed Is lists none n = subst (IsListing nat_cmp (IsUpTo 0 (Is n))) (sym (
 pub tops_none : (core : CoreView) (lists : Lists ℕ) → ((n : ℕ) → listed_at lists n ≡ []) → AreTopsUpTo core 0 lists
 tops_none core lists none = record { listings = none_listed (λ m n. IsTopIn core n m) lists none }
 
+pub tops_all : (core : CoreView) (i n : ℕ) (lists : Lists ℕ) → i ≤ n → n ≤ i → AreTopsUpTo core i lists
+    → AreTopsUpTo core n lists
+tops_all core i n lists least most are = subst (λ k. AreTopsUpTo core k lists) (let e : i ≡ n = omega arith in e) are
+
 pub members_none : (core : CoreView) (lists : Lists ℕ) → ((n : ℕ) → listed_at lists n ≡ [])
     → AreMembersUpTo core 0 lists
 members_none core lists none = record { listings = none_listed (HasLink core.links kind.Member) lists none }
+
+pub members_all : (core : CoreView) (i n : ℕ) (lists : Lists ℕ) → i ≤ n → n ≤ i → AreMembersUpTo core i lists
+    → AreMembersUpTo core n lists
+members_all core i n lists least most are =
+    subst (λ k. AreMembersUpTo core k lists) (let e : i ≡ n = omega arith in e) are
 
 -- A number up to `i + 1` is one up to `i`, or `i + 1`.
 pub one_more : (Is : ℕ → Type 0) (i n : ℕ) → IsUpTo (i + 1) Is n → IsUpTo i Is n ⊎ ((n ≡ i + 1) × Is (i + 1))

@@ -77,7 +77,6 @@ fn add_member(
 }
 
 // Lists the top concepts of each scheme.
-#[tactic(auto, using(crate::proofs::HoldingLemmas::tops_none))]
 fn tops_by_scheme(alloc: Global, core: &Core) -> Result<Lists<ResNo>, AllocError>
     requires { core.now.spent ≡ false }
     ensures { IfOk result (AreTopsUpTo core.now (length core.now.resources)) }
@@ -90,7 +89,6 @@ fn tops_by_scheme(alloc: Global, core: &Core) -> Result<Lists<ResNo>, AllocError
 }
 
 // Lists the members of each collection.
-#[tactic(auto, using(crate::proofs::HoldingLemmas::members_none))]
 fn members_by_collection(alloc: Global, core: &Core) -> Result<Lists<ResNo>, AllocError>
     requires { core.now.spent ≡ false }
     ensures { IfOk result (AreMembersUpTo core.now (length core.now.resources)) }

@@ -46,6 +46,7 @@ impl MoveLoad {
     }
 
     /// Applies a move; changes nothing and returns false if it can't be the next one.
+    #[tactic(auto, using(thes_base::proofs::NumberedLemmas::numbered_bound))]
     pub fn take(&mut self, resources: &[Resource], step: &MoveRow) -> bool
         requires { HasMoveForm step.now }
         ensures { (postings : List PostingRow) (rows : List MoveRow)
