@@ -34,7 +34,6 @@ Examples:
   tools/refuse_bodies.py --control --shaped         only of those with wrong bodies of another shape, of all crates
 """
 import argparse
-import functools
 import hashlib
 import math
 import os
@@ -47,6 +46,8 @@ import tempfile
 import time
 from concurrent.futures import ThreadPoolExecutor
 from pathlib import Path
+
+from libraries import take_libraries
 
 FUNCTION = re.compile(r"( *)(?:pub(?:\([^)]*\))? )?(?:const )?fn (\w+)")
 NOT_PROVED = re.compile(r"fn (\S+?): (?:not proved|no proof)(?:[:;] (.*))?")
@@ -580,25 +581,6 @@ def copy_repository(root, to, names):
                 link_tree(root / "crates" / name / part, to / "crates" / name / part)
 
 
-def take_libraries(copy):
-    """Has `rt check` take the libraries in a copy, which `rt ci` proved of the same sources: writes beside each the sum by which it knows
-    those that it built itself. Where the toolchain keeps that in another way, it builds each once more."""
-    sys.path.insert(0, str(Path(shutil.which("rt")).resolve().parent))
-    try:
-        import rtlib
-
-        stamp = functools.cache(rtlib.Crate.stamp)
-        rtlib.Crate.stamp = lambda crate: stamp(crate)
-        for it in rtlib.crates_below(str(copy)):
-            if Path(it.rlib).is_dir():
-                stamp_file = Path(it.rlib).parent / "stamp"
-                # (a file of its own, since that of the copy may be linked to other trees')
-                stamp_file.unlink(missing_ok=True)
-                stamp_file.write_text(it.stamp(), encoding="utf-8")
-    except (ImportError, AttributeError) as why:
-        print(f"refuse-bodies: the libraries are built once more: {why}", flush=True)
-
-
 def prove_as_is(copy, names, lanes):
     """Checks the crates as they are, independent ones at the same time. Returns what the check said of
     each, and its CPU seconds."""
@@ -713,7 +695,8 @@ def try_crates(edits, given):
         sums = {it: sum_of(given.root, it) for it in edits}
         copy_repository(given.root, copy, edits)
         if given.proved:
-            take_libraries(copy)
+            if why := take_libraries(copy):
+                print(f"refuse-bodies: the libraries are built once more: {why}", flush=True)
         as_is, cpu = ({}, 0.0) if given.proved else prove_as_is(copy, edits, given.lanes)
         faults, untried = [], []
 

@@ -6,7 +6,7 @@ use test_office::{Store, invalid, store_after};
 use thes_base::number::ResNo;
 use thes_base::text::Tag;
 use thes_display::writing::DisplayOutcome;
-use thes_http::service::Display;
+use thes_requests::request::Display;
 
 /// Returns a text of the store after the requests: its export, a display, or the name of the refusal of a display.
 pub fn text_after(alloc: Global, requests: &str, text: &str) -> io::Result<String> {

@@ -1,5 +1,5 @@
 -- Proves that the results computed from an office's core are those of the state that its tables encode.
-use Rattle.std.proofs.Common.{◌≡◌, ◌∙◌, ap, subst, ℕ, List, Option, Result, Ok, Err}
+use Rattle.std.proofs.Common.{◌≡◌, ◌∙◌, ap, subst, ℕ, List, Result, Ok, Err}
 use Rattle.std.specs.Prelude.{length}
 use Rattle.std.specs.Borrow.{Bor}
 use Rattle.std.specs.FinSet as set

@@ -15,8 +15,8 @@ use thes_base::text::Tag;
 use thes_command_line::printing::{report_fault, report_refusal};
 use thes_core::Core;
 use thes_display::writing::{DisplayOutcome, alphabetical, hierarchical};
-use thes_http::service::Display;
 use thes_office::Office;
+use thes_requests::request::Display;
 use thes_store::keeper::Keeper;
 
 // Writes a display of the state that the core holds, or returns the refusal of the scheme's number.

@@ -26,8 +26,8 @@ use Rattle.thes_http_request.proofs.HeadLawLemmas.{head_is_whole, one_head}
 use Rattle.thes_http_request.proofs.HeadLemmas.{cut_is_not_bad}
 use Rattle.thes_http.proofs.ServeLemmas.{has_more}
 use Rattle.thes_http.specs.declared.response.Response.{Response}
-use Rattle.thes_http.specs.declared.service.Display.{Display}
-use Rattle.thes_http.specs.declared.service.Display.TheVariants as display
+use Rattle.thes_requests.specs.declared.request.Display.{Display}
+use Rattle.thes_requests.specs.declared.request.Display.TheVariants as display
 use Rattle.thes_http.specs.Responses.{problem_response, form_response, fault_response, command_response}
 use Rattle.thes_http.specs.Responses.{query_response, import_response, export_response, display_response}
 use Rattle.thes_http.specs.ServiceBehaviour.{ServiceBehaviour}

@@ -8,7 +8,7 @@ use Rattle.thes_requests.specs.declared.handler.QueryAnswer.{QueryAnswer}
 use Rattle.thes_requests.specs.declared.request.Query.{Query}
 use Rattle.thes_http.specs.declared.response.Response.{Response}
 use Rattle.thes_http.specs.declared.service.ImportAnswer.{ImportAnswer}
-use Rattle.thes_http.specs.declared.service.Display.{Display}
+use Rattle.thes_requests.specs.declared.request.Display.{Display}
 use Rattle.thes_http.specs.declared.service.DisplayAnswer.{DisplayAnswer}
 use Rattle.thes_http.specs.Responses.{fault_response, command_response, query_response, import_response}
 use Rattle.thes_http.specs.Responses.{export_response, display_response}

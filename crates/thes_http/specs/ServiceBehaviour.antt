@@ -7,7 +7,7 @@ use Rattle.thes_requests.specs.RequestBehaviour.{RequestBehaviour}
 use Rattle.thes_requests.specs.declared.handler.QueryAnswer.{QueryAnswer}
 use Rattle.thes_requests.specs.declared.request.Query.{Query}
 use Rattle.thes_http.specs.declared.service.ImportAnswer.{ImportAnswer}
-use Rattle.thes_http.specs.declared.service.Display.{Display}
+use Rattle.thes_requests.specs.declared.request.Display.{Display}
 use Rattle.thes_http.specs.declared.service.DisplayAnswer.{DisplayAnswer}
 
 -- What a service does: for commands and queries, for a posting file, for an export, and for a

@@ -4,7 +4,7 @@ ghost use Rattle.thes_http.specs.Serving.{CommandEffect, QueryEffect, NumberQuer
 ghost use Rattle.thes_http_request.specs.Queries.{display_query_of};
 
 use crate::response::Response;
-use crate::service::{Display, Service};
+use crate::service::Service;
 use std::alloc::Global;
 use thes_base::fault::{Fault, FormFault, ReadStop};
 use thes_base::number::{PostNo, ResNo};
@@ -13,7 +13,7 @@ use thes_http_request::endpoint::Endpoint;
 use thes_http_request::head_request::HeadRequest;
 use thes_http_request::problem::Problem;
 use thes_http_request::query::read_query;
-use thes_requests::request::{Query, Request, RequestScratch, read_request};
+use thes_requests::request::{Display, Query, Request, RequestScratch, read_request};
 
 /// Performs the request of a head with this body, and returns the response.
 pub fn act<S: Service>(

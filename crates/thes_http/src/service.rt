@@ -8,6 +8,7 @@ use thes_base::fault::{Fault, Refusal};
 use thes_base::number::ResNo;
 use thes_base::text::Tag;
 use thes_requests::handler::RequestHandler;
+use thes_requests::request::Display;
 
 /// The text of a response of many lines, such as an export.
 #[derive(Drop)]
@@ -46,13 +47,6 @@ pub enum ImportAnswer {
     Outcomes(Page),
     /// The file isn't a posting file, and nothing was performed.
     Malformed,
-}
-
-/// The kind of a display: alphabetical or hierarchical.
-#[derive(Clone, Copy, Debug, PartialEq, Eq)]
-pub enum Display {
-    Alphabetical,
-    Hierarchical,
 }
 
 /// The answer to a request for a display: its lines, or the refusal of the scheme's number.

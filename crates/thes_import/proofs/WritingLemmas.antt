@@ -12,7 +12,6 @@ use Rattle.thes_base.specs.declared.fault.Fault.{Fault as OfficeFault}
 use Rattle.thes_base.specs.declared.fault.PipeFault.{PipeFault}
 use Rattle.thes_base.specs.declared.fault.PipeFault.TheVariants.{Read, Write, TooLong, Fault}
 use Rattle.thes_base.specs.declared.pipe.Pipe.{Pipe}
-use Rattle.thes_tables.specs.Cells.{Raw}
 use Rattle.thes_office.specs.Office.{FaultBehaviour, OfficeView}
 use Rattle.thes_store.specs.Causes.{max_failures}
 use Rattle.thes_store.specs.Storage.{StorageView}

@@ -8,7 +8,6 @@ use Rattle.thes_base.specs.declared.fault.Fault.TheVariants.{OutOfMemory}
 use Rattle.thes_base.specs.declared.fault.PipeFault.{PipeFault}
 use Rattle.thes_base.specs.declared.fault.PipeFault.TheVariants.{Write, TooLong, Fault}
 use Rattle.thes_base.specs.declared.pipe.Pipe.{Pipe}
-use Rattle.thes_tables.specs.Cells.{Raw}
 use Rattle.thes_store.specs.Storage.{StorageView}
 use Rattle.thes_office.specs.Office.{FaultBehaviour, OfficeView}
 use Rattle.thes_import.specs.Imports.{PerformsWith}

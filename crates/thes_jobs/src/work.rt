@@ -8,7 +8,7 @@ use thes_base::data::Limits;
 use thes_base::text::Base;
 use thes_command_line::arguments::{DisplayOptions, ServeOptions, Task};
 use thes_command_line::printing::OpenFailure;
-use thes_http::service::Display;
+use thes_requests::request::Display;
 
 /// A listening socket, its port, and the number of connections to serve.
 #[derive(Drop)]

@@ -29,6 +29,13 @@ pub enum Query {
     Posting(PostNo),
 }
 
+/// The kind of a display: alphabetical or hierarchical.
+#[derive(Clone, Copy, Debug, PartialEq, Eq)]
+pub enum Display {
+    Alphabetical,
+    Hierarchical,
+}
+
 /// A request: a command (`do`) or a query (`get`).
 #[derive(Drop)]
 pub enum Request {

@@ -24,8 +24,8 @@ use Rattle.thes_import.specs.declared.postings.FileImport as performed
 use Rattle.thes_import.specs.declared.postings.FileImport.TheVariants as ends
 use Rattle.thes_import.proofs.OneImportLemmas.{IsImportOf, one_import_of}
 use Rattle.thes_http.specs.declared.response.Response.{Response}
-use Rattle.thes_http.specs.declared.service.Display.{Display}
-use Rattle.thes_http.specs.declared.service.Display.TheVariants as which
+use Rattle.thes_requests.specs.declared.request.Display.{Display}
+use Rattle.thes_requests.specs.declared.request.Display.TheVariants as which
 use Rattle.thes_http.specs.declared.service.DisplayAnswer.{DisplayAnswer}
 use Rattle.thes_http.specs.declared.service.DisplayAnswer.TheVariants as displayed
 use Rattle.thes_http.specs.declared.service.ImportAnswer.{ImportAnswer}

@@ -22,7 +22,7 @@ use Rattle.thes_import.specs.declared.postings.ImportHalt.{ImportHalt}
 use Rattle.thes_import.specs.declared.postings.FileImport as performed
 use Rattle.thes_import.proofs.OneImportLemmas.{IsImportOf, import_from_state, run_from_state}
 use Rattle.thes_http.specs.declared.response.Response.{Response}
-use Rattle.thes_http.specs.declared.service.Display.{Display}
+use Rattle.thes_requests.specs.declared.request.Display.{Display}
 use Rattle.thes_http.specs.declared.service.DisplayAnswer.{DisplayAnswer}
 use Rattle.thes_http.specs.declared.service.ImportAnswer.{ImportAnswer}
 use Rattle.thes_http.specs.ServiceBehaviour.{ServiceBehaviour}

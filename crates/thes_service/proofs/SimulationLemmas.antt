@@ -13,8 +13,8 @@ use Rattle.thes_http_request.specs.Heads.{parts_of}
 use Rattle.thes_http_request.specs.HeadRequests.{HeadRequest, head_request_of}
 use Rattle.thes_http_request.specs.Queries.{DisplayQuery, display_query_of}
 use Rattle.thes_http.specs.declared.response.Response.{Response}
-use Rattle.thes_http.specs.declared.service.Display.{Display}
-use Rattle.thes_http.specs.declared.service.Display.TheVariants as display
+use Rattle.thes_requests.specs.declared.request.Display.{Display}
+use Rattle.thes_requests.specs.declared.request.Display.TheVariants as display
 use Rattle.thes_http.specs.declared.service.DisplayAnswer.{DisplayAnswer}
 use Rattle.thes_http.specs.declared.service.ImportAnswer.{ImportAnswer}
 use Rattle.thes_http.specs.ServiceBehaviour.{ServiceBehaviour}

@@ -19,7 +19,7 @@ use Rattle.thes_store.specs.Sinks.{SinkAcceptsAll}
 use Rattle.thes_store.specs.Storage.{StorageView}
 use Rattle.thes_office.specs.QueryFrames.{InStateOfTables}
 use Rattle.thes_office.specs.AssignedPostings.{AssignedPostingsResult, rows_assigned_to}
-use Rattle.thes_office.specs.Office.{FaultBehaviour, IsCopy, OfficeView, ReadyResult}
+use Rattle.thes_office.specs.Office.{IsCopy, OfficeView, ReadyResult}
 use Rattle.thes_office.specs.TablesOfState.{TablesOfState}
 use Rattle.thes_office.proofs.OfficeViewLemmas.{behaviour_with_value}
 use Rattle.thes_office.proofs.StateTableLemmas.{state_is_unique}

@@ -11,7 +11,8 @@ use thes_core::Core;
 use thes_display::entry::alphabetical_text;
 use thes_display::gather::hierarchical_text;
 use thes_display::writing::check_scheme;
-use thes_http::service::{Display, DisplayAnswer, Page};
+use thes_http::service::{DisplayAnswer, Page};
+use thes_requests::request::Display;
 
 // Returns the text of the display of a scheme in the language of the tag.
 fn display_text(

@@ -23,13 +23,13 @@ use thes_base::text::Tag;
 use thes_export::gather::export_text;
 use thes_http::connection_count::ConnectionCount;
 use thes_http::server::serve;
-use thes_http::service::{Display, DisplayAnswer, ImportAnswer, Page, Service};
+use thes_http::service::{DisplayAnswer, ImportAnswer, Page, Service};
 use thes_import::postings;
 use thes_import::postings::{ImportHalt, import_postings};
 use thes_import::report::Report;
 use thes_office::Office;
 use thes_requests::handler::{QueryAnswer, RequestHandler};
-use thes_requests::request::Query;
+use thes_requests::request::{Display, Query};
 use thes_requests::script::{ScriptEnd, script};
 use thes_store::keeper::Keeper;
 

@@ -1,5 +1,5 @@
 //! Storage in a database that is opened again after a failure of its disk has shut it.
-ghost use Rattle.std.specs.Prelude.{◌≡◌, false, None, Some, IfOk, IfErr, IfSome, OnOk, OnErr, IsTrue};
+ghost use Rattle.std.specs.Prelude.{◌≡◌, false, None, Some, IfOk, IfErr, IfSome, OnOk, IsTrue};
 ghost use Rattle.sqlite.specs.Held.{state};
 ghost use Rattle.thes_base.specs.Resources.{entry_at};
 ghost use Rattle.thes_tables.specs.Tables.{Tables};

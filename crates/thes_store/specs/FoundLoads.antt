@@ -1,5 +1,5 @@
 -- A load of storage whose tables may have anything.
-use Rattle.std.specs.Prelude.{◌≡◌, List, Option, Result, OnOk}
+use Rattle.std.specs.Prelude.{List, Option, Result, OnOk}
 use Rattle.thes_base.specs.declared.fault.Fault.{Fault}
 use Rattle.thes_base.specs.declared.fault.Table.{Table}
 use Rattle.thes_tables.specs.declared.cells.Cell.{Cell}

@@ -1,8 +1,7 @@
 //! A list of rows in insertion order, with an index by number, from which rows can be removed.
-ghost use Rattle.std.specs.Prelude.{◌≡◌, ◌≤◌, ◌<◌, ◌+◌, ◌^◌, ◌++◌, ◌∷◌, [], ℕ, List, Option, Bool, None, true, false, not, length, filter, slice_get, vec_len, option_map, Some, IfSome, IfNone, IfOk, OnOk};
-ghost use Rattle.std.specs.Vec.{vec_capacity};
+ghost use Rattle.std.specs.Prelude.{◌≡◌, ◌<◌, ◌+◌, ◌^◌, ◌∷◌, [], ℕ, Option, Bool, None, true, false, length, slice_get, vec_len, option_map, Some, IfSome, IfNone, IfOk, OnOk};
 ghost use Rattle.thes_store.specs.AddedRow.{rows_added_by};
-ghost use Rattle.thes_store.specs.Places.{HasPlace, KeepsPlaces, KeepsOtherPlaces};
+ghost use Rattle.thes_store.specs.Places.{HasPlace, KeepsOtherPlaces};
 ghost use Rattle.thes_store.specs.RowsAtPositions.{rows_after_change_at, KeepsRoom};
 ghost use Rattle.thes_store.specs.Slots.{rows_in, AreIndexedBy, AreExpected, IsReady, is_same_row};
 ghost use Rattle.thes_store.specs.Slots.{AppendsRow, RemovesRow, GrowsIndex};

@@ -17,7 +17,7 @@ use crate::class::breaks_class;
 use crate::ends::is_harmless;
 use crate::upward_link::check_upward_link;
 use std::alloc::{AllocError, Global};
-use thes_base::data::{Link, LinkKind};
+use thes_base::data::Link;
 use thes_base::fault::Refusal;
 use thes_base::number::ResNo;
 use thes_links::edit::LinkEdit;

@@ -10,10 +10,10 @@ use thes_base::pipe::Pipe;
 use thes_base::request::{Answer, Command};
 use thes_base::text::Tag;
 use thes_http::serve::{ConnectionEnd, serve_one};
-use thes_http::service::{Display, DisplayAnswer, ImportAnswer, Page, Service};
+use thes_http::service::{DisplayAnswer, ImportAnswer, Page, Service};
 use thes_http_request::endpoint::Routes;
 use thes_requests::handler::{QueryAnswer, RequestHandler, ViewLine};
-use thes_requests::request::Query;
+use thes_requests::request::{Display, Query};
 
 /// The text of a display that is too long to be written with its head by one call.
 pub static PAGE: [u8; 600] = [b'x'; 600];

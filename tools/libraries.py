@@ -1,0 +1,25 @@
+"""What `rt ci` leaves of the libraries that it proved, for `rt check`."""
+import functools
+import shutil
+import sys
+from pathlib import Path
+
+
+def take_libraries(root):
+    """Has `rt check` take the libraries in this repository, which `rt ci` proved of the same sources: writes beside each the sum by which it
+    knows those that it built itself. Where the toolchain keeps that in another way, it builds each once more. Returns why, or None."""
+    sys.path.insert(0, str(Path(shutil.which("rt")).resolve().parent))
+    try:
+        import rtlib
+
+        stamp = functools.cache(rtlib.Crate.stamp)
+        rtlib.Crate.stamp = lambda crate: stamp(crate)
+        for it in rtlib.crates_below(str(root)):
+            if Path(it.rlib).is_dir():
+                file = Path(it.rlib).parent / "stamp"
+                # (a file of its own, since that of a copy may be linked to other trees')
+                file.unlink(missing_ok=True)
+                file.write_text(it.stamp(), encoding="utf-8")
+    except (ImportError, AttributeError) as why:
+        return str(why)
+    return None
