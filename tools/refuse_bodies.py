@@ -16,8 +16,8 @@ the crates are known to be proved, as `rt ci` leaves them, with their libraries 
 the functions that edited ones call.
 With --control a neutral edit takes the place of the wrong bodies of each function: one value becomes two cases with the same
 result. Where that is refused, too, the proof rests on the function's shape, and the refusals of wrong bodies that change the shape,
-by a branch or an exit, tell little. Run it once in a while: these are printed, and the record stays as it is. With --shaped it is
-run only over functions with such wrong bodies.
+by a branch or an exit, tell little: tests/shape_bound.txt lists them, and tests/run list-edits marks them in docs/WRONG_BODIES.md. Run
+it once in a while, with --shaped only over functions with such wrong bodies.
 If all wrong bodies of a crate are refused, its line in the record tests/refused.txt gets a sum of what that rests on: the
 toolchain, the sources of the crate and of those below it, and the bodies. As long as the sum stays, they aren't tried
 again but with --all. Commit the record with the change.
@@ -77,6 +77,8 @@ SHAPE = re.compile(r"\b(?:if|else|match|for|while|return|continue|break)\b|\?|&&
 CHECK_NEEDS = 3_000_000
 # Crates with the sums over which all their wrong bodies were refused.
 RECORD = "tests/refused.txt"
+SHAPE_BOUND = "tests/shape_bound.txt"
+SHAPE_BOUND_HEAD = "# Written by tools/refuse_bodies.py --control: wrong bodies whose refusals tell little, since a neutral edit isn't proved either.\n"
 RECORD_HEAD = "# Written by tools/refuse_bodies.py: crates whose wrong bodies were all refused, and a sum of what that rests on.\n"
 
 
@@ -624,10 +626,26 @@ def report(edits, recorded, faults, untried, cpu, is_lenient):
     return 1 if failing or not count or untried and not is_lenient else 0
 
 
-def report_control(edits, without, untried, cpu):
-    """Reports the outcome of all neutral edits, and returns the exit status."""
+def read_shape_bound(root):
+    """Returns the wrong bodies whose refusals tell little, by the record, as CRATE/NAME.edit."""
+    file = root / SHAPE_BOUND
+    lines = file.read_text(encoding="utf-8").splitlines() if file.exists() else []
+    return {it for it in lines if not it.startswith("#")}
+
+
+def write_shape_bound(root, held, others):
+    """Records of which functions that have wrong bodies of another shape a neutral edit is proved, and of which it isn't."""
+    bound = read_shape_bound(root).difference(*(it.bodies for it in held)).union(*(it.bodies for it in others))
+    if bound or (root / SHAPE_BOUND).exists():
+        lines = [f"{it}\n" for it in sorted(bound) if (root / "crates" / it.replace("/", "/wrong/")).exists()]
+        (root / SHAPE_BOUND).write_text(SHAPE_BOUND_HEAD + "".join(lines), encoding="utf-8")
+
+
+def report_control(root, edits, without, untried, cpu):
+    """Reports and records the outcome of all neutral edits, and returns the exit status."""
     tried = [it for of_crate in edits.values() for it in of_crate]
     held = [it for it in tried if (it.fault or "").startswith("NOT REFUSED")]
+    write_shape_bound(root, held, [it for it in tried if it.is_refused or it.fault and it not in held])
     for it in (it for it in tried if it.is_refused):
         print(f"refuse-bodies: {it.name}: a neutral edit is refused, too: {'; '.join(goal[:160] for goal in it.goals)}")
         print(f"    these refusals tell little: {', '.join(it.bodies) or 'none, since all wrong bodies keep the shape'}")
@@ -676,7 +694,7 @@ def main():
     if given.control:
         neutral, without = neutral_edits(given.root, edits, not given.shaped)
         _, untried, cpu = try_crates(neutral, given) if neutral else ([], [], 0)
-        return report_control(neutral, without, untried, cpu)
+        return report_control(given.root, neutral, without, untried, cpu)
     record = {} if given.all or given.body else read_record(given.root)
     recorded = [it for it in edits if it in record and record[it] == sum_of(given.root, it)]
     for name in recorded:
