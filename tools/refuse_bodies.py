@@ -16,7 +16,7 @@ the crates are known to be proved, as `rt ci` leaves them, with their libraries 
 the functions that edited ones call.
 With --control a neutral edit takes the place of the wrong bodies of each function: one value becomes two cases with the same
 result. Where that is refused, too, the proof rests on the function's shape, and the refusals of wrong bodies that change the shape,
-by a branch or an exit, tell little: tests/shape_bound.txt lists them, and tests/run list-edits marks them in docs/WRONG_BODIES.md. Run
+by a branch or an exit, say little: tests/shape_bound.txt lists them, and tests/run list-edits marks them in docs/WRONG_BODIES.md. Run
 it once in a while, with --shaped only over functions with such wrong bodies.
 If all wrong bodies of a crate are refused, its line in the record tests/refused.txt gets a sum of what that rests on: the
 toolchain, the sources of the crate and of those below it, and the bodies. As long as the sum stays, they aren't tried
@@ -78,7 +78,7 @@ CHECK_NEEDS = 3_000_000
 # Crates with the sums over which all their wrong bodies were refused.
 RECORD = "tests/refused.txt"
 SHAPE_BOUND = "tests/shape_bound.txt"
-SHAPE_BOUND_HEAD = "# Written by tools/refuse_bodies.py --control: wrong bodies whose refusals tell little, since a neutral edit isn't proved either.\n"
+SHAPE_BOUND_HEAD = "# Written by tools/refuse_bodies.py --control: wrong bodies whose refusals say little, since a neutral edit isn't proved either.\n"
 RECORD_HEAD = "# Written by tools/refuse_bodies.py: crates whose wrong bodies were all refused, and a sum of what that rests on.\n"
 
 
@@ -627,7 +627,7 @@ def report(edits, recorded, faults, untried, cpu, is_lenient):
 
 
 def read_shape_bound(root):
-    """Returns the wrong bodies whose refusals tell little, by the record, as CRATE/NAME.edit."""
+    """Returns the wrong bodies whose refusals say little, by the record, as CRATE/NAME.edit."""
     file = root / SHAPE_BOUND
     lines = file.read_text(encoding="utf-8").splitlines() if file.exists() else []
     return {it for it in lines if not it.startswith("#")}
@@ -648,7 +648,7 @@ def report_control(root, edits, without, untried, cpu):
     write_shape_bound(root, held, [it for it in tried if it.is_refused or it.fault and it not in held])
     for it in (it for it in tried if it.is_refused):
         print(f"refuse-bodies: {it.name}: a neutral edit is refused, too: {'; '.join(goal[:160] for goal in it.goals)}")
-        print(f"    these refusals tell little: {', '.join(it.bodies) or 'none, since all wrong bodies keep the shape'}")
+        print(f"    these refusals say little: {', '.join(it.bodies) or 'none, since all wrong bodies keep the shape'}")
     for it in (it for it in tried if it.fault and it not in held):
         print(f"refuse-bodies: {it.name}: {it.hunks[0][3][0].strip()}: {it.fault}")
     for it in without:
