@@ -77,9 +77,10 @@ SHAPE = re.compile(r"\b(?:if|else|match|for|while|return|continue|break)\b|\?|&&
 CHECK_NEEDS = 3_000_000
 # Crates with the sums over which all their wrong bodies were refused.
 RECORD = "tests/refused.txt"
+RECORD_HEAD = "# Written by tools/refuse_bodies.py: crates whose wrong bodies were all refused, and a sum of what that rests on.\n"
+# Wrong bodies whose refusals rest on the shape of their function.
 SHAPE_BOUND = "tests/shape_bound.txt"
 SHAPE_BOUND_HEAD = "# Written by tools/refuse_bodies.py --control: wrong bodies whose refusals say little, since a neutral edit isn't proved either.\n"
-RECORD_HEAD = "# Written by tools/refuse_bodies.py: crates whose wrong bodies were all refused, and a sum of what that rests on.\n"
 
 
 class BadEdit(Exception):
