@@ -724,8 +724,10 @@ def try_crates(edits, given):
             link_tree(copy, tree)
             return Crate(tree, name, edits[name], as_is.get(name), given).try_all()
 
+        # (first what takes longest: each round reads all crates below)
+        work = {it: len(edits[it]) * (8 + len(needed(given.root, [it]))) for it in edits}
         with ThreadPoolExecutor(given.lanes) as pool:
-            for crate in pool.map(in_a_lane, sorted(edits, key=lambda it: -len(edits[it]))):
+            for crate in pool.map(in_a_lane, sorted(edits, key=lambda it: -work[it])):
                 kind = "neutral edits" if given.control else "wrong bodies"
                 counts = f"{sum(it.is_refused for it in crate.edits)} of {len(crate.edits)} {kind} refused"
                 print(f"{crate.name}: {counts} in {crate.rounds} rounds; CPU {crate.cpu:.0f} s", flush=True)
