@@ -50,11 +50,11 @@ from pathlib import Path
 from libraries import take_libraries
 
 FUNCTION = re.compile(r"( *)(?:pub(?:\([^)]*\))? )?(?:const )?fn (\w+)")
-NOT_PROVED = re.compile(r"fn (\S+?): (?:not proved|no proof)(?:[:;] (.*))?")
+NOT_PROVED = re.compile(r"fn (\S+?): (?:not proved|no proof|(?=depends on a hole))(?:[:;] )?(.*)")
 # That a function is not proved because of another one, or of a copy that is not made yet.
 RESTS = re.compile(
     r"(?:in `\S+`, of this cycle of calls: )?it (?:calls|passes|is passed|uses|names|reads|drops)\b"
-    r"|the borrow checker's part in its proof is not made yet"
+    r"|depends on a hole in\b|the borrow checker's part in its proof is not made yet"
 )
 # An open goal, by its name: one that search leaves, or one that a note reports with its place in the sources.
 SEARCHED = re.compile(r"`(?:search|grind)` (?:did not prove|gave up\b).*")
@@ -133,8 +133,8 @@ class Edit:
         self.name = f"{crate_folder.name}/{file.name}"
         self.hunks, self.functions = [], []
         self.fault, self.is_refused, self.goals = None, False, []
-        # How many may be tried in one round with it.
-        self.room = sys.maxsize
+        # How many may be tried in one round with it, and whether that must be without those that it calls.
+        self.room, self.is_apart = sys.maxsize, False
         for path, text in texts_after(crate_folder, file).items():
             was = (crate_folder / path).read_text(encoding="utf-8").split("\n")
             for first, last, lines in hunks_between(was, text.split("\n")):
@@ -168,7 +168,7 @@ class NeutralEdit(Edit):
         named = names_in_proofs(crate_folder, function)
         places = [*single, *last_in_two(path, lines, body)]
         self.hunks = sorted(places, key=lambda it: not named.isdisjoint(step_names("\n".join(lines[it[1] : it[2]]))))[:1]
-        self.fault, self.is_refused, self.goals, self.room = None, False, [], sys.maxsize
+        self.fault, self.is_refused, self.goals, self.room, self.is_apart = None, False, [], sys.maxsize, False
         if not self.hunks:
             raise BadEdit("no line of it has a value by itself")
 
@@ -309,7 +309,7 @@ class Said:
     def __init__(self, status, text, function_at=lambda path, line: None):
         self.text, self.status = text, status
         self.is_verdict = re.search(r"^(logic=(not-)?proved|only=\d+)", text, re.M) is not None
-        self.proved = re.findall(r"^fn (\S+): proved$", text, re.M)
+        self.proved = re.findall(r"^fn (\S+): (?:proved|no holes)$", text, re.M)
         # By function: open goals, functions that it rests on, and what else keeps it from being proved.
         self.goals, self.rests, self.others = {}, {}, {}
         # The file that answers the goals of a function. Functions that call one another have one file.
@@ -385,7 +385,7 @@ class Crate:
         return [it for it in self.edits if not it.is_refused and not it.fault]
 
     def next_round(self, waiting):
-        """Returns edits of different functions, none of which is known to call another one of them."""
+        """Returns edits of different functions. One that had no outcome before comes with none that it is known to call, or to be called by."""
         batch = []
         for edit in sorted(waiting, key=lambda it: it.room):
             room = min([edit.room, *[it.room for it in batch]])
@@ -394,7 +394,8 @@ class Crate:
         return batch
 
     def disturb(self, edit, other):
-        return bool(edit.places() & other.places()) or self.reaches(edit, other) or self.reaches(other, edit)
+        is_same = bool(edit.places() & other.places())
+        return is_same or (edit.is_apart or other.is_apart) and (self.reaches(edit, other) or self.reaches(other, edit))
 
     def reaches(self, edit, other):
         """Whether a function of the edit is known to call one of the other's, through others or not."""
@@ -447,7 +448,8 @@ class Crate:
 
     def check(self, batch):
         only = [f"--only={it}" for edit in batch for it in self.names_in(edit)]
-        status, text, cpu = run(["rt", "check", "--jobs", "1", *only], self.folder, self.last)
+        # (past holes, so that the goals of a function are also tried where what it calls isn't proved)
+        status, text, cpu = run(["rt", "check", "--jobs", "1", "--allow-holes", *only], self.folder, self.last)
         self.cpu += cpu
         return None if status is None else Said(status, text, self.function_at)
 
@@ -486,6 +488,7 @@ def judge(batch, said):
             edit.room = max(1, len(batch) // 2)
         elif said.is_verdict and not edit.own(said.rests):
             edit.room = len(batch) - 1
+        edit.is_apart = not edit.is_refused and not edit.fault
 
 
 def fault_alone(edit, said, strange):
