@@ -25,8 +25,8 @@ AGAIN = {
 # The most lines that are under way; a block has half of it.
 AHEAD = 128
 # The answers to lines that were done: of those that make something, and of any.
-MADE_ALL = re.compile(rb'(?:\{"ok":[0-9]+\}(?:\n|\Z))++')
-DONE_ALL = re.compile(rb'(?:\{"(?:done":true|ok":[0-9]+|again":[0-9]+)\}(?:\n|\Z))++')
+MADE_ALL = re.compile(rb'(?:\{"ok":[0-9]+\}(?:\n|\Z))+')
+DONE_ALL = re.compile(rb'(?:\{"(?:done":true|ok":[0-9]+|again":[0-9]+)\}(?:\n|\Z))+')
 
 
 class Progress:

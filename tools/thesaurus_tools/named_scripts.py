@@ -17,13 +17,14 @@ NO_NAMES = frozenset()
 # The most bytes of a line or a block, and the most lines of a block.
 LONGEST, MOST_LINES = 1_048_000, 64
 # What lines hold that aren't read one by one: texts without escapes that begin with no dollar, numbers, and names of resources.
+# (No group is possessive: Python before 3.11.5 then goes on from within one that didn't match.)
 IN_TEXT = r'[^"\\\x00-\x1f]'
 TEXT, NUMBER = rf'"(?!\$){IN_TEXT}*+"', rf'(?:[1-9][0-9]{{0,9}}+|"\${IN_TEXT}++")'
 MEMBER = rf', ?"(?:(?:kind|tag|text|key|record)": ?{TEXT}|(?:scheme|owner|a|b|concept)": ?{NUMBER})'
 # Lines that make concepts with names; and lines that only add something, which gets no name.
-CONCEPT_LINE = rf'\{{"as": ?"{IN_TEXT}++", ?"do": ?"concept"(?:{MEMBER})++\}}\n'
-ADDING_LINE = rf'\{{"do": ?"(?:addLabel|link|post)"(?:{MEMBER})++\}}\n'
-BLOCK = re.compile(rf"(?:{CONCEPT_LINE}){{2,{MOST_LINES}}}+|(?:{ADDING_LINE}){{2,{MOST_LINES}}}+")
+CONCEPT_LINE = rf'\{{"as": ?"{IN_TEXT}++", ?"do": ?"concept"(?:{MEMBER})+\}}\n'
+ADDING_LINE = rf'\{{"do": ?"(?:addLabel|link|post)"(?:{MEMBER})+\}}\n'
+BLOCK = re.compile(rf"(?:{CONCEPT_LINE}){{2,{MOST_LINES}}}|(?:{ADDING_LINE}){{2,{MOST_LINES}}}")
 NAME_MADE = re.compile(r'^\{"as": ?"([^"]*)", ?', re.M)
 NAME_USED = re.compile(r'(": ?)"\$([^"]*)"')
 NUMBER_USED = re.compile('": ?([0-9]+)')
