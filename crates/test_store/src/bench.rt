@@ -24,7 +24,6 @@ use std::io;
 use std::rt::{Clock, HostRuntime};
 use std::time::Instant;
 use test_keeper::workload::{CONCEPTS, merge, post_all};
-use test_office::invalid;
 use thes_base::number::ResNo;
 use thes_base::text::Base;
 use thes_sql::create::create_tables;
@@ -238,7 +237,7 @@ pub fn print_benchmark(rt: &HostRuntime, name: &str, words: &[String]) -> io::Re
         Ok(()) => Ok(()),
         Err(failure) => {
             println!(rt; "{failure:?}")?;
-            Err(invalid())
+            Err(io::Error::from(io::ErrorKind::InvalidData))
         }
     }
 }

@@ -1,9 +1,8 @@
 //! Tests and benchmarks of stores in memory, in databases and in files. The first argument names what to do:
 //!
-//! - `tests FILE EXAMPLE ..`: all tests, those that the next three lines name
+//! - `tests FILE`: all tests, those that the next two lines name
 //! - `calls`: prints the result of each call to a storage in memory, and the results if one call of each kind fails once
 //! - `make FILE`: creates a store in the file, makes changes of each kind in it, and prints its rows
-//! - `failing EXAMPLE ..`: runs the stored examples of these files over stores of which calls fail
 //! - `show FILE ..`: prints the rows of the stores in these files
 //! - `time`, `load` or `rows`, with numbers: a benchmark, for `bench/store` or `bench/load`
 #![tactic(auto)]
@@ -11,13 +10,11 @@
 mod bench;
 mod calls;
 mod database;
-mod failing;
 mod failure;
 mod rows;
 
 use crate::bench::print_benchmark;
 use crate::calls::print_calls;
-use crate::failing::print_outcomes;
 use crate::rows::{print_new_store, print_stores};
 use std::rt::HostRuntime;
 use std::{env, io};
@@ -30,11 +27,10 @@ fn rest(words: &[String]) -> &[String] {
     }
 }
 
-// Runs all tests. The first argument names the file of a new store, the others the files of examples.
+// Runs all tests. The argument names the file of a new store.
 fn run_tests(rt: &HostRuntime, words: &[String]) -> io::Result<()> {
     print_calls(rt)?;
-    print_new_store(rt, words)?;
-    print_outcomes(rt, rest(words))
+    print_new_store(rt, words)
 }
 
 // Runs the part of this name, with the arguments after the name.
@@ -44,7 +40,6 @@ fn run_part(rt: &HostRuntime, part: &str, words: &[String]) -> io::Result<()> {
         "calls" => print_calls(rt),
         "make" => print_new_store(rt, words),
         "show" => print_stores(rt, words),
-        "failing" => print_outcomes(rt, words),
         _ => print_benchmark(rt, part, words),
     }
 }

@@ -1,9 +1,9 @@
 //! Requests over a failing storage, each repeated until it succeeds.
-use crate::failing::example::{StoredExample, has_fault, push_line};
-use crate::failing::faltering::Faltering;
-use crate::failing::outcome::StoreOutcome;
-use crate::failing::run_report::{RunReport, answer, close, import, new_keeper, open, show};
-use crate::failing::stop::TrialStop;
+use crate::example::{StoredExample, has_fault, push_line};
+use crate::faltering::Faltering;
+use crate::outcome::StoreOutcome;
+use crate::run_report::{RunReport, answer, close, import, new_keeper, open, show};
+use crate::stop::TrialStop;
 use std::alloc::{AllocError, Global};
 use thes_service::OfficeHandler;
 use thes_store::fail_once::Next;

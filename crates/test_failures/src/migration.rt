@@ -1,10 +1,10 @@
 //! Trials of a migration of a store, one file of which stops working.
-use crate::failing::disk::{Disks, Failing, Image, new_files};
-use crate::failing::example::{Example, push_line};
-use crate::failing::outcome::{StoreOutcome, Trial};
-use crate::failing::run_report::{RunReport, base, report_wanted};
-use crate::failing::stop::TrialStop;
-use crate::failing::stores::{After, Job, StoreListing, execute, migrate_in, perform_new, work};
+use crate::disk::{Disks, Failing, Image, new_files};
+use crate::example::{Example, push_line};
+use crate::outcome::{StoreOutcome, Trial};
+use crate::run_report::{RunReport, base, report_wanted};
+use crate::stop::TrialStop;
+use crate::stores::{After, Job, StoreListing, execute, migrate_in, perform_new, work};
 use sqlite::{Alter, Connection};
 use std::alloc::{AllocError, Global};
 use thes_base::fault::Fault;

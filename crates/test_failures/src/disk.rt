@@ -1,7 +1,7 @@
 //! Files in memory, one of which stops working after a number of calls.
 ghost use Rattle.std.specs.Prelude.{IsTrue};
 
-use crate::failing::stop::TrialStop;
+use crate::stop::TrialStop;
 use sqlite::{Connection, FileStore, Files, Options};
 use sqlite_disk::{Crash, Disk, Fuse, Memory};
 use std::alloc::{AllocError, Global};

@@ -3,8 +3,8 @@ use Rattle.thes_tables.specs.Cells.{cells_of_tables}
 use Rattle.thes_tables.specs.Tables.{Tables}
 use Rattle.thes_store.specs.Sinks.{SinkOutcome, sink_rows}
 use Rattle.thes_store.proofs.FoundLemmas.{passes_known}
-use Rattle.test_store.specs.declared.failing.faltering.Faltering.{Faltering}
-use Rattle.test_store.proofs.failing.faltering.FalteringKeeper.load.Goals as goal
+use Rattle.test_failures.specs.declared.faltering.Faltering.{Faltering}
+use Rattle.test_failures.proofs.faltering.FalteringKeeper.load.Goals as goal
 
 pub returns-clause-found : goal.returns-clause-found
 returns-clause-found g c =

@@ -1,8 +1,8 @@
 //! Stores in databases, and their rows.
-use crate::failing::disk::{Disks, Store, cut, end, files_after_kill, open};
-use crate::failing::example::Example;
-use crate::failing::run_report::{RunReport, base, perform, show};
-use crate::failing::stop::TrialStop;
+use crate::disk::{Disks, Store, cut, end, files_after_kill, open};
+use crate::example::Example;
+use crate::run_report::{RunReport, base, perform, show};
+use crate::stop::TrialStop;
 use sqlite::{Alter, Connection, Files};
 use sqlite_disk::Disk;
 use std::alloc::Global;

@@ -1,6 +1,6 @@
 use Rattle.thes_store.specs.Reading.{assigned_posting_rows}
 use Rattle.thes_store.proofs.SinkLemmas.{none_accepted}
-use Rattle.test_store.proofs.failing.faltering.FalteringKeeper.standing.Goals as goal
+use Rattle.test_failures.proofs.faltering.FalteringKeeper.standing.Goals as goal
 
 pub returns-then-is_due-clause-yields : goal.returns-then-is_due-clause-yields
 returns-then-is_due-clause-yields g c = λ up t same. none_accepted g.S.PostingSink.gives

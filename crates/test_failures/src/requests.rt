@@ -1,10 +1,10 @@
 //! Trials of requests over a store, one file of which stops working.
-use crate::failing::disk::{Failing, new_files};
-use crate::failing::example::{Example, ExamplePrefix, are_answers};
-use crate::failing::outcome::{StoreOutcome, Trial};
-use crate::failing::run_report::{RunReport, base, report_wanted};
-use crate::failing::stop::TrialStop;
-use crate::failing::stores::{After, Job, perform_new, work};
+use crate::disk::{Failing, new_files};
+use crate::example::{Example, ExamplePrefix, are_answers};
+use crate::outcome::{StoreOutcome, Trial};
+use crate::run_report::{RunReport, base, report_wanted};
+use crate::stop::TrialStop;
+use crate::stores::{After, Job, perform_new, work};
 use sqlite::{Alter, Connection};
 use std::alloc::Global;
 use thes_base::text::Base;

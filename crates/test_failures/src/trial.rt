@@ -1,13 +1,13 @@
 //! Runs examples over failing stores, and appends the outcomes to a page.
-use crate::failing::disk::Failing;
-use crate::failing::example::{Example, StoredExample};
-use crate::failing::faults::outcome_of_calls;
-use crate::failing::migration::Migration;
-use crate::failing::outcome::{StoreOutcome, Trial};
-use crate::failing::requests::Requests;
-use crate::failing::run_report::{RunReport, report_wanted};
-use crate::failing::stop::TrialStop;
-use crate::failing::stores::report_in_memory;
+use crate::disk::Failing;
+use crate::example::{Example, StoredExample};
+use crate::faults::outcome_of_calls;
+use crate::migration::Migration;
+use crate::outcome::{StoreOutcome, Trial};
+use crate::requests::Requests;
+use crate::run_report::{RunReport, report_wanted};
+use crate::stop::TrialStop;
+use crate::stores::report_in_memory;
 use std::alloc::{AllocError, Global};
 use std::fmt::Write;
 use thes_store::fail_once::Next;

@@ -1,6 +1,6 @@
 //! The outcome of a trial.
-use crate::failing::disk::Failing;
-use crate::failing::stop::TrialStop;
+use crate::disk::Failing;
+use crate::stop::TrialStop;
 use std::alloc::Global;
 
 /// The outcome of a run over a store of which calls fail, in files or in memory.
