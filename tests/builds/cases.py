@@ -1,13 +1,22 @@
-"""Runs a crate's program in many cases over one build that isn't proved."""
+"""Runs a crate's program in many cases over builds that aren't proved."""
 import subprocess
 import sys
 import tempfile
+from concurrent.futures import ThreadPoolExecutor
 from pathlib import Path
 from program import ROOT
 
 
-def run_cases(crate, cases, *options):
-    """Has `rt try` build the program once and run it in each case, a name with arguments. Returns the first line of each case's output."""
+def run_cases(crate, cases, *options, lanes=1):
+    """Has `rt try` build the program once for each lane, and run it in each case, a name with arguments. Returns the first line of each
+    case's output."""
+    shares = [dict(list(cases.items())[lane::lanes]) for lane in range(lanes)]
+    with ThreadPoolExecutor(lanes) as pool:
+        printed = list(pool.map(lambda share: run_in_lane(crate, share, options), shares))
+    return {case: line for lines in printed for case, line in lines.items()}
+
+
+def run_in_lane(crate, cases, options):
     with tempfile.TemporaryDirectory() as folder:
         for name, arguments in cases.items():
             Path(folder, name).touch()
