@@ -17,7 +17,7 @@ NO_NAMES = frozenset()
 # The most bytes of a line or a block, and the most lines of a block.
 LONGEST, MOST_LINES = 1_048_000, 64
 # What lines hold that aren't read one by one: texts without escapes that begin with no dollar, numbers, and names of resources.
-# (No group is possessive: Python before 3.11.5 then goes on from within one that didn't match.)
+# (No group is possessive: Python before 3.11.5 then continues from within one that does not match.)
 IN_TEXT = r'[^"\\\x00-\x1f]'
 TEXT, NUMBER = rf'"(?!\$){IN_TEXT}*+"', rf'(?:[1-9][0-9]{{0,9}}+|"\${IN_TEXT}++")'
 MEMBER = rf', ?"(?:(?:kind|tag|text|key|record)": ?{TEXT}|(?:scheme|owner|a|b|concept)": ?{NUMBER})'
