@@ -510,8 +510,9 @@ def run(words, folder, last=math.inf):
     """Runs a command, and returns its exit status, its output, and the CPU seconds of all its processes. A command that still runs at
     the time `last` is ended, and has no exit status."""
     with tempfile.TemporaryFile("w+", errors="replace") as said:
-        how = {"stdin": subprocess.DEVNULL, "stdout": said, "stderr": subprocess.STDOUT, "start_new_session": last < math.inf}
-        started = subprocess.Popen(words, cwd=folder, **how)
+        how = {"stdin": subprocess.DEVNULL, "stdout": said, "stderr": subprocess.STDOUT}
+        # (in a session of its own, Linux would give it its share of the processors whatever `nice` says)
+        started = subprocess.Popen(words, cwd=folder, process_group=0 if last < math.inf else None, **how)
         is_late = False
         while not (ended := os.wait4(started.pid, os.WNOHANG))[0]:
             is_late = time.monotonic() >= last
