@@ -458,7 +458,7 @@ class Crate:
         return edit.own(self.as_is.proved) if self.as_is else [it.name for it in edit.functions]
 
     def function_at(self, path, line):
-        """Returns the function around a line, or below it if it is an attribute, as the sources are in this round."""
+        """Returns the function around a line, or the one that the attribute there is of, as the sources are in this round."""
         lines = (self.folder / path).read_text(encoding="utf-8").split("\n")
         at = line - 1
         if lines[at].lstrip().startswith("#["):
