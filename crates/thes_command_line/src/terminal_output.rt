@@ -1,5 +1,6 @@
 //! A writer that escapes the characters of texts that a terminal may obey.
-ghost use Rattle.std.specs.Prelude.{◌≡◌, ◌≤◌, length, IfSome, None, if◌then◌else◌};
+ghost use Rattle.std.specs.Io.KnownBytes.{Appends};
+ghost use Rattle.std.specs.Prelude.{◌≡◌, ◌≤◌, length, IfOk, IfSome, None, OnOk, if◌then◌else◌};
 
 use arrayvec::ArrayString;
 use std::io;
@@ -16,8 +17,24 @@ pub struct TerminalOutput<W> {
 
 impl<W> TerminalOutput<W> {
     /// Wraps a writer; `escapes` says whether to escape the characters that a terminal may obey.
-    pub fn new(writer: W, escapes: bool) -> TerminalOutput<W> {
+    pub fn new(writer: W, escapes: bool) -> TerminalOutput<W>
+        ensures writer { result.writer ≡ writer }
+        ensures escapes { result.escapes ≡ escapes }
+    {
         TerminalOutput { writer, escapes }
+    }
+}
+
+impl<W: Write> TerminalOutput<W> {
+    // Writes an escape in place of this number of bytes, and returns their number.
+    fn write_escape(&mut self, escape: &str, count: usize) -> io::Result<usize>
+        ensures bytes { OnOk result (Appends (W.contents self.old.writer) (W.contents self.new.writer)
+            escape.now) }
+        ensures count { IfOk result (λ n. n ≡ count) }
+        ensures escapes { self.new.escapes ≡ self.old.escapes }
+    {
+        self.writer.write_all(escape.as_bytes())?;
+        Ok(count)
     }
 }
 
@@ -94,10 +111,7 @@ impl<W: Write> Write for TerminalOutput<W> {
             return self.writer.write(buf);
         }
         match escape_of(buf) {
-            Some((escape, count)) => {
-                self.writer.write_all(escape.as_str().as_bytes())?;
-                Ok(count)
-            }
+            Some((escape, count)) => self.write_escape(escape.as_str(), count),
             None => self.writer.write(&buf[..plain_length(buf)]),
         }
     }

@@ -10,6 +10,8 @@ use Rattle.thes_requests.specs.Script.{session}
 use Rattle.thes_http.specs.Connection.{EndsAs}
 use Rattle.thes_http.specs.declared.deadline.TimedStream.{TimedStream}
 use Rattle.thes_http.specs.declared.response.Response.{Response}
+use Rattle.thes_http.specs.declared.serve.ConnectionEnd.{ConnectionEnd}
+use Rattle.thes_http.specs.declared.serve.ConnectionEnd.TheVariants.{Answered}
 use Rattle.thes_http.specs.declared.stream.Ends.{Ends}
 use Rattle.thes_http.specs.declared.stream.ServedStream.{ServedStream}
 use Rattle.thes_http.specs.ServiceBehaviour.{ServiceBehaviour}
@@ -21,6 +23,11 @@ is_wait WouldBlock = true
 is_wait TimedOut = true
 is_wait Interrupted = true
 is_wait kind = false
+
+-- Whether the response was written completely.
+abbrev pub is_complete : ConnectionEnd → Bool
+is_complete (Answered status) = true
+is_complete outcome = false
 
 -- The outcome of an accept: its stream; None if the client closed the connection before; any other error.
 abbrev pub IsAcceptOutcome : {T A : Type 0} → Result (T × A) Error → Result (Option T) Error → Type 0

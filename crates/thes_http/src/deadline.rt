@@ -1,5 +1,5 @@
 //! Streams that fail once their client has taken too long.
-ghost use Rattle.std.specs.Prelude.{◌≡◌, ◌↔◌, ◌<◌, ◌+◌, ◌*◌, ◌/◌, min, IsSome, IfSome};
+ghost use Rattle.std.specs.Prelude.{◌≡◌, ◌↔◌, ◌<◌, ◌+◌, ◌*◌, ◌/◌, min, None, Some, IsSome, IfSome};
 ghost use Rattle.std.specs.Duration.{as_nanos};
 ghost use Rattle.std.specs.IoError.{error_kind};
 ghost use Rattle.thes_http.specs.Deadlines.{error_after_wait};
@@ -69,7 +69,8 @@ pub(crate) struct TimedStream<'a, C, T> {
 impl<'a, C: Clock, T> TimedStream<'a, C, T> {
     /// Wraps a stream, whose time begins with the first read or write.
     pub(crate) fn new(stream: T, clock: &'a C) -> TimedStream<'a, C, T>
-        ensures { result.stream ≡ stream }
+        ensures stream { result.stream ≡ stream }
+        ensures start { (result.start ≡ None) × (result.bytes ≡ 0) }
     {
         TimedStream {
             stream,
@@ -87,9 +88,19 @@ impl<'a, C: Clock, T> TimedStream<'a, C, T> {
         stream
     }
 
+    // Counts bytes that were read or written.
+    fn note_bytes(&mut self, count: usize)
+        ensures count { self.new.bytes ≡ min (self.old.bytes + count) 18_446_744_073_709_551_615 }
+        ensures frame { (self.new.stream ≡ self.old.stream) × (self.new.start ≡ self.old.start) }
+    {
+        self.bytes = self.bytes.saturating_add(count as u64);
+    }
+
     // Returns the time to wait for the next read or write; `TimedOut` if the client's time is over.
     fn next_wait(&mut self) -> io::Result<Duration>
-        ensures { self.new.stream ≡ self.old.stream }
+        ensures stream { self.new.stream ≡ self.old.stream }
+        ensures bytes { self.new.bytes ≡ self.old.bytes }
+        ensures start { IfSome self.old.start (λ start. self.new.start ≡ Some start) }
     {
         let now = Instant::now(self.clock)?;
         let start = self.start.unwrap_or(now);
@@ -109,7 +120,7 @@ impl<C: Clock, T: Read + OpenStream> Read for TimedStream<'_, C, T> {
         self.stream.set_read_timeout(Some(wait))?;
         match self.stream.read(buf) {
             Ok(count) => {
-                self.bytes = self.bytes.saturating_add(count as u64);
+                self.note_bytes(count);
                 Ok(count)
             }
             Err(error) => Err(after_wait(error)),
@@ -125,7 +136,7 @@ impl<C: Clock, T: Write + OpenStream> Write for TimedStream<'_, C, T> {
         self.stream.set_write_timeout(Some(wait))?;
         match self.stream.write(buf) {
             Ok(count) => {
-                self.bytes = self.bytes.saturating_add(count as u64);
+                self.note_bytes(count);
                 Ok(count)
             }
             Err(error) => Err(after_wait(error)),

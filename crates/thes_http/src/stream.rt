@@ -1,6 +1,7 @@
 //! Serves one connection over the two ends of its stream.
-ghost use Rattle.std.specs.Prelude.{◌≡◌, true};
-ghost use Rattle.thes_http.specs.Server.{IsServedBy, LeadsBy, is_wait};
+ghost use Rattle.std.specs.Prelude.{◌≡◌, ◌↔◌, ◌≤◌, true, IsTrue};
+ghost use Rattle.std.specs.Duration.{as_nanos};
+ghost use Rattle.thes_http.specs.Server.{IsServedBy, LeadsBy, is_complete, is_wait};
 
 use crate::deadline::TimedStream;
 use crate::serve::{ConnectionEnd, serve_one};
@@ -64,9 +65,16 @@ pub(crate) fn serve_ends<'c, C: Clock, T: Read + Write + OpenStream + Drop, S: S
 // Returns whether the time for discarding input has passed, or the clock fails.
 fn is_over<C: Clock>(clock: &C, start: Instant) -> bool {
     match start.elapsed(clock) {
-        Ok(passed) => passed.as_secs() >= SEE_OFF,
+        Ok(passed) => is_long(passed),
         Err(_) => true,
     }
+}
+
+// Returns whether input was discarded for two seconds.
+fn is_long(passed: Duration) -> bool
+    ensures { IsTrue result ↔ 2_000_000_000 ≤ as_nanos passed }
+{
+    passed >= Duration::from_secs(SEE_OFF)
 }
 
 // Shuts down the sending side, and discards what the client still sends, for two seconds at most,
@@ -105,7 +113,9 @@ fn has_waited(kind: ErrorKind) -> bool
 }
 
 // Returns whether the response was written completely.
-fn is_answered(end: ConnectionEnd) -> bool {
+fn is_answered(end: ConnectionEnd) -> bool
+    ensures { result ≡ is_complete end }
+{
     match end {
         ConnectionEnd::Answered(_) => true,
         ConnectionEnd::WriteFault | ConnectionEnd::Cut | ConnectionEnd::ReadFault => false,
