@@ -1,0 +1,165 @@
+"""A desk for the editors and indexers of a thesaurus: starts the program, and serves pages on this machine.
+
+  tools/desk --db museum.db --alone anna
+        one person at this machine: prints an address with a key once it listens, and opens the browser
+  tools/desk --db museum.db --users users.json --port 8090 --host desk.museum.example --secure --proxy secret
+        several people, behind a server with TLS (share/nginx-desk.conf)
+  tools/desk --db new.db --base https://museum.example/id/ --alone anna
+        a new thesaurus; what its addresses begin with stays for good
+  tools/desk user add anna --role head --users users.json
+        a user, whose password is asked for (also: list, role, password, remove)
+  tools/desk check --db museum.db
+        compares the desk's journal with the store
+
+The journal is museum-desk.sqlite beside museum.db. No other program may have the store open meanwhile.
+
+Exit status: 0 done, 1 refused or something differs, 2 usage, 3 a fault: the store is in use or of another version, say.
+"""
+from __future__ import annotations
+
+import argparse
+import re
+import sys
+from pathlib import Path
+
+from thesaurus_desk.entry.roles import Role
+from thesaurus_tools.command_line import natural, parser_of
+
+LIMITS = ("resources", "labels", "links", "postings", "moves")
+ROLES = tuple(it.word for it in Role if it > Role.VISITOR)
+COMMANDS = ("serve", "user", "check")
+PORTS = 65535
+
+
+def port_number(text: str) -> int:
+    """Returns the port in an argument."""
+    if not re.fullmatch("[0-9]{1,5}", text) or int(text) > PORTS:
+        raise argparse.ArgumentTypeError(f"{text} is no port")
+    return int(text)
+
+
+def host_name(text: str) -> str:
+    """Returns the host in an argument, as browsers send it."""
+    if not re.fullmatch(r"[A-Za-z0-9.-]+(:[0-9]{1,5})?|\[[0-9a-fA-F:.]+\](:[0-9]{1,5})?", text):
+        raise argparse.ArgumentTypeError(f"{text} is no name of a host; it is without https:// and without a path")
+    return text.lower()
+
+
+def add_store(parser: argparse.ArgumentParser) -> None:
+    """Adds the options that name the store and the program."""
+    add = parser.add_argument
+    add("--db", type=Path, metavar="FILE", help="the store")
+    add(
+        "--program",
+        "--thesaurus",
+        metavar="PATH",
+        help="the program; otherwise `thesaurus` in PATH, or the repository's",
+    )
+    for limit in LIMITS:
+        add(f"--max-{limit}", type=natural, metavar="N", help=f"raise the program's limit of {limit}")
+
+
+def serving_parser() -> argparse.ArgumentParser:
+    """Returns the parser of the options for serving."""
+    parser = parser_of("desk", __doc__ or "")
+    add_store(parser)
+    add = parser.add_argument
+    add("--base", metavar="IRI", help="what the addresses of a new store begin with")
+    add("--alone", metavar="NAME", help="one person at this machine, under this name")
+    add("--users", type=Path, metavar="FILE", help="several people: their names, roles and hashed passwords")
+    add(
+        "--proxy",
+        type=Path,
+        metavar="FILE",
+        help="answer only a server in front that sends the secret in this file as X-Desk-Proxy (and X-Real-IP)",
+    )
+    add(
+        "--remote-user",
+        action="store_true",
+        help="take the name from X-Remote-User of that server, and the role from --users",
+    )
+    add("--port", type=port_number, default=0, metavar="N", help="the port on 127.0.0.1; a free one if left out")
+    add(
+        "--host",
+        type=host_name,
+        action="append",
+        default=[],
+        metavar="NAME",
+        help="a name by which browsers call the desk",
+    )
+    add("--secure", action="store_true", help="browsers come over TLS only")
+    add("--public", action="store_true", help="let anyone read concepts and the interfaces for programs")
+    add("--title", default="", metavar="TEXT", help="the name on top of each page; otherwise those of the schemes")
+    add("--threads", type=natural, default=8, metavar="N", help="pages made at a time (8)")
+    add("--no-browser", action="store_true", help="don't open a browser")
+    return parser
+
+
+def serving_arguments(words: list[str]) -> argparse.Namespace:
+    """Returns the arguments for serving. Ends with status 2 if they don't fit together."""
+    parser = serving_parser()
+    given = parser.parse_args(words)
+    if not given.db:
+        parser.error("--db FILE is needed: which store?")
+    if bool(given.users) == bool(given.alone):
+        parser.error("one of --alone NAME and --users FILE is needed: who may come in?")
+    if given.alone and (given.proxy or given.remote_user or given.public):
+        parser.error("--alone is for one person at this machine, without a server in front")
+    if given.remote_user and not given.proxy:
+        parser.error("--remote-user needs --proxy FILE, or any program on this machine could send a name")
+    return given
+
+
+def user_parser() -> argparse.ArgumentParser:
+    """Returns the parser of the commands for users."""
+    parser = argparse.ArgumentParser(prog="desk user", description="Keeps the users of the desk.")
+    commands = parser.add_subparsers(dest="command", required=True, metavar="COMMAND")
+    kinds = {
+        "add": "adds a user; the password is asked for, or read from standard input",
+        "list": "prints the users and their roles",
+        "role": "gives a user another role",
+        "password": "gives a user another password; the user's sessions end",
+        "remove": "removes a user, whose sessions end; the journal keeps what was done",
+    }
+    for name, text in kinds.items():
+        command = commands.add_parser(name, help=text, description=f"{text[0].upper()}{text[1:]}.")
+        if name != "list":
+            command.add_argument("name", metavar="NAME")
+        if name in ("add", "role"):
+            command.add_argument("--role", choices=ROLES, required=True, help="reader, indexer, editor or head")
+        if name == "add":
+            command.add_argument(
+                "--no-password", action="store_true", help="a user whose name a server in front sends (--remote-user)"
+            )
+        command.add_argument(
+            "--users", type=Path, required=True, metavar="FILE", help="the users' file; it is made if need be"
+        )
+    return parser
+
+
+def check_parser() -> argparse.ArgumentParser:
+    """Returns the parser of the command that compares the journal with the store."""
+    parser = argparse.ArgumentParser(
+        prog="desk check", description="Compares the desk's journal with the store, while no desk is running."
+    )
+    parser.add_argument("--db", type=Path, metavar="FILE", required=True, help="the store")
+    return parser
+
+
+def main(words: list[str] | None = None) -> int:
+    """Carries out a command, and returns the exit status."""
+    words = sys.argv[1:] if words is None else words
+    command, rest = (words[0], words[1:]) if words[:1] and words[0] in COMMANDS else ("serve", words)
+    if command == "user":
+        from thesaurus_desk.user_commands import change_users
+
+        return change_users(user_parser().parse_args(rest))
+    if command == "check":
+        given = check_parser().parse_args(rest)
+        from thesaurus_desk.serving import check_journal
+
+        return check_journal(given)
+    given = serving_arguments(rest)
+    from thesaurus_desk.serving import serve  # (help needs no Flask)
+
+    return serve(given)

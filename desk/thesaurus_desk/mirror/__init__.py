@@ -1,0 +1,18 @@
+"""The store's tables in memory, of which every page is made.
+
+  resources    a resource as the mirror holds it, and as a page sees it
+  tables       all of them, with their links, and the single changes
+  search       labels by their beginning, by words, with a typing error
+  postings     postings by number, key, record and concept
+  look_ups     the mirror with the look-ups that pages need
+  reading      a mirror read from the tables of a store
+  changes      what a request that was performed changes
+  foresee      what a merge, a split or a link would do, to explain it
+"""
+from thesaurus_desk.mirror.look_ups import Mirror
+from thesaurus_desk.mirror.postings import Posting
+from thesaurus_desk.mirror.reading import read_mirror
+from thesaurus_desk.mirror.resources import Link, Resource, Term, View
+from thesaurus_desk.mirror.search import Hit
+
+__all__ = ["Hit", "Link", "Mirror", "Posting", "Resource", "Term", "View", "read_mirror"]

@@ -1,0 +1,208 @@
+"""Bringing in: posting files, tables of changes with a preview, and whole vocabularies in SKOS."""
+from __future__ import annotations
+
+import secrets
+from collections import OrderedDict
+from dataclasses import dataclass
+from typing import Any
+
+from flask import Blueprint, Response, abort, current_app, render_template, request
+
+from thesaurus_desk.bringing import MOST_BYTES, Brought, Row
+from thesaurus_desk.context import go, person, say, tags, the_desk, the_mirror, words
+from thesaurus_desk.entry.guard import role
+from thesaurus_desk.forms import FormState, Problem
+from thesaurus_desk.journal.history import to_csv
+from thesaurus_desk.pages.telling import LINKS
+from thesaurus_desk.refusals import explain, explain_state
+from thesaurus_desk.tables import TableRun, run_table, show_table
+from thesaurus_desk.vocabularies import SkosOptions, SkosRun, perform_script, read_skos
+from thesaurus_tools.command_line import ToolError
+from thesaurus_tools.table_plans import KINDS, TableOptions
+
+pages = Blueprint("bring_in", __name__)
+# A form with a file: the file, and some room for the rest.
+LARGEST = MOST_BYTES + (1 << 16)
+# How many previews and lists of refused rows are kept, and how many rows a page shows.
+MOST_KEPT, SHOWN = 20, 500
+
+
+@dataclass
+class Kept:
+    """What a user has sent and looks at before it is performed, or what was refused of it."""
+
+    user: str
+    what: Any
+
+
+def the_kept() -> OrderedDict[str, Kept]:
+    """Returns what is kept for users until they go on."""
+    found: OrderedDict[str, Kept] = current_app.extensions.setdefault("brought", OrderedDict())
+    return found
+
+
+def keep(what: Any) -> str:
+    """Keeps something for the reader, and returns its name."""
+    name = secrets.token_urlsafe(12)
+    the_kept()[name] = Kept(person().name, what)
+    while len(the_kept()) > MOST_KEPT:
+        the_kept().popitem(last=False)
+    return name
+
+
+def kept(name: str, kind: type) -> Any:
+    """Returns what was kept for the reader under a name."""
+    found = the_kept().get(name)
+    if found is None or found.user != person().name or not isinstance(found.what, kind):
+        abort(404)
+    return found.what
+
+
+def file_of_form() -> tuple[str, bytes]:
+    """Returns the name and the bytes of the file that a form has, or of the text typed in its place."""
+    sent = request.files.get("file")
+    if sent and sent.filename:
+        return sent.filename[:200], sent.read()
+    return say("bring_in.typed"), request.form.get("typed", "").replace("\r\n", "\n").encode()
+
+
+@pages.get("/bring-in")
+@role("indexer")
+def bring_in() -> Any:
+    """Shows what can be brought in."""
+    return start_page(FormState(), 200)
+
+
+def start_page(state: FormState, status: int) -> Any:
+    """Returns the page with the forms for files."""
+    schemes = [(it, LINKS.term(it)) for it in the_mirror().ordered(the_mirror().numbers("scheme"), tags())]
+    kinds = [("", say("bring_in.kind.guess"))] + [(it, say(f"bring_in.kind.{it}")) for it in KINDS]
+    page = render_template("bring_in/start.html", state=state, schemes=schemes, kinds=kinds, most=MOST_BYTES >> 20)
+    return page, status
+
+
+def refused(form: str, text: str, field: str = "file") -> Any:
+    """Returns the forms with what is wrong with a file."""
+    return start_page(FormState(form, request.form, [Problem(field, text)]), 409)
+
+
+# --- posting files ---
+
+
+@pages.post("/bring-in/postings")
+@role("indexer", LARGEST)
+def bring_postings() -> Any:
+    """Imports a posting file, and shows what came of its rows."""
+    name, data = file_of_form()
+    data = data.removeprefix(b"\xef\xbb\xbf")
+    heading = data.partition(b"\n")[0].strip().replace(b'"', b"")
+    if heading != b"key,record,concept":
+        return refused("postings", say("bring_in.heading"))
+    brought = the_desk().bring_in(person().name, data, name)
+    if brought.state in ("lost", "unknown"):
+        return refused("postings", explain_state(brought.state, words()))
+    if brought.state == "refused" or brought.answer and not brought.rows:
+        return refused("postings", explain(brought.answer or {}, {"do": "import"}, the_mirror(), words(), LINKS))
+    failed = keep(brought) if brought.failed else ""
+    rows = [(it, why_refused(it)) for it in brought.failed[:SHOWN]]
+    return render_template("bring_in/postings.html", brought=brought, rows=rows, failed=failed, name=name)
+
+
+def why_refused(row: Row) -> Any:
+    """Returns why a row of a posting file was refused."""
+    key, record, concept = (*row.cells, "", "", "")[:3]
+    number = int(concept) if concept.isascii() and concept.isdigit() and len(concept) < 11 else 0
+    asked = {"do": "post", "key": key, "record": record, "concept": number}
+    answer = {"bad" if row.outcome.startswith("Bad") else "no": row.outcome}
+    return explain(answer, asked, the_mirror(), words(), LINKS)
+
+
+@pages.get("/bring-in/failed/<name>.csv")
+@role("indexer")
+def failed_rows(name: str) -> Response:
+    """Returns the rows that were refused as a table again, with a column of reasons."""
+    what = kept(name, (Brought, TableRun))  # type: ignore[arg-type]
+    if isinstance(what, Brought):
+        lines = [("key", "record", "concept", "reason"), *((*it.cells, it.outcome) for it in what.failed)]
+    else:
+        lines = [(*what.heading, "reason"), *((*it.cells, it.reason) for it in what.plans if it.reason)]
+    text = "".join(to_csv(tuple(it)) for it in lines)
+    headers = {"Content-Disposition": 'attachment; filename="refused.csv"'}
+    return Response("\ufeff" + text, content_type="text/csv; charset=utf-8", headers=headers)
+
+
+# --- tables ---
+
+
+@pages.post("/bring-in/table")
+@role("editor", LARGEST)
+def preview_table() -> Any:
+    """Shows row by row what a table would do."""
+    name, data = file_of_form()
+    scheme = request.form.get("scheme", "")
+    kind = request.form.get("kind", "")
+    options = TableOptions(KINDS[kind][0] if kind in KINDS else "", request.form.get("tag", "").strip().lower())
+    options.scheme = int(scheme) if scheme.isascii() and scheme.isdigit() and len(scheme) < 11 else None
+    options.forget = "forget" in request.form
+    try:
+        run = show_table(the_mirror(), name, data, request.form.get("columns", ""), options)
+    except ToolError as error:
+        return refused("table", str(error))
+    return table_page(run, keep(run), 200)
+
+
+def table_page(run: TableRun, name: str, status: int) -> Any:
+    """Returns the preview of a table, or what came of it."""
+    changing = sum(bool(it.requests) and not it.reason for it in run.plans)
+    shown = [it for it in run.plans if it.reason or it.requests][:SHOWN]
+    failed = sum(bool(it.reason) for it in run.plans)
+    page = render_template(
+        "bring_in/table.html", run=run, rows=shown, changing=changing, failed=failed, name=name, count=len(run.plans)
+    )
+    return page, status
+
+
+@pages.post("/bring-in/table/perform")
+@role("editor")
+def perform_table() -> Any:
+    """Performs a table that was looked at: each row is done whole or not at all."""
+    name = request.form.get("name", "")
+    run = run_table(the_desk(), person().name, kept(name, TableRun))
+    del the_kept()[name]
+    return table_page(run, keep(run), 200)
+
+
+# --- SKOS ---
+
+
+@pages.post("/bring-in/skos")
+@role("head", LARGEST)
+def preview_skos() -> Any:
+    """Converts a vocabulary, tries it on a copy of the store, and shows what is lost."""
+    name, data = file_of_form()
+    options = SkosOptions(
+        lang=request.form.get("tag", "").strip().lower(),
+        scheme=request.form.get("title", "").strip(),
+        has_old_addresses="addresses" in request.form,
+        adopts="adopt" in request.form,
+        trims="trim" in request.form,
+    )
+    try:
+        run = read_skos(the_desk(), name, data, options)
+    except ToolError as error:
+        return refused("skos", str(error))
+    return render_template("bring_in/skos.html", run=run, name=keep(run))
+
+
+@pages.post("/bring-in/skos/perform")
+@role("head")
+def perform_skos() -> Any:
+    """Brings in a vocabulary that was looked at."""
+    name = request.form.get("name", "")
+    run: SkosRun = kept(name, SkosRun)
+    outcome = perform_script(the_desk(), person().name, run)
+    del the_kept()[name]
+    if outcome.is_done and run.scheme:
+        return go(f"/c/{run.scheme}", outcome.plan)
+    run.is_cut = True
+    return render_template("bring_in/skos.html", run=run, name="", outcome=outcome), 409

@@ -1,0 +1,149 @@
+"""The journal: recent changes with filters, what is open, and taking a change back."""
+from __future__ import annotations
+
+import re
+from typing import Any
+from urllib.parse import urlencode
+
+from flask import Blueprint, Response, abort, render_template, request
+from markupsafe import Markup
+
+from thesaurus_desk.context import go, person, say, the_desk, the_mirror, words
+from thesaurus_desk.entry.guard import role
+from thesaurus_desk.forms import FormState, Problem
+from thesaurus_desk.journal import Plan
+from thesaurus_desk.journal.takeback import Remark, TakeBack
+from thesaurus_desk.pages.telling import LINKS, tell_outcome, tell_plan, tell_plans
+from thesaurus_desk.sentences import sentence_of
+
+pages = Blueprint("changes", __name__)
+PAGE = 50
+TIME = re.compile(r"\d{4}(-\d\d){0,2}")
+# What only a head may do, so that only a head takes it back.
+OF_HEADS = {"merge", "split", "deprecate"}
+FORM = "back"
+
+
+@pages.get("/changes")
+def changes() -> Any:
+    """Shows plans, the last first: of a resource, of a user, from a day on, up to a day."""
+    asked = {name: request.args.get(name, "").strip() for name in ("concept", "by", "since", "until")}
+    number = number_of(asked["concept"])
+    before = number_of(request.args.get("before", ""))
+    days = {name: it for name in ("since", "until") if TIME.fullmatch(it := asked[name])}
+    found = the_desk().history.recent(
+        number=number,
+        user=asked["by"] or None,
+        since=days.get("since"),
+        # (a day is a beginning of times: all of it is meant)
+        until=f"{days['until']}~" if "until" in days else None,
+        before=before,
+        most=PAGE + 1,
+    )
+    kept = {name: it for name, it in asked.items() if it}
+    return render_template(
+        "changes/page.html",
+        plans=tell_plans(found[:PAGE]),
+        further=f"/changes?{urlencode({**kept, 'before': found[PAGE - 1].id})}" if len(found) > PAGE else "",
+        number=number if number and the_mirror().kind(number) else None,
+        asked=asked,
+        users=the_desk().history.users(),
+        open_plans=tell_plans(the_desk().journal.open_plans()),
+        may_take_back=may_take_back,
+    )
+
+
+def number_of(text: str) -> int | None:
+    """Returns a number of a query, or None."""
+    return int(text) if text.isascii() and text.isdigit() and len(text) < 11 else None
+
+
+@pages.get("/changes.csv")
+def as_csv() -> Response:
+    """Returns the whole journal as a table."""
+    lines = the_desk().history.csv()
+    headers = {"Content-Disposition": 'attachment; filename="changes.csv"'}
+    return Response(lines, content_type="text/csv; charset=utf-8", headers=headers)
+
+
+@pages.get("/changed-since")
+def changed_since() -> Any:
+    """Shows the resources that were changed from a day on."""
+    since = request.args.get("since", "")
+    found = the_desk().history.changed_since(since) if TIME.fullmatch(since) else []
+    known = [(it, at) for it, at in found if the_mirror().kind(it)]
+    return render_template("changes/since.html", since=since, found=known)
+
+
+# --- taking back ---
+
+
+def may_take_back(plan: Plan) -> bool:
+    """Whether the reader may ask for a plan to be taken back."""
+    is_whole = plan.state == "done" and plan.steps and not plan.taken_back_by
+    lowest = "head" if any(it.request["do"] in OF_HEADS for it in plan.steps) else "editor"
+    return bool(is_whole) and person().may(lowest)
+
+
+def plan_or_404(number: int) -> Plan:
+    """Returns a plan of the journal that the reader may take back."""
+    plan = the_desk().journal.plan(number)
+    if plan is None:
+        abort(404)
+    return plan
+
+
+@pages.get("/changes/<int:number>/back")
+def look_at_taking_back(number: int) -> Any:
+    """Shows what takes a plan back, what it leaves, and what others have changed since."""
+    plan = plan_or_404(number)
+    return back_page(plan, the_desk().take_back(plan), FormState(), 200)
+
+
+def back_page(plan: Plan, back: TakeBack, state: FormState, status: int) -> Any:
+    """Returns the page on which a plan is taken back."""
+    lines = [sentence_of(it, None, the_mirror(), words(), LINKS) for it in back.requests]
+    return (
+        render_template(
+            "changes/back.html",
+            told=tell_plan(plan),
+            back=back,
+            lines=lines,
+            remarks=[tell_remark(it) for it in back.remarks],
+            later=tell_plans(back.later),
+            may=may_take_back(plan),
+            state=state,
+            form=FORM,
+        ),
+        status,
+    )
+
+
+def tell_remark(remark: Remark) -> Markup:
+    """Returns what isn't taken back as a sentence."""
+    is_resource = remark.name not in ("withdrawn", "moved on") and the_mirror().kind(remark.number or 0)
+    about = LINKS.link(remark.number or 0) if is_resource else Markup("{}").format(remark.number or "")
+    return Markup("{}").format(say(f"changes.remark.{remark.name.replace(' ', '_')}", about=about, text=remark.text))
+
+
+@pages.post("/changes/<int:number>/back")
+@role("editor")
+def take_back(number: int) -> Any:
+    """Takes a plan back, as far as that can be, in one plan."""
+    plan = plan_or_404(number)
+    tag, text = request.form.get("tag", "").strip().lower(), " ".join(request.form.get("text", "").split())
+    back = the_desk().take_back(plan, (tag, text) if text else None)
+    if not may_take_back(plan):
+        abort(403)
+    if not back.requests or back.needs_label and not text:
+        field, key = ("text", "choose_label") if back.requests else ("", "nothing")
+        return back_page(plan, back, FormState(FORM, request.form, [Problem(field, say(f"changes.{key}"))]), 409)
+    outcome = the_desk().perform_take_back(person().name, back)
+    if not outcome.is_done:
+        return back_page(plan, back, FormState(FORM, request.form, [Problem("", tell_outcome(outcome))]), 409)
+    return go(f"/c/{outcome.made}" if makes_concept(back) else "/changes", outcome.plan)
+
+
+def makes_concept(back: TakeBack) -> bool:
+    """Whether a concept comes back under another number."""
+    return any(it["do"] in ("concept", "split") for it in back.requests)

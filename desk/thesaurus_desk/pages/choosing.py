@@ -1,0 +1,93 @@
+"""Finds the concept that a field of a form names: by a suggestion, a choice, a number, an IRI or a term."""
+from __future__ import annotations
+
+from collections.abc import Mapping, Sequence
+from dataclasses import dataclass
+
+from thesaurus_desk.context import say, the_mirror
+from thesaurus_desk.forms import FormState, Problem
+from thesaurus_desk.mirror.search import fold
+
+MOST_CHOICES = 8
+
+
+@dataclass(frozen=True)
+class Chosen:
+    """The concept that a field names; or else what is said of it, and those among which its author may choose."""
+
+    number: int | None
+    problem: str = ""
+    choices: tuple[int, ...] = ()
+
+
+def choose(
+    values: Mapping[str, str], name: str = "other", kinds: Sequence[str] = ("concept",), scheme: int | None = None
+) -> Chosen:
+    """Returns the concept that a field names; one of a scheme, if its terms alone are to decide."""
+    text = " ".join(values.get(name, "").split())
+    for given in (values.get("chosen", ""), values.get(f"{name}_number", "")):
+        if (
+            is_number(given)
+            and is_one_of(int(given), kinds)
+            and (given == values.get("chosen") or has_term(int(given), text))
+        ):
+            return Chosen(int(given))
+    if not text:
+        return Chosen(None, say("refusals.Choice.empty"))
+    number = by_number_or_iri(text)
+    if number is not None and the_mirror().get(number) is not None:
+        return Chosen(number)
+    return choose_by_term(text, kinds, scheme)
+
+
+def choose_by_term(text: str, kinds: Sequence[str], scheme: int | None) -> Chosen:
+    """Returns the live concept that has a term, or those that have it, or those whose terms are alike."""
+    hits = the_mirror().named(text, kinds, True)
+    same = [it.number for it in hits if scheme in (None, scheme_of(it.number))]
+    exact = [it.number for it in hits if it.text == text and it.kind == "pref" and it.number in same]
+    if len(same) == 1 or len(exact) == 1:
+        return Chosen((exact or same)[0])
+    if same:
+        return Chosen(None, say("refusals.Choice.many", text=text), tuple(same[:MOST_CHOICES]))
+    near = the_mirror().search(text, kinds=kinds, scheme=scheme, live=True, most=MOST_CHOICES)
+    if near:
+        return Chosen(None, say("refusals.Choice.near", text=text), tuple(it.number for it in near))
+    return Chosen(
+        None, say("refusals.Choice.collection" if "collection" in kinds else "refusals.Choice.none", text=text)
+    )
+
+
+def scheme_of(number: int) -> int | None:
+    """Returns the scheme to which a resource belongs."""
+    view = the_mirror().view(number)
+    return view.scheme if view is not None else None
+
+
+def is_number(text: str) -> bool:
+    """Whether a text is a number of a resource or a posting."""
+    return text.isascii() and text.isdigit() and len(text) < 11
+
+
+def is_one_of(number: int, kinds: Sequence[str]) -> bool:
+    """Whether a number is that of a resource of some kinds."""
+    return the_mirror().kind(number) in kinds
+
+
+def has_term(number: int, text: str) -> bool:
+    """Whether a resource has a term, without regard to case and accents; any has the empty one."""
+    it = the_mirror().view(number)
+    if it is None:
+        return False
+    terms = [*it.pref, *it.alt, *it.hidden]
+    return not text or fold(text) in {fold(its) for _, its in terms} or text == f"#{number}"
+
+
+def by_number_or_iri(text: str) -> int | None:
+    """Returns the number that a text is, as `12` or `#12`, or that of the resource that has it as its IRI."""
+    plain = text.removeprefix("#")
+    return int(plain) if is_number(plain) else the_mirror().by_iri(text)
+
+
+def undecided(form: str, values: Mapping[str, str], chosen: Chosen, name: str = "other") -> FormState:
+    """Returns the state of a form whose field names no single concept."""
+    return FormState(form, values, [Problem(name, chosen.problem)], list(chosen.choices))

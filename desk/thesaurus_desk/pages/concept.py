@@ -1,0 +1,201 @@
+"""The page of a resource: a concept, live or dead, a scheme, a collection or an outside concept."""
+from __future__ import annotations
+
+from collections.abc import Iterable
+from dataclasses import dataclass
+from itertools import chain
+from typing import Any
+
+from flask import Blueprint, abort, render_template, request
+
+from thesaurus_desk.context import page_number, person, say, tags, the_desk, the_mirror
+from thesaurus_desk.entry.guard import public
+from thesaurus_desk.forms import FormState
+from thesaurus_desk.mirror import Posting, View
+from thesaurus_desk.pages.history import history_of
+from thesaurus_desk.pages.proposals import the_proposals
+from thesaurus_desk.pages.posting_keys import new_key
+from thesaurus_desk.seeing import PARTS
+from thesaurus_tools.kinds import LABEL_KINDS, MAPPINGS
+
+pages = Blueprint("concept", __name__)
+
+PAGE = 100
+# How many neighbours a page shows; the tree shows the others.
+MOST_NEIGHBOURS = 60
+MOST_MEMBERS = 500
+
+
+@dataclass(frozen=True)
+class LinkRow:
+    """A link as a row of a page: its kind as seen from there, the other end, and the request's kind and ends."""
+
+    seen_as: str
+    other: int
+    kind: str
+    a: int
+    b: int
+
+
+@dataclass(frozen=True)
+class Near:
+    """The tree around a concept: the way down to it, those beside it and those below it."""
+
+    path: tuple[int, ...]
+    siblings: tuple[int, ...]
+    below: tuple[int, ...]
+
+
+@pages.get("/c/<int:number>")
+@public
+def show(number: int) -> Any:
+    """Shows a resource."""
+    return resource_page(number, FormState())
+
+
+def resource_page(number: int, state: FormState, status: int = 200) -> Any:
+    """Returns the page of a resource, with the forms as they were sent."""
+    view = the_mirror().view(number)
+    if view is None:
+        abort(404)
+    return (
+        render_template(
+            "resource/page.html",
+            view=view,
+            state=state,
+            near=near_tree(view) if view.kind == "concept" else None,
+            terms_by_tag=terms_by_tag(view),
+            hierarchy_links=hierarchy_rows(view),
+            links=link_rows(view),
+            tops=the_mirror().ordered(the_mirror().tops(number), tags()) if view.kind == "scheme" else [],
+            its_collections=collections_of(view),
+            dates=the_desk().history.dates(number) if person().name else None,
+            label_kinds=[(it, say(f"kinds.label.{it}")) for it in ("alt", "pref", "hidden", "scope")],
+            new_key=new_key,
+            final=the_mirror().final(number),
+            merged=the_mirror().merged_into(number),
+            free_collections=free_collections(view),
+            records=records_of(view),
+            history=history_of(number) if person().name else [],
+            comments=the_proposals().comments(number) if person().name else [],
+            seen={part: the_desk().seen.mark(number, part) for part in PARTS},
+            most=MOST_MEMBERS if view.kind == "collection" else MOST_NEIGHBOURS,
+            size=PAGE,
+            MAPPINGS=MAPPINGS,
+        ),
+        status,
+    )
+
+
+def near_tree(view: View) -> Near:
+    """Returns the tree around a concept."""
+    path = the_mirror().path_up(view.number, tags())[:-1]
+    siblings = narrower_in_order(path[-1]) if path else ()
+    return Near(tuple(path), siblings, narrower_in_order(view.number))
+
+
+def narrower_in_order(number: int) -> tuple[int, ...]:
+    """Returns the narrower concepts of a concept in the order of their terms; kept, as there may be thousands."""
+    mirror, langs = the_mirror(), tuple(tags())
+    view = mirror.view(number)
+    below = view.narrower if view is not None else ()
+    return mirror.once(("narrower in order", number, langs), lambda: tuple(mirror.ordered(below, langs)))
+
+
+def terms_by_tag(view: View) -> list[tuple[str, list[tuple[str, str]]]]:
+    """Returns the terms and notes of a resource by language, the reader's first: kind and text."""
+    found: dict[str, list[tuple[str, str]]] = {}
+    for kind in LABEL_KINDS:
+        for tag, text in view.terms(kind):
+            found.setdefault(tag, []).append((kind, text))
+    order = {tag: place for place, tag in enumerate(tags())}
+    return sorted(found.items(), key=lambda it: (order.get(it[0], len(order)), it[0]))
+
+
+def hierarchy_rows(view: View) -> dict[str, list[tuple[int, list[LinkRow]]]]:
+    """Returns the broader and the first narrower concepts in order, each with the links to it, one for each type."""
+    mirror, me = the_mirror(), view.number
+    up = [
+        (other, [LinkRow(it, other, it, me, other) for it in mirror.link_types(me, other)])
+        for other in mirror.ordered(view.broader, tags())[:MOST_NEIGHBOURS]
+    ]
+    down = [
+        (other, [LinkRow(narrower_kind(it), other, it, other, me) for it in mirror.link_types(other, me)])
+        for other in narrower_in_order(me)[:MOST_NEIGHBOURS]
+    ]
+    return {"broader": up, "narrower": down}
+
+
+def narrower_kind(kind: str) -> str:
+    """Returns the kind of a broader link as seen from the broader concept."""
+    return kind.replace("broader", "narrower")
+
+
+def link_rows(view: View) -> dict[str, list[LinkRow]]:
+    """Returns the related concepts, matches, collections and members of a resource, in order."""
+    mirror, me, langs = the_mirror(), view.number, tags()
+    matches = sorted(view.mappings, key=lambda it: (MAPPINGS.index(it[0]), it[1]))
+    return {
+        "related": [LinkRow("related", other, "related", me, other) for other in mirror.ordered(view.related, langs)],
+        "matches": [match_row(me, kind, other) for kind, other in matches],
+        "collections": [
+            LinkRow("member", other, "member", other, me) for other in mirror.ordered(view.collections, langs)
+        ],
+        "members": [LinkRow("member", other, "member", me, other) for other in mirror.ordered(view.members, langs)],
+    }
+
+
+def match_row(me: int, seen_as: str, other: int) -> LinkRow:
+    """Returns a match as the store has it: as seen from here, or as seen from its other end."""
+    for link in the_mirror().links_between(me, other):
+        turned = {"broad": "narrow", "narrow": "broad"}.get(link.kind, link.kind)
+        if (link.a, link.kind) == (me, seen_as) or (link.b, turned) == (me, seen_as):
+            return LinkRow(seen_as, other, link.kind, link.a, link.b)
+    return LinkRow(seen_as, other, seen_as, me, other)
+
+
+def free_collections(view: View) -> list[int]:
+    """Returns the collections of the concept's scheme of which it isn't a member."""
+    if view.kind != "concept":
+        return []
+    return [it for it in the_mirror().numbers("collection", view.scheme) if it not in view.collections]
+
+
+def collections_of(view: View) -> list[int]:
+    """Returns the collections of a scheme, in order."""
+    mirror = the_mirror()
+    return mirror.ordered(mirror.numbers("collection", view.number), tags()) if view.kind == "scheme" else []
+
+
+@dataclass(frozen=True)
+class Records:
+    """A page of the records of a concept, alone or with those of the concepts below it."""
+
+    count: int
+    count_below: int
+    with_below: bool
+    page: int
+    rows: list[Posting]
+
+
+def records_of(view: View) -> Records | None:
+    """Returns the page of records that is asked for; nothing to a visitor, and of no other resource."""
+    if view.kind != "concept" or not person().name:
+        return None
+    postings, page = the_mirror().postings, page_number()
+    with_below = request.args.get("with") == "below" and bool(view.narrower)
+    count_below = the_mirror().count_below(view.number) if view.narrower else view.postings
+    if not with_below:
+        return Records(view.postings, count_below, False, page, postings.page_at(view.number, page + 1, PAGE))
+    numbers = numbers_below(view.number)[page * PAGE : (page + 1) * PAGE]
+    return Records(view.postings, count_below, True, page, [it for it in map(postings.get, numbers) if it is not None])
+
+
+def numbers_below(number: int) -> list[int]:
+    """Returns the numbers of the postings at a concept and at those below it, in order."""
+
+    def find() -> list[int]:
+        each: Iterable[list[int]] = (the_mirror().postings.numbers_at(it) for it in the_mirror().below(number))
+        return sorted(chain.from_iterable(each))
+
+    return the_mirror().once(("numbers below", number), find)

@@ -1,0 +1,201 @@
+"""Changes terms, notes and links of a resource, each beside what it changes."""
+from __future__ import annotations
+
+from functools import partial
+from typing import Any
+
+from flask import Blueprint, abort, redirect, request
+
+from thesaurus_desk.context import say, the_mirror
+from thesaurus_desk.entry.guard import role
+from thesaurus_desk.forms import FormState
+from thesaurus_desk.mirror import View
+from thesaurus_desk.pages.choosing import Chosen, choose, is_number, undecided
+from thesaurus_desk.pages.concept import resource_page
+from thesaurus_desk.pages.submitting import problem_in, submit
+from thesaurus_desk.journal.entries import Request
+from thesaurus_tools.kinds import BROADER, LABEL_KINDS, MAPPINGS
+
+pages = Blueprint("edit", __name__)
+
+NARROWER = tuple(it.replace("broader", "narrower") for it in BROADER)
+LINK_KINDS = (*BROADER, *NARROWER, "related", *MAPPINGS, "member")
+
+
+def resource(number: int) -> View:
+    """Returns the resource that a page is about."""
+    view = the_mirror().view(number)
+    if view is None:
+        abort(404)
+    return view
+
+
+def given(name: str, among: tuple[str, ...] = ()) -> str:
+    """Returns a field of the form, without spaces around; one of some values, if these are named."""
+    value = request.form.get(name, "").strip()
+    if among and value not in among:
+        abort(400)
+    return value
+
+
+def given_text(name: str = "text") -> str:
+    """Returns a term or a note: on one line, with single spaces."""
+    return " ".join(request.form.get(name, "").split())
+
+
+def given_tag() -> str:
+    """Returns a language tag as the store has it."""
+    return given("tag").lower()
+
+
+def given_number(name: str) -> int:
+    """Returns a number that a page put into its form."""
+    value = given(name)
+    if not is_number(value):
+        abort(400)
+    return int(value)
+
+
+def show_again(number: int, state: FormState, status: int) -> Any:
+    """Shows the page of a resource with the form that was sent."""
+    return resource_page(number, state, status)
+
+
+# --- terms and notes ---
+
+
+@pages.post("/c/<int:number>/terms/add")
+@role("editor")
+def add_term(number: int) -> Any:
+    """Adds a term or a note."""
+    resource(number)
+    kind, tag = given("kind", LABEL_KINDS), given_tag()
+    label = {"do": "addLabel", "owner": number, "kind": kind, "tag": tag, "text": given_text()}
+    return submit("add_term", [label], then=f"/c/{number}#at-add-term", show=partial(show_again, number))
+
+
+@pages.post("/c/<int:number>/terms/change")
+@role("editor")
+def change_term(number: int) -> Any:
+    """Renames the preferred term, or changes another term or a note."""
+    resource(number)
+    kind, tag, old, text = given("kind", LABEL_KINDS), given_tag(), request.form.get("old", ""), given_text()
+    if old == text:
+        return redirect(f"/c/{number}#terms", 303)
+    requests: list[Request]
+    if kind == "pref":
+        requests = [{"do": "relabel", "owner": number, "tag": tag, "text": text, "keep": "keep" in request.form}]
+    else:
+        label = {"owner": number, "kind": kind, "tag": tag}
+        requests = [{"do": "addLabel", **label, "text": text}, {"do": "dropLabel", **label, "text": old}]
+    action = "rename" if kind == "pref" else "change_term"
+    return submit(action, requests, then=f"/c/{number}#terms", show=partial(show_again, number))
+
+
+@pages.post("/c/<int:number>/terms/prefer")
+@role("editor")
+def prefer_term(number: int) -> Any:
+    """Makes an alternative or hidden term the preferred one; the preferred one becomes an alternative term."""
+    view = resource(number)
+    kind, tag, text = given("kind", LABEL_KINDS), given_tag(), request.form.get("text", "")
+    requests: list[Request] = [{"do": "dropLabel", "owner": number, "kind": kind, "tag": tag, "text": text}]
+    if any(its == tag for its, _ in view.pref):
+        requests.append({"do": "relabel", "owner": number, "tag": tag, "text": text, "keep": True})
+    else:
+        requests.append({"do": "addLabel", "owner": number, "kind": "pref", "tag": tag, "text": text})
+    return submit("prefer_term", requests, then=f"/c/{number}#terms", show=partial(show_again, number))
+
+
+@pages.post("/c/<int:number>/terms/remove")
+@role("editor")
+def remove_term(number: int) -> Any:
+    """Removes a term or a note."""
+    resource(number)
+    kind, tag = given("kind", LABEL_KINDS), given_tag()
+    label = {"do": "dropLabel", "owner": number, "kind": kind, "tag": tag, "text": request.form.get("text", "")}
+    return submit("remove_term", [label], then=f"/c/{number}#terms", show=partial(show_again, number))
+
+
+# --- links ---
+
+
+@pages.post("/c/<int:number>/links/add")
+@role("editor")
+def add_link(number: int) -> Any:
+    """Adds a link to the concept that a field names, or a match to an address elsewhere."""
+    view, form, kind = resource(number), given("form"), given("kind", LINK_KINDS)
+    again = partial(show_again, number)
+    iri = given("other")
+    if kind in MAPPINGS and is_outside_iri(iri):
+        return submit("add_link", match_requests(number, kind, iri), then=f"/c/{number}#at-{form}", show=again)
+    chosen = choose_end(view, kind)
+    if chosen.number is None:
+        return again(undecided(form, request.form, chosen), 409)
+    return submit(
+        "add_link", [link_request("link", number, kind, chosen.number)], then=f"/c/{number}#at-{form}", show=again
+    )
+
+
+def choose_end(view: View, kind: str) -> Chosen:
+    """Returns the other end of a link: a collection of a concept, a member of a collection, or a concept."""
+    is_of_concept = kind == "member" and view.kind == "concept"
+    return choose(
+        request.form,
+        kinds=("collection",) if is_of_concept else ("concept", "outside") if kind in MAPPINGS else ("concept",),
+        scheme=None if kind in MAPPINGS else view.scheme,
+    )
+
+
+def is_outside_iri(text: str) -> bool:
+    """Whether a text is meant as an address elsewhere: it has a scheme, and is none of this store's."""
+    scheme, colon, rest = text.partition(":")
+    if not colon or not rest or not scheme.isascii() or not scheme.replace("+", "").isalnum() or " " in text:
+        return False
+    return the_mirror().by_iri(text) is None and not the_mirror().named(text)
+
+
+def match_requests(number: int, kind: str, iri: str) -> list[Request]:
+    """Returns the requests that note an outside concept and link it."""
+    return [{"do": "outside", "iri": iri}, {"do": "link", "kind": kind, "a": number, "b": "$1"}]
+
+
+def link_request(do: str, number: int, kind: str, other: int | str) -> Request:
+    """Returns the request for a link as seen from a resource: some kinds lead from the other end."""
+    if kind in NARROWER:
+        return {"do": do, "kind": kind.replace("narrower", "broader"), "a": other, "b": number}
+    if kind == "member" and the_mirror().kind(number) == "concept":
+        return {"do": do, "kind": kind, "a": other, "b": number}
+    return {"do": do, "kind": kind, "a": number, "b": other}
+
+
+@pages.post("/c/<int:number>/links/remove")
+@role("editor")
+def remove_link(number: int) -> Any:
+    """Removes a link."""
+    resource(number)
+    link = {"do": "unlink", "kind": given("kind", LINK_KINDS), "a": given_number("a"), "b": given_number("b")}
+    return submit("remove_link", [link], then=f"/c/{number}#links", show=partial(show_again, number))
+
+
+@pages.post("/c/<int:number>/links/retype")
+@role("editor")
+def retype_link(number: int) -> Any:
+    """Gives a broader link another type: the new link first, so that the concept keeps its place."""
+    resource(number)
+    old, kind, ends = given("old", BROADER), given("kind", BROADER), {"a": given_number("a"), "b": given_number("b")}
+    if old == kind:
+        return redirect(f"/c/{number}#links", 303)
+    requests: list[Request] = [{"do": "link", "kind": kind, **ends}, {"do": "unlink", "kind": old, **ends}]
+    return submit("retype_link", requests, then=f"/c/{number}#links", show=partial(show_again, number))
+
+
+@pages.post("/c/<int:number>/deprecate")
+@role("head")
+def deprecate(number: int) -> Any:
+    """Takes a concept out of use."""
+    resource(number)
+    if not the_mirror().is_live(number):
+        return show_again(number, problem_in("deprecate", "", say("edit.is_dead")), 409)
+    return submit(
+        "deprecate", [{"do": "deprecate", "concept": number}], then=f"/c/{number}", show=partial(show_again, number)
+    )

@@ -1,0 +1,128 @@
+"""Merges a concept into another one: both side by side, with what will move or be dropped, and the notes to copy."""
+from __future__ import annotations
+
+from collections.abc import Iterable
+from functools import partial
+from typing import Any
+
+from flask import Blueprint, render_template, request
+from markupsafe import Markup
+
+from thesaurus_desk.context import say, the_desk, the_mirror, words
+from thesaurus_desk.entry.guard import role
+from thesaurus_desk.forms import FormState, Problem
+from thesaurus_desk.mirror import Link, View
+from thesaurus_desk.mirror.foresee import Merge, foresee_merge
+from thesaurus_desk.pages.choosing import choose, undecided
+from thesaurus_desk.pages.move import live_concept
+from thesaurus_desk.pages.submitting import problem_in, submit
+from thesaurus_desk.pages.telling import LINKS
+from thesaurus_desk.journal.entries import Request
+from thesaurus_desk.refusals import explain, label_of
+from thesaurus_tools.kinds import BROADER
+
+pages = Blueprint("merge", __name__)
+
+CHOICE, FORM = "into", "merge"
+TURNED = {"broad": "narrow", "narrow": "broad"}
+
+
+@pages.route("/c/<int:number>/merge", methods=["GET", "POST"])
+@role("head")
+def merge(number: int) -> Any:
+    """Asks into which concept, shows what a merge will do, and merges."""
+    source = live_concept(number)
+    if not request.values.get("other") and not request.values.get("other_number"):
+        return merge_page(source, None, FormState(), 200)
+    chosen = choose(request.values, scheme=source.scheme)
+    if chosen.number is None:
+        return merge_page(source, None, undecided(CHOICE, request.values, chosen), 409)
+    target = the_mirror().view(chosen.number)
+    problem = wrong_target(source, target)
+    if target is None or problem:
+        return merge_page(source, None, FormState(CHOICE, request.values, [Problem("other", problem)]), 409)
+    again = partial(merge_page, source, target)
+    if request.method == "GET":
+        return again(FormState(), 200)
+    if "sure" not in request.form:
+        return again(problem_in(FORM, "sure", say("merge.tick")), 409)
+    return submit("merge", merge_requests(source, target), then=f"/c/{target.number}", show=again)
+
+
+def wrong_target(source: View, target: View | None) -> str:
+    """Returns why a concept can't be the target, as the program would; nothing if it can."""
+    name = ""
+    if target is None:
+        name = "UnknownResource"
+    elif target.kind != "concept":
+        name = "WrongKind"
+    elif not target.is_live:
+        name = "NotLive"
+    elif target.number == source.number:
+        name = "SameResource"
+    elif target.scheme != source.scheme:
+        name = "OtherScheme"
+    asked = {"do": "merge", "source": source.number, "target": target.number if target else 0}
+    return explain({"no": name}, asked, the_mirror(), words(), LINKS) if name else ""
+
+
+def merge_requests(source: View, target: View) -> list[Request]:
+    """Returns the requests of a merge: the notes that are copied, and itself, which nothing takes back wholly."""
+    wanted = request.form.getlist("note")
+    requests: list[Request] = []
+    for place, (tag, text) in enumerate(source.scope):
+        if str(place) in wanted and (tag, text) not in target.scope:
+            requests.append({"do": "addLabel", "owner": target.number, "kind": "scope", "tag": tag, "text": text})
+    return [*requests, {"do": "merge", "source": source.number, "target": target.number}]
+
+
+def merge_page(source: View, target: View | None, state: FormState, status: int) -> Any:
+    """Returns the page of a merge: the question into which concept, and if there is an answer, what will happen."""
+    foreseen = foresee_merge(the_mirror(), source.number, target.number) if target is not None else None
+    seen = the_desk().seen
+    page = render_template(
+        "merge/page.html",
+        choice=CHOICE,
+        form=FORM,
+        state=state,
+        source=source,
+        target=target,
+        plan=foreseen,
+        links=told_links(foreseen) if foreseen else [],
+        notes=[(place, it) for place, it in enumerate(source.scope) if target is not None and it not in target.scope],
+        broken=told_break(foreseen),
+        quoted=quoted,
+        marks=[seen.mark(it.number, "all") for it in (source, target) if it is not None],
+    )
+    return page, status
+
+
+def told_links(plan: Merge) -> list[tuple[str, int, str]]:
+    """Returns the source's links: the kind as seen from it, the other end, and moves, there or between."""
+    kinds: Iterable[tuple[str, tuple[Link, ...]]] = (
+        ("moves", plan.links),
+        ("there", plan.there),
+        ("between", plan.between),
+    )
+    return [(*seen_from(plan.source, it), what) for what, links in kinds for it in links]
+
+
+def seen_from(number: int, link: Link) -> tuple[str, int]:
+    """Returns the kind of a link as seen from one of its ends, and the other end."""
+    if link.a == number:
+        return link.kind, link.b
+    kind = link.kind.replace("broader", "narrower") if link.kind in BROADER else TURNED.get(link.kind, link.kind)
+    return kind, link.a
+
+
+def told_break(plan: Merge | None) -> str | Markup:
+    """Returns which rule a merge will break, in words; nothing if it won't."""
+    if plan is None or plan.broken is None:
+        return ""
+    asked = {"do": "merge", "source": plan.source, "target": plan.target}
+    return explain({"no": plan.broken.rule}, asked, the_mirror(), words(), LINKS)
+
+
+def quoted(text: str, tag: str) -> Markup:
+    """Returns a label in quotes, with its language."""
+    return label_of(words(), text, tag)

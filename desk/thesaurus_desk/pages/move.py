@@ -1,0 +1,111 @@
+"""Gives a concept another place in the hierarchy, alone or with concepts beside it."""
+from __future__ import annotations
+
+from dataclasses import dataclass
+from functools import partial
+from typing import Any
+
+from flask import Blueprint, abort, render_template, request
+
+from thesaurus_desk.context import link, say, tags, the_desk, the_mirror
+from thesaurus_desk.entry.guard import role
+from thesaurus_desk.forms import FormState
+from thesaurus_desk.mirror import View
+from thesaurus_desk.pages.choosing import choose, is_number, undecided
+from thesaurus_desk.pages.edit import given, resource
+from thesaurus_desk.pages.submitting import problem_in, submit
+from thesaurus_desk.journal.entries import Request
+from thesaurus_desk.performing import LONGEST_PLAN
+from thesaurus_tools.kinds import BROADER
+
+pages = Blueprint("move", __name__)
+
+FORM = "move"
+AS_BEFORE = "same"
+
+
+@dataclass(frozen=True)
+class Place:
+    """A place of a concept: the broader concept, the types of the links to it, and those beside it there."""
+
+    above: int
+    kinds: tuple[str, ...]
+    beside: tuple[int, ...]
+
+
+def live_concept(number: int) -> View:
+    """Returns the live concept that a page is about."""
+    view = resource(number)
+    if view.kind != "concept" or not view.is_live:
+        abort(404)
+    return view
+
+
+def places_of(view: View) -> list[Place]:
+    """Returns the places of a concept in order."""
+    mirror, langs = the_mirror(), tags()
+    found = []
+    for above in mirror.ordered(view.broader, langs):
+        its = mirror.view(above)
+        beside = [it for it in mirror.ordered(its.narrower, langs) if it != view.number] if its is not None else []
+        found.append(Place(above, mirror.link_types(view.number, above), tuple(beside)))
+    return found
+
+
+@pages.route("/c/<int:number>/move", methods=["GET", "POST"])
+@role("editor")
+def move(number: int) -> Any:
+    """Shows the places of a concept, and moves it, with those that are ticked, as one plan."""
+    view = live_concept(number)
+    again = partial(move_page, view)
+    if request.method == "GET":
+        return again(FormState(), 200)
+    chosen = choose(request.form, scheme=view.scheme)
+    if chosen.number is None:
+        return again(undecided(FORM, request.form, chosen), 409)
+    old, target = given("from"), chosen.number
+    if old and (not is_number(old) or int(old) not in view.broader):
+        return again(problem_in(FORM, "", say("move.gone")), 409)
+    moved = [number, *(int(it) for it in request.form.getlist("with") if is_number(it) and it != str(number))]
+    left = [it for it in moved if old and not the_mirror().link_types(it, int(old))]
+    if left:
+        return again(problem_in(FORM, "", say("move.left", concept=link(left[0]), above=link(int(old)))), 409)
+    if old == str(target) and given("kind") == AS_BEFORE:
+        return again(problem_in(FORM, "other", say("move.same", concept=link(number), above=link(target))), 409)
+    requests = move_requests(moved, int(old) if old else None, target, given("kind", (AS_BEFORE, *BROADER)))
+    if len(requests) > LONGEST_PLAN:
+        return again(problem_in(FORM, "", say("move.too_many", n=len(moved), most=LONGEST_PLAN // 2)), 409)
+    return submit("move", requests, then=f"/c/{number}", show=again)
+
+
+def move_requests(moved: list[int], old: int | None, target: int, kind: str) -> list[Request]:
+    """Returns the requests of a move: the new links first, so that no concept is without its place."""
+    its_kinds = places_of(resource(moved[0]))[:1]
+    otherwise = its_kinds[0].kinds if its_kinds else (BROADER[1],)
+    links: list[Request] = []
+    unlinks: list[Request] = []
+    for number in moved:
+        before = the_mirror().link_types(number, old) if old else ()
+        wanted = (before or otherwise) if kind == AS_BEFORE else (kind,)
+        there = the_mirror().link_types(number, target)
+        links += [{"do": "link", "kind": it, "a": number, "b": target} for it in wanted if it not in there]
+        gone = [it for it in before if target != old or it not in wanted]
+        unlinks += [{"do": "unlink", "kind": it, "a": number, "b": old} for it in gone]
+    return links + unlinks
+
+
+def move_page(view: View, state: FormState, status: int) -> Any:
+    """Returns the form of a move."""
+    kinds = [(it, say(f"kinds.link.{it}")) for it in (*BROADER[1:], BROADER[0])]
+    page = render_template(
+        "move/page.html",
+        form=FORM,
+        state=state,
+        view=view,
+        n=view.number,
+        places=places_of(view),
+        seen=the_desk().seen.mark(view.number, "links"),
+        kinds=[(AS_BEFORE, say("move.as_before")), *kinds] if view.broader else kinds,
+        most=LONGEST_PLAN // 2,
+    )
+    return page, status

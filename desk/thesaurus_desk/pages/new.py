@@ -1,0 +1,180 @@
+"""Makes concepts with their first terms and their place, collections and schemes."""
+from __future__ import annotations
+
+from functools import partial
+from typing import Any
+
+from flask import Blueprint, render_template, request
+
+from thesaurus_desk.context import person, say, tags, the_mirror
+from thesaurus_desk.entry.guard import role
+from thesaurus_desk.forms import FormState, Problem
+from thesaurus_desk.mirror.search import fold
+from thesaurus_desk.pages.choosing import choose, is_number, undecided
+from thesaurus_desk.pages.edit import given, given_tag, given_text
+from thesaurus_desk.pages.submitting import submit
+from thesaurus_desk.journal.entries import Request
+from thesaurus_desk.performing import Outcome
+from thesaurus_tools.kinds import BROADER
+
+pages = Blueprint("new", __name__)
+
+FORM = "new"
+# How many further languages the form has fields for.
+MOST_TAGS = 5
+
+
+def number_in(name: str, kind: str) -> int | None:
+    """Returns the resource of a kind that a field of the form, or of the address, names."""
+    text = request.values.get(name, "")
+    number = int(text) if is_number(text) else 0
+    return number if the_mirror().kind(number) == kind else None
+
+
+def scheme_of_form(parent: int | None = None) -> int | None:
+    """Returns the scheme of what is made: that of its broader concept, the one named, or the first."""
+    above = the_mirror().view(parent) if parent else None
+    if above is not None:
+        return above.scheme
+    return number_in("scheme", "scheme") or next(iter(the_mirror().numbers("scheme")), None)
+
+
+@pages.route("/new", methods=["GET", "POST"])
+@role("editor")
+def new_concept() -> Any:
+    """Shows the form of a new concept, and makes it with its terms, its note and its place, as one plan."""
+    parent = number_in("parent", "concept") or number_in("other_number", "concept")
+    scheme = scheme_of_form(parent)
+    if scheme is None:
+        return scheme_page(FormState(), 200)
+    again = partial(concept_page, scheme, parent)
+    if request.method == "GET":
+        return again(FormState(), 200)
+    above = None
+    if given("other"):
+        chosen = choose(request.form, scheme=scheme)
+        if chosen.number is None:
+            return again(undecided(FORM, request.form, chosen), 409)
+        above = chosen.number
+    alike = concepts_alike(scheme, given_text())
+    if alike and "sure" not in request.form:
+        return again(FormState(FORM, request.form, [Problem("text", say("new.alike"))]), 409, alike)
+    requests = concept_requests(scheme, above)
+    return submit("new", requests, then=page_after(above, scheme), show=again, blame=field_of_label)
+
+
+def concept_page(scheme: int, parent: int | None, state: FormState, status: int, alike: list[int] | None = None) -> Any:
+    """Returns the form of a new concept."""
+    mirror = the_mirror()
+    page = render_template(
+        "new/concept.html",
+        form=FORM,
+        state=state,
+        parent=parent,
+        scheme=scheme,
+        schemes=mirror.ordered(mirror.numbers("scheme"), tags()),
+        alike=alike or [],
+        text=request.args.get("text", ""),
+        kind=request.args.get("kind", "broaderGeneric"),
+        kinds=[(it, say(f"kinds.link.{it}")) for it in (*BROADER[1:], BROADER[0])],
+        other_tags=tags()[1 : MOST_TAGS + 1],
+    )
+    return page, status
+
+
+def concepts_alike(scheme: int, text: str) -> list[int]:
+    """Returns the live concepts of a scheme that have the term but for case and accents, or as an alternative one."""
+    mirror = the_mirror()
+    found = []
+    for number in {it.number for it in mirror.named(text, ("concept",), True)}:
+        view = mirror.view(number)
+        if view is None or view.scheme != scheme or (given_tag(), text) in view.pref:
+            continue
+        if any(fold(its) == fold(text) for _, its in (*view.pref, *view.alt)):
+            found.append(number)
+    return mirror.ordered(found, tags())
+
+
+def concept_requests(scheme: int, above: int | None) -> list[Request]:
+    """Returns the requests that make a concept: itself, its place, its terms and its note."""
+    tag = given_tag()
+    requests: list[Request] = [{"do": "concept", "scheme": scheme, "tag": tag, "text": given_text()}]
+    if above is not None:
+        requests.append({"do": "link", "kind": given("kind", BROADER), "a": "$1", "b": above})
+    labels = [("pref", it, given_text(f"text-{it}")) for it in tags() if it != tag]
+    labels += [("alt", tag, " ".join(it.split())) for it in request.form.get("alt", "").splitlines()]
+    labels.append(("scope", tag, given_text("scope")))
+    requests += [
+        {"do": "addLabel", "owner": "$1", "kind": kind, "tag": its, "text": text} for kind, its, text in labels if text
+    ]
+    return requests
+
+
+def field_of_label(request: Request) -> str:
+    """Returns the field from which a label of the new concept comes."""
+    if request["do"] != "addLabel":
+        return "text"
+    return f"text-{request['tag']}" if request["kind"] == "pref" else str(request["kind"])
+
+
+def page_after(above: int | None, scheme: int) -> Any:
+    """Returns what gives the page after a concept is made: its own, or the form for another one beside it."""
+
+    def path(outcome: Outcome) -> str:
+        if given("then") != "another":
+            return f"/c/{outcome.made}"
+        return f"/new?scheme={scheme}&kind={given('kind', BROADER)}" + (f"&parent={above}" if above else "")
+
+    return path
+
+
+# --- collections and schemes ---
+
+
+@pages.route("/new/collection", methods=["GET", "POST"])
+@role("editor")
+def new_collection() -> Any:
+    """Makes a collection."""
+    scheme = scheme_of_form()
+    if scheme is None:
+        return scheme_page(FormState(), 200)
+    if request.method == "GET":
+        return collection_page(FormState(), 200)
+    made = {"do": "collection", "scheme": scheme, "tag": given_tag(), "text": given_text()}
+    return submit("new_collection", [made], then=page_of_made, show=collection_page)
+
+
+def collection_page(state: FormState, status: int) -> Any:
+    """Returns the form of a new collection."""
+    schemes = the_mirror().ordered(the_mirror().numbers("scheme"), tags())
+    return (
+        render_template(
+            "new/other.html", form=FORM, state=state, what="collection", schemes=schemes, scheme=scheme_of_form()
+        ),
+        status,
+    )
+
+
+@pages.route("/new/scheme", methods=["GET", "POST"])
+@role("editor")
+def new_scheme() -> Any:
+    """Makes a scheme: a thesaurus of its own in this store."""
+    if request.method == "GET":
+        return scheme_page(FormState(), 200)
+    made = {"do": "scheme", "tag": given_tag(), "text": given_text()}
+    return submit("new_scheme", [made], then=page_of_made, show=scheme_page)
+
+
+def scheme_page(state: FormState, status: int) -> Any:
+    """Returns the form of a new scheme."""
+    return (
+        render_template(
+            "new/other.html", form=FORM, state=state, what="scheme", schemes=[], scheme=None, name=person().name
+        ),
+        status,
+    )
+
+
+def page_of_made(outcome: Outcome) -> str:
+    """Returns the page of what was made."""
+    return f"/c/{outcome.made}"

@@ -1,0 +1,152 @@
+"""Records and the concepts with which they are indexed: of a concept, of a record, and of one posting."""
+from __future__ import annotations
+
+from functools import partial
+from typing import Any
+from urllib.parse import urlencode
+
+from flask import Blueprint, abort, render_template, request
+
+from thesaurus_desk.context import link, own_path, say, the_mirror
+from thesaurus_desk.entry.guard import role
+from thesaurus_desk.forms import FormState
+from thesaurus_desk.mirror import Posting
+from thesaurus_desk.pages.choosing import choose, undecided
+from thesaurus_desk.pages.edit import given, given_number, resource, show_again
+from thesaurus_desk.pages.posting_keys import new_key
+from thesaurus_desk.pages.submitting import problem_in, submit
+from thesaurus_desk.journal.entries import Request
+
+pages = Blueprint("records", __name__)
+
+MOST_FOUND = 50
+
+
+# --- at a concept ---
+
+
+@pages.post("/c/<int:number>/records/add")
+@role("indexer")
+def add_record(number: int) -> Any:
+    """Indexes a record with a concept."""
+    resource(number)
+    record = given("record")
+    again = partial(show_again, number)
+    if record and is_indexed(record, number):
+        return again(problem_in("post", "record", say("records.known", record=record, concept=link(number))), 409)
+    return submit("post", [post(record, number, given("key"))], then=f"/c/{number}#at-post", show=again)
+
+
+@pages.post("/c/<int:number>/records/withdraw")
+@role("indexer")
+def withdraw_record(number: int) -> Any:
+    """Withdraws a posting of a concept."""
+    resource(number)
+    requests: list[Request] = [{"do": "withdraw", "posting": given_number("posting")}]
+    return submit("withdraw", requests, then=f"/c/{number}#records", show=partial(show_again, number))
+
+
+def post(record: str, concept: int, key: str) -> Request:
+    """Returns the request that indexes a record with a concept."""
+    return {"do": "post", "key": key or new_key(), "record": record, "concept": concept}
+
+
+def is_indexed(record: str, concept: int) -> bool:
+    """Whether a record is indexed with a concept, or with the one that replaces it."""
+    final = the_mirror().final(concept)
+    return any(it.place == final and not it.is_withdrawn for it in the_mirror().postings.of_record(record))
+
+
+# --- of a record ---
+
+
+@pages.get("/record")
+def record() -> Any:
+    """Shows the concepts of a record; or asks for its name, and shows the records that have a text in their names."""
+    name = request.args.get("name", "").strip()
+    if name:
+        return record_page(name, FormState(), 200)
+    query = request.args.get("like", "").strip()
+    found = the_mirror().postings.records_like(query, MOST_FOUND + 1) if query else []
+    return render_template("record/find.html", like=query, found=found[:MOST_FOUND], is_more=len(found) > MOST_FOUND)
+
+
+def record_page(name: str, state: FormState, status: int) -> Any:
+    """Returns the page of a record."""
+    postings = the_mirror().postings.of_record(name)
+    standing = [it for it in postings if not it.is_withdrawn]
+    withdrawn = [it for it in postings if it.is_withdrawn]
+    page = render_template(
+        "record/page.html", name=name, standing=standing, withdrawn=withdrawn, state=state, new_key=new_key
+    )
+    return page, status
+
+
+def page_of_record(name: str) -> str:
+    """Returns the path of the page of a record."""
+    return f"/record?{urlencode({'name': name})}"
+
+
+@pages.post("/record/add")
+@role("indexer")
+def add_concept() -> Any:
+    """Indexes a record with another concept."""
+    name = given("record")
+    again = partial(record_page, name)
+    chosen = choose(request.form)
+    if chosen.number is None:
+        return again(undecided("add", request.form, chosen), 409)
+    if is_indexed(name, chosen.number):
+        return again(problem_in("add", "other", say("records.known", record=name, concept=link(chosen.number))), 409)
+    return submit("post", [post(name, chosen.number, given("key"))], then=page_of_record(name), show=again)
+
+
+@pages.post("/record/reindex")
+@role("indexer")
+def reindex() -> Any:
+    """Indexes a record with another concept in place of one: posted first, then withdrawn, as one plan."""
+    posting = posting_of_form()
+    again = partial(record_page, posting.record)
+    chosen, form = choose(request.form), given("form")
+    if chosen.number is None:
+        return again(undecided(form, request.form, chosen), 409)
+    if is_indexed(posting.record, chosen.number):
+        known = say("records.known", record=posting.record, concept=link(chosen.number))
+        return again(problem_in(form, "other", known), 409)
+    requests = reindex_requests(posting, chosen.number, given("key"))
+    return submit("reindex", requests, then=page_of_record(posting.record), show=again)
+
+
+@pages.post("/record/withdraw")
+@role("indexer")
+def withdraw() -> Any:
+    """Withdraws a posting of a record."""
+    posting = posting_of_form()
+    then = own_path(request.form.get("next")) if "next" in request.form else page_of_record(posting.record)
+    requests: list[Request] = [{"do": "withdraw", "posting": posting.number}]
+    return submit("withdraw", requests, then=then, show=partial(record_page, posting.record))
+
+
+def posting_of_form() -> Posting:
+    """Returns the posting that a form names."""
+    posting = the_mirror().postings.get(given_number("posting"))
+    if posting is None:
+        abort(404)
+    return posting
+
+
+def reindex_requests(posting: Posting, concept: int, key: str = "") -> list[Request]:
+    """Returns the requests that index a record with another concept in place of a posting's."""
+    withdrawal: Request = {"do": "withdraw", "posting": posting.number}
+    if is_indexed(posting.record, concept):
+        return [withdrawal]
+    return [post(posting.record, concept, key), withdrawal]
+
+
+@pages.get("/posting/<int:number>")
+def show_posting(number: int) -> Any:
+    """Shows a posting with its moves."""
+    posting = the_mirror().postings.get(number)
+    if posting is None:
+        abort(404)
+    return render_template("record/posting.html", it=posting)

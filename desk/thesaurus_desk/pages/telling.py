@@ -1,0 +1,115 @@
+"""Puts plans of the journal, refusals and differences into the reader's words."""
+from __future__ import annotations
+
+from collections.abc import Iterable
+from dataclasses import dataclass
+from typing import Any
+
+from markupsafe import Markup, escape
+
+from thesaurus_desk import context
+from thesaurus_desk.context import say, the_mirror, words
+from thesaurus_desk.journal import Plan, Step
+from thesaurus_desk.journal.entries import Request
+from thesaurus_desk.performing import Outcome
+from thesaurus_desk.refusals import explain, explain_state, label_of
+from thesaurus_desk.seeing import Change
+from thesaurus_desk.sentences import sentence_of
+
+# How many steps of a plan are shown where many plans are.
+MOST_STEPS = 6
+
+
+class PageLinks:
+    """Terms and links as the reader's pages have them."""
+
+    def term(self, number: int) -> str:
+        return context.term(number)
+
+    def link(self, number: int) -> Markup:
+        return context.link(number)
+
+
+LINKS = PageLinks()
+
+
+@dataclass(frozen=True)
+class ToldPlan:
+    """A plan of the journal for a page: a sentence for each step, with the reason if it was refused."""
+
+    plan: Plan
+    lines: list[tuple[Markup, str, Markup]]
+    # How many further steps it has.
+    more: int = 0
+
+
+def tell_plan(plan: Plan, most: int = MOST_STEPS) -> ToldPlan:
+    """Returns a plan in the reader's words: of each step its sentence, its state, and why it was refused."""
+    shown = plan.steps[:most]
+    refused = [it for it in plan.steps[most:] if it.state in ("refused", "fault")]
+    lines = [(tell_step(it), it.state, why_refused(it)) for it in (*shown, *refused)]
+    return ToldPlan(plan, lines, len(plan.steps) - len(lines))
+
+
+def tell_step(step: Step) -> Markup:
+    """Returns a step as a sentence."""
+    return sentence_of(step.request, step.answer, the_mirror(), words(), LINKS)
+
+
+def why_refused(step: Step) -> Markup:
+    """Returns why a step was refused; nothing for any other."""
+    if step.state not in ("refused", "fault") or not step.answer:
+        return Markup("")
+    return explain(step.answer, step.request, the_mirror(), words(), LINKS)
+
+
+def tell_plans(plans: Iterable[Plan]) -> list[ToldPlan]:
+    """Returns plans in the reader's words."""
+    return [tell_plan(it) for it in plans]
+
+
+def tell_outcome(outcome: Outcome) -> Markup:
+    """Returns why a plan wasn't performed: what is so, with whom, and what can be done."""
+    step = outcome.failed
+    if outcome.state in ("unknown", "lost") or step is None or outcome.answer is None:
+        return explain_state(outcome.state, words())
+    why = explain(outcome.answer, with_scheme(step.request, outcome), the_mirror(), words(), LINKS)
+    if len(outcome.steps) < 2:
+        return why
+    return escape(say("refusals.Step.text", why=why, step=tell_step(step)))
+
+
+def with_scheme(request: Request, outcome: Outcome) -> Request:
+    """Returns a request about what its plan made, with the scheme of that."""
+    owner = str(request.get("owner", ""))
+    if not owner.startswith("$"):
+        return request
+    maker = outcome.steps[int(owner[1:]) - 1].request
+    source = the_mirror().view(maker["source"]) if maker["do"] == "split" else None
+    return {**request, "scheme": source.scheme if source is not None else maker.get("scheme")}
+
+
+def tell_change(change: Change) -> Markup:
+    """Returns a difference between what was seen and what is."""
+    name, value = change.name, change.value
+    if name in ("pref", "alt", "hidden", "scope"):
+        return escape(
+            say("edit.conflict.label", kind=say(f"kinds.label.{name}"), label=label_of(words(), value[1], value[0]))
+        )
+    if name in ("typed", "untyped", "mappings"):
+        return escape(say("edit.conflict.link", kind=say(f"kinds.link.{value[0]}"), other=context.link(value[1])))
+    if name in ("related", "collections", "members"):
+        return escape(say("edit.conflict.link", kind=say(f"edit.conflict.{name}"), other=context.link(value)))
+    return escape(say(f"edit.conflict.{name}", **single_value(name, value)))
+
+
+def single_value(name: str, value: Any) -> dict[str, Any]:
+    """Returns what is said of a value that there is once."""
+    if name == "postings":
+        return {"n": value}
+    return {"other": context.link(value)} if name == "replaced" and value else {}
+
+
+def tell_changes(changes: Iterable[Change]) -> list[tuple[str, Markup]]:
+    """Returns differences with their signs. A link of the hierarchy is named once, by its type."""
+    return [(it.sign, tell_change(it)) for it in changes if it.name not in ("broader", "narrower")]

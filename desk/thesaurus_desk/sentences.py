@@ -1,0 +1,133 @@
+"""A request of the journal, with its answer, as a sentence in the reader's language."""
+from __future__ import annotations
+
+from collections.abc import Callable
+from dataclasses import dataclass
+from typing import Any
+
+from markupsafe import Markup, escape
+
+from thesaurus_desk.mirror import Mirror
+from thesaurus_desk.refusals import Links, label_of
+from thesaurus_desk.refusals.postings import record_link
+from thesaurus_desk.words import Words
+
+Row = dict[str, Any]
+
+
+@dataclass(frozen=True)
+class Telling:
+    """A request and its answer, with what is needed to put them into words."""
+
+    request: Row
+    answer: Row
+    mirror: Mirror
+    words: Words
+    links: Links
+
+    def say(self, key: str, /, **values: object) -> Markup:
+        return escape(self.words(f"sentences.{key}", **values))
+
+    def link(self, member: str) -> Markup:
+        """Returns a link to the resource that a member names; the new concept of the plan by these words."""
+        number = self.request.get(member)
+        if isinstance(number, int) and self.mirror.get(number) is not None:
+            return self.links.link(number)
+        return self.say("new_one") if isinstance(number, str) else escape(str(number))
+
+    def label(self) -> Markup:
+        return label_of(self.words, self.request["text"], str(self.request["tag"]).lower())
+
+    def made(self) -> Markup:
+        """Returns a link to what the request made, or its label."""
+        number = self.answer.get("ok")
+        if isinstance(number, int) and self.mirror.get(number) is not None:
+            return self.links.link(number)
+        return self.label()
+
+
+def sentence_of(request: Row, answer: Row | None, mirror: Mirror, words: Words, links: Links) -> Markup:
+    """Returns a request, with its answer if it has one, as a sentence without a stop."""
+    it = Telling(request, answer or {}, mirror, words, links)
+    write = WRITERS.get(str(request.get("do")))
+    return write(it) if write else it.say("other", name=str(request.get("do")))
+
+
+def write_label(it: Telling) -> Markup:
+    kind = it.words(f"kinds.label.{it.request['kind']}")
+    return it.say(it.request["do"], owner=it.link("owner"), kind=kind, label=it.label())
+
+
+def write_relabel(it: Telling) -> Markup:
+    return it.say("relabel_keep" if it.request.get("keep") else "relabel", owner=it.link("owner"), label=it.label())
+
+
+def write_link(it: Telling) -> Markup:
+    do, kind = it.request["do"], it.request["kind"]
+    if kind == "member":
+        return it.say(f"{do}_member", a=it.link("a"), b=it.link("b"))
+    return it.say(do, a=it.link("a"), b=it.link("b"), kind=it.words(f"kinds.link.{kind}"))
+
+
+def write_made(it: Telling) -> Markup:
+    return it.say(it.request["do"], made=it.made())
+
+
+def write_outside(it: Telling) -> Markup:
+    return it.say("outside", iri=it.request["iri"])
+
+
+def write_merge(it: Telling) -> Markup:
+    ends = {"source": it.link("source"), "target": it.link("target")}
+    return it.say("merge_moved", n=it.answer["moved"], **ends) if "moved" in it.answer else it.say("merge", **ends)
+
+
+def write_split(it: Telling) -> Markup:
+    count = it.answer.get("moved", len(it.request.get("postings", ())))
+    return it.say("split", n=count, source=it.link("source"), made=it.made())
+
+
+def write_deprecate(it: Telling) -> Markup:
+    return it.say("deprecate", concept=it.link("concept"))
+
+
+def write_post(it: Telling) -> Markup:
+    key = "post_again" if "again" in it.answer else "post"
+    return it.say(key, record=record_link(it.request["record"]), concept=it.link("concept"))
+
+
+def write_withdraw(it: Telling) -> Markup:
+    number = it.request["posting"]
+    posting = it.mirror.postings.get(number) if isinstance(number, int) else None
+    if posting is None:
+        return it.say("withdraw", posting=str(number))
+    concept = it.links.link(posting.place)
+    return it.say("withdraw_of", record=record_link(posting.record), concept=concept)
+
+
+def write_import(it: Telling) -> Markup:
+    parts = []
+    for name, count in it.answer.items():
+        key = name if name in ("new", "again") else "refused"
+        parts.append(it.say(f"outcome.{key}", n=count, name=name))
+    rows = it.say("rows", n=it.request.get("rows", 0))
+    return it.say("import", file=it.request.get("file", ""), outcomes=Markup(", ").join(parts) if parts else rows)
+
+
+WRITERS: dict[str, Callable[[Telling], Markup]] = {
+    "addLabel": write_label,
+    "dropLabel": write_label,
+    "relabel": write_relabel,
+    "link": write_link,
+    "unlink": write_link,
+    "scheme": write_made,
+    "concept": write_made,
+    "collection": write_made,
+    "outside": write_outside,
+    "merge": write_merge,
+    "split": write_split,
+    "deprecate": write_deprecate,
+    "post": write_post,
+    "withdraw": write_withdraw,
+    "import": write_import,
+}

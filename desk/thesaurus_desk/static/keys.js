@@ -1,0 +1,44 @@
+// Keys: / and ? everywhere, and those that a page gives by data-key="x" on a link, a button or the summary of a form.
+"use strict";
+(() => {
+  function onEscape(event, field) {
+    const open = event.target.closest("details.act[open]");
+    if (open) {
+      open.open = false;
+      open.querySelector("summary").focus();
+    } else if (field) {
+      field.blur();
+    }
+  }
+
+  function act(event, key) {
+    const it = [...document.querySelectorAll("[data-key]")].find((one) => one.dataset.key === key);
+    if (!it) return;
+    event.preventDefault();
+    if (it.tagName === "SUMMARY") {
+      it.parentElement.open = true;
+      it.parentElement.querySelector("input:not([type=hidden]), select, textarea, button")?.focus();
+    } else if (it.tagName === "INPUT") {
+      it.focus();
+    } else {
+      it.click();
+    }
+  }
+
+  document.addEventListener("keydown", (event) => {
+    const field = event.target.closest("input, select, textarea");
+    if (event.key === "Escape") onEscape(event, field);
+    else if (field || event.ctrlKey || event.metaKey || event.altKey || event.repeat) return;
+    else if (event.key === "/") {
+      const box = document.getElementById("q");
+      if (!box) return;
+      event.preventDefault();
+      box.focus();
+      box.select();
+    } else if (event.key === "?") location.href = "/keys";
+    else if (event.key === "t" && !document.querySelector("[data-key=t]")) {
+      const at = /^\/c\/(\d+)/.exec(location.pathname);
+      location.href = at ? `/tree?at=${at[1]}` : "/tree";
+    } else act(event, event.key);
+  });
+})();

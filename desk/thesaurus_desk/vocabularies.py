@@ -1,0 +1,106 @@
+"""Vocabularies in SKOS: converted, tried on a copy of the store, and brought in."""
+from __future__ import annotations
+
+import json
+import shutil
+import subprocess
+import sys
+import tempfile
+from dataclasses import dataclass, field
+from pathlib import Path
+from typing import Any
+
+from thesaurus_desk.named import NamedRun
+from thesaurus_desk.performing import Desk, Outcome
+from thesaurus_tools.command_line import REFUSED, ToolError
+
+TOOLS = Path(__file__).resolve().parents[2] / "tools"
+# The seconds that a conversion may take, and the lines of its report that are shown.
+LONGEST, SHOWN = 120, 200
+FORMS = {".nt": "nt", ".ttl": "turtle", ".rdf": "xml", ".xml": "xml", ".jsonld": "json-ld", ".json": "json-ld"}
+
+
+@dataclass
+class SkosOptions:
+    """How a vocabulary is converted."""
+
+    lang: str = ""
+    # The name of the scheme for concepts without one.
+    scheme: str = ""
+    has_old_addresses: bool = False
+    adopts: bool = False
+    trims: bool = False
+
+    def words(self) -> list[str]:
+        """Returns the words of the converter's command line."""
+        return [
+            *(["--lang", self.lang] if self.lang else []),
+            *(["--scheme", self.scheme] if self.scheme else []),
+            *(["--keep-iris"] if self.has_old_addresses else []),
+            *(["--adopt"] if self.adopts else []),
+            *(["--texts", "trim"] if self.trims else []),
+            "--drop",
+        ]
+
+
+@dataclass
+class SkosRun:
+    """A vocabulary: its requests, what the converter reported, and what a copy of the store refused of it."""
+
+    name: str
+    requests: list[dict[str, Any]]
+    report: list[str]
+    refused: list[str] = field(default_factory=list)
+    # The number of the first scheme that it made, and whether only a part of it was done.
+    scheme: int | None = None
+    is_cut: bool = False
+
+
+def read_skos(desk: Desk, name: str, data: bytes, options: SkosOptions) -> SkosRun:
+    """Converts a vocabulary, and tries it on a copy. Raises ToolError with the report of a conversion that fails."""
+    suffix = Path(name).suffix.lower()
+    if suffix not in FORMS:
+        raise ToolError(f"{name}: the name of a vocabulary ends with {', '.join(FORMS)}", REFUSED)
+    with tempfile.TemporaryDirectory() as folder:
+        path = Path(folder, f"vocabulary{suffix}")
+        path.write_bytes(data)
+        ran = run_tool("from-skos", str(path), *options.words())
+        report = ran.stderr.replace(str(path), name).splitlines()
+        if ran.returncode or not ran.stdout:
+            raise ToolError("\n".join(report[-SHOWN:]) or "the converter failed", REFUSED)
+        script = Path(folder, "script.jsonl")
+        script.write_text(ran.stdout, encoding="utf-8")
+        run = SkosRun(name, [json.loads(it) for it in ran.stdout.splitlines()], report[:SHOWN])
+        run.refused = try_on_copy(desk, Path(folder), script)
+    return run
+
+
+def run_tool(tool: str, *words: str) -> subprocess.CompletedProcess[str]:
+    """Runs a tool, at most for some time."""
+    try:
+        return subprocess.run(
+            [sys.executable, TOOLS / tool, *words], capture_output=True, encoding="utf-8", timeout=LONGEST, check=False
+        )
+    except subprocess.TimeoutExpired:
+        raise ToolError(f"it took more than {LONGEST} seconds: use tools/{tool} on the command line", REFUSED) from None
+
+
+def try_on_copy(desk: Desk, folder: Path, script: Path) -> list[str]:
+    """Returns what a copy of the store refuses of a script."""
+    copy = folder / "copy.db"
+    with desk.lock:
+        for end in ("", "-wal"):
+            if Path(f"{desk.db}{end}").exists():
+                shutil.copyfile(f"{desk.db}{end}", f"{copy}{end}")
+    words = ["--db", str(copy), "--program", desk.program.words[0], "--keep-going", str(script)]
+    ran = run_tool("load", *words)
+    return [it for it in ran.stderr.splitlines() if it.startswith(str(script)) or "refused" in it][:SHOWN]
+
+
+def perform_script(desk: Desk, user: str, run: SkosRun) -> Outcome:
+    """Brings a vocabulary in, in plans one after another; the first that isn't done is the last."""
+    names = NamedRun(desk, user, "skos")
+    outcome = names.perform_all(run.requests)
+    first = next((it["as"] for it in run.requests if it["do"] == "scheme"), None)
+    run.scheme = names.numbers.get(first) if first else None
+    return outcome

@@ -1,0 +1,113 @@
+"""People at a desk, over Flask's client: a desk with four users, and what each sends and gets."""
+from __future__ import annotations
+
+import html
+import re
+from collections.abc import Callable
+from dataclasses import dataclass, field
+from pathlib import Path
+from typing import Any
+
+from flask import Flask
+from thesaurus_desk.app import create_app
+from thesaurus_desk.entry.accounts import Accounts
+from thesaurus_desk.entry.roles import Role, role_named
+from thesaurus_desk.entry.ways import ByPassword, Entry
+from thesaurus_desk.performing import Desk
+from thesaurus_desk.settings import Settings
+from werkzeug.test import TestResponse
+
+HOST = "localhost"
+ORIGIN = f"http://{HOST}"
+PASSWORD = "correct horse battery"
+# A user for each role, highest first.
+USERS = {"anna": "head", "ben": "editor", "ina": "indexer", "rita": "reader"}
+# What is said of a form without a token; its text is on no other page.
+AGAIN = "Please send it again"
+
+
+@dataclass
+class Client:
+    """One browser."""
+
+    site: Site
+    name: str = ""
+    http: Any = None
+
+    def __post_init__(self) -> None:
+        self.http = self.site.app.test_client()
+        if self.name:
+            self.keep(self.site.cookie_of(self.name))
+
+    def keep(self, cookie: str) -> None:
+        """Keeps a cookie of the session."""
+        self.http.set_cookie(HOST, self.site.settings.cookie, cookie)
+
+    def get(self, path: str, **fields: str) -> TestResponse:
+        """Asks for a page."""
+        return self.ask("GET", path, None, fields)
+
+    def post(
+        self, path: str, values: dict[str, Any] | None = None, token: str | None = None, **fields: str
+    ) -> TestResponse:
+        """Sends a form, as a page of the desk does: with its token unless another is given."""
+        sent = {"token": self.token() if token is None else token, **(values or {})}
+        return self.ask("POST", path, sent, {"Origin": ORIGIN, **fields})
+
+    def ask(self, method: str, path: str, values: dict[str, Any] | None, fields: dict[str, str]) -> TestResponse:
+        """Sends a request; underscores in names of fields stand for hyphens."""
+        named = {it.replace("_", "-"): value for it, value in fields.items()}
+        return self.http.open(path, method=method, data=values, headers=named, base_url=f"{ORIGIN}/")
+
+    def token(self) -> str:
+        """Returns the token of this browser's forms, as a page has it."""
+        found = re.search(r'name="token" value="([0-9a-f]+)"', self.get("/me" if self.name else "/login").text)
+        return found[1] if found else ""
+
+
+@dataclass
+class Site:
+    """A desk with its pages and its users."""
+
+    desk: Desk
+    entry: Entry
+    settings: Settings = field(default_factory=lambda: Settings(frozenset({HOST})))
+
+    def __post_init__(self) -> None:
+        self.app: Flask = create_app(self.desk, self.entry, self.settings)
+
+    def client(self, name: str = "") -> Client:
+        """Returns the browser of a user who has come in, or of a visitor."""
+        return Client(self, name)
+
+    def cookie_of(self, name: str) -> str:
+        """Returns the cookie of a new session of a user."""
+        account = self.entry.accounts.find(name) if self.entry.accounts else None
+        session = self.entry.sessions.begin(name, account.mark if account else "")
+        return self.entry.sessions.write(session)
+
+
+def write_users(path: Path) -> Path:
+    """Writes a users' file with a user for each role."""
+    accounts = Accounts(path)
+    for name, role in USERS.items():
+        accounts.add(name, role_named(role), PASSWORD)
+    return path
+
+
+def users_below(lowest: Role) -> list[str]:
+    """Returns the users whose role is below one."""
+    return [name for name, role in USERS.items() if role_named(role) < lowest]
+
+
+def site_of(desk: Desk, users: Path, **settings: Any) -> Site:
+    """Returns the site of a desk to which people come by passwords."""
+    return Site(desk, ByPassword(Accounts(users)), Settings(frozenset({HOST}), **settings))
+
+
+def text_of(answer: TestResponse) -> str:
+    """Returns the text of a page without its markup."""
+    return html.unescape(re.sub(r"<[^>]*>", " ", answer.text))
+
+
+SiteMaker = Callable[..., Site]

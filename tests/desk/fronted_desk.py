@@ -1,0 +1,69 @@
+"""An nginx of a test in front of a desk, with the file of share/, its places changed to those of the test."""
+from __future__ import annotations
+
+import contextlib
+import socket
+import subprocess
+import time
+from collections.abc import Iterator
+from pathlib import Path
+
+from fronting import HOST, Site, make_secrets, temporary
+from ports import free_port
+
+ROOT = Path(__file__).resolve().parents[2]
+CONFIGURATION = ROOT / "share" / "nginx-desk.conf"
+SECRET = "0123456789abcdef0123456789abcdef"
+# Who says that this server asks who people are, in a configuration in which it does.
+ASKING = 'auth_basic "Desk"; auth_basic_user_file {room}/readers; proxy_set_header X-Remote-User $remote_user;'
+
+
+def configuration(site: Site, asks: bool) -> str:
+    """Returns the file of share/ with the places of this test, in a configuration of nginx."""
+    text = CONFIGURATION.read_text(encoding="utf-8")
+    places = {
+        "desk.example": HOST,
+        "127.0.0.1:8090": f"127.0.0.1:{site.upstream}",
+        "listen 443": f"listen 127.0.0.1:{site.tls}",
+        "listen 80": f"listen 127.0.0.1:{site.plain}",
+        "/etc/thesaurus/": f"{site.room}/",
+    }
+    if asks:
+        places['proxy_set_header X-Remote-User   "";'] = ASKING.format(room=site.room)
+    for old, new in places.items():
+        assert old in text, old
+        text = text.replace(old, new)
+    # (without root's rights nginx ignores `user`)
+    head = f"user root;\ndaemon off;\npid {site.room}/nginx.pid;\nerror_log {site.room}/error.log;\nevents {{}}\n"
+    return f"{head}http {{\naccess_log off;\n{temporary(site.room)}{text}}}\n"
+
+
+@contextlib.contextmanager
+def fronted_desk(room: Path, upstream: int, asks: bool = False) -> Iterator[Site]:
+    """Runs nginx in front of a desk; `asks` has it ask who people are."""
+    make_secrets(room)
+    (room / "desk-secret.conf").write_text(f"proxy_set_header X-Desk-Proxy {SECRET};\n", encoding="utf-8")
+    site = Site(room, upstream, HOST)
+    (room / "nginx.conf").write_text(configuration(site, asks), encoding="utf-8")
+    words = ["nginx", "-e", f"{room}/error.log", "-p", str(room), "-c", f"{room}/nginx.conf"]
+    tested = subprocess.run([*words, "-t"], capture_output=True, text=True, check=False)
+    assert tested.returncode == 0, tested.stderr
+    with subprocess.Popen(words, stderr=subprocess.DEVNULL) as nginx:
+        try:
+            end = time.monotonic() + 60
+            while socket.socket().connect_ex(("127.0.0.1", site.tls)):
+                assert time.monotonic() < end, (room / "error.log").read_text(encoding="utf-8")
+                time.sleep(0.1)
+            yield site
+        finally:
+            nginx.terminate()
+
+
+def secret_file(room: Path) -> Path:
+    """Writes the secret as the desk reads it."""
+    path = room / "desk-secret"
+    path.write_text(f"{SECRET}\n", encoding="utf-8")
+    return path
+
+
+__all__ = ["HOST", "Site", "free_port", "fronted_desk", "secret_file"]

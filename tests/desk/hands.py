@@ -1,0 +1,230 @@
+"""A real browser: pages worked on by mouse, or by keyboard alone."""
+from __future__ import annotations
+
+import time
+from abc import ABC, abstractmethod
+from collections.abc import Callable
+from pathlib import Path
+from typing import Any
+
+from browsing import WIDE, Browser
+from processes import Running
+from selenium.common.exceptions import StaleElementReferenceException, WebDriverException
+from selenium.webdriver.chrome.webdriver import WebDriver
+from selenium.webdriver.common.action_chains import ActionChains
+from selenium.webdriver.common.keys import Keys
+from selenium.webdriver.remote.webelement import WebElement
+from selenium.webdriver.support.ui import Select
+
+PATIENCE = 120.0
+MOST_TABS = 300
+# Finds what can be worked with by its name: its label, or its text. An exact name goes before one that only begins so.
+FIND = """
+const [wanted, kinds] = arguments;
+const plain = (text) => text.replace(/\\s+/g, " ").trim();
+const labels = (it) => [...(it.labels || [])].map((one) => one.textContent).join(" ");
+const nameOf = (it) => plain(it.getAttribute("aria-label") || labels(it) || it.textContent || "");
+const seen = [...document.querySelectorAll(kinds)].filter((it) => it.tabIndex >= 0 && it.checkVisibility());
+return seen.find((it) => nameOf(it) === wanted) || seen.find((it) => nameOf(it).startsWith(wanted)) || null;
+"""
+PRESSED = "a[href], button, summary"
+FIELDS = "input:not([type=hidden], [type=checkbox], [type=radio]), textarea, select"
+BOXES = "input[type=checkbox], input[type=radio]"
+OPTIONS = "return [...document.querySelectorAll('.suggestions:not([hidden]) li')]"
+
+
+def start_browser() -> WebDriver:
+    """Returns a browser without a window, for several desks one after another."""
+    return Browser("", *WIDE, True, ("--hide-scrollbars", "--force-color-profile=srgb")).driver
+
+
+class Hand(ABC):
+    """Someone at a browser. What is pressed or filled in is named as the page names it."""
+
+    def __init__(self, driver: WebDriver, address: str):
+        self.driver, self.address = driver, address
+
+    # --- looking ---
+
+    def open(self, path: str) -> None:
+        """Opens a page by its address."""
+        self.driver.get(self.address + path)
+
+    def wait(self, test: Callable[[], Any], what: str) -> Any:
+        """Waits until something holds, and returns it."""
+        end = time.monotonic() + PATIENCE
+        while time.monotonic() < end:
+            try:
+                if found := test():
+                    return found
+            except (StaleElementReferenceException, WebDriverException):
+                pass
+            time.sleep(0.05)
+        raise AssertionError(f"{what} never came; at {self.driver.current_url}: {self.text()[:3000]}")
+
+    def text(self) -> str:
+        """Returns the text of the page, with single spaces."""
+        return " ".join(str(self.driver.execute_script("return document.body ? document.body.innerText : ''")).split())
+
+    def sees(self, text: str) -> None:
+        """Waits until the page has a text."""
+        self.wait(lambda: text in self.text(), repr(text))
+
+    def is_at(self, path: str) -> None:
+        """Waits until the page is that of a path."""
+        self.wait(lambda: self.driver.current_url.removeprefix(self.address).split("?")[0].split("#")[0] == path, path)
+
+    def number(self) -> int:
+        """Returns the number of the resource whose page is shown."""
+        return int(self.driver.current_url.split("/c/")[1].split("?")[0].split("#")[0].split("/")[0])
+
+    def find(self, name: str, kinds: str) -> WebElement:
+        """Waits until the page has what has a name, and returns it."""
+        found = self.wait(lambda: self.driver.execute_script(FIND, name, kinds), f"{name!r}")
+        assert isinstance(found, WebElement)
+        return found
+
+    def focused(self) -> WebElement:
+        """Returns what has the focus."""
+        return self.driver.switch_to.active_element
+
+    def type_keys(self, *keys: str) -> None:
+        """Presses keys one after another."""
+        ActionChains(self.driver).send_keys(*keys).perform()
+
+    # --- doing ---
+
+    @abstractmethod
+    def reach(self, it: WebElement) -> None:
+        """Gives something the focus."""
+
+    def reach_named(self, name: str, kinds: str) -> None:
+        """Gives what has a name the focus, again if its page goes meanwhile (a sent form may be on its way)."""
+        self.wait(lambda: self.reach(self.find(name, kinds)) is None, f"{name!r}")
+
+    @abstractmethod
+    def press(self, name: str) -> None:
+        """Presses a link or a button, or opens or closes what a summary heads."""
+
+    @abstractmethod
+    def tick(self, name: str) -> None:
+        """Ticks a box, or makes a choice."""
+
+    @abstractmethod
+    def take(self, text: str) -> None:
+        """Takes the suggestion that begins with a text."""
+
+    def fill(self, name: str, text: str) -> None:
+        """Writes a text into a field, in place of what it held."""
+        field = self.find(name, FIELDS)
+        self.reach(field)
+        field.send_keys(Keys.CONTROL, "a")
+        field.send_keys(Keys.DELETE)
+        field.send_keys(text)
+
+    def send_file(self, field: str, path: Path) -> None:
+        """Chooses a file, for the field with an id: the browser's own window can't be worked with."""
+        self.wait(lambda: self.driver.find_element("id", field), field).send_keys(str(path))
+
+    @abstractmethod
+    def set_option(self, field: WebElement, option: str) -> None:
+        """Chooses an option of a list."""
+
+    def choose(self, name: str, option: str) -> None:
+        """Chooses among the options of a list by their beginning."""
+        field = self.find(name, "select")
+        self.set_option(field, option)
+        chosen = "return arguments[0].selectedOptions[0].textContent.trim()"
+        assert str(self.driver.execute_script(chosen, field)).startswith(option)
+
+    def pick(self, name: str, typed: str, term: str = "") -> None:
+        """Types the beginning of a term into a field, and takes the suggestion."""
+        self.fill(name, typed)
+        self.wait(lambda: self.driver.execute_script(OPTIONS), f"a suggestion for {typed}")
+        self.take(term or typed)
+
+    def picture(self, path: Path, height: int, part: str = "body") -> None:
+        """Writes a picture of the page, from a part of it on."""
+        size = {"width": WIDE[0], "height": height, "deviceScaleFactor": 1, "mobile": False}
+        self.driver.execute_cdp_cmd("Emulation.setDeviceMetricsOverride", size)
+        self.driver.execute_script("document.querySelector(arguments[0]).scrollIntoView()", part)
+        assert self.driver.save_screenshot(str(path))
+        self.driver.execute_cdp_cmd("Emulation.clearDeviceMetricsOverride", {})
+
+
+class Mouse(Hand):
+    """Works by mouse, and types texts."""
+
+    def reach(self, it: WebElement) -> None:
+        # (what a page says first stays at its top, and may cover what is right there)
+        self.driver.execute_script("arguments[0].scrollIntoView({block: 'center'})", it)
+        it.click()
+
+    def press(self, name: str) -> None:
+        self.reach_named(name, PRESSED)
+
+    def tick(self, name: str) -> None:
+        self.reach_named(name, BOXES)
+
+    def set_option(self, field: WebElement, option: str) -> None:
+        wanted = next(it for it in Select(field).options if it.text.startswith(option))
+        wanted.click()
+
+    def take(self, text: str) -> None:
+        found = self.wait(lambda: [it for it in self.driver.execute_script(OPTIONS) if it.text.startswith(text)], text)
+        ActionChains(self.driver).move_to_element(found[0]).click().perform()
+
+
+class Keyboard(Hand):
+    """Works by the keyboard alone."""
+
+    def reach(self, it: WebElement) -> None:
+        for _ in range(MOST_TABS):
+            if self.focused() == it:
+                return
+            assert it.tag_name  # (an error, if its page has gone)
+            self.type_keys(Keys.TAB)
+        raise AssertionError(f"the Tab key never comes to {it.get_attribute('outerHTML')}")
+
+    def press(self, name: str) -> None:
+        self.reach_named(name, PRESSED)
+        self.type_keys(Keys.ENTER)
+
+    def tick(self, name: str) -> None:
+        it = self.find(name, BOXES)
+        if it.get_attribute("type") != "radio":
+            self.reach(it)
+            self.type_keys(Keys.SPACE)
+            return
+        checked = f"return document.querySelector('input[type=radio][name=\"{it.get_attribute('name')}\"]:checked')"
+        self.reach(self.driver.execute_script(checked))
+        for _ in range(MOST_TABS):
+            if it.is_selected():
+                return
+            self.type_keys(Keys.ARROW_DOWN)
+        raise AssertionError(f"the arrow keys never come to {name}")
+
+    def set_option(self, field: WebElement, option: str) -> None:
+        self.reach(field)
+        self.type_keys(option)
+
+    def take(self, text: str) -> None:
+        for _ in range(MOST_TABS):
+            chosen = [it for it in self.driver.execute_script(OPTIONS) if it.get_attribute("aria-selected") == "true"]
+            if chosen and chosen[0].text.startswith(text):
+                self.type_keys(Keys.ENTER)
+                return
+            self.type_keys(Keys.ARROW_DOWN)
+        raise AssertionError(f"no suggestion begins with {text}")
+
+
+def come_in(kind: str, driver: WebDriver, desk: Running) -> Hand:
+    """Returns someone at a desk, who has come in by the address that the desk printed."""
+    found = HANDS[kind](driver, f"http://127.0.0.1:{desk.port}")
+    driver.delete_all_cookies()
+    found.open(desk.entrance)
+    found.is_at("/")
+    return found
+
+
+HANDS: dict[str, type[Hand]] = {"mouse": Mouse, "keyboard": Keyboard}

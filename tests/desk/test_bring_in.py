@@ -1,0 +1,137 @@
+"""Tests bringing in: posting files, tables with a preview, and vocabularies in SKOS, first on a copy."""
+from __future__ import annotations
+
+import csv
+import io
+import re
+from typing import Any
+
+import pytest
+from clients import Client, Site, text_of
+from test_changes import number
+
+
+@pytest.fixture
+def anna(site: Site) -> Client:
+    return site.client("anna")
+
+
+def send(client: Client, path: str, data: bytes, name: str = "table.csv", **values: str) -> Any:
+    """Sends a file as a page does."""
+    sent = {"form": path.rpartition("/")[2], **values, "file": (io.BytesIO(data), name)}
+    return client.post(path, sent)
+
+
+def perform(client: Client, page: Any, path: str) -> Any:
+    """Presses the button of a preview."""
+    found = re.search(r'name="name" value="([^"]+)"', page.text)
+    assert found, text_of(page)
+    return client.post(path, {"name": found[1]})
+
+
+def test_a_posting_file(site: Site, anna: Client) -> None:
+    violins = number(site, "Violins")
+    before = site.desk.mirror.postings.count_at(violins)
+    data = f"key,record,concept\r\nn1,Violin 1700,{violins}\r\nn2,Violin 1701,99999\r\nn3,,{violins}\r\n".encode()
+    page = send(anna, "/bring-in/postings", b"\xef\xbb\xbf" + data)
+    assert page.status_code == 200
+    assert "1 posting is new." in page.text and "2 rows were refused." in page.text
+    assert site.desk.mirror.postings.count_at(violins) == before + 1
+    found = re.search(r"/bring-in/failed/[^\"]+\.csv", page.text)
+    assert found
+    rows = list(csv.DictReader(io.StringIO(anna.get(found[0]).text.removeprefix("\ufeff"))))
+    assert [(it["key"], it["reason"]) for it in rows] == [("n2", "UnknownResource"), ("n3", "BadRecord")]
+    assert site.client("ben").get(found[0]).status_code == 404  # (it is another's)
+    again = send(anna, "/bring-in/postings", data)
+    assert "1 was there before." in again.text
+    assert "Violin 1700" in text_of(anna.get("/record?name=Violin 1700"))
+
+
+def test_typed_rows(site: Site, anna: Client) -> None:
+    rows = f"key,record,concept\nt1,Harp 1,{number(site, 'Harps')}"
+    page = anna.post("/bring-in/postings", {"form": "postings", "typed": rows})
+    assert "1 posting is new." in page.text
+
+
+@pytest.mark.parametrize("data", [b"", b"a,b\n1,2\n", b"\xff\xfe\x00"], ids=["nothing", "other columns", "no text"])
+def test_no_posting_file(anna: Client, data: bytes) -> None:
+    page = send(anna, "/bring-in/postings", data)
+    assert page.status_code == 409 and "The first row must be key,record,concept" in text_of(page)
+
+
+def test_an_indexer_brings_postings_and_no_tables(site: Site) -> None:
+    ina = site.client("ina")
+    assert ina.get("/bring-in").status_code == 200 and "/bring-in/table" not in ina.get("/bring-in").text
+    assert send(ina, "/bring-in/table", b"number\n1\n").status_code == 403
+    assert site.client("ben").post("/bring-in/skos", {}).status_code == 403
+
+
+def test_a_table_is_shown_and_then_performed(site: Site, anna: Client) -> None:
+    harps = number(site, "Harps")
+    data = f"number,term,pref@it,broader\n{harps},Harps,Arpe,\n{number(site, 'Violins')},Harps,x,\n".encode()
+    page = send(anna, "/bring-in/table", data, kind="translations", tag="en")
+    assert "adds preferred term “Arpe” (it)" in text_of(page) and "1 row was refused." in page.text
+    view = site.desk.mirror.view(harps)
+    assert view and ("it", "Arpe") not in view.pref
+    done = perform(anna, page, "/bring-in/table/perform")
+    assert "1 row was done." in done.text
+    view = site.desk.mirror.view(harps)
+    assert view and ("it", "Arpe") in view.pref
+    found = re.search(r"/bring-in/failed/[^\"]+\.csv", done.text)
+    assert found and "not “Harps”" in anna.get(found[0]).text
+
+
+def test_new_concepts_that_stand_on_one_another(site: Site, anna: Client) -> None:
+    data = "Term,BT,UF\nPlucked,String instruments,\nVihuelas,Plucked,Vihuela\n".encode("utf-16")
+    page = send(anna, "/bring-in/table", data, kind="new", tag="en")
+    done = perform(anna, page, "/bring-in/table/perform")
+    assert "2 rows were done." in done.text, text_of(done)
+    view = site.desk.mirror.view(number(site, "Vihuelas"))
+    assert view and view.broader == (number(site, "Plucked"),) and view.alt == (("en", "Vihuela"),)
+    assert "Vihuelas" in text_of(anna.get("/changes"))
+
+
+def test_a_row_is_done_whole_or_not_at_all(site: Site, anna: Client) -> None:
+    data = b"concept,alt@en,broader\nString instruments,String family,Violins\n"
+    page = send(anna, "/bring-in/table", data)
+    done = perform(anna, page, "/bring-in/table/perform")
+    assert "Cycle" in text_of(done)
+    view = site.desk.mirror.view(number(site, "String instruments"))
+    assert view and ("en", "String family") not in view.alt
+
+
+@pytest.mark.parametrize(
+    ("name", "data"),
+    [("a.csv", b""), ("a.xlsx", b"PK\x03\x04x"), ("a.csv", b"a\0b\n"), ("../../etc/passwd", b"")],
+    ids=["empty", "cut", "NUL", "path"],
+)
+def test_hostile_tables(anna: Client, name: str, data: bytes) -> None:
+    page = send(anna, "/bring-in/table", data, name)
+    assert page.status_code == 409 and "Traceback" not in page.text
+
+
+SKOS = """
+@prefix skos: <http://www.w3.org/2004/02/skos/core#> . @prefix : <http://old.example/> .
+:s a skos:ConceptScheme ; skos:prefLabel "Places"@en .
+:a a skos:Concept ; skos:inScheme :s ; skos:prefLabel "Europe"@en ; skos:notation "E" .
+:b a skos:Concept ; skos:inScheme :s ; skos:prefLabel "Norway"@en ; skos:broader :a .
+"""
+
+
+@pytest.mark.needs("rdflib")
+def test_a_vocabulary(site: Site, anna: Client) -> None:
+    page = send(anna, "/bring-in/skos", SKOS.encode(), "places.ttl", tag="en", addresses="1")
+    assert page.status_code == 200, text_of(page)
+    assert "notation" in page.text and "The copy has taken all of it." in text_of(page)
+    assert not site.desk.mirror.named("Norway")
+    answer = perform(anna, page, "/bring-in/skos/perform")
+    assert answer.status_code == 303
+    view = site.desk.mirror.view(number(site, "Norway"))
+    assert view and view.broader == (number(site, "Europe"),) and view.scheme != 1
+    assert [site.desk.mirror.iri(it) for _, it in view.mappings] == ["http://old.example/b"]
+
+
+@pytest.mark.parametrize(("name", "data"), [("a.ttl", b"no turtle <"), ("a.nt", b""), ("a.docx", b"x")])
+def test_no_vocabulary(anna: Client, name: str, data: bytes) -> None:
+    page = send(anna, "/bring-in/skos", data, name, tag="en")
+    assert page.status_code == 409 and 'role="alert"' in page.text

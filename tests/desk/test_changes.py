@@ -1,0 +1,131 @@
+"""Tests the journal's pages: filters, the table, taking back, and who may."""
+from __future__ import annotations
+
+import csv
+import io
+import json
+import re
+
+import pytest
+from clients import Client, Site, text_of
+from thesaurus_desk.journal.entries import Request
+
+
+def number(site: Site, text: str) -> int:
+    """Returns the concept with a preferred term."""
+    (hit,) = [it for it in site.desk.mirror.named(text, live=True) if it.kind == "pref" and it.tag == "en"]
+    return hit.number
+
+
+def perform(site: Site, *requests: Request, user: str = "ben", action: str = "test") -> int:
+    """Has an editor perform requests, and returns the plan."""
+    outcome = site.desk.perform(user, action, requests)
+    assert outcome.is_done and outcome.plan
+    return outcome.plan
+
+
+def label(site: Site, text: str, owner: str = "Violins") -> Request:
+    return {"do": "addLabel", "owner": number(site, owner), "kind": "alt", "tag": "en", "text": text}
+
+
+@pytest.fixture
+def anna(site: Site) -> Client:
+    return site.client("anna")
+
+
+def test_changes_by_concept_user_and_day(site: Site, anna: Client) -> None:
+    perform(site, label(site, "Fine violins"))
+    perform(site, label(site, "Fine harps", "Harps"), user="anna")
+    page = text_of(anna.get("/changes"))
+    assert "Fine violins" in page and "Fine harps" in page and page.index("Fine harps") < page.index("Fine violins")
+    only = text_of(anna.get(f"/changes?concept={number(site, 'Harps')}"))
+    assert "Fine harps" in only and "Fine violins" not in only
+    assert "Fine violins" not in text_of(anna.get("/changes?by=anna"))
+    assert "Fine violins" in text_of(anna.get("/changes?by=ben&since=2020-01-01"))
+    assert "Fine violins" not in text_of(anna.get("/changes?until=2020-01-01"))
+    assert "Fine violins" not in text_of(anna.get("/changes?since=2999-01-01"))
+    assert anna.get("/changes?since=x&concept=y&before=z").status_code == 200
+
+
+def test_pages_of_changes(site: Site, anna: Client) -> None:
+    for n in range(60):
+        perform(site, label(site, f"Violin {n}"))
+    first = anna.get("/changes")
+    assert "Violin 59" in first.text and "Violin 9”" not in first.text
+    further = re.search(r'rel="next" href="([^"]+)"', first.text)
+    assert further and "Violin 9" in anna.get(further[1].replace("&amp;", "&")).text
+
+
+def test_the_journal_as_a_table(site: Site, anna: Client) -> None:
+    perform(site, label(site, "=2+3"))
+    rows = list(csv.DictReader(io.StringIO(anna.get("/changes.csv").text)))
+    assert rows[-1]["user"] == "ben" and json.loads(rows[-1]["request"])["text"] == "=2+3"
+
+
+def test_what_has_changed_since(site: Site, anna: Client) -> None:
+    perform(site, label(site, "Fine violins"))
+    assert "Violins" in text_of(anna.get("/changed-since?since=2020-01-01"))
+    assert "Violins" not in text_of(anna.get("/changed-since?since=2999-01-01"))
+    listed = anna.get("/changed?since=2020-01-01").json
+    assert [it["number"] for it in listed["changed"]] == [number(site, "Violins")]
+    assert "dct:modified" in anna.get("/changed?since=2020-01-01&format=ttl").text
+
+
+def test_taking_a_term_back(site: Site, anna: Client) -> None:
+    plan = perform(site, label(site, "Fine violins"))
+    page = anna.get(f"/changes/{plan}/back")
+    assert "Fine violins" in page.text and "Take back" in page.text
+    answer = anna.post(f"/changes/{plan}/back", {"form": "back"})
+    assert answer.status_code == 303
+    view = site.desk.mirror.view(number(site, "Violins"))
+    assert view and ("en", "Fine violins") not in view.alt
+    assert "Taken back" in text_of(anna.get("/changes")) or "taken back" in text_of(anna.get("/changes"))
+    again = anna.post(f"/changes/{plan}/back", {"form": "back"})
+    assert again.status_code == 403  # (it was taken back already)
+
+
+def test_taking_a_merge_back(site: Site, anna: Client) -> None:
+    source, target = number(site, "Fiddles"), number(site, "Violins")
+    before = site.desk.mirror.view(source)
+    assert before
+    plan = perform(site, {"do": "merge", "source": source, "target": target})
+    page = text_of(anna.get(f"/changes/{plan}/back"))
+    assert "comes back under a new number" in page
+    answer = anna.post(f"/changes/{plan}/back", {"form": "back"})
+    assert answer.status_code == 303, text_of(answer)
+    back = number(site, "Fiddles")
+    view = site.desk.mirror.view(back)
+    assert view and back != source and set(view.pref) == set(before.pref)
+    assert view.postings == before.postings and set(view.broader) == set(before.broader)
+
+
+def test_a_merge_is_taken_back_by_a_head(site: Site) -> None:
+    plan = perform(site, {"do": "merge", "source": number(site, "Fiddles"), "target": number(site, "Violins")})
+    ben = site.client("ben")
+    assert f"/changes/{plan}/back" not in ben.get("/changes").text
+    assert "Ask a head" in text_of(ben.get(f"/changes/{plan}/back"))
+    assert ben.post(f"/changes/{plan}/back", {"form": "back"}).status_code == 403
+
+
+def test_taking_back_what_others_changed_since(site: Site, anna: Client) -> None:
+    plan = perform(site, label(site, "Fine violins"))
+    perform(site, label(site, "Old violins"), user="anna")
+    page = text_of(anna.get(f"/changes/{plan}/back"))
+    assert "Changed since" in page and "Old violins" in page
+
+
+def test_what_can_not_be_taken_back(site: Site, anna: Client) -> None:
+    plan = perform(site, {"do": "scheme", "tag": "en", "text": "Places"})
+    page = text_of(anna.get(f"/changes/{plan}/back"))
+    assert "Nothing can be taken back" in page and "nothing removes it" in page
+    assert anna.post(f"/changes/{plan}/back", {"form": "back"}).status_code == 409
+    assert anna.get("/changes/99999/back").status_code == 404
+
+
+def test_a_refused_taking_back_says_why(site: Site, anna: Client) -> None:
+    """The term is a preferred one by now."""
+    violins = number(site, "Violins")
+    plan = perform(site, {"do": "dropLabel", "owner": violins, "kind": "alt", "tag": "de", "text": "Violinen"})
+    perform(site, {"do": "addLabel", "owner": violins, "kind": "hidden", "tag": "de", "text": "Violinen"})
+    answer = anna.post(f"/changes/{plan}/back", {"form": "back"})
+    assert answer.status_code == 409 and "Violinen" in text_of(answer)

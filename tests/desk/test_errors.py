@@ -1,0 +1,118 @@
+"""Pages of errors, without anything of the inside; odd queries; and what a visitor of a public desk doesn't see."""
+from __future__ import annotations
+
+import logging
+from collections.abc import Callable
+from typing import Any
+
+import pytest
+from clients import Site, site_of, text_of
+from test_routes import routes
+from thesaurus_desk.entry.guard import lowest_role
+from thesaurus_desk.entry.roles import Role
+from thesaurus_desk.mirror import Mirror
+from thesaurus_desk.program import Fault, NoAnswer
+from thesaurus_tools.command_line import ToolError
+
+
+def failing(error: Exception) -> Callable[..., Any]:
+    """Returns a function that fails."""
+
+    def fail(*words: Any, **named: Any) -> Any:
+        raise error
+
+    return fail
+
+
+@pytest.mark.parametrize(
+    "error, status, title, german",
+    [
+        (NoAnswer("the line is cut"), 503, "The program doesn’t answer", "Das Programm antwortet nicht"),
+        (RuntimeError("secret inside"), 500, "The desk made a mistake", "Der Schreibtisch hat einen Fehler gemacht"),
+        (Fault("Store"), 500, "The desk made a mistake", "Der Schreibtisch hat einen Fehler gemacht"),
+        (ToolError("secret inside"), 500, "The desk made a mistake", "Der Schreibtisch hat einen Fehler gemacht"),
+    ],
+)
+def test_a_page_that_fails(
+    site: Site, caplog: pytest.LogCaptureFixture, error: Exception, status: int, title: str, german: str
+) -> None:
+    site.app.view_functions["find.az"] = failing(error)
+    with caplog.at_level(logging.WARNING):
+        answer = site.client("anna").get("/az")
+    assert answer.status_code == status and title in text_of(answer) and 'id="q"' in answer.text
+    assert german in text_of(site.client("anna").get("/az", Accept_Language="de"))
+    assert "secret" not in answer.text and "Traceback" not in answer.text
+    assert caplog.records, "whoever runs the desk finds the reason in the log"
+    assert ("Retry-After" in answer.headers) == (status == 503)
+    assert site.client("anna").get("/tree").status_code == 200
+
+
+def test_what_each_page_needs_may_fail(site: Site, monkeypatch: pytest.MonkeyPatch) -> None:
+    anna = site.client("anna")
+    monkeypatch.setattr(Mirror, "numbers", failing(RuntimeError("secret inside")))
+    answer = anna.get("/keys")
+    assert answer.status_code == 500 and answer.mimetype == "text/plain" and "secret" not in answer.text
+    assert answer.headers["X-Content-Type-Options"] == "nosniff"
+
+
+def test_addresses_that_are_none(site: Site) -> None:
+    anna = site.client("anna")
+    for path in (
+        "/nothing",
+        "/c/999999",
+        "/c/x",
+        "/c/-1",
+        "/c/99999999999999999999",
+        "/posting/999",
+        "/static/../app.py",
+        "/%00",
+        "/é",
+    ):
+        answer = anna.get(path)
+        assert answer.status_code == 404 and "<main" in answer.text, path
+    refused = anna.get("/logout")
+    assert refused.status_code == 405 and "Not like this" in text_of(refused)
+    assert set(refused.headers["Allow"].split(", ")) >= {"POST"}
+    for path in ("/nothing", "/c/999999"):
+        assert site.client().get(path).status_code in (303, 404)
+
+
+def test_odd_queries(site: Site) -> None:
+    anna = site.client("anna")
+    for _, path, _ in routes(site, False):
+        for query in (
+            "page=-1",
+            "page=x",
+            "page=99999999",
+            "in=xx",
+            "scheme=x",
+            "at=x",
+            "format=xml",
+            "%ff=%fe",
+            "q=%ff",
+            "done=%00",
+            "a" * 3000,
+        ):
+            answer = anna.get(f"{path}?{query}")
+            assert answer.status_code < 500, (path, query)
+
+
+def test_a_visitor_sees_no_records_and_no_names(site: Site) -> None:
+    record, user = "A very secret record", "ina"
+    perform = site.desk.perform
+    assert perform(user, "post", [{"do": "post", "key": "S1", "record": record, "concept": 5}]).is_done
+    assert perform(
+        user, "add", [{"do": "addLabel", "owner": 5, "kind": "alt", "tag": "en", "text": "Fine violins"}]
+    ).is_done
+    assert site.entry.accounts
+    public = site_of(site.desk, site.entry.accounts.path, is_public=True)
+    seen = 0
+    for _, path, view in routes(public, False):
+        if lowest_role(view, True) > Role.VISITOR:
+            continue
+        for asked in (path, f"{path}?q=secret", f"{path}?format=csv", f"{path}?done=1"):
+            answer = public.client().get(asked)
+            seen += "Fine violins" in answer.text
+            assert record not in answer.text and f">{user}<" not in answer.text, asked
+    assert seen, "terms are public"
+    assert record in site.client("rita").get("/c/5").text

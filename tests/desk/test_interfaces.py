@@ -1,0 +1,298 @@
+"""Tests what other programs ask: linked data, Skosmos' REST interface, and reconciliation, over an export."""
+from __future__ import annotations
+
+import json
+import subprocess
+from pathlib import Path
+from typing import Any
+
+import pytest
+from flask import Flask
+from flask.testing import FlaskClient
+from thesaurus_desk.interfaces import Source, interfaces_of
+from thesaurus_desk.mirror import Mirror
+from thesaurus_desk.mirror.exported import read_export
+from thesaurus_tools.ntriples import Triple, read_ntriples
+from thesaurus_tools.rdf_writing import write_ntriples
+
+SKOS = "http://www.w3.org/2004/02/skos/core#"
+
+
+@pytest.fixture(scope="module")
+def export(program: str, instruments_store: Path, tmp_path_factory: pytest.TempPathFactory) -> Path:
+    """The export of the store of musical instruments."""
+    path = tmp_path_factory.mktemp("export") / "museum.nt"
+    path.write_bytes(
+        subprocess.run([program, "--db", instruments_store, "export"], capture_output=True, check=True).stdout
+    )
+    return path
+
+
+@pytest.fixture(scope="module")
+def mirror(export: Path) -> Mirror:
+    return read_export(export)
+
+
+@pytest.fixture(scope="module")
+def source(mirror: Mirror) -> Source:
+    dates = {5: ("2026-11-01T10:00:00Z", "2026-11-28T10:00:00Z")}
+    changes = [(5, "2026-11-28T10:00:00Z")]
+    return Source(
+        lambda: mirror, lambda it: dates.get(it, (None, None)), lambda time: [it for it in changes if it[1] >= time]
+    )
+
+
+@pytest.fixture(scope="module")
+def client(source: Source) -> FlaskClient:
+    app = Flask("publish")
+    app.register_blueprint(interfaces_of(source))
+    return app.test_client()
+
+
+def number(mirror: Mirror, text: str) -> int:
+    """Returns the number of the concept with a preferred label in English."""
+    (hit,) = [it for it in mirror.named(text) if it.kind == "pref" and it.tag == "en"]
+    return hit.number
+
+
+def get(client: FlaskClient, path: str, **query: Any) -> dict[str, Any]:
+    """Returns the JSON of an answer."""
+    answer = client.get(path, query_string=query)
+    assert answer.status_code == 200, answer.text
+    assert answer.headers["Access-Control-Allow-Origin"] == "*"
+    return answer.json or {}
+
+
+# --- linked data ---
+
+
+def test_the_triples_of_all_resources_are_the_export(export: Path, mirror: Mirror) -> None:
+    source = Source(lambda: mirror)
+    numbers = [it for kind in ("scheme", "concept", "collection") for it in mirror.numbers(kind)]
+    assert {triple for it in numbers for triple in source.triples(it)} == set(read_ntriples(export))
+
+
+def test_the_whole_export(client: FlaskClient, export: Path) -> None:
+    answer = client.get("/export.nt")
+    found = set(answer.text.splitlines())
+    assert answer.mimetype == "application/n-triples"
+    assert found >= set(export.read_text(encoding="utf-8").splitlines())
+    assert {it.split()[1] for it in found - set(export.read_text(encoding="utf-8").splitlines())} == {
+        "<http://purl.org/dc/terms/created>",
+        "<http://purl.org/dc/terms/modified>",
+    }
+
+
+@pytest.mark.needs("rdflib")
+@pytest.mark.parametrize(("form", "name"), [("ttl", "turtle"), ("jsonld", "json-ld"), ("rdf", "xml"), ("nt", "nt")])
+def test_each_form_says_the_same(client: FlaskClient, source: Source, mirror: Mirror, form: str, name: str) -> None:
+    import rdflib
+    from rdflib.compare import isomorphic
+
+    of = number(mirror, "Violins")
+    answer = client.get(f"/id/{of}?format={form}")
+    found = rdflib.Graph().parse(data=answer.text, format=name)
+    wanted = rdflib.Graph().parse(data="".join(write_ntriples(source.triples(of), mirror.base)), format="nt")
+    assert isomorphic(found, wanted) and len(wanted) > 5
+
+
+@pytest.mark.parametrize(
+    ("accept", "media"),
+    [
+        ("text/turtle", "text/turtle"),
+        ("application/ld+json", "application/ld+json"),
+        ("application/rdf+xml;q=0.8, text/turtle;q=0.5", "application/rdf+xml"),
+        ("text/html, application/n-triples;q=0.1", "application/n-triples"),
+        ("*/*", "text/turtle"),
+    ],
+)
+def test_content_negotiation(client: FlaskClient, accept: str, media: str) -> None:
+    answer = client.get("/id/5", headers={"Accept": accept})
+    assert (answer.status_code, answer.mimetype) == (200, media)
+    assert "Accept" in answer.headers["Vary"] and 'rel="alternate"' in answer.headers["Link"]
+    again = client.get("/id/5", headers={"Accept": accept, "If-None-Match": answer.headers["ETag"]})
+    assert (again.status_code, again.data) == (304, b"")
+
+
+def test_what_is_not_there(client: FlaskClient) -> None:
+    assert client.get("/id/99999").status_code == 404
+    assert client.get("/id/5", headers={"Accept": "image/png"}).status_code == 406
+    assert client.get("/id/5?format=docx").status_code == 406
+
+
+def test_dates(client: FlaskClient) -> None:
+    text = client.get("/id/5?format=ttl").text
+    assert 'dct:created "2026-11-01T10:00:00Z"^^xsd:dateTime' in text
+    assert get(client, "/changed", since="2026-11-28")["changed"][0]["number"] == 5
+    assert get(client, "/changed", since="2026-11-29")["changed"] == []
+    assert "dct:modified" in client.get("/changed?since=2026&format=ttl").text
+    assert client.get("/changed?since=yesterday").status_code == 400
+
+
+def test_a_dead_concept_is_gone_and_names_what_replaces_it(program: str, tmp_path: Path) -> None:
+    script = (
+        '{"do":"scheme","tag":"en","text":"S"}\n{"do":"concept","scheme":1,"tag":"en","text":"A"}\n'
+        '{"do":"concept","scheme":1,"tag":"en","text":"B"}\n{"do":"merge","source":2,"target":3}\n'
+    )
+    words = [program, "--db", str(tmp_path / "a.db"), "--base", "https://a.example/"]
+    subprocess.run([*words, "script"], input=script.encode(), capture_output=True, check=True)
+    (tmp_path / "a.nt").write_bytes(subprocess.run([*words, "export"], capture_output=True, check=True).stdout)
+    mirror = read_export(tmp_path / "a.nt")
+    app = Flask("publish")
+    app.register_blueprint(interfaces_of(Source(lambda: mirror)))
+    answer = app.test_client().get("/id/2?format=ttl")
+    assert answer.status_code == 410
+    assert "dct:isReplacedBy id:3" in answer.text
+    assert '<https://a.example/3>; rel="successor-version"' in answer.headers["Link"]
+
+
+# --- Skosmos ---
+
+
+def test_vocabularies(client: FlaskClient, mirror: Mirror) -> None:
+    (scheme,) = mirror.numbers("scheme")
+    found = get(client, "/rest/v1/vocabularies", lang="en")
+    assert found["vocabularies"] == [{"uri": "", "id": str(scheme), "title": mirror.term(scheme, ["en"])[1]}]
+    assert {"uri", "type", "skos", "onki"} <= found["@context"].keys()
+    about = get(client, f"/rest/v1/{scheme}/", lang="en")
+    assert about["conceptschemes"][0]["uri"] == mirror.iri(scheme)
+    assert {"id", "title", "defaultLanguage", "languages", "conceptschemes"} <= about.keys()
+
+
+@pytest.mark.parametrize(
+    ("query", "lang", "terms"),
+    [
+        ("violins", "en", ["Violins"]),
+        ("violin", "en", []),
+        ("viol*", "en", ["Violas", "Violins", "Violoncellos"]),
+        ("*instruments", "en", None),
+        ("GEIGEN", "de", ["Geigen"]),
+        ("geigen", "en", []),
+    ],
+)
+def test_search(client: FlaskClient, query: str, lang: str, terms: list[str] | None) -> None:
+    found = get(client, "/rest/v1/1/search", query=query, lang=lang)["results"]
+    labels = [it.get("altLabel", it["prefLabel"]) for it in found]
+    if terms is None:
+        assert len(labels) > 2 and all("instruments" in it.lower() for it in labels)
+    else:
+        assert labels == terms
+    assert all({"uri", "type", "prefLabel", "lang", "vocab"} <= it.keys() for it in found)
+
+
+def test_search_below_a_concept_and_by_parts(client: FlaskClient, mirror: Mirror) -> None:
+    parent = mirror.iri(number(mirror, "String instruments"))
+    all_of_it = get(client, "/rest/v1/1/search", query="*s", lang="en", parent=parent)["results"]
+    assert len(all_of_it) > 3 and parent not in [it["uri"] for it in all_of_it]
+    some = get(client, "/rest/v1/1/search", query="*s", lang="en", parent=parent, maxhits=2, offset=1)["results"]
+    assert some == all_of_it[1:3]
+    assert client.get("/rest/v1/1/search").status_code == 400
+    assert client.get("/rest/v1/1/search?query=a&maxhits=x").status_code == 400
+
+
+def test_neighbours(client: FlaskClient, mirror: Mirror) -> None:
+    violins = number(mirror, "Violins")
+    uri = mirror.iri(violins)
+    view = mirror.view(violins)
+    assert view is not None
+    for name, others in (("broader", view.broader), ("narrower", view.narrower), ("related", view.related)):
+        found = get(client, f"/rest/v1/1/{name}", uri=uri, lang="en")
+        assert {it["uri"] for it in found[name]} == {mirror.iri(it) for it in others}
+    above = get(client, "/rest/v1/1/broaderTransitive", uri=uri)["broaderTransitive"]
+    assert uri in above and above[uri]["broader"] == [mirror.iri(it) for it in view.broader]
+    below = get(client, "/rest/v1/1/narrowerTransitive", uri=mirror.iri(view.broader[0]))["narrowerTransitive"]
+    assert uri in below
+    tree = get(client, "/rest/v1/1/hierarchy", uri=uri, lang="en")["broaderTransitive"]
+    assert uri in [it["uri"] for it in tree[mirror.iri(view.broader[0])]["narrower"]]
+    children = get(client, "/rest/v1/1/children", uri=mirror.iri(view.broader[0]))["narrower"]
+    assert uri in [it["uri"] for it in children] and "hasChildren" in children[0]
+
+
+def test_other_methods(client: FlaskClient, mirror: Mirror) -> None:
+    (scheme,) = mirror.numbers("scheme")
+    uri = mirror.iri(number(mirror, "Violins"))
+    assert get(client, "/rest/v1/1/label", uri=uri, lang="de")["prefLabel"] == "Geigen"
+    tops = get(client, "/rest/v1/1/topConcepts", lang="en")["topconcepts"]
+    assert {it["uri"] for it in tops} == {mirror.iri(it) for it in mirror.tops(scheme)}
+    assert "V" in get(client, "/rest/v1/1/index/", lang="en")["indexLetters"]
+    assert "Violins" in [it["prefLabel"] for it in get(client, "/rest/v1/1/index/V", lang="en")["indexConcepts"]]
+    counts = get(client, "/rest/v1/1/vocabularyStatistics")["concepts"]
+    assert counts["count"] == len(mirror.numbers("concept"))
+    labels = get(client, "/rest/v1/1/labelStatistics")["languages"]
+    assert {it["language"] for it in labels} == set(mirror.languages())
+    assert len(get(client, "/rest/v1/1/types")["types"]) == 2
+    assert get(client, "/rest/v1/search", query="violins", lang="en")["results"]
+    assert client.get(f"/rest/v1/1/data?uri={uri}", headers={"Accept": "text/turtle"}).mimetype == "text/turtle"
+    assert client.get("/rest/v1/1/broader?uri=https://other.example/1").status_code == 404
+    assert client.get("/rest/v1/1/broader").status_code == 400
+    assert client.get("/rest/v1/1/fly").status_code == 404
+
+
+# --- reconciliation ---
+
+
+def reconcile(client: FlaskClient, **queries: Any) -> dict[str, Any]:
+    """Sends queries as OpenRefine does."""
+    answer = client.post("/reconcile", data={"queries": json.dumps(queries)})
+    assert answer.status_code == 200, answer.text
+    return {name: it["result"] for name, it in (answer.json or {}).items()}
+
+
+def test_manifest(client: FlaskClient, mirror: Mirror) -> None:
+    found = get(client, "/reconcile")
+    assert "0.2" in found["versions"] and found["identifierSpace"] == mirror.base
+    assert {"name", "schemaSpace", "defaultTypes", "view", "preview", "suggest", "extend"} <= found.keys()
+
+
+def test_an_exact_preferred_term_is_above_an_alternative_one_above_a_near_one(client: FlaskClient) -> None:
+    found = reconcile(
+        client, a={"query": "Violins"}, b={"query": "Violinen"}, c={"query": "Violin"}, d={"query": "xyzzyq"}
+    )
+    exact, other, near = (found[it][0] for it in "abc")
+    assert exact["id"] == other["id"] == near["id"]
+    assert exact["score"] > other["score"] > near["score"]
+    assert (exact["match"], near["match"], found["d"]) == (True, False, [])
+    assert exact["type"][0]["id"] == "1"
+
+
+def test_queries_with_types_and_properties(client: FlaskClient, mirror: Mirror) -> None:
+    asked: dict[str, Any] = {
+        "query": "Bows",
+        "type": "1",
+        "limit": 1,
+        "properties": [{"pid": "broader", "v": "String instruments"}],
+    }
+    wrong: dict[str, Any] = {
+        **asked,
+        "properties": [{"pid": "broader", "v": {"id": "x", "name": "Percussion instruments"}}],
+    }
+    found = reconcile(client, right=asked, wrong=wrong, iri={"query": mirror.iri(number(mirror, "Bows"))})
+    assert found["right"][0]["score"] > found["wrong"][0]["score"]
+    assert (found["iri"][0]["score"], len(found["right"])) == (100.0, 1)
+
+
+def test_suggestions_preview_and_extension(client: FlaskClient, mirror: Mirror) -> None:
+    of = str(number(mirror, "Violins"))
+    assert of in [it["id"] for it in get(client, "/reconcile/suggest/entity", prefix="viol")["result"]]
+    assert get(client, "/reconcile/suggest/property", prefix="bro")["result"][0]["id"] == "broader"
+    page = client.get(f"/reconcile/preview?id={of}")
+    assert "Violins" in page.text and "frame-ancestors *" in page.headers["Content-Security-Policy"]
+    extend = json.dumps({"ids": [of, "99999"], "properties": [{"id": "broader"}, {"id": "iri"}]})
+    answer = client.post("/reconcile", data={"extend": extend}).json or {}
+    assert answer["rows"][of]["iri"] == [{"str": mirror.iri(int(of))}] and answer["rows"]["99999"]["broader"] == []
+
+
+@pytest.mark.parametrize("given", ["{", "[]", '{"a": 1}', '{"a": {"query": 7}}', "[" * 10_000])
+def test_malformed_queries(client: FlaskClient, given: str) -> None:
+    answer = client.post("/reconcile", data={"queries": given})
+    assert answer.status_code == 400 and "error" in (answer.json or {})
+
+
+def test_hostile_labels_are_escaped(mirror: Mirror) -> None:
+    """Each form takes each character that a label may have."""
+    from thesaurus_tools.ntriples import Iri, Literal, parse_ntriples
+
+    text = "a\\b\"c'<script>&amp;\u2028é\U0001d11e"
+    triple = Triple(Iri("https://a.example/1"), Iri(SKOS + "prefLabel"), Literal(text, "en"))
+    (found,) = parse_ntriples("".join(write_ntriples([triple], "https://a.example/")).encode(), "text")
+    assert found == triple

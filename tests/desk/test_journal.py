@@ -1,0 +1,282 @@
+"""The journal: history, dates, CSV, proposals, comments; and stores and journals that can't be opened or written."""
+from __future__ import annotations
+
+import csv
+import os
+import resource
+import sqlite3
+import subprocess
+from collections.abc import Callable
+from contextlib import closing
+from pathlib import Path
+from typing import Any
+
+import pytest
+from thesaurus_desk.journal import Journal, journal_of
+from thesaurus_desk.journal.checking import check
+from thesaurus_desk.journal.tables import now
+from thesaurus_desk.mirror import read_mirror
+from thesaurus_desk.performing import Desk
+from thesaurus_desk.program import free_port
+from thesaurus_tools.command_line import ToolError
+
+
+def note(owner: int, text: str) -> dict[str, Any]:
+    return {"do": "addLabel", "owner": owner, "kind": "scope", "tag": "en", "text": text}
+
+
+def test_history(desk: Desk) -> None:
+    start = now()
+    first = desk.perform("anna", "note", [note(5, "Bowed.")])
+    desk.perform("ben", "note", [note(11, "Plucked."), {"do": "link", "kind": "related", "a": 5, "b": 11}])
+    refused = desk.perform("ben", "note", [note(5, "Bowed.")])
+    find = desk.history.recent
+    assert [it.id for it in find()] == [3, 2, 1]
+    assert [it.id for it in find(number=5)] == [3, 2, 1] and [it.id for it in find(number=11)] == [2]
+    assert [it.id for it in find(user="ben")] == [3, 2] and find(user="cy") == []
+    assert [it.id for it in find(before=3, most=1)] == [2]
+    assert [it.id for it in find(states=("refused",))] == [refused.plan]
+    assert [it.id for it in find(since=start)] == [3, 2, 1] and find(until=start) == []
+    assert [it.id for it in find(number=5, user="anna", since=start, states=("done",))] == [first.plan]
+    assert desk.history.users() == ["anna", "ben"]
+    assert [it.id for it in desk.journal.since(5, 1)] == [2]
+
+
+def test_dates(desk: Desk) -> None:
+    """A posting is no change of a concept, and a concept that is older than the journal has no date of creation."""
+    made = desk.perform("anna", "new", [{"do": "concept", "scheme": 1, "tag": "en", "text": "Rebecs"}])
+    number = made.made or 0
+    created = desk.history.dates(number)
+    assert created.created == created.modified and created.created is not None
+    desk.perform("anna", "post", [{"do": "post", "key": "k", "record": "r", "concept": number}])
+    assert desk.history.dates(number) == created
+    desk.perform("anna", "refused", [note(number, " ")])
+    assert desk.history.dates(number) == created
+    desk.perform("anna", "link", [{"do": "link", "kind": "broader", "a": number, "b": 4}])
+    later = desk.history.dates(number)
+    assert later.created == created.created and later.modified is not None and later.modified > created.created
+    assert desk.history.dates(4).created is None and desk.history.dates(4).modified == later.modified
+    assert desk.history.dates(7).modified is None
+    assert dict(desk.history.changed_since(later.modified)) == {number: later.modified, 4: later.modified}
+    assert [it[0] for it in desk.history.changed_since("")] == [4, number]
+
+
+def test_csv(desk: Desk) -> None:
+    desk.perform("=cmd()", "note", [note(5, 'Bowed, "high".\u2028'), note(5, "x")])
+    heading, *rows = csv.reader("".join(desk.history.csv()).splitlines())
+    assert heading[:4] == ["plan", "step", "time", "user"] and [it[:2] for it in rows] == [["1", "1"], ["1", "2"]]
+    assert rows[0][3] == "'=cmd()" and '"text": "Bowed, ' in rows[0][7]
+
+
+def test_proposals(desk: Desk) -> None:
+    request = {"do": "relabel", "owner": 5, "tag": "en", "text": "Fiddles", "keep": True}
+    number = desk.proposals.propose("ines", "rename", [request], "They say so.", 5)
+    other = desk.proposals.propose("rudi", "in words", [], "A term for lutes is missing.")
+    assert [it.id for it in desk.proposals.find(state="open")] == [other, number] and desk.proposals.count_open() == 2
+    assert [it.id for it in desk.proposals.find(concept=5)] == [number]
+    proposal = desk.proposals.get(number)
+    assert proposal is not None and proposal.requests == [request]
+    outcome = desk.perform("anna", proposal.action, proposal.requests, proposer=proposal.user)
+    assert desk.proposals.decide(number, "accepted", "anna", "Thank you.", outcome.plan)
+    assert not desk.proposals.decide(number, "declined", "ben")
+    plan = desk.journal.plan(outcome.plan or 0)
+    assert plan is not None and (plan.user, plan.proposer) == ("anna", "ines")
+    decided = desk.proposals.get(number)
+    assert decided is not None and (decided.state, decided.decided_by, decided.plan) == ("accepted", "anna", plan.id)
+    assert desk.proposals.decide(other, "withdrawn", "rudi") and desk.proposals.count_open() == 0
+
+
+def test_comments(desk: Desk) -> None:
+    first = desk.proposals.comment("ines", 5, "Is this <b>right</b>?")
+    second = desk.proposals.comment("anna", 5, "It is.")
+    assert [(it.user, it.text) for it in desk.proposals.comments(5)][0] == ("ines", "Is this <b>right</b>?")
+    assert desk.proposals.remove_comment(first, "anna") and not desk.proposals.remove_comment(first, "anna")
+    assert (
+        [it.id for it in desk.proposals.comments(5)] == [second] == [it.id for it in desk.proposals.recent_comments()]
+    )
+
+
+def test_check_finds_what_differs(desk: Desk) -> None:
+    desk.perform("anna", "merge", [{"do": "merge", "source": 6, "target": 5}])
+    desk.perform("anna", "post", [{"do": "post", "key": "k", "record": "r", "concept": 5}])
+    desk.perform("anna", "withdraw", [{"do": "withdraw", "posting": 1}])
+    made = desk.perform("anna", "new", [{"do": "concept", "scheme": 1, "tag": "en", "text": "Rebecs"}]).made
+    desk.stop()
+    assert check(desk.db) == []
+    with closing(sqlite3.connect(desk.db)) as tables:
+        tables.execute("UPDATE resource SET live = 1, replaced = NULL WHERE num = 6")
+        tables.execute("UPDATE posting SET record = 's', withdrawn = 0")
+        tables.execute("DELETE FROM label WHERE owner = ?", (made,))
+        tables.execute("DELETE FROM resource WHERE num = ?", (made,))
+        tables.commit()
+    found = "\n".join(check(desk.db))
+    for what in (
+        "concept 6 didn't end so",
+        "posting 1 isn't that of r with 5",
+        "posting 1 isn't withdrawn",
+        f"number {made} is nothing, and no concept",
+        "concept 6 was changed by other means",
+        f"resource {made} isn't there any more",
+        "was it restored from a backup?",
+    ):
+        assert what in found
+
+
+@pytest.mark.parametrize(
+    "change,error",
+    [
+        ("UPDATE meta SET version = 3", "its tables have version 3"),
+        ("UPDATE meta SET version = 1", "run `thesaurus migrate`"),
+        ("DELETE FROM meta", "not the store of a thesaurus"),
+        ("DROP TABLE label", "damaged"),
+        ("UPDATE resource SET kind = 9", "damaged"),
+        ("UPDATE hier SET b = 999 WHERE a = 5", "run `thesaurus check`"),
+    ],
+)
+def test_store_that_cant_be_read(change: str, error: str, store: Path, open_desk: Callable[[Path], Desk]) -> None:
+    with closing(sqlite3.connect(store)) as tables:
+        tables.execute(change)
+        tables.commit()
+    with pytest.raises(ToolError, match=error):
+        open_desk(store)
+
+
+def test_store_in_use(store: Path, program: str, open_desk: Callable[[Path], Desk]) -> None:
+    words = [program, "--db", str(store), "serve", "--port", str(free_port())]
+    with subprocess.Popen(words, stdout=subprocess.PIPE) as serving:
+        assert serving.stdout is not None and serving.stdout.readline().startswith(b"listening")
+        try:
+            with pytest.raises(ToolError, match="another program has it open"):
+                open_desk(store)
+        finally:
+            serving.kill()
+    open_desk(store)
+
+
+def test_store_that_is_none(tmp_path: Path, open_desk: Callable[[Path], Desk]) -> None:
+    (tmp_path / "text.db").write_text("This is no store.\n" * 100)
+    with pytest.raises(ToolError, match="text.db: not the store of a thesaurus"):
+        open_desk(tmp_path / "text.db")
+    desk = open_desk(tmp_path / "new.db")
+    assert desk.mirror.resources == {} and desk.perform("a", "x", [{"do": "scheme", "tag": "en", "text": "S"}]).is_done
+
+
+@pytest.mark.parametrize(
+    "spoil,error",
+    [
+        (lambda path: path.write_text("no journal" * 100), "no journal of a desk"),
+        (lambda path: sqlite3.connect(path).executescript("CREATE TABLE x (y)"), "no journal of a desk"),
+        (lambda path: sqlite3.connect(path).executescript("PRAGMA user_version = 99"), "a newer desk wrote"),
+        (lambda path: (path.rename(path.with_name("x")), path.symlink_to("x")), "it is a symbolic link"),
+        (lambda path: (path.with_suffix(".lock").unlink(), path.with_suffix(".lock").symlink_to("x")), "symbolic link"),
+    ],
+)
+def test_journal_that_cant_be_opened(
+    spoil: Callable[[Path], object], error: str, desk: Desk, open_desk: Callable[[Path], Desk]
+) -> None:
+    desk.stop()
+    path = journal_of(desk.db)
+    assert path.name == "museum-desk.sqlite"
+    if error == "no journal of a desk":
+        path.unlink()
+    spoil(path)
+    with pytest.raises(ToolError, match=error):
+        open_desk(desk.db)
+
+
+def test_journal_is_for_its_owner(desk: Desk) -> None:
+    for path in (journal_of(desk.db), journal_of(desk.db).with_suffix(".lock")):
+        assert path.stat().st_mode & 0o077 == 0
+
+
+def test_one_desk_at_a_time(desk: Desk, program: str) -> None:
+    with pytest.raises(ToolError, match="another desk has this journal open"):
+        Desk(desk.db, program)
+    assert desk.perform("anna", "note", [note(5, "Bowed.")]).is_done
+
+
+def test_secret_and_logins(desk: Desk) -> None:
+    key = desk.journal.secret()
+    assert len(key) == 32 and desk.journal.secret() == key and desk.journal.secret("other") != key
+    desk.journal.note_login("anna", "in")
+    assert [tuple(it)[1:] for it in desk.journal.logins()] == [("anna", "in")]
+
+
+def test_full_disk(desk: Desk, monkeypatch: pytest.MonkeyPatch) -> None:
+    """A journal that can't be written: a plan isn't sent; one that was sent is written down later."""
+    limit = resource.getrlimit(resource.RLIMIT_FSIZE)
+    # (the child was started before, so the limit is the desk's alone)
+    desk.perform("anna", "note", [note(5, "Bowed.")])
+    before = desk.mirror.view(5)
+    resource.setrlimit(resource.RLIMIT_FSIZE, (4096, limit[1]))
+    try:
+        outcome = desk.perform("anna", "note", [note(5, "High.")])
+    finally:
+        resource.setrlimit(resource.RLIMIT_FSIZE, limit)
+    assert (outcome.state, outcome.answer) == ("fault", {"fault": "Journal"})
+    assert desk.mirror.view(5) == before
+    finish = desk.journal.finish
+
+    def full(*_: Any, **__: Any) -> None:
+        raise sqlite3.OperationalError("database or disk is full")
+
+    monkeypatch.setattr(desk.journal, "finish", full)
+    outcome = desk.perform("anna", "note", [note(5, "High.")])
+    assert outcome.is_done
+    assert desk.perform("anna", "note", [note(5, "Higher.")]).answer == {"fault": "Journal"}
+    monkeypatch.setattr(desk.journal, "finish", finish)
+    assert desk.perform("anna", "note", [note(5, "Highest.")]).is_done
+    plan = desk.journal.plan(outcome.plan or 0)
+    assert plan is not None and plan.state == "done"
+    mirror = desk.mirror
+    desk.stop()
+    assert read_mirror(desk.db).resources == mirror.resources and check(desk.db) == []
+
+
+def test_full_disk_at_the_start(store: Path, open_desk: Callable[[Path], Desk]) -> None:
+    """A journal that can't be made says so, and a later desk makes it."""
+    limit = resource.getrlimit(resource.RLIMIT_FSIZE)
+    resource.setrlimit(resource.RLIMIT_FSIZE, (4096, limit[1]))
+    try:
+        with pytest.raises(ToolError, match="museum-desk.sqlite: "):
+            open_desk(store)
+    finally:
+        resource.setrlimit(resource.RLIMIT_FSIZE, limit)
+    assert open_desk(store).perform("anna", "note", [note(5, "Bowed.")]).is_done
+
+
+def test_full_disk_of_the_program(store: Path, program: str, open_desk: Callable[[Path], Desk], tmp_path: Path) -> None:
+    """A program whose disk is full answers with a fault: nothing is performed, and the desk knows it."""
+    small = tmp_path / "small"
+    small.write_text(f'#!/bin/sh\nulimit -f 512\nexec "{program}" "$@"\n')
+    small.chmod(0o755)
+    desk = Desk(store, str(small))
+    desk.start()
+    try:
+        outcomes = []
+        for it in range(400):
+            outcomes.append(desk.perform("anna", "note", [note(5, f"{it} " + "x" * 1900)]))
+            if not outcomes[-1].is_done:
+                break
+        assert outcomes[-1].state in ("fault", "lost")
+        done = sum(it.is_done for it in outcomes)
+        view = desk.mirror.view(5)
+        assert view is not None and len(view.scope) == done
+    finally:
+        desk.stop()
+    fresh = read_mirror(store).view(5)
+    assert fresh is not None and len(fresh.scope) == done
+    assert check(store) == []
+
+
+def test_journal_survives_a_kill_of_its_writer(tmp_path: Path) -> None:
+    """What was written is there after the process is gone without closing it."""
+    path = tmp_path / "x-desk.sqlite"
+    if child := os.fork():
+        os.waitpid(child, 0)
+    else:
+        journal = Journal(path)
+        journal.note_login("anna", "in")
+        os._exit(0)
+    with closing(Journal(path)) as journal:
+        assert len(journal.logins()) == 1

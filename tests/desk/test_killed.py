@@ -1,0 +1,156 @@
+"""The desk killed at each step of each plan: nothing acknowledged is lost, nothing is doubled, and the journal says
+what is."""
+from __future__ import annotations
+
+import json
+import os
+import signal
+import sqlite3
+import subprocess
+import sys
+import time
+from collections.abc import Callable
+from contextlib import closing
+from pathlib import Path
+from typing import Any
+
+import pytest
+from program import ROOT
+from test_lost_answers import PLANS
+from thesaurus_desk.journal import journal_of
+from thesaurus_desk.journal.checking import check
+from thesaurus_desk.journal.settling import BY_OTHERS
+from thesaurus_desk.performing import Desk
+from thesaurus_tools.program import is_in_use
+
+CHANGE_NOTHING = ("posted before", "changes nothing", "refused")
+
+
+def run_killed(store: Path, program: str, plan: list[dict[str, Any]], point: str, number: int) -> None:
+    """Runs a desk that is killed at a point, and waits until its program has ended, too."""
+    words = [str(ROOT / "tests/desk/killed_desk.py"), str(store), program, json.dumps(plan), point, str(number)]
+    paths = os.pathsep.join(str(ROOT / it) for it in ("desk", "tools"))
+    ran = subprocess.run([sys.executable, *words], env={**os.environ, "PYTHONPATH": paths}, check=False, timeout=120)
+    assert ran.returncode == -signal.SIGKILL
+    end = time.monotonic() + 20
+    while is_in_use(store):
+        assert time.monotonic() < end, "the program outlives its desk"
+        time.sleep(0.01)
+
+
+@pytest.mark.parametrize("point", ["before", "after", "finish"])
+@pytest.mark.parametrize("name", PLANS)
+def test_killed_in_a_plan(name: str, point: str, store: Path, program: str, open_desk: Callable[[Path], Desk]) -> None:
+    desk = open_desk(store)
+    assert desk.perform("anna", "test", [{"do": "post", "key": "k-1", "record": "Violin 1700", "concept": 5}]).is_done
+    has_plans, counts = desk.program.has_plans, desk.mirror.counts()
+    before = {it: desk.mirror.view(it) for it in desk.mirror.resources}
+    desk.stop()
+    plan = PLANS[name]
+    if len(plan) > 1 and not has_plans:
+        pytest.skip("the program takes no plans")
+    run_killed(store, program, plan, point, 1)
+    again = open_desk(store)
+    (settled,) = again.found.settled
+    is_done = point != "before" and name not in CHANGE_NOTHING
+    assert settled.state == ("done" if is_done else "lost")
+    assert {it.state for it in settled.steps} == {settled.state}
+    kept = again.journal.plan(settled.id)
+    assert kept is not None and (kept.state, kept.note) == (settled.state, "settled by looking at the store")
+    assert again.found.changed == () and again.found.restored is None
+    views = {it: again.mirror.view(it) for it in again.mirror.resources}
+    assert ((again.mirror.counts(), views) == (counts, before)) == (not is_done)
+    if is_done:
+        back = again.take_back(kept)
+        assert not back.requests or again.perform_take_back("ben", back).is_done
+    elif name not in CHANGE_NOTHING:
+        assert again.perform("anna", "test", plan).is_done
+    again.stop()
+    assert check(store) == []
+    assert open_desk(store).found.settled == ()
+
+
+@pytest.mark.parametrize("point", ["before", "after"])
+@pytest.mark.parametrize("number", [2, 3])
+def test_killed_between_two_requests(
+    number: int, point: str, store: Path, program: str, open_desk: Callable[[Path], Desk]
+) -> None:
+    """Without plans those requests that were performed are taken back at the next start, and the journal says so."""
+    run_killed(store, program, PLANS["new concept"], point, number)
+    desk = open_desk(store)
+    (settled,) = desk.found.settled
+    done = number - (point == "before")
+    kept = desk.journal.plan(settled.id)
+    assert kept is not None and [it.state for it in kept.steps] == [it.state for it in settled.steps]
+    assert kept.state == settled.state == ("lost" if done < 3 else "done")
+    made = kept.steps[0].answer
+    assert made is not None and desk.mirror.is_live(made["ok"]) == (done == 3)
+    if done < 3:
+        assert [it.state for it in kept.steps] == ["undone"] * done + ["lost"] * (3 - done)
+        assert kept.taken_back_by is not None
+    assert desk.journal.open_plans() == []
+    desk.stop()
+    assert check(store) == []
+
+
+def test_killed_in_an_import(store: Path, program: str, open_desk: Callable[[Path], Desk]) -> None:
+    desk = open_desk(store)
+    rows = b"key,record,concept\n" + b"".join(b"k%d,Record %d,5\n" % (it, it) for it in range(3))
+    finish = desk.journal.finish
+    desk.journal.finish = lambda *_, **__: None  # type: ignore[assignment]
+    desk.bring_in("anna", rows, "rows.csv")
+    desk.journal.finish = finish  # type: ignore[assignment]
+    desk.program.stop()
+    desk.journal.close()
+    again = open_desk(store)
+    (settled,) = again.found.settled
+    assert settled.state == "done" and settled.steps[0].answer == {"outcomes": {}, "first": 1, "last": 3}
+    assert again.found.changed == ()
+    assert again.perform_take_back("ben", again.take_back(settled)).is_done
+    assert again.mirror.postings.count_at(5) == 0
+
+
+def test_changes_by_other_means(store: Path, program: str, open_desk: Callable[[Path], Desk]) -> None:
+    """What another program changed while the desk was down is found, and is in the history of what it concerns."""
+    desk = open_desk(store)
+    assert desk.perform("anna", "test", PLANS["addLabel"]).is_done
+    mark = desk.seen.mark(5, "labels")
+    desk.stop()
+    script = b'{"do":"addLabel","owner":5,"kind":"alt","tag":"en","text":"Fiddles of old"}\n'
+    script += b'{"do":"post","key":"x","record":"X","concept":11}\n'
+    subprocess.run([program, "--db", str(store), "script"], input=script, stdout=subprocess.DEVNULL, check=True)
+    assert check(store) == [f"concept {it} was changed by other means" for it in (5, 11)]
+    again = open_desk(store)
+    assert again.found.changed == (5, 11) and again.found.restored is None
+    assert [it.action for it in again.history.recent(number=5)] == [BY_OTHERS, "test"]
+    conflict = again.seen.conflict(mark)
+    assert conflict is not None and [it.action for it in conflict.plans] == [BY_OTHERS]
+    again.stop()
+    assert check(store) == []
+    assert open_desk(store).found.changed == ()
+
+
+def test_restored_backup(store: Path, program: str, open_desk: Callable[[Path], Desk]) -> None:
+    desk = open_desk(store)
+    assert desk.perform("anna", "test", PLANS["addLabel"]).is_done
+    desk.stop()
+    backup = {it: it.read_bytes() for it in store.parent.glob(f"{store.name}*")}
+    stopped = last_stop(store)
+    desk = open_desk(store)
+    assert desk.perform("anna", "test", PLANS["concept"]).is_done
+    desk.stop()
+    for it in store.parent.glob(f"{store.name}*"):
+        it.unlink()
+    for it, data in backup.items():
+        it.write_bytes(data)
+    assert any("restored from a backup" in it for it in check(store))
+    again = open_desk(store)
+    assert again.found.restored == stopped and again.found.changed
+    again.stop()
+    assert open_desk(store).found.restored is None
+
+
+def last_stop(store: Path) -> str:
+    """The time at which a desk over a store has stopped last."""
+    with closing(sqlite3.connect(journal_of(store))) as rows:
+        return str(rows.execute("SELECT at FROM stop ORDER BY id DESC").fetchone()[0])

@@ -1,0 +1,119 @@
+"""Tests proposals and comments: a reader proposes, an editor decides, and both names are kept."""
+from __future__ import annotations
+
+import re
+
+import pytest
+from clients import Client, Site, text_of
+from test_changes import number
+
+
+@pytest.fixture
+def rita(site: Site) -> Client:
+    """A reader."""
+    return site.client("rita")
+
+
+def propose(client: Client, **values: str) -> int:
+    """Proposes something, and returns the number of the proposal."""
+    answer = client.post("/propose", {"form": "propose", "reason": "Visitors say so.", "tag": "en", **values})
+    assert answer.status_code == 303, text_of(answer)
+    found = re.search(r"/proposals/([0-9]+)", answer.headers["Location"])
+    assert found
+    return int(found[1])
+
+
+def test_an_accepted_term_is_there_under_both_names(site: Site, rita: Client) -> None:
+    violins = number(site, "Violins")
+    made = propose(rita, concept=str(violins), kind="alt", text="Folk violins")
+    ben = site.client("ben")
+    assert "Folk violins" in text_of(ben.get("/proposals")) and "Visitors say so." in text_of(ben.get("/proposals"))
+    assert rita.post(f"/proposals/{made}/accept", {"form": "accept"}).status_code == 403
+    assert ben.post(f"/proposals/{made}/accept", {"form": "accept", "word": "Thanks"}).status_code == 303
+    view = site.desk.mirror.view(violins)
+    assert view and ("en", "Folk violins") in view.alt
+    page = text_of(ben.get("/changes"))
+    assert "proposed by rita" in page and "ben" in page
+    assert "Thanks" in text_of(rita.get(f"/proposals/{made}"))
+    assert "Folk violins" in text_of(ben.get("/proposals?state=accepted"))
+
+
+def test_a_preferred_term_keeps_the_old_one(site: Site, rita: Client) -> None:
+    violins = number(site, "Violins")
+    made = propose(rita, concept=str(violins), kind="pref", text="Violins and others")
+    site.client("anna").post(f"/proposals/{made}/accept", {"form": "accept"})
+    view = site.desk.mirror.view(violins)
+    assert view and ("en", "Violins and others") in view.pref and ("en", "Violins") in view.alt
+
+
+def test_a_new_concept_below(site: Site, rita: Client) -> None:
+    violins = number(site, "Violins")
+    made = propose(rita, concept=str(violins), kind="concept", text="Baroque violins")
+    site.client("anna").post(f"/proposals/{made}/accept", {"form": "accept"})
+    view = site.desk.mirror.view(number(site, "Baroque violins"))
+    assert view and view.broader == (violins,)
+
+
+def test_a_new_top_concept_and_a_link(site: Site, rita: Client) -> None:
+    made = propose(rita, kind="concept", text="Lutes", scheme="1")
+    site.client("anna").post(f"/proposals/{made}/accept", {"form": "accept"})
+    lutes, harps = number(site, "Lutes"), number(site, "Harps")
+    made = propose(rita, concept=str(lutes), kind="related", other="Harps", other_number=str(harps))
+    site.client("anna").post(f"/proposals/{made}/accept", {"form": "accept"})
+    view = site.desk.mirror.view(lutes)
+    assert view and view.related == (harps,)
+
+
+def test_declined_with_a_word(site: Site, rita: Client) -> None:
+    made = propose(rita, concept=str(number(site, "Harps")), kind="words", text="")
+    ben = site.client("ben")
+    assert ben.post(f"/proposals/{made}/decline", {"form": "decline", "word": " "}).status_code == 409
+    assert ben.post(f"/proposals/{made}/decline", {"form": "decline", "word": "We have it."}).status_code == 303
+    assert "We have it." in text_of(rita.get(f"/proposals/{made}"))
+    assert ben.post(f"/proposals/{made}/accept", {"form": "accept"}).status_code == 303
+    assert "declined" in text_of(rita.get(f"/proposals/{made}"))
+
+
+def test_a_proposal_that_is_refused_stays_open(site: Site, rita: Client) -> None:
+    made = propose(rita, concept=str(number(site, "Harps")), kind="pref", text="Violins")
+    answer = site.client("ben").post(f"/proposals/{made}/accept", {"form": "accept"})
+    assert answer.status_code == 409 and "Violins" in text_of(answer)
+    assert "open" in text_of(rita.get(f"/proposals/{made}"))
+
+
+def test_withdrawn_by_its_author_alone(site: Site, rita: Client) -> None:
+    made = propose(rita, concept=str(number(site, "Harps")), kind="words")
+    assert site.client("anna").post(f"/proposals/{made}/withdraw").status_code == 403
+    assert rita.post(f"/proposals/{made}/withdraw").status_code == 303
+    assert "withdrawn" in text_of(rita.get(f"/proposals/{made}"))
+
+
+@pytest.mark.parametrize(
+    ("values", "status"),
+    [
+        ({"kind": "alt", "text": "x", "reason": " "}, 409),
+        ({"kind": "alt", "text": " "}, 409),
+        ({"kind": "fly", "text": "x"}, 400),
+        ({"kind": "broader", "other": "nothing is called so"}, 409),
+    ],
+    ids=["no reason", "no text", "no kind", "no concept"],
+)
+def test_incomplete_proposals(site: Site, rita: Client, values: dict[str, str], status: int) -> None:
+    sent = {"form": "propose", "concept": str(number(site, "Harps")), "reason": "r", "tag": "en", **values}
+    answer = rita.post("/propose", sent)
+    assert answer.status_code == status
+    if status == 409:
+        assert 'role="alert"' in answer.text
+
+
+def test_comments(site: Site, rita: Client) -> None:
+    harps = number(site, "Harps")
+    assert rita.post(f"/c/{harps}/comments", {"text": "See <b>Lyres</b>, too"}).status_code == 303
+    page = rita.get(f"/c/{harps}")
+    assert "See &lt;b&gt;Lyres&lt;/b&gt;, too" in page.text
+    found = re.search(rf"/c/{harps}/comments/([0-9]+)/remove", page.text)
+    assert found
+    assert site.client("ben").post(found[0]).status_code == 403
+    assert rita.post(found[0]).status_code == 303
+    assert "Lyres" not in rita.get(f"/c/{harps}").text
+    assert rita.post("/c/99999/comments", {"text": "x"}).status_code == 404

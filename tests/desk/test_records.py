@@ -1,0 +1,158 @@
+"""Records: indexed, re-indexed and withdrawn, at a concept, at the record, and many at once."""
+from __future__ import annotations
+
+import pytest
+from reader import Reader
+from thesaurus_desk.mirror import Posting
+from thesaurus_desk.performing import Desk
+
+BOWED, VIOLINS, VIOLAS, FIDDLES = 4, 5, 6, 31
+STAINER = "Violin, Jacob Stainer, Absam 1668"
+
+
+def post_many(desk: Desk, count: int, concept: int = VIOLINS) -> None:
+    requests = [{"do": "post", "key": f"k-{n}", "record": f"Violin {n:04}", "concept": concept} for n in range(count)]
+    assert desk.perform("anna", "post", requests, may_cut=True).is_done
+
+
+def standing(desk: Desk, record: str) -> list[Posting]:
+    return [it for it in desk.mirror.postings.of_record(record) if not it.is_withdrawn]
+
+
+def test_a_record_is_indexed_at_a_concept(reader: Reader, desk: Desk) -> None:
+    form = reader.get(f"/c/{VIOLINS}").form("post")
+    page = reader.send(form, record=STAINER)
+    assert STAINER in page.text and "1 record" in page.text
+    assert standing(desk, STAINER)[0].key == form.value("key")
+    page = reader.send(form, record=STAINER)
+    assert page.status == 409 and "is already indexed with Violins" in page.form("post").text
+    assert page.form("post").invalid == {"record"}
+
+
+@pytest.mark.parametrize(
+    ("fields", "field", "part"),
+    [
+        ({"record": ""}, "record", "Write the name of the record"),
+        ({"record": "x" * 129}, "record", "has 1 to 128 bytes"),
+        ({"record": "Other", "key": "a b"}, "key", "“a b” can’t be a key"),
+        ({"record": "Other", "key": "k-0"}, "key", "belongs to the record Violin 0000, indexed with Violas"),
+    ],
+)
+def test_a_record_that_is_refused(reader: Reader, desk: Desk, fields: dict[str, str], field: str, part: str) -> None:
+    post_many(desk, 1, VIOLAS)
+    page = reader.send(reader.get(f"/c/{VIOLINS}").form("post"), **fields)
+    form = page.form("post")
+    assert page.status == 409 and part in form.text and form.invalid == {field}
+    assert form.value("record") == fields["record"] and desk.mirror.postings.count_at(VIOLINS) == 0
+
+
+def test_a_record_is_withdrawn_at_a_concept(reader: Reader, desk: Desk) -> None:
+    post_many(desk, 2)
+    page = reader.send(reader.get(f"/c/{VIOLINS}").form("withdraw", posting="1"))
+    assert "Violin 0001" in page.text and desk.mirror.postings.count_at(VIOLINS) == 1
+    stale = page.form("withdraw", posting="2")
+    reader.send(stale)
+    page = reader.send(stale)
+    assert page.status == 409 and "has been withdrawn" in page.alerts
+
+
+def test_records_in_pages_with_those_below(reader: Reader, desk: Desk) -> None:
+    post_many(desk, 250)
+    page = reader.get(f"/c/{VIOLINS}?page=2")
+    assert "Violin 0200" in page.text and "Violin 0199" not in page.text
+    assert f"/c/{VIOLINS}?page=1#records" in page.links()
+    page = reader.get(f"/c/{BOWED}")
+    assert "0 records" in page.text and "250 with narrower concepts" in page.text and "Violin 0001" not in page.text
+    page = reader.get(f"/c/{BOWED}?with=below&page=1")
+    assert "Violin 0100" in page.text and "Violin 0099" not in page.text and f"/c/{VIOLINS}" in page.links()
+    assert f"/c/{BOWED}?with=below&amp;page=2#records" in page.links()
+
+
+def test_a_record_has_its_page(reader: Reader, desk: Desk) -> None:
+    page = reader.get(f"/record?name={STAINER}")
+    assert "It isn’t indexed yet." in page.text
+    page = reader.send(page.form("add"), other="violins")
+    page = reader.send(page.form("add"), other="Violas")
+    assert {it.place for it in standing(desk, STAINER)} == {VIOLINS, VIOLAS}
+    form = page.form("reindex-1")
+    page = reader.send(form, other="Fiddles")
+    assert {it.place for it in standing(desk, STAINER)} == {FIDDLES, VIOLAS} and "Withdrawn" in page.text
+    assert len(desk.history.recent()[0].steps) == 2
+    page = reader.send(page.form("withdraw", posting="2"))
+    assert {it.place for it in standing(desk, STAINER)} == {FIDDLES}
+
+
+@pytest.mark.parametrize(
+    ("form", "other", "part"),
+    [
+        ("add", "Violins", "is already indexed with Violins"),
+        ("add", "Trombones", "No concept has the term"),
+        ("reindex-1", "Violins", "is already indexed with Violins"),
+        ("reindex-1", "", "The field is empty"),
+    ],
+)
+def test_what_is_refused_at_a_record(reader: Reader, desk: Desk, form: str, other: str, part: str) -> None:
+    page = reader.get(f"/record?name={STAINER}")
+    page = reader.send(page.form("add"), other="Violins")
+    page = reader.send(page.form(form), other=other)
+    assert page.status == 409 and part in page.form(form).text and page.form(form).invalid == {"other"}
+    assert [it.place for it in standing(desk, STAINER)] == [VIOLINS]
+
+
+def test_records_are_found_by_a_part_of_their_names(reader: Reader, desk: Desk) -> None:
+    post_many(desk, 60)
+    page = reader.get("/record?like=violin")
+    assert "Violin 0000" in page.text and "and more" in page.text
+    page = reader.get("/record?like=0042")
+    assert "Violin 0042" in page.text and "Violin 0041" not in page.text
+    assert "No record is indexed" in reader.get("/record?like=tuba").text
+
+
+def test_a_posting_shows_its_moves(reader: Reader, desk: Desk) -> None:
+    post_many(desk, 1, FIDDLES)
+    assert desk.perform("anna", "merge", [{"do": "merge", "source": FIDDLES, "target": VIOLINS}]).is_done
+    page = reader.get("/posting/1")
+    assert "Violin 0000" in page.text and "k-0" in page.text and "move 1" in page.text
+    assert reader.get("/posting/2").status == 404
+
+
+def test_ticked_records_are_re_indexed_as_one(reader: Reader, desk: Desk) -> None:
+    post_many(desk, 150)
+    page = reader.send(reader.get(f"/c/{VIOLINS}/records").form("reindex"), ("go", "1"), posting=["5"])
+    page = reader.send(page.form("reindex"), ("do", "ticked"), posting=["120"], other="Violas")
+    assert desk.mirror.postings.count_at(VIOLINS) == 148 and desk.mirror.postings.count_at(VIOLAS) == 2
+    assert [it.place for it in standing(desk, "Violin 0004")] == [VIOLAS]
+    assert len(desk.history.recent()[0].steps) == 4 and page.path == f"/c/{VIOLINS}/records"
+
+
+def test_all_records_are_re_indexed(reader: Reader, desk: Desk) -> None:
+    post_many(desk, 150)
+    reader.send(reader.get("/record?name=Violin 0007").form("add"), other="Violas")
+    page = reader.send(reader.get(f"/c/{VIOLINS}/records").form("reindex"), ("do", "all"), other="Violas")
+    assert page.path == f"/c/{VIOLINS}" and desk.mirror.postings.count_at(VIOLINS) == 0
+    assert desk.mirror.postings.count_at(VIOLAS) == 150 and len(standing(desk, "Violin 0007")) == 1
+
+
+def test_ticked_records_are_withdrawn(reader: Reader, desk: Desk) -> None:
+    post_many(desk, 3)
+    reader.send(reader.get(f"/c/{VIOLINS}/records").form("reindex"), ("do", "withdraw"), posting=["1", "3"])
+    assert desk.mirror.postings.numbers_at(VIOLINS) == [2]
+
+
+@pytest.mark.parametrize(
+    ("fields", "do", "part"),
+    [
+        ({"other": "Violas"}, "ticked", "No record is ticked"),
+        ({"other": "Trombones", "posting": ["1"]}, "ticked", "No concept has the term"),
+        ({"other": "Violins", "posting": ["1"]}, "ticked", "indexed with this concept already"),
+        ({}, "withdraw", "No record is ticked"),
+    ],
+)
+def test_what_is_refused_for_many(
+    reader: Reader, desk: Desk, fields: dict[str, str | list[str]], do: str, part: str
+) -> None:
+    post_many(desk, 2)
+    page = reader.send(reader.get(f"/c/{VIOLINS}/records").form("reindex"), ("do", do), **fields)
+    form = page.form("reindex")
+    assert page.status == 409 and part in form.text and desk.mirror.postings.count_at(VIOLINS) == 2
+    assert form.values("posting") == fields.get("posting", [])

@@ -1,0 +1,100 @@
+"""The words of the pages: three languages with the same keys and placeholders, and each key that a page asks for."""
+from __future__ import annotations
+
+import re
+import string
+from pathlib import Path
+
+import pytest
+import thesaurus_desk
+from markupsafe import Markup
+from thesaurus_desk.words import FOLDER, LANGUAGES, PLURAL, Words, best_language, texts_of
+
+PACKAGE = Path(thesaurus_desk.__file__).parent
+# A key as the whole first argument of the call: those that are put together are tried by the pages' own tests.
+CALLS = re.compile(r"""(?:\b_|\bsay|g\.words)\(\s*["']([a-z_]+(?:\.\w+)+)["']\s*[,)]""")
+OTHERS = [it for it in LANGUAGES if it != "en"]
+
+
+def placeholders(text: str) -> set[str]:
+    """Returns the names in braces."""
+    return {name for _, name, _, _ in string.Formatter().parse(text) if name is not None}
+
+
+def forms_of(text: str | dict[str, str]) -> dict[str, str]:
+    """Returns the forms of a text: one, or singular and plural."""
+    return text if isinstance(text, dict) else {"": text}
+
+
+@pytest.mark.parametrize("language", OTHERS)
+def test_the_same_keys(language: str) -> None:
+    english, other = texts_of("en"), texts_of(language)
+    assert english and {*english} ^ {*other} == set()
+    assert {it.name for it in (FOLDER / "en").iterdir()} == {it.name for it in (FOLDER / language).iterdir()}
+
+
+@pytest.mark.parametrize("language", LANGUAGES)
+def test_the_same_placeholders(language: str) -> None:
+    for key, text in texts_of("en").items():
+        mine, theirs = forms_of(text), forms_of(texts_of(language)[key])
+        assert mine.keys() == theirs.keys(), key
+        for form, words in theirs.items():
+            assert bool(words) == bool(mine[form]) and placeholders(words) <= placeholders(mine[form]) | {"n"}, key
+            if form != "one":
+                assert placeholders(words) == placeholders(mine[form]), key
+
+
+@pytest.mark.parametrize("language", LANGUAGES)
+def test_texts_are_whole(language: str) -> None:
+    for key, text in texts_of(language).items():
+        if isinstance(text, dict):
+            assert set(text) == PLURAL and "{n}" in text["other"], key
+        for words in forms_of(text).values():
+            assert "<" not in words and "  " not in words.replace("  ( / )", "") and words == words.strip(), key
+            assert "'" not in words or language == "fr", f"{key}: a typewriter's apostrophe"
+
+
+def files() -> list[Path]:
+    """Returns the files that ask for words."""
+    return [*PACKAGE.rglob("*.py"), *PACKAGE.rglob("*.html")]
+
+
+def test_each_key_is_there() -> None:
+    asked = {(key, it.name) for it in files() for key in CALLS.findall(it.read_text(encoding="utf-8"))}
+    assert len(asked) > 60
+    assert [(key, name) for key, name in sorted(asked) if key not in texts_of("en")] == []
+
+
+def test_pages_have_no_words_of_their_own() -> None:
+    found = []
+    for path in PACKAGE.rglob("*.html"):
+        text = re.sub(r"\{% block kind %\}.*?\{% endblock %\}", "", path.read_text(encoding="utf-8"))
+        text = re.sub(r"\{#.*?#\}|\{%.*?%\}|\{\{.*?\}\}", "", text, flags=re.S)
+        text = re.sub(r"""<[^>]*>|[\w-]+="[^"]*\"""", "\n", text)
+        found += [(path.name, it.strip()) for it in text.splitlines() if re.search(r"[A-Za-zäöüé]{3}", it)]
+    assert found == []
+
+
+def test_plurals_and_counts() -> None:
+    for language, none, one, many in (
+        ("en", "0 concepts", "1 concept", "12,345 concepts"),
+        ("de", "0 Begriffe", "1 Begriff", "12.345 Begriffe"),
+        ("fr", "0 concept", "1 concept", "12\u202f345 concepts"),
+    ):
+        words = Words(language)
+        assert [words("home.concepts", n=it) for it in (0, 1, 12345)] == [none, one, many]
+
+
+def test_values_are_escaped() -> None:
+    words = Words("en")
+    assert words("find.new", query="<b>") == "New concept “<b>”"
+    assert not hasattr(words("find.new", query="<b>"), "__html__")
+    marked = words("people.added", name="<b>", role=Markup("<i>head</i>"))
+    assert str(marked) == "&lt;b&gt; may come in now, as: <i>head</i>." and hasattr(marked, "__html__")
+    assert words("find.new", query="{0.__class__}") == "New concept “{0.__class__}”"
+    assert words("no.such.key") == "no.such.key" and not words.has("no.such.key") and words.has("find.new")
+
+
+def test_the_best_language() -> None:
+    assert best_language(["de-AT", "en"]) == "de" and best_language(["es", "fr-CA"]) == "fr"
+    assert best_language(["es"]) == best_language([]) == "en" and Words("xx").language == "en"
