@@ -1,14 +1,18 @@
 """What `rt ci` leaves of the libraries that it proved, for `rt check`."""
+from __future__ import annotations
+
 import functools
 import shutil
 import sys
 from pathlib import Path
 
 
-def take_libraries(root):
-    """Has `rt check` take the libraries in this repository, which `rt ci` proved of the same sources: writes beside each the sum by which it
-    knows those that it built itself. Where the toolchain keeps that in another way, it builds each once more. Returns why, or None."""
-    sys.path.insert(0, str(Path(shutil.which("rt")).resolve().parent))
+def take_libraries(root: Path) -> str | None:
+    """Has `rt check` take the libraries in this repository, which `rt ci` proved of the same sources: writes beside
+    each the sum by which it knows those that it built itself. Where the toolchain keeps that in another way, it builds
+    each once more. Returns why, or None.
+    """
+    sys.path.insert(0, str(Path(shutil.which("rt") or "").resolve().parent))
     try:
         import rtlib
 

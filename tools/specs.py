@@ -1,9 +1,13 @@
-"""Reads the definitions in crates/*/specs and the contracts in crates/*/src, for the tools that make lists of them and for
-tests/sources/definitions."""
+"""Reads the definitions in crates/*/specs and the contracts in crates/*/src, for the tools that make lists of them and
+for tests/sources/definitions."""
+from __future__ import annotations
+
 import argparse
 import functools
 import re
 import sys
+from collections.abc import Iterable, Iterator
+from dataclasses import dataclass, field
 from pathlib import Path
 from typing import NamedTuple
 
@@ -16,9 +20,12 @@ CLAUSE = re.compile(r" *(?:ensures|requires|decreases)\b")
 OWNER = re.compile(r"(?:pub )?(?:impl|trait)\b")
 
 
-def arguments(more=None):
-    """The arguments of a tool that makes a list, whose description is its help: --write, and further options, each with what it does."""
-    parser = argparse.ArgumentParser(description=sys.modules["__main__"].__doc__, formatter_class=argparse.RawDescriptionHelpFormatter)
+def arguments(more: dict[str, str] | None = None) -> argparse.Namespace:
+    """The arguments of a tool that makes a list, whose description is its help: --write, and further options, each with
+    what it does."""
+    parser = argparse.ArgumentParser(
+        description=sys.modules["__main__"].__doc__, formatter_class=argparse.RawDescriptionHelpFormatter
+    )
     for name, text in {"--write": "write what is made to the page", **(more or {})}.items():
         parser.add_argument(name, action="store_true", help=text)
     return parser.parse_args()
@@ -26,9 +33,17 @@ def arguments(more=None):
 
 class Place(NamedTuple):
     """Where a definition is."""
+
     crate: str
     file: str
     name: str
+
+
+class Imports(NamedTuple):
+    """The definitions that a file imports, by their names there, and the files that it imports whole."""
+
+    names: dict[str, Place]
+    files: dict[str, tuple[str, str]]
 
 
 class Definition(NamedTuple):
@@ -38,6 +53,7 @@ class Definition(NamedTuple):
 
 class Function(NamedTuple):
     """A function of the sources: whether other crates can call it, its comment, and its clauses as a text."""
+
     crate: str
     owner: str
     name: str
@@ -46,9 +62,10 @@ class Function(NamedTuple):
     clauses: str
 
 
-def imported(lines):
+def imported(lines: Iterable[str]) -> Imports:
     """The definitions that lines of `use` import, by their names here; and the files that they import whole."""
-    names, files = {}, {}
+    names: dict[str, Place] = {}
+    files: dict[str, tuple[str, str]] = {}
     for line in lines:
         if not (use := USE.match(line.strip())):
             continue
@@ -58,12 +75,14 @@ def imported(lines):
             names[(name or was).strip()] = Place(crate, file, was.strip())
         if alias:
             files[alias] = (crate, file)
-    return names, files
+    return Imports(names, files)
 
 
-def read_file(path):
+def read_file(path: Path) -> tuple[dict[str, Definition], str]:
     """The definitions of a file of specs, by name, and the comment that it begins with."""
-    found, comment, name, head = {}, [], None, None
+    found: dict[str, Definition] = {}
+    comment: list[str] = []
+    name, head = None, ""
     for line in path.read_text(encoding="utf-8").splitlines():
         text = line.strip()
         if text.startswith("--"):
@@ -83,38 +102,52 @@ def read_file(path):
     return found, head
 
 
+@dataclass
 class Specs:
-    """All definitions, with what each uses."""
+    """All definitions, with what each uses; the comments and the imports of their files; and the places that a file
+    passes on."""
 
-    def __init__(self):
-        self.all, self.heads, self.imports, self.passed = {}, {}, {}, {}
-        for path in sorted(ROOT.glob("crates/*/specs/*.antt")):
-            crate, file = path.parts[-3], path.stem
-            lines = path.read_text(encoding="utf-8").splitlines()
-            names, self.heads[crate, file] = read_file(path)
-            self.all.update({Place(crate, file, it): definition for it, definition in names.items()})
-            self.imports[crate, file] = imported(lines)
-            passed, _ = imported(it for it in lines if it.startswith("pub use"))
-            self.passed.update({Place(crate, file, it): place for it, place in passed.items()})
-        self.uses = {it: set(self.resolved(definition.body, *self.imports[it[:2]], it)) - {it} for it, definition in self.all.items()}
+    all: dict[Place, Definition] = field(default_factory=dict)
+    heads: dict[tuple[str, str], str] = field(default_factory=dict)
+    imports: dict[tuple[str, str], Imports] = field(default_factory=dict)
+    passed: dict[Place, Place] = field(default_factory=dict)
 
-    def resolved(self, text, names, files, within=None):
+    def add_file(self, path: Path) -> None:
+        crate, file = path.parts[-3], path.stem
+        lines = path.read_text(encoding="utf-8").splitlines()
+        names, self.heads[crate, file] = read_file(path)
+        self.all.update({Place(crate, file, it): definition for it, definition in names.items()})
+        self.imports[crate, file] = imported(lines)
+        passed = imported(it for it in lines if it.startswith("pub use")).names
+        self.passed.update({Place(crate, file, it): place for it, place in passed.items()})
+
+    @functools.cached_property
+    def uses(self) -> dict[Place, set[Place]]:
+        return {
+            it: set(self.resolved(definition.body, self.imports[it.crate, it.file], it)) - {it}
+            for it, definition in self.all.items()
+        }
+
+    def resolved(self, text: str, imports: Imports, within: Place | None = None) -> Iterator[Place]:
         """The definitions that a text names, given what its file imports."""
         text = re.sub(r"--.*", "", text)
         for word in WORD.findall(text):
             first, _, second = word.partition(".")
-            if first in files and second:
-                place = Place(*files[first], second)
+            place: Place | None
+            if first in imports.files and second:
+                place = Place(*imports.files[first], second)
             else:
-                place = names.get(word) or names.get(first) or (within and Place(*within[:2], first))
+                own = Place(within.crate, within.file, first) if within else None
+                place = imports.names.get(word) or imports.names.get(first) or own
             while place in self.passed:
                 place = self.passed[place]
             if place in self.all:
                 yield place
 
-    def reached(self, start):
+    def reached(self, start: Iterable[Place]) -> set[Place]:
         """The definitions that these use, by however many steps, and these."""
-        found, left = set(), list(start)
+        found: set[Place] = set()
+        left = list(start)
         while left:
             place = left.pop()
             if place not in found:
@@ -123,29 +156,37 @@ class Specs:
         return found
 
     @functools.cached_property
-    def cited(self):
-        """The definitions that public contracts cite: clauses of public functions and of traits' methods, views of types, and what an
-        impl gives for a relation of its trait."""
-        found = set()
+    def cited(self) -> set[Place]:
+        """The definitions that public contracts cite: clauses of public functions and of traits' methods, views of
+        types, and what an impl gives for a relation of its trait."""
+        found: set[Place] = set()
         for path in sorted(ROOT.glob("crates/*/src/**/*.rt")):
             lines = path.read_text(encoding="utf-8").splitlines()
             texts = [it.clauses for it in functions_of(path) if it.is_public]
             texts += [it for it in lines if re.match(r"\s*ghost (?!coded|invariant|use)\w+ =", it)]
-            found.update(self.resolved("\n".join(texts), *imported(lines)))
+            found.update(self.resolved("\n".join(texts), imported(lines)))
         return found
 
-    def cited_by(self, crate, name):
+    def cited_by(self, crate: str, name: str) -> set[Place]:
         """The definitions that the clauses of a crate's functions of this name cite."""
-        found = set()
+        found: set[Place] = set()
         for path in sorted(ROOT.glob(f"crates/{crate}/src/**/*.rt")):
             lines = path.read_text(encoding="utf-8").splitlines()
             for it in functions_of(path):
                 if name in (it.name, f"{it.owner}::{it.name}") and it.is_public:
-                    found.update(self.resolved(it.clauses, *imported(lines)))
+                    found.update(self.resolved(it.clauses, imported(lines)))
         return found
 
 
-def clauses_below(lines, at):
+def read_specs() -> Specs:
+    """Reads the definitions of all crates."""
+    found = Specs()
+    for path in sorted(ROOT.glob("crates/*/specs/*.antt")):
+        found.add_file(path)
+    return found
+
+
+def clauses_below(lines: list[str], at: int) -> str:
     """The clauses below the head of a function."""
     text, inside = [], 0
     for line in lines[at:]:
@@ -160,11 +201,12 @@ def clauses_below(lines, at):
     return "\n".join(text)
 
 
-def functions_of(path):
+def functions_of(path: Path) -> Iterator[Function]:
     """The functions of a file of sources."""
     lines = path.read_text(encoding="utf-8").splitlines()
     crate = path.relative_to(ROOT / "crates").parts[0]
-    owner, is_open, comment = "", False, []
+    comment: list[str] = []
+    owner, is_open = "", False
     for at, line in enumerate(lines):
         if OWNER.match(line):
             head = re.split(r"\{|\bwhere\b", line)[0]
@@ -186,7 +228,7 @@ def functions_of(path):
             comment = []
 
 
-def first_sentence(text):
+def first_sentence(text: str) -> str:
     """The first sentence of a comment."""
     match = re.match(r"(.+?\.)(?= [A-Z`(]|$)", text)
     return match[1] if match else text

@@ -3,11 +3,12 @@
   command_line, files, requests        how a tool is called and ends, what it reads and writes, JSON
   program, server                      a run of the program, and one that serves
   kinds, texts                         the kinds of things, and which texts are alike
-  ntriples, rdf_files, skos            RDF: N-Triples, its other forms, and a vocabulary of SKOS
+  ntriples, rdf_files, bounded, skos   RDF: N-Triples, its other forms, and a vocabulary of SKOS
   vocabulary, link_rules, converting   what a converter makes of a vocabulary, and the rules that it may break
   script_writer                        the script that loads a vocabulary
   named_scripts, journal, loader,      such a script, and how it is loaded
   recovery
+  backups, holding                     a folder of backups, and a program that waits while its store is copied
   store, opening, table_store,         a thesaurus as objects, and where it comes from
   export_store, served_store
   reports, changes                     questions about a thesaurus

@@ -6,7 +6,7 @@ from collections.abc import Iterator
 
 from thesaurus_tools.command_line import REFUSED, ToolError
 from thesaurus_tools.kinds import BROADER
-from thesaurus_tools.store import Link, Store, link_order
+from thesaurus_tools.store import Link, Posting, Store, link_order
 
 
 def changed_resources(then: Store, now: Store) -> Iterator[tuple]:
@@ -26,11 +26,13 @@ def changed_labels(then: Store, now: Store) -> Iterator[tuple]:
     """Yields the labels that were added and dropped."""
     before, after = set(then.labels), set(now.labels)
     for label in sorted(before ^ after):
-        yield f"label {'added' if label in after else 'dropped'}", label.owner, f"{label.kind} {label.tag}: {label.text}"
+        how = "added" if label in after else "dropped"
+        yield f"label {how}", label.owner, f"{label.kind} {label.tag}: {label.text}"
 
 
 def seen_links(store: Store, like: Store) -> set[Link]:
-    """Returns the links of a store without the plain broader ones beside typed ones if the other store doesn't have those."""
+    """Returns the links of a store without the plain broader ones beside typed ones if the other store doesn't have
+    those."""
     typed = {it[1:] for it in store.links if it.kind in BROADER[1:]}
     return {it for it in store.links if like.has_plain or it.kind != "broader" or it[1:] not in typed}
 
@@ -46,9 +48,10 @@ def changed_links(then: Store, now: Store, langs: list[str]) -> Iterator[tuple]:
 def changed_postings(then: Store, now: Store) -> Iterator[tuple]:
     """Yields what became of each posting. Each number of the earlier state is one of the later state."""
     for before, after in itertools.zip_longest(then.each_posting(), now.each_posting()):
+        assert after
         if before is None:
             yield "posted", after.place, f"posting {after.number} {after.key}: {after.record}"
-            before = after._replace(is_withdrawn=False)
+            before = Posting(after.number, after.key, after.record, after.first, after.place, is_withdrawn=False)
         if before.place != after.place:
             yield "moved", after.place, f"posting {after.number} {after.key} from {before.place}"
         if before.is_withdrawn != after.is_withdrawn:

@@ -22,9 +22,12 @@ class ToolError(Exception):
 
 
 def parser_of(name: str, text: str) -> argparse.ArgumentParser:
-    """Returns a parser whose help says what a tool does: the first paragraph of the text before the options, the others after them."""
+    """Returns a parser whose help says what a tool does: the first paragraph of the text before the options, the others
+    after them."""
     about, _, more = text.partition("\n\n")
-    return argparse.ArgumentParser(prog=name, description=about, epilog=more, formatter_class=argparse.RawDescriptionHelpFormatter)
+    return argparse.ArgumentParser(
+        prog=name, description=about, epilog=more, formatter_class=argparse.RawDescriptionHelpFormatter
+    )
 
 
 def natural(text: str) -> int:
@@ -43,11 +46,13 @@ def languages(text: str) -> list[str]:
 
 
 def run(name: str, main: Callable[[], int]) -> NoReturn:
-    """Runs a tool, reports the error that ends it, and exits with its status. What it prints is UTF-8, whatever the terminal has."""
+    """Runs a tool, reports the error that ends it, and exits with its status. What it prints is UTF-8, whatever the
+    terminal has."""
     if sys.stdout is None:
         sys.stdout = open(os.devnull, encoding="utf-8")  # so that a write fails
     sys.stderr = sys.stderr or open(os.devnull, "w", encoding="utf-8")
     for stream in (sys.stdout, sys.stderr):
+        assert isinstance(stream, io.TextIOWrapper)
         stream.reconfigure(encoding="utf-8", errors="backslashreplace")
     try:
         status = main()
@@ -59,7 +64,9 @@ def run(name: str, main: Callable[[], int]) -> NoReturn:
     except io.UnsupportedOperation:
         status = say(name, "standard output is closed", FAULT)
     except OSError as error:
-        status = say(name, f"{error.filename}: {error.strerror}" if error.filename else str(error.strerror or error), FAULT)
+        status = say(
+            name, f"{error.filename}: {error.strerror}" if error.filename else str(error.strerror or error), FAULT
+        )
     except KeyboardInterrupt:
         status = say(name, "interrupted", INTERRUPTED)
     try:

@@ -13,26 +13,56 @@ from thesaurus_tools.vocabulary import Finding, Vocabulary
 
 
 def add_converter_options(parser: argparse.ArgumentParser) -> None:
-    parser.add_argument("--lang", default="", metavar="TAG", help="the language of labels without a tag, and of made labels")
-    parser.add_argument("--scheme", default="", metavar="TEXT", help="the label of the scheme for concepts without one, or of a scheme without a label")
-    parser.add_argument("--qualify", choices=["parent"], help="distinguish concepts with the same label by their parent: Bass (fish)")
-    parser.add_argument("--keep-iris", action="store_true", help="give each concept an exact match to an outside concept with its old IRI")
-    codes = "give each concept its old codes as hidden labels in TAG, such as zxx, the tag of what is in no language; also beside --keep-iris"
+    parser.add_argument(
+        "--lang", default="", metavar="TAG", help="the language of labels without a tag, and of made labels"
+    )
+    parser.add_argument(
+        "--scheme",
+        default="",
+        metavar="TEXT",
+        help="the label of the scheme for concepts without one, or of a scheme without a label",
+    )
+    parser.add_argument(
+        "--qualify", choices=["parent"], help="distinguish concepts with the same label by their parent: Bass (fish)"
+    )
+    parser.add_argument(
+        "--keep-iris",
+        action="store_true",
+        help="give each concept an exact match to an outside concept with its old IRI",
+    )
+    codes = (
+        "give each concept its old codes as hidden labels in TAG, such as zxx, the tag of what is in no "
+        "language; also beside --keep-iris"
+    )
     parser.add_argument("--hidden-codes", default="", metavar="TAG", help=codes)
-    texts = "what to do with texts that aren't in the form: refuse them; trim spaces and control characters; cut them, too"
+    ends = "with --hidden-codes: the end of the IRI as a code, too, where a concept has a notation"
+    parser.add_argument("--all-codes", action="store_true", help=ends)
+    adopt = "give the concepts below one that is left out its own broader concepts"
+    parser.add_argument("--adopt", action="store_true", help=adopt)
+    texts = (
+        "what to do with texts that aren't in the form: refuse them; trim spaces and control characters; cut them, too"
+    )
     parser.add_argument("--texts", choices=["refuse", "trim", "cut"], default="refuse", help=texts)
     parser.add_argument("--drop", action="store_true", help="leave out what is lost and what breaks a rule")
     parser.add_argument("--all", action="store_true", help="list all findings of a rule, and not the first ten")
-    parser.add_argument("-o", "--output", type=Path, metavar="FILE", help="write the script to this file, and not to standard output")
+    parser.add_argument(
+        "-o", "--output", type=Path, metavar="FILE", help="write the script to this file, and not to standard output"
+    )
 
 
 # How many findings of a rule are listed, and how many of one kind of thing that is lost; how many characters of each.
 SHOWN, SHOWN_OF_KIND, LONGEST_SHOWN = 10, 3, 200
 # Options that keep what is left out otherwise, by the rule or by what is lost.
 KEPT_BY = {
-    "BadText": "--texts trim", "BadTag": "--lang TAG", "P1": "--qualify parent", "NoScheme": "--scheme TEXT",
+    "BadText": "--texts trim",
+    "BadTag": "--lang TAG",
+    "P1": "--qualify parent",
+    "NoScheme": "--scheme TEXT",
     "notation": "--hidden-codes TAG",
-    **{it: f"--as-scope {it}" for it in ("definition", "example", "note", "historyNote", "editorialNote", "changeNote")},
+    "the place": "--adopt",
+    **{
+        it: f"--as-scope {it}" for it in ("definition", "example", "note", "historyNote", "editorialNote", "changeNote")
+    },
 }
 
 
@@ -51,7 +81,11 @@ def print_findings(vocabulary: Vocabulary, given: argparse.Namespace, tool: str,
     if vocabulary.changed:
         say(tool, f"{vocabulary.changed} texts were trimmed or cut")
     kinds = dict.fromkeys(it.group() or it.rule for it in vocabulary.findings)
-    unused = [it for it in options.split() if getattr(given, it.strip("-").replace("-", "_"), None) in (None, "", [], "refuse")]
+    unused = [
+        it
+        for it in options.split()
+        if getattr(given, it.strip("-").replace("-", "_"), None) in (None, "", [], "refuse", False)
+    ]
     advice = ", ".join(f"{KEPT_BY[it]} ({it})" for it in kinds if KEPT_BY.get(it, "").split(" ")[0] in unused)
     if by_rule:
         left_out = "left out" if given.drop else "nothing is written, and --drop would leave out"
@@ -61,7 +95,8 @@ def print_findings(vocabulary: Vocabulary, given: argparse.Namespace, tool: str,
 
 def first_findings(found: list[Finding]) -> list[Finding]:
     """Returns the first findings of a rule; of what is lost the first of each kind."""
-    shown, counts = [], Counter()
+    shown: list[Finding] = []
+    counts: Counter[str] = Counter()
     for it in found:
         counts[it.group()] += 1
         if counts[it.group()] <= (SHOWN_OF_KIND if it.group() else SHOWN):
@@ -80,6 +115,8 @@ def write_script(vocabulary: Vocabulary, given: argparse.Namespace, tool: str) -
     print_findings(vocabulary, given, tool, " ".join(f"--{it.replace('_', '-')}" for it in vars(given)))
     if vocabulary.findings and not given.drop:
         return REFUSED
+    if vocabulary.findings and not vocabulary.of_kind("concept"):
+        return say(tool, "no concept would be left, so nothing is written", REFUSED)
     data = b"".join(encode(it) for it in ScriptWriter(vocabulary).requests())
     write_output(data, given.output)
     return DONE

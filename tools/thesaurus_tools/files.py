@@ -3,6 +3,7 @@ from __future__ import annotations
 
 import csv
 import io
+import os
 import sys
 from collections.abc import Iterator
 from pathlib import Path
@@ -19,15 +20,19 @@ def read_file(path: Path | str) -> bytes:
 
 
 def read_cells(path: Path | str) -> Iterator[tuple[int, list[str]]]:
-    """Yields the line and the cells of each row of a table that isn't blank: the first row shows whether commas, semicolons or tabs part them.
-    Raises ToolError with `FILE:LINE` for what is no table."""
+    """Yields the line and the cells of each row of a table that isn't blank: the first row shows whether commas,
+    semicolons or tabs part them. Raises ToolError with `FILE:LINE` for what is no table."""
     try:
         text = read_file(path).decode("utf-8-sig")
     except UnicodeDecodeError as error:
         line = error.object[: error.start].count(b"\n") + 1
         raise ToolError(f"{path}:{line}: no UTF-8; save the table as UTF-8", REFUSED) from None
     first = text.partition("\n")[0]
-    reader, line, columns = csv.reader(io.StringIO(text, newline=""), delimiter=max(",;\t", key=first.count), strict=True), 1, 0
+    reader, line, columns = (
+        csv.reader(io.StringIO(text, newline=""), delimiter=max(",;\t", key=first.count), strict=True),
+        1,
+        0,
+    )
     try:
         for cells in reader:
             if any(it.strip() for it in cells):
@@ -46,3 +51,12 @@ def write_output(data: bytes, path: Path | None) -> None:
         path.write_bytes(data)
     else:
         sys.stdout.buffer.write(data)
+
+
+def synchronize(path: Path) -> None:
+    """Waits until the disk has a file or a folder."""
+    opened = os.open(path, os.O_RDONLY)
+    try:
+        os.fsync(opened)
+    finally:
+        os.close(opened)

@@ -2,12 +2,12 @@
 from __future__ import annotations
 
 import contextlib
-import fcntl
 import os
 from collections import defaultdict, deque
 from pathlib import Path
 
 from thesaurus_tools.command_line import REFUSED, ToolError
+from thesaurus_tools.files import synchronize
 from thesaurus_tools.named_scripts import Block, Line
 from thesaurus_tools.requests import parse_json, to_json
 
@@ -31,24 +31,31 @@ class Entry:
 class Journal:
     """A file of records, each a line:
 
-    `# N`: a run began, with N resources in the store;  `> DIGEST LINE`: a line is sent, and is entry 0, 1, .. ;
-    `> DIGEST LINE ENTRY`: so it is, in place of that entry;  `= ENTRY ANSWER`: its final answer;
-    `+ ENTRY COUNT NUMBER`: so many entries from that one on were done; unless NUMBER is 0, they made the resources from it on;
-    `! ENTRY`: it wasn't performed, and may be sent again. All this is on the disk before a request is sent."""
+    `# N`: a run began, with N resources in the store;  `> DIGEST LINE`: a line is sent, and is entry 0, 1, .. ; `>
+    DIGEST LINE ENTRY`: so it is, in place of that entry;  `= ENTRY ANSWER`: its final answer; `+ ENTRY COUNT NUMBER`:
+    so many entries from that one on were done; unless NUMBER is 0, they made the resources from it on; `! ENTRY`: it
+    wasn't performed, and may be sent again. All this is on the disk before a request is sent."""
 
     def __init__(self, path: Path | None):
         # The entries of earlier runs, and how many there are with those of this run.
         self.entries: list[Entry] = []
-        self.count, self.resources, self.records, self.file = 0, 0, [], None
+        self.count, self.resources = 0, 0
+        self.records: list[str] = []
+        self.file: int | None = None
         if path:
+            import fcntl  # (a journal needs locks, which Windows hasn't)
+
             self.file = os.open(path, os.O_RDWR | os.O_CREAT | os.O_CLOEXEC, 0o644)
             with contextlib.suppress(BlockingIOError):
                 fcntl.flock(self.file, fcntl.LOCK_EX | fcntl.LOCK_NB)
-                self.read(path)
+                self.read(path, self.file)
+                if not os.fstat(self.file).st_size:
+                    # A power cut may take a new file's name, and with it all records.
+                    synchronize(path.resolve().parent)
                 return
             raise ToolError(f"{path}: another load uses this journal")
 
-    def read(self, path: Path) -> None:
+    def read(self, path: Path, file: int) -> None:
         """Reads the records, and cuts off one that a crash left unfinished."""
         data = path.read_bytes()
         whole = data.rfind(b"\n") + 1
@@ -57,11 +64,11 @@ class Journal:
                 self.read_record(*record.decode().split(" ", 2))
             except (ValueError, TypeError, IndexError, KeyError):
                 raise ToolError(f"{path}:{number}: no record of a journal", REFUSED) from None
-        if data[whole:whole + 1] not in (*RECORD_SIGNS, b""):
+        if data[whole : whole + 1] not in (*RECORD_SIGNS, b""):
             raise ToolError(f"{path}: no journal", REFUSED)
         self.count = len(self.entries)
-        os.ftruncate(self.file, whole)
-        os.lseek(self.file, 0, os.SEEK_END)
+        os.ftruncate(file, whole)
+        os.lseek(file, 0, os.SEEK_END)
 
     def read_record(self, sign: str, first: str, rest: str = "") -> None:
         if sign == "#":
@@ -104,7 +111,8 @@ class Journal:
         self.records.append(f"= {number} {to_json(answer)}\n")
 
     def note_done(self, number: int, count: int, made: int) -> None:
-        """Notes that all lines of a block were done. If they made resources, the number of the first is `made`, else that is 0."""
+        """Notes that all lines of a block were done. If they made resources, the number of the first is `made`, else
+        that is 0."""
         self.resources = max(self.resources, made + count - 1) if made else self.resources
         self.records.append(f"+ {number} {count} {made}\n")
 
@@ -122,10 +130,14 @@ class Journal:
         self.records.clear()
 
 
-def match(parts: list[Line | Block], journal: Journal, path: Path | None) -> tuple[list[tuple[Line, dict]], list[Line | Block]]:
-    """Returns the lines that have their answer, and the other lines and blocks; of these the lines get the entry that has no answer yet. Raises
-    ToolError if a line that was performed, or may have been, is no longer in the script."""
-    known, answered, others = defaultdict(deque), [], []
+def match(
+    parts: list[Line | Block], journal: Journal, path: Path | None
+) -> tuple[list[tuple[Line, dict]], list[Line | Block]]:
+    """Returns the lines that have their answer, and the other lines and blocks; of these the lines get the entry that
+    has no answer yet. Raises ToolError if a line that was performed, or may have been, is no longer in the script."""
+    known: dict[str, deque[int]] = defaultdict(deque)
+    answered: list[tuple[Line, dict]] = []
+    others: list[Line | Block] = []
     for number, entry in enumerate(journal.entries):
         if entry.answer is not None or not entry.is_closed:
             known[entry.digest].append(number)
@@ -133,15 +145,22 @@ def match(parts: list[Line | Block], journal: Journal, path: Path | None) -> tup
         if not known or known.keys().isdisjoint(part.digests()):
             others.append(part)
             continue
-        for line in part.lines() if part.count > 1 else [part]:
-            number = known[line.digest].popleft() if known.get(line.digest) else None
-            if number is not None and journal.entries[number].answer is not None:
-                answered.append((line, journal.entries[number].answer))
+        for line in part.lines() if isinstance(part, Block) else [part]:
+            sent = known[line.digest].popleft() if known.get(line.digest) else None
+            answer = journal.entries[sent].answer if sent is not None else None
+            if answer is not None:
+                answered.append((line, answer))
             else:
-                line.entry = number
+                line.entry = sent
                 others.append(line)
     left = [journal.entries[number] for numbers in known.values() for number in numbers]
     lost = sorted(it.line for it in left if not it.answer or "no" not in it.answer)
     if lost:
-        raise ToolError(f"{path}: line {lost[0]} of an earlier run was sent and is no longer in the script ({len(lost)} such lines in all)", REFUSED)
+        raise ToolError(
+            (
+                f"{path}: line {lost[0]} of an earlier run was sent and is no longer in the script "
+                f"({len(lost)} such lines in all)"
+            ),
+            REFUSED,
+        )
     return answered, others

@@ -10,6 +10,12 @@ SYMMETRIC = ("related", "exact", "close", "relMatch")
 CLASSES = {"ConceptScheme": "scheme", "Concept": "concept", "Collection": "collection"}
 LABEL_PROPERTIES = {"prefLabel": "pref", "altLabel": "alt", "hiddenLabel": "hidden", "scopeNote": "scope"}
 LINK_PROPERTIES = {
-    "broader": "broader", "related": "related", "exactMatch": "exact", "closeMatch": "close", "broadMatch": "broad",
-    "narrowMatch": "narrow", "relatedMatch": "relMatch", "member": "member",
+    "broader": "broader",
+    "related": "related",
+    "exactMatch": "exact",
+    "closeMatch": "close",
+    "broadMatch": "broad",
+    "narrowMatch": "narrow",
+    "relatedMatch": "relMatch",
+    "member": "member",
 }

@@ -10,7 +10,8 @@ from thesaurus_tools.kinds import BROADER, MAPPINGS, SYMMETRIC
 if TYPE_CHECKING:
     from thesaurus_tools.vocabulary import Vocabulary
 
-# The order in which links are added: hierarchical ones first, those with a type before others, so that a rule that two links break is the other one's.
+# The order in which links are added: hierarchical ones first, those with a type before others, so that a rule that two
+# links break is the other one's.
 LINK_ORDER = (*BROADER[1:], "broader", "broad", "narrow", "related", "relMatch", "exact", "close", "member")
 IRI_FORM = re.compile(r'[A-Za-z][A-Za-z0-9+.-]*:[^\x00-\x20<>"{}|^`\\]+')
 # The name of an outside concept is its IRI after this.
@@ -35,7 +36,11 @@ class LinkRules:
             return False
         why = self.refusal_of_ends(kind, a, b) or self.refusal(kind, a, b)
         if why:
-            ring = f", which closes the ring {' < '.join(self.chain(*self.low_and_high(kind, a, b)[::-1]))}" if why == "Cycle" else ""
+            ring = (
+                f", which closes the ring {' < '.join(self.chain(*self.low_and_high(kind, a, b)[::-1]))}"
+                if why == "Cycle"
+                else ""
+            )
             self.vocabulary.find(why, a, f"{kind} {b}{ring}")
             return False
         self.seen.add(held)
@@ -87,7 +92,8 @@ class LinkRules:
         return bool(self.chain(low, high))
 
     def chain(self, low: str, high: str) -> list[str]:
-        """The concepts of a chain of links that leads up from one to the other, both among them; empty if there is none."""
+        """The concepts of a chain of links that leads up from one to the other, both among them; empty if there is
+        none."""
         before, todo = {}, deque([low])
         while todo and high not in before:
             one = todo.popleft()

@@ -14,13 +14,21 @@ from thesaurus_tools.named_scripts import Block, Line
 from thesaurus_tools.program import Performer, count_resources
 from thesaurus_tools.recovery import CLASSES, recover
 from thesaurus_tools.requests import parse_json
+from thesaurus_tools.shapes import shape_fault
 
-# Requests that only add, so that what they did can be seen later. All others are sent alone, after all before are answered.
+# Requests that only add, so that what they did can be seen later. All others are sent alone, after all before are
+# answered.
 ADDITIONS = {"concept", "outside", "addLabel", "link", "post"}
 # What a request is answered that is sent a second time, since nobody saw its first answer.
 AGAIN = {
-    "addLabel": "LabelThere", "dropLabel": "NoSuchLabel", "relabel": "S13", "link": "LinkThere", "unlink": "NoSuchLink",
-    "deprecate": "NotLive", "merge": "NotLive", "withdraw": "Withdrawn",
+    "addLabel": "LabelThere",
+    "dropLabel": "NoSuchLabel",
+    "relabel": "S13",
+    "link": "LinkThere",
+    "unlink": "NoSuchLink",
+    "deprecate": "NotLive",
+    "merge": "NotLive",
+    "withdraw": "Withdrawn",
 }
 # The most lines that are under way; a block has half of it.
 AHEAD = 128
@@ -54,9 +62,11 @@ class Loader:
     def __init__(self, target: Performer, journal: Journal, parts: list[Line | Block], given: argparse.Namespace):
         self.target, self.journal, self.given = target, journal, given
         self.numbers: dict[str, int] = {}
-        self.counts, self.status, self.is_stopped = Counter(), DONE, False
+        self.counts: Counter[str] = Counter()
+        self.status, self.is_stopped = DONE, False
         self.ahead = AHEAD if may_send_ahead(given) else 1
-        # What is sent, with the number of its first entry; the answers that nobody took note of; and what is to be sent.
+        # What is sent, with the number of its first entry; the answers that nobody took note of; and what is to be
+        # sent.
         self.flight: deque[tuple[Line | Block, int]] = deque()
         self.unread: deque[bytes] = deque()
         self.pending = deque(self.take_up(parts))
@@ -70,9 +80,15 @@ class Loader:
             self.learn(line, answer)
         count = count_resources(self.target)
         if count < self.journal.resources:
-            raise ToolError(f"{self.given.journal}: the store has {count} resources, and had {self.journal.resources}: it is another one", REFUSED)
-        found = set()
-        unseen = [it for it in others if it.entry is not None and it.kind in CLASSES]
+            raise ToolError(
+                (
+                    f"{self.given.journal}: the store has {count} resources, and had "
+                    f"{self.journal.resources}: it is another one"
+                ),
+                REFUSED,
+            )
+        found: set[Line | Block] = set()
+        unseen = [it for it in others if isinstance(it, Line) and it.entry is not None and it.kind in CLASSES]
         for line, answer in recover(self.target, self.journal, unseen, self.numbers, count):
             self.learn(line, answer)
             found.add(line)
@@ -115,12 +131,15 @@ class Loader:
 
     def is_alone(self, part: Line | Block) -> bool:
         """Whether a line is sent only after all before it are answered, and answered before the next is sent."""
-        return part.count == 1 and (part.kind not in ADDITIONS or part.greatest > self.journal.resources)
+        return isinstance(part, Line) and (part.kind not in ADDITIONS or part.greatest > self.journal.resources)
 
     def next_part(self) -> Line | Block:
-        """Returns what is to be sent next. A block with a resource that may not be there yet, or with a name without a number, becomes lines."""
+        """Returns what is to be sent next. A block with a resource that may not be there yet, or with a name without a
+        number, becomes lines."""
         part = self.pending[0]
-        if part.count > 1 and (part.greatest > self.journal.resources or not self.flight and not part.uses <= self.numbers.keys()):
+        if isinstance(part, Block) and (
+            part.greatest > self.journal.resources or not self.flight and not part.uses <= self.numbers.keys()
+        ):
             self.pending.popleft()
             self.pending.extendleft(reversed(part.lines()))
         return self.pending[0]
@@ -131,7 +150,9 @@ class Loader:
 
     def send_more(self) -> None:
         """Sends the next lines, as many as may be under way."""
-        if self.flight and (self.under_way > self.ahead // 2 or self.is_alone(self.flight[0][0]) or self.target.is_worn()):
+        if self.flight and (
+            self.under_way > self.ahead // 2 or self.is_alone(self.flight[0][0]) or self.target.is_worn()
+        ):
             return
         if self.target.is_worn():
             self.target.reopen()
@@ -144,7 +165,7 @@ class Loader:
             self.pending.popleft()
             self.left -= part.count
             number = self.journal.note_sent(part)
-            if lacks_number:
+            if lacks_number and isinstance(part, Line):
                 self.refuse(part, number, {"no": "NoNumber"})
                 continue
             self.flight.append((part, number))
@@ -163,7 +184,7 @@ class Loader:
         while self.unread and self.flight and (is_last or self.flight[0][0].count <= len(self.unread)):
             part, number = self.flight.popleft()
             answers = [self.unread.popleft() for _ in range(min(part.count, len(self.unread)))]
-            if part.count == 1:
+            if isinstance(part, Line):
                 self.under_way -= 1
                 self.receive_one(part, number, answers[0])
             elif part.count == len(answers) and self.receive_all(part, number, b"\n".join(answers)):
@@ -215,7 +236,13 @@ class Loader:
         request = line.resolved(self.numbers)
         if line.kind == "relabel":
             # The owner has a preferred label in the tag, so this is refused in any case.
-            probe = {"do": "addLabel", "owner": request["owner"], "kind": "pref", "tag": request["tag"], "text": request["text"]}
+            probe = {
+                "do": "addLabel",
+                "owner": request["owner"],
+                "kind": "pref",
+                "tag": request["tag"],
+                "text": request["text"],
+            }
             return self.target.ask(probe).get("no") == "LabelThere"
         if line.kind in ("merge", "deprecate"):
             view = self.target.ask({"get": "concept", "number": request.get("source") or request["concept"]})
@@ -234,7 +261,9 @@ class Loader:
             self.counts["refused"] += not self.is_stopped
         if why not in self.given.ok and not self.is_stopped:
             self.progress.end()
-            print(f"{self.given.script}:{line.number}: {why}: {line.text}", file=sys.stderr)
+            shape = shape_fault(line.request) if why == "BadShape" else ""
+            said = f"{why} ({shape})" if shape else why
+            print(f"{self.given.script}:{line.number}: {said}: {line.text}", file=sys.stderr)
             self.is_stopped = is_fault or not self.given.keep_going
 
 

@@ -1,23 +1,30 @@
-"""Scripts with names in place of numbers, as lines, and as blocks of lines that nothing but the program needs to read."""
+"""Scripts with names in place of numbers, as lines, and as blocks of lines that nothing but the program needs to read.
+"""
 from __future__ import annotations
 
 import re
-from collections.abc import Set
 from hashlib import sha256
 
 from thesaurus_tools.command_line import REFUSED, ToolError
 from thesaurus_tools.requests import encode, parse_json
 
 # What a request makes that has a name: a resource or a posting.
-MAKES = {"scheme": "resource", "concept": "resource", "collection": "resource", "outside": "resource", "split": "resource", "post": "posting"}
+MAKES = {
+    "scheme": "resource",
+    "concept": "resource",
+    "collection": "resource",
+    "outside": "resource",
+    "split": "resource",
+    "post": "posting",
+}
 RESOURCE_MEMBERS = {"scheme", "owner", "a", "b", "concept", "source", "target"}
 POSTING_MEMBERS = {"posting", "postings"}
 NUMBERED_MEMBERS = RESOURCE_MEMBERS | POSTING_MEMBERS | {"number"}
-NO_NAMES = frozenset()
+NO_NAMES: frozenset[str] = frozenset()
 # The most bytes of a line or a block, and the most lines of a block.
 LONGEST, MOST_LINES = 1_048_000, 64
-# What lines hold that aren't read one by one: texts without escapes that begin with no dollar, numbers, and names of resources.
-# (No group is possessive: Python before 3.11.5 then continues from within one that does not match.)
+# What lines hold that aren't read one by one: texts without escapes that begin with no dollar, numbers, and names of
+# resources. (No group is possessive: Python before 3.11.5 then continues from within one that does not match.)
 IN_TEXT = r'[^"\\\x00-\x1f]'
 TEXT, NUMBER = rf'"(?!\$){IN_TEXT}*+"', rf'(?:[1-9][0-9]{{0,9}}+|"\${IN_TEXT}++")'
 MEMBER = rf', ?"(?:(?:kind|tag|text|key|record)": ?{TEXT}|(?:scheme|owner|a|b|concept)": ?{NUMBER})'
@@ -48,25 +55,33 @@ class Line:
         self.digest = digest_of(text.encode())
         # The greatest number of a resource in it, or 0; the names that it uses, and the members that have them.
         self.greatest: int = 0
-        self.uses: Set[str] = NO_NAMES
-        self.members: Set[str] = NO_NAMES
+        self.uses: frozenset[str] = NO_NAMES
+        self.members: frozenset[str] = NO_NAMES
         # That of an earlier run, which sent the line and didn't see its answer.
         self.entry: int | None = None
 
     def note_numbers(self, kinds: dict[str, str]) -> None:
-        """Notes the greatest number of a resource, and the names that are used. Raises ValueError for a name that nothing has, or another kind
-        of thing."""
+        """Notes the greatest number of a resource, and the names that are used. Raises ValueError for a name that
+        nothing has, or another kind of thing."""
         for member, value in self.request.items():
             if member in NUMBERED_MEMBERS:
                 if type(value) is int:
                     self.greatest = max(self.greatest, value if member in RESOURCE_MEMBERS else 0)
                     continue
                 is_posting = member in POSTING_MEMBERS or member == "number" and self.request.get("get") == "posting"
-                names = [it[1:] for it in (value if isinstance(value, list) else [value]) if isinstance(it, str) and it.startswith("$")]
+                names = [
+                    it[1:]
+                    for it in (value if isinstance(value, list) else [value])
+                    if isinstance(it, str) and it.startswith("$")
+                ]
                 for used in names:
                     kind = "posting" if is_posting else "resource"
                     if kinds.get(used) != kind:
-                        raise ValueError(f"${used} is a {kinds[used]}'s name, where a {kind}'s is needed" if used in kinds else f"no line before this one makes ${used}")
+                        raise ValueError(
+                            f"${used} is a {kinds[used]}'s name, where a {kind}'s is needed"
+                            if used in kinds
+                            else f"no line before this one makes ${used}"
+                        )
                 if names:
                     self.uses, self.members = self.uses.union(names), self.members | {member}
 
@@ -81,7 +96,10 @@ class Line:
         """Returns the request with numbers in place of names."""
         if not self.members:
             return self.request
-        number = lambda it: numbers[it[1:]] if isinstance(it, str) and it.startswith("$") else it
+
+        def number(it: object) -> object:
+            return numbers[it[1:]] if isinstance(it, str) and it.startswith("$") else it
+
         request = self.request.copy()
         for member in self.members:
             value = request[member]
@@ -90,7 +108,8 @@ class Line:
 
 
 class Block:
-    """Lines that follow one another and aren't read one by one: all make concepts with names, or none makes anything that has a name."""
+    """Lines that follow one another and aren't read one by one: all make concepts with names, or none makes anything
+    that has a name."""
 
     __slots__ = ("number", "text", "count", "names", "uses")
     entry = None
@@ -98,7 +117,9 @@ class Block:
     def __init__(self, number: int, text: str):
         self.number, self.text, self.count = number, text, text.count("\n")
         self.names: list[str] = NAME_MADE.findall(text) if text.startswith('{"as"') else []
-        self.uses: Set[str] = frozenset([name for _, name in NAME_USED.findall(text)]) if '"$' in text else NO_NAMES
+        self.uses: frozenset[str] = (
+            frozenset([name for _, name in NAME_USED.findall(text)]) if '"$' in text else NO_NAMES
+        )
 
     @property
     def greatest(self) -> int:
@@ -106,7 +127,8 @@ class Block:
         return max(map(int, NUMBER_USED.findall(self.text)), default=0)
 
     def claim_names(self, kinds: dict[str, str]) -> bool:
-        """Notes in `kinds` what has names, unless a name is given twice, or one is used that no line before the block gives to a resource."""
+        """Notes in `kinds` what has names, unless a name is given twice, or one is used that no line before the block
+        gives to a resource."""
         is_new = len({*self.names}) == len(self.names) and kinds.keys().isdisjoint(self.names)
         is_right = is_new and all(kinds.get(it) == "resource" for it in self.uses)
         if is_right:
@@ -128,7 +150,8 @@ class Block:
 
 
 def parse_line(number: int, text: str, kinds: dict[str, str]) -> Line:
-    """Returns the request of a line, and notes in `kinds` what its name is given to. Raises ValueError if it is none."""
+    """Returns the request of a line, and notes in `kinds` what its name is given to. Raises ValueError if it is
+    none."""
     if not is_utf8(text):
         raise ValueError("no UTF-8")
     text = text.strip()
@@ -158,16 +181,20 @@ def is_utf8(text: str) -> bool:
 
 
 def parse_script(data: bytes, file: str, has_blocks: bool = False) -> list[Line | Block]:
-    """Returns the requests of a script, in blocks where that may be. Raises ToolError that lists each line that is wrong."""
+    """Returns the requests of a script, in blocks where that may be. Raises ToolError that lists each line that is
+    wrong."""
     text = data.decode("utf-8", "surrogateescape") + "\n"
     has_blocks = has_blocks and (text.isascii() or is_utf8(text))
-    parts, wrong, kinds, at, number = [], [], {}, 0, 1
+    parts: list[Line | Block] = []
+    wrong: list[str] = []
+    kinds: dict[str, str] = {}
+    at, number = 0, 1
     while at < len(text):
         found = BLOCK.match(text, at) if has_blocks else None
         block = Block(number, found[0]) if found and len(found[0].encode()) <= LONGEST else None
         if block and block.claim_names(kinds):
             parts.append(block)
-            at, number = found.end(), number + block.count
+            at, number = at + len(block.text), number + block.count
             continue
         end = text.index("\n", at)
         line, at = text[at:end], end + 1
@@ -178,5 +205,7 @@ def parse_script(data: bytes, file: str, has_blocks: bool = False) -> list[Line 
                 wrong.append(f"{file}:{number}: {error}")
         number += 1
     if wrong:
-        raise ToolError("\n".join(wrong[:20] + ([f"and {len(wrong) - 20} more lines"] if len(wrong) > 20 else [])), REFUSED)
+        raise ToolError(
+            "\n".join(wrong[:20] + ([f"and {len(wrong) - 20} more lines"] if len(wrong) > 20 else [])), REFUSED
+        )
     return parts

@@ -53,7 +53,10 @@ IN_TEXT = r'[^"\\\n\r]*'
 TEXT_TERM = rf'"({IN_TEXT}(?:(?:\\[tbnrf"\'\\]|{CODE}){IN_TEXT})*)"'
 TYPE_OR_TAG = rf"(?:@([A-Za-z]+(?:-[A-Za-z0-9]+)*)|\^\^{IRI_TERM})?"
 STATEMENT = re.compile(
-    rf"[ \t]*(?:{IRI_TERM}|{BLANK_TERM})[ \t]*{IRI_TERM}[ \t]*(?:{IRI_TERM}|{BLANK_TERM}|{TEXT_TERM}{TYPE_OR_TAG})[ \t]*\.[ \t]*(?:#.*)?"
+    (
+        rf"[ \t]*(?:{IRI_TERM}|{BLANK_TERM})[ \t]*{IRI_TERM}[ "
+        rf"\t]*(?:{IRI_TERM}|{BLANK_TERM}|{TEXT_TERM}{TYPE_OR_TAG})[ \t]*\.[ \t]*(?:#.*)?"
+    )
 )
 NO_STATEMENT = re.compile(r"[ \t]*(?:#.*)?")
 ESCAPE = re.compile(r"\\(?:u([0-9A-Fa-f]{4})|U([0-9A-Fa-f]{8})|(.))")
@@ -85,12 +88,15 @@ def parse_statement(line: str) -> Triple | None:
             return None
         raise ValueError("no triple of N-Triples")
     iri, blank, predicate, object_iri, object_blank, text, tag, datatype = match.groups()
-    subject = Blank(blank) if iri is None else Iri(unescape(iri))
-    if text is not None:
-        target = Literal(unescape(text), tag or "", unescape(datatype or ""))
-    else:
-        target = Blank(object_blank) if object_iri is None else Iri(unescape(object_iri))
-    return Triple(subject, Iri(unescape(predicate)), target)
+    target = Literal(unescape(text), tag or "", unescape(datatype or "")) if text is not None else None
+    return Triple(named(iri, blank), Iri(unescape(predicate)), target or named(object_iri, object_blank))
+
+
+def named(iri: str | None, blank: str) -> Iri | Blank:
+    """Returns the node with an IRI, or with the label of a blank node."""
+    if iri is None:
+        return Blank(blank)
+    return Iri(unescape(iri))
 
 
 def parse_ntriples(data: bytes, name: str) -> Iterator[Triple]:

@@ -5,18 +5,31 @@ import argparse
 import contextlib
 from collections.abc import Iterator
 from pathlib import Path
+from typing import Any
 
 from thesaurus_tools.command_line import USAGE, ToolError, languages
 from thesaurus_tools.store import Store
 from thesaurus_tools.table_store import TableStore, open_tables
 
 
-def add_store_arguments(parser: argparse.ArgumentParser, default=None) -> None:
+def add_store_arguments(parser: argparse.ArgumentParser, default: Any = None) -> None:
     """Adds the options that say which store is read, and in which languages its terms are shown."""
     add = parser.add_argument
-    add("--db", metavar="FILE", type=Path, default=default, help="the store, or a copy of it; no program may have it open")
+    add(
+        "--db",
+        metavar="FILE",
+        type=Path,
+        default=default,
+        help="the store, or a copy of it; no program may have it open",
+    )
     add("--http", metavar="URL", default=default, help="a program that serves the store, as http://127.0.0.1:8080")
-    add("--langs", metavar="TAG,..", type=languages, default=default or [], help="languages of terms, the first that a concept has; else the commonest")
+    add(
+        "--langs",
+        metavar="TAG,..",
+        type=languages,
+        default=default or [],
+        help="languages of terms, the first that a concept has; else the commonest",
+    )
 
 
 @contextlib.contextmanager

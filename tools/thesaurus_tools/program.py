@@ -2,7 +2,6 @@
 from __future__ import annotations
 
 import contextlib
-import fcntl
 import json
 import os
 import select
@@ -10,13 +9,17 @@ import shutil
 import subprocess
 import sys
 import time
+from collections.abc import Sequence
 from pathlib import Path
+from typing import IO
 
 from thesaurus_tools.command_line import DONE, USAGE, ToolError, say
 from thesaurus_tools.requests import encode
 
 # A script of the program has at most 1,000,000 lines.
 MOST_LINES = 900_000
+# No store has more resources.
+MOST_RESOURCES = (1 << 32) - 1
 # How many seconds a store may stay locked by a run that is about to end.
 PATIENCE = 20
 # The most seconds to sleep while answers come.
@@ -27,8 +30,12 @@ IN_USE = "another program has it open: end that program, or use --http URL if it
 LOCK_START, LOCK_SIZE = 0x40000002, 510
 
 
-def lock_file(file, path: Path | str) -> None:
+def lock_file(file: IO[bytes], path: Path | str) -> None:
     """Locks a store for reading as SQLite does, until the file is closed. Raises ToolError if a program has it."""
+    try:
+        import fcntl  # (Windows has none; what only talks HTTP or reads exports runs there, too)
+    except ImportError:
+        raise ToolError(f"{path}: a store can't be read on this system: use --http URL, or an export") from None
     try:
         fcntl.lockf(file, fcntl.LOCK_SH | fcntl.LOCK_NB, LOCK_SIZE, LOCK_START)
     except (BlockingIOError, PermissionError):
@@ -52,7 +59,12 @@ def find_program(given: str | None = None) -> str:
     launcher = Path(__file__).resolve().parents[2] / "thesaurus"
     found = given or shutil.which("thesaurus") or (str(launcher) if launcher.is_file() else None)
     if not found or not shutil.which(found):
-        raise ToolError(f"the program {given} can't be run" if given else "there is no program `thesaurus` in PATH; name it by --program", USAGE)
+        raise ToolError(
+            f"the program {given} can't be run"
+            if given
+            else "there is no program `thesaurus` in PATH; name it by --program",
+            USAGE,
+        )
     return found
 
 
@@ -71,7 +83,8 @@ class Performer:
         raise NotImplementedError
 
     def answers(self, wanted: int = 1) -> list[bytes]:
-        """Waits for answers, of which the wanted number will come, and returns those that have come. Raises ToolError if none will."""
+        """Waits for answers, of which the wanted number will come, and returns those that have come. Raises ToolError
+        if none will."""
         raise NotImplementedError
 
     def ask(self, request: dict) -> dict:
@@ -91,8 +104,8 @@ class Performer:
 class Script(Performer):
     """A run of `thesaurus script` over a store. Requests may be sent ahead of their answers."""
 
-    def __init__(self, program: str, db: Path | None, base: str | None = None):
-        self.words = [program, *(["--db", str(db)] if db else []), *(["--base", base] if base else [])]
+    def __init__(self, program: str, db: Path | None, base: str | None = None, options: Sequence[str] = ()):
+        self.words = [program, *(["--db", str(db)] if db else []), *(["--base", base] if base else []), *options]
         self.db = db
         self.open()
 
@@ -101,8 +114,12 @@ class Script(Performer):
         end, waits, tries = time.monotonic() + PATIENCE, 0, 0
         while True:
             self.errors = open(os.memfd_create("errors"), "w+b")
-            self.run = subprocess.Popen([*self.words, "script"], stdin=subprocess.PIPE, stdout=subprocess.PIPE, stderr=self.errors, bufsize=0)
-            os.set_blocking(self.run.stdin.fileno(), False)
+            self.run = subprocess.Popen(
+                [*self.words, "script"], stdin=subprocess.PIPE, stdout=subprocess.PIPE, stderr=self.errors, bufsize=0
+            )
+            assert self.run.stdin and self.run.stdout
+            self.stdin, self.stdout = self.run.stdin, self.run.stdout
+            os.set_blocking(self.stdin.fileno(), False)
             self.unsent, self.partial, self.lines = bytearray(), b"", 0
             # The number of requests under way, the seconds that an answer takes, and when the last ones came.
             self.under_way, self.pace, self.since = 0, LONGEST_SLEEP, 0.0
@@ -146,19 +163,19 @@ class Script(Performer):
         with contextlib.suppress(BlockingIOError):
             while self.unsent:
                 try:
-                    del self.unsent[: os.write(self.run.stdin.fileno(), self.unsent[:65536])]
+                    del self.unsent[: os.write(self.stdin.fileno(), self.unsent[:65536])]
                 except BrokenPipeError:
                     self.unsent.clear()
 
     def answers(self, wanted: int = 1) -> list[bytes]:
-        # The program writes answers one by one. So this sleeps while most of the wanted ones come, since to wake up for each takes as long as
-        # a request.
+        # The program writes answers one by one. So this sleeps while most of the wanted ones come, since to wake up for
+        # each takes as long as a request.
         rest = self.since + wanted * self.pace - time.monotonic()
         if wanted > 1 and rest > 0 and not self.unsent:
             time.sleep(min(rest, LONGEST_SLEEP))
-        out = self.run.stdout.fileno()
+        out = self.stdout.fileno()
         while True:
-            waiting = [self.run.stdin.fileno()] if self.unsent else []
+            waiting = [self.stdin.fileno()] if self.unsent else []
             readable, writable, _ = select.select([out], waiting, [])
             if writable:
                 self.write()
@@ -172,7 +189,8 @@ class Script(Performer):
                     return whole
 
     def note_pace(self, count: int) -> None:
-        """Notes that this number of answers have come. The pace is the best of the last ones, as they may have waited to be read."""
+        """Notes that this number of answers have come. The pace is the best of the last ones, as they may have waited
+        to be read."""
         before, self.since = self.since, time.monotonic()
         self.under_way -= count
         self.pace = min((self.since - before) / count, 1.2 * self.pace)
@@ -189,8 +207,8 @@ class Script(Performer):
         return data
 
     def close(self) -> int:
-        self.run.stdin.close()
-        self.run.stdout.close()
+        self.stdin.close()
+        self.stdout.close()
         return self.run.wait()
 
 
@@ -198,7 +216,9 @@ def run_program(words: list[str]) -> bytes:
     """Runs a command of the program, and returns what it prints. Raises ToolError if it fails."""
     ran = subprocess.run(words, stdin=subprocess.DEVNULL, capture_output=True, check=False)
     if ran.returncode:
-        raise ToolError(ran.stderr.decode(errors="replace").strip() or f"{' '.join(words)}: status {ran.returncode}", ran.returncode)
+        raise ToolError(
+            ran.stderr.decode(errors="replace").strip() or f"{' '.join(words)}: status {ran.returncode}", ran.returncode
+        )
     return ran.stdout
 
 
@@ -210,6 +230,8 @@ def count_resources(store: Performer) -> int:
 
     high = 1
     while is_there(high):
+        if high > MOST_RESOURCES:
+            raise ToolError(f"it has resources with numbers above {MOST_RESOURCES}, so it isn't the program")
         high *= 2
     low = high // 2
     while high - low > 1:

@@ -1,45 +1,86 @@
 """Reads files of RDF: N-Triples by itself, other forms by Python's rdflib."""
 from __future__ import annotations
 
+import contextlib
 import logging
 import os
 import subprocess
 import sys
 from collections.abc import Iterator
 from pathlib import Path
+from typing import Any
 
+from thesaurus_tools.bounded import TooMuch, limited, watched
 from thesaurus_tools.command_line import REFUSED, USAGE, ToolError
 from thesaurus_tools.ntriples import Blank, Iri, Literal, Triple, read_ntriples
 
 # The forms of files by the ends of their names, as rdflib calls them.
 FORMATS = {
-    ".nt": "nt", ".ttl": "turtle", ".turtle": "turtle", ".n3": "n3", ".rdf": "xml", ".xml": "xml", ".owl": "xml", ".skos": "xml",
-    ".jsonld": "json-ld", ".json": "json-ld",
+    ".nt": "nt",
+    ".ttl": "turtle",
+    ".turtle": "turtle",
+    ".n3": "n3",
+    ".rdf": "xml",
+    ".xml": "xml",
+    ".owl": "xml",
+    ".skos": "xml",
+    ".jsonld": "json-ld",
+    ".json": "json-ld",
 }
 # The system's Python may have rdflib if this one, of another installation, has not.
 SYSTEM_PYTHON = "/usr/bin/python3"
 HAS_RDFLIB = "import sys, rdflib; sys.exit(sys.version_info < (3, 11))"
+# The time of a processor and the memory that rdflib may take for a file: these, and as much again for its size.
+SECONDS, SECONDS_FOR_MEGABYTE = 10, 10
+MEMORY, MEMORY_FOR_BYTE = 1 << 30, 300
+STOPPED = (
+    """rdflib took more than {most} for it, and was stopped; make N-Triples of it by another program, such as rapper"""
+)
 NO_RDFLIB = """Python's rdflib isn't installed, which reads all forms but N-Triples.
   Install it: `sudo apt install python3-rdflib`, or `python3 -m pip install rdflib`;
   or make N-Triples of the file: `rapper -g -o ntriples {path} > {stem}.nt`"""
 
 
-def read_by_rdflib(path: Path, form: str) -> Iterator[Triple]:
+def parse_by_rdflib(path: Path, form: str, may_fetch: bool) -> Any:
+    """Returns the graph of a file. Raises ToolError if it isn't parsed within bounds, or refers to something else."""
+    import rdflib
+
+    logging.getLogger("rdflib").setLevel(logging.CRITICAL)
+    watch = None
+    try:
+        size = path.stat().st_size
+        seconds, memory = SECONDS + SECONDS_FOR_MEGABYTE * size / 1e6, MEMORY + MEMORY_FOR_BYTE * size
+        with contextlib.ExitStack() as stack:
+            stack.enter_context(limited(seconds, memory))
+            if not may_fetch:
+                watch = stack.enter_context(watched(path))
+            graph = rdflib.Graph().parse(path, format=form)
+        failure: Exception | None = None
+    except Exception as error:  # each parser of rdflib has errors of its own
+        failure = error
+    if watch and watch.refused:
+        raise ToolError(f"{path}: it refers to {watch.refused}, which is read only with --fetch", REFUSED) from None
+    if isinstance(failure, TooMuch):
+        raise ToolError(f"{path}: {STOPPED.format(most=f'{seconds:.0f} seconds')}", REFUSED) from None
+    if isinstance(failure, MemoryError):
+        raise ToolError(f"{path}: {STOPPED.format(most=f'{memory >> 20} MB of memory')}", REFUSED) from None
+    if isinstance(failure, OSError):
+        raise ToolError(f"{path}: {failure.strerror or failure}") from None
+    if failure:
+        raise ToolError(f"{path}: {' '.join(str(failure).split())[:300]}", REFUSED) from None
+    return graph
+
+
+def read_by_rdflib(path: Path, form: str, may_fetch: bool) -> Iterator[Triple]:
     """Yields the triples of a file in a form that rdflib reads."""
     try:
         import rdflib
     except ImportError:
         run_with_rdflib()
         raise ToolError(f"{path}: {NO_RDFLIB.format(path=path, stem=path.stem)}") from None
-    logging.getLogger("rdflib").setLevel(logging.CRITICAL)
-    try:
-        graph = rdflib.Graph().parse(path, format=form)
-    except OSError as error:
-        raise ToolError(f"{path}: {error.strerror or error}") from None
-    except Exception as error:  # each parser of rdflib has errors of its own
-        raise ToolError(f"{path}: {' '.join(str(error).split())[:300]}", REFUSED) from None
+    graph = parse_by_rdflib(path, form, may_fetch)
 
-    def node(it):
+    def node(it: Any) -> Any:
         if isinstance(it, rdflib.Literal):
             return Literal(str(it), it.language or "", str(it.datatype or ""))
         return Blank(f"_:{it}") if isinstance(it, rdflib.BNode) else Iri(it)
@@ -55,9 +96,9 @@ def run_with_rdflib() -> None:
             os.execv(SYSTEM_PYTHON, [SYSTEM_PYTHON, *sys.argv])
 
 
-def read_triples(path: Path, form: str) -> Iterator[Triple]:
-    """Yields the triples of a file in the given form, or in that of its name."""
+def read_triples(path: Path, form: str, may_fetch: bool = False) -> Iterator[Triple]:
+    """Yields the triples of a file in the given form, or in that of its name; `may_fetch` if also what it refers to."""
     form = form or FORMATS.get(path.suffix.lower(), "")
     if not form and not path.is_dir() and path.exists():
         raise ToolError(f"{path}: its name ends with none of {' '.join(FORMATS)}; --form says what it is", USAGE)
-    return read_by_rdflib(path, form) if form not in ("", "nt") else read_ntriples(path)
+    return read_by_rdflib(path, form, may_fetch) if form not in ("", "nt") else read_ntriples(path)

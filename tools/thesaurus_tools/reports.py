@@ -33,11 +33,13 @@ def find(store: Store, given: argparse.Namespace) -> Table:
     """Labels that contain a text, whatever its case and accents."""
     wanted = fold(given.text)
 
-    def rows():
+    def rows() -> Iterator[tuple]:
         for number, resource in sorted(store.resources.items()):
             for label in store.labels_of.get(number, ()):
                 if (label.kind in given.kinds) and given.lang in (None, label.tag) and wanted in fold(label.text):
-                    yield number, resource.kind, label.kind, label.tag, label.text, store.term(number, given.langs), state_of(resource)
+                    yield number, resource.kind, label.kind, label.tag, label.text, store.term(
+                        number, given.langs
+                    ), state_of(resource)
 
     return Table(("number", "kind", "label", "lang", "text", "term", "state"), rows())
 
@@ -46,6 +48,9 @@ def missing(store: Store, given: argparse.Namespace) -> Table:
     """Live concepts without a preferred label in a language, or without another kind of label in it."""
     having = {it.owner for it in store.labels if it.kind == given.kind and it.tag == given.lang}
     rows = ((it.number, store.term(it.number, given.langs)) for it in store.live_concepts() if it.number not in having)
+    if given.csv or given.excel:
+        # (a column for the translator to fill in: tools/from-table reads it back)
+        return Table(("number", "term", f"{given.kind}@{given.lang}"), ((*it, "") for it in rows))
     return Table(("number", "term"), rows)
 
 
@@ -68,7 +73,7 @@ def tops(store: Store, given: argparse.Namespace) -> Table:
 
 def ways_up(store: Store, number: int) -> Iterator[tuple[int, ...]]:
     """Yields each way from a top concept down to a concept, the lowest numbers first."""
-    waiting = [(number,)]
+    waiting: list[tuple[int, ...]] = [(number,)]
     while waiting:
         way = waiting.pop()
         broader = store.broader(way[0])
@@ -83,7 +88,10 @@ def path(store: Store, given: argparse.Namespace) -> Table:
     ways = list(itertools.islice(ways_up(store, given.number), given.most + 1))
     if len(ways) > given.most:
         print(f"report: there are more ways than {given.most}; --most N shows more", file=sys.stderr)
-    rows = ((SEPARATOR.join(store.term(it, given.langs) for it in way), SEPARATOR.join(map(str, way))) for way in ways[: given.most])
+    rows = (
+        (SEPARATOR.join(store.term(it, given.langs) for it in way), SEPARATOR.join(map(str, way)))
+        for way in ways[: given.most]
+    )
     return Table(("path", "numbers"), rows)
 
 
@@ -102,7 +110,11 @@ def walk_down(store: Store, number: int) -> Iterator[tuple[int, int]]:
 def below(store: Store, given: argparse.Namespace) -> Table:
     """Concepts below a concept, each once, the nearest first."""
     store.live_concept(given.number)
-    rows = ((depth, it, store.term(it, given.langs)) for depth, it in walk_down(store, given.number) if 0 < depth <= given.depth)
+    rows = (
+        (depth, it, store.term(it, given.langs))
+        for depth, it in walk_down(store, given.number)
+        if 0 < depth <= given.depth
+    )
     return Table(("steps", "number", "term"), rows)
 
 
@@ -125,7 +137,9 @@ def duplicates(store: Store, given: argparse.Namespace) -> Table:
 
 def each_count(store: Store, langs: list[str]) -> Iterator[tuple]:
     """Yields how much there is of everything."""
-    for (kind, state), count in sorted(Counter((it.kind, state_of(it).split()[0]) for it in store.resources.values()).items()):
+    for (kind, state), count in sorted(
+        Counter((it.kind, state_of(it).split()[0]) for it in store.resources.values()).items()
+    ):
         yield f"{kind}s", state, count
     for scheme, count in sorted(Counter(it.scheme for it in store.live_concepts()).items()):
         yield f"live concepts of scheme {scheme}", store.term(scheme, langs), count
@@ -152,7 +166,12 @@ def counts_of_concepts(store: Store, given: argparse.Namespace) -> Table:
     """The postings at each live concept, and at it and all concepts below it."""
     at = store.count_postings()
     rows = (
-        (it.number, store.term(it.number, given.langs), at.get(it.number, 0), sum(at.get(number, 0) for _, number in walk_down(store, it.number)))
+        (
+            it.number,
+            store.term(it.number, given.langs),
+            at.get(it.number, 0),
+            sum(at.get(number, 0) for _, number in walk_down(store, it.number)),
+        )
         for it in store.live_concepts()
     )
     return Table(("number", "term", "postings", "with below"), rows)
@@ -163,23 +182,50 @@ def record(store: Store, given: argparse.Namespace) -> Table:
     wanted = fold(given.name)
     is_wanted = (lambda name: wanted in fold(name)) if given.part else (lambda name: name == given.name)
     rows = (
-        (it.number, it.key, it.record, it.first, it.place, store.term(it.place, given.langs), "withdrawn" if it.is_withdrawn else "standing")
+        (
+            it.number,
+            it.key,
+            it.record,
+            it.first,
+            it.place,
+            store.term(it.place, given.langs),
+            "withdrawn" if it.is_withdrawn else "standing",
+        )
         for it in store.each_posting()
         if is_wanted(it.record)
     )
     return Table(("posting", "key", "record", "first", "place", "term", "state"), rows)
 
 
+def records(store: Store, given: argparse.Namespace) -> Table:
+    """Postings at a concept; with --below also at all concepts below it."""
+    store.live_concept(given.number)
+    places = {it for _, it in walk_down(store, given.number)} if given.below else {given.number}
+    rows = (
+        (it.number, it.key, it.record, it.place, store.term(it.place, given.langs))
+        for it in store.each_posting()
+        if it.place in places and not it.is_withdrawn
+    )
+    return Table(("posting", "key", "record", "place", "term"), rows)
+
+
 def moves(store: Store, given: argparse.Namespace) -> Table:
     """The moves of a posting, or with --concept those from and to a concept."""
     if given.concept:
         store.concept(given.number)
-        found = (it for it in store.each_move() if given.number in (it.source, it.target))
+        found = [it for it in store.each_move() if given.number in (it.source, it.target)]
     else:
         store.posting(given.number)
         found = store.moves_of(given.number)
     rows = (
-        (it.number, it.posting, it.source, store.term(it.source, given.langs), it.target, store.term(it.target, given.langs))
+        (
+            it.number,
+            it.posting,
+            it.source,
+            store.term(it.source, given.langs),
+            it.target,
+            store.term(it.target, given.langs),
+        )
         for it in found
     )
     return Table(("move", "posting", "from", "term", "to", "its term"), rows)
@@ -188,7 +234,7 @@ def moves(store: Store, given: argparse.Namespace) -> Table:
 def changed(store: Store, given: argparse.Namespace) -> Table:
     """What was made, changed and posted since a copy was taken."""
 
-    def rows():
+    def rows() -> Iterator[tuple]:
         with open_file(given.since) as then:
             for what, number, detail in changes_since(then, store, given.langs):
                 yield what, number, store.term(number, given.langs) if number in store.resources else "", detail
@@ -196,4 +242,4 @@ def changed(store: Store, given: argparse.Namespace) -> Table:
     return Table(("change", "number", "term", "detail"), rows())
 
 
-REPORTS = (find, missing, orphans, tops, path, below, duplicates, counts, record, moves, changed)
+REPORTS = (find, missing, orphans, tops, path, below, duplicates, counts, record, records, moves, changed)

@@ -2,20 +2,27 @@
 from __future__ import annotations
 
 import json
-from collections.abc import Iterable
+from collections.abc import Callable, Iterable
+from typing import Any
+from pathlib import Path
+
+from thesaurus_tools.files import write_output
 
 # Returns a value as JSON without white space.
 any_to_json = json.JSONEncoder(ensure_ascii=False, separators=(",", ":")).encode
-text_to_json = json.encoder.encode_basestring
-scan_json = json.JSONDecoder().scan_once
+# (neither is in the types of the library)
+text_to_json: Callable[[str], str] = getattr(json.encoder, "encode_basestring")
+scan_json: Callable[[str, int], tuple[object, int]] = getattr(json.JSONDecoder(), "scan_once")
 
 
 def to_json(members: dict) -> str:
-    """Returns an object as JSON without white space. (For texts and numbers this takes a third of the time of Python's encoder.)"""
-    return "{" + ",".join([
-        f"{text_to_json(name)}:{text_to_json(it) if type(it) is str else it if type(it) is int else 'true' if it is True else any_to_json(it)}"
-        for name, it in members.items()
-    ]) + "}"
+    """Returns an object as JSON without white space. (For texts and numbers this takes a third of the time of Python's
+    encoder.)"""
+    shown = [
+        text_to_json(it) if type(it) is str else it if type(it) is int else "true" if it is True else any_to_json(it)
+        for it in members.values()
+    ]
+    return "{" + ",".join([f"{text_to_json(name)}:{it}" for name, it in zip(members, shown)]) + "}"
 
 
 def encode(request: dict) -> bytes:
@@ -26,7 +33,7 @@ def encode(request: dict) -> bytes:
         return json.dumps(request, separators=(",", ":")).encode() + b"\n"
 
 
-def parse_json(text: str):
+def parse_json(text: str) -> Any:
     """Returns the value of a text without white space at its ends. Raises ValueError for what is no JSON."""
     try:
         value, end = scan_json(text, 0)
@@ -36,7 +43,7 @@ def parse_json(text: str):
     return value if end == len(text) else json.loads(text)
 
 
-def print_requests(requests: Iterable[dict]) -> None:
-    """Prints requests for a reader's eye, a line each."""
-    for it in requests:
-        print(json.dumps(it, ensure_ascii=False))
+def print_requests(requests: Iterable[dict], path: Path | None = None) -> None:
+    """Writes requests for a reader's eye, a line each, to a file or to standard output."""
+    text = "".join(f"{json.dumps(it, ensure_ascii=False)}\n" for it in requests)
+    write_output(text.encode(errors="backslashreplace"), path)

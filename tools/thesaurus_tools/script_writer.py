@@ -37,14 +37,22 @@ class ScriptWriter:
         for kind in ("scheme", "collection", "concept"):
             for it in self.vocabulary.of_kind(kind):
                 tag, text = self.first_label(it)
-                yield {"as": it.name, "do": kind, **({"scheme": f"${it.scheme}"} if it.scheme else {}), "tag": tag, "text": text}
+                yield {
+                    "as": it.name,
+                    "do": kind,
+                    **({"scheme": f"${it.scheme}"} if it.scheme else {}),
+                    "tag": tag,
+                    "text": text,
+                }
         for name in dict.fromkeys(b for _, _, b in self.vocabulary.links if b.startswith(OUTSIDE)):
             yield {"as": name, "do": "outside", "iri": name.removeprefix(OUTSIDE)}
         for it in self.resources.values():
             first = self.first_label(it)
             for kind, labels in it.labels.items():
                 for tag, text in labels:
-                    if (kind, tag, text) != ("pref", *first) and (kind != "pref" or (tag, text) not in self.late.get(it.name, ())):
+                    if (kind, tag, text) != ("pref", *first) and (
+                        kind != "pref" or (tag, text) not in self.late.get(it.name, ())
+                    ):
                         yield {"do": "addLabel", "owner": f"${it.name}", "kind": kind, "tag": tag, "text": text}
         yield from self.deaths()
         for kind, a, b in self.vocabulary.links:
@@ -58,7 +66,10 @@ class ScriptWriter:
             return free[0]
         if resource.name not in self.stand_ins:
             tag, text = resource.labels["pref"][0]
-            self.stand_ins[resource.name] = tag, f"{fit_text(text, 236, 'cut')} [{len(self.stand_ins)}, {len(self.resources)}]"
+            self.stand_ins[resource.name] = (
+                tag,
+                f"{fit_text(text, 236, 'cut')} [{len(self.stand_ins)}, {len(self.resources)}]",
+            )
         return self.stand_ins[resource.name]
 
     def deaths(self) -> Iterator[dict]:
@@ -74,7 +85,13 @@ class ScriptWriter:
                     for tag, text in it.labels[kind]:
                         if (tag, text) not in had:
                             given = "hidden" if kind == "hidden" else "alt"
-                            yield {"do": "dropLabel", "owner": f"${target.name}", "kind": given, "tag": tag, "text": text}
+                            yield {
+                                "do": "dropLabel",
+                                "owner": f"${target.name}",
+                                "kind": given,
+                                "tag": tag,
+                                "text": text,
+                            }
             for name, tag, text in self.freed.get(it.name, ()):
                 yield self.give(name, tag, text)
 

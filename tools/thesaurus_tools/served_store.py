@@ -1,7 +1,6 @@
 """A thesaurus read from a program that serves it."""
 from __future__ import annotations
 
-import json
 from collections.abc import Iterator
 from functools import cached_property
 
@@ -20,31 +19,40 @@ class ServedStore(ExportStore):
 
     def __init__(self, url: str):
         self.server = Server(url)
-        super().__init__(url, parse_ntriples(self.server.export(), f"{url}/export"))
+        name = self.server.name
+        try:
+            super().__init__(name, parse_ntriples(self.server.export(), f"{name}/export"))
+        except ToolError as error:
+            raise ToolError(str(error)) from None  # (what a server exports is no input that can be corrected)
         number = next((it for it, found in self.resources.items() if found.kind == "concept"), None)
-        if number and "number" not in self.look("concepts", number):
-            raise ToolError(f"{url}: no concept has the number {number}: a store whose base ends in a digit can't be read over HTTP")
+        if number and "number" not in self.look("concept", number):
+            raise ToolError(
+                f"{name}: no concept has the number {number}: "
+                "a store whose base ends in a digit can't be read over HTTP"
+            )
         # Links have their types once `links` is asked for.
         self.untyped = self.__dict__.pop("links")
 
     def look(self, what: str, number: int) -> dict:
         """Returns the program's view of a concept or of a posting."""
-        return json.loads(self.server.call("GET", f"/{what}/{number}"))
+        return self.server.ask({"get": what, "number": number})
 
     @cached_property
     def views(self) -> dict[int, dict]:
         """The program's view of each concept."""
-        return {it.number: self.look("concepts", it.number) for it in self.resources.values() if it.kind == "concept"}
+        return {it.number: self.look("concept", it.number) for it in self.resources.values() if it.kind == "concept"}
 
-    @cached_property
+    @cached_property  # type: ignore[override]
     def links(self) -> set[Link]:
-        typed = {Link(kind, number, to) for number, it in self.views.items() for kind, to in it["typed"] if kind in BROADER}
+        typed = {
+            Link(kind, number, to) for number, it in self.views.items() for kind, to in it["typed"] if kind in BROADER
+        }
         pairs = {(it.a, it.b) for it in typed}
         return typed | {it for it in self.untyped if it.kind != "broader" or (it.a, it.b) not in pairs}
 
     def each_history(self) -> Iterator[dict]:
         """Yields the program's view of each posting."""
-        return (self.look("postings", number) for number in range(1, self.totals()["accepted"] + 1))
+        return (self.look("posting", number) for number in range(1, self.totals()["accepted"] + 1))
 
     def each_posting(self) -> Iterator[Posting]:
         return (posting_of(it) for it in self.each_history())
@@ -53,13 +61,13 @@ class ServedStore(ExportStore):
         return iter(sorted(move for it in self.each_history() for move in moves_in(it)))
 
     def posting(self, number: int) -> Posting:
-        found = self.look("postings", number)
+        found = self.look("posting", number)
         if "no" in found:
             raise ToolError(f"{self.name}: no posting has the number {number}", REFUSED)
         return posting_of(found)
 
     def moves_of(self, number: int) -> list[Move]:
-        return moves_in(self.look("postings", number))
+        return moves_in(self.look("posting", number))
 
     def count_postings(self) -> dict[int, int]:
         return {number: it["postings"] for number, it in self.views.items() if it["postings"]}

@@ -1,7 +1,6 @@
 """Reads an export as resources with their labels and links, for the tools that show a thesaurus."""
 from __future__ import annotations
 
-import re
 from collections import defaultdict
 from collections.abc import Iterable
 from dataclasses import dataclass, field
@@ -31,13 +30,14 @@ class Resource:
         """Takes up a triple whose subject is this resource."""
         _, predicate, target = triple
         if predicate.startswith(SKOS) and isinstance(target, Literal):
-            self.labels[predicate[len(SKOS):]].append((target.tag.lower(), target.text))
+            self.labels[predicate[len(SKOS) :]].append((target.tag.lower(), target.text))
+        elif isinstance(target, Literal):
+            if predicate == f"{OWL}deprecated":
+                self.is_live = target.text not in ("true", "1")
         elif predicate.startswith(SKOS):
-            self.links[predicate[len(SKOS):]].append(target)
+            self.links[predicate[len(SKOS) :]].append(target)
         elif predicate == f"{RDF}type" and target.startswith(SKOS):
-            self.kind = target[len(SKOS):]
-        elif predicate == f"{OWL}deprecated" and isinstance(target, Literal):
-            self.is_live = target.text not in ("true", "1")
+            self.kind = target[len(SKOS) :]
         elif predicate == f"{DCTERMS}isReplacedBy":
             self.replaced = target
 
@@ -46,7 +46,8 @@ class Resource:
         return [text for tag, text in self.labels.get(kind, ()) if tag == lang or tag.startswith(f"{lang}-")]
 
     def name(self, langs: Iterable[str]) -> tuple[str, str]:
-        """The preferred label in the first of the languages that has one, or any, or the number; and its language tag."""
+        """The preferred label in the first of the languages that has one, or any, or the number; and its language
+        tag."""
         labels = sorted(self.labels.get("prefLabel", ()))
         for lang in langs:
             for tag, text in labels:
@@ -88,7 +89,7 @@ def read_thesaurus(path: Path, types: dict[tuple[str, str], str] | None = None) 
     found = {iri: it for iri, it in every.items() if it.kind in KINDS}
     if not any(it.kind == "Concept" for it in found.values()):
         raise ToolError(f"{path}: there is no skos:Concept in it", REFUSED)
-    numbers = [re.search(r"[0-9]*$", iri)[0] for iri in found]
+    numbers = [iri[len(iri.rstrip("0123456789")) :] for iri in found]
     are_names = all(numbers) and len(set(numbers)) == len(numbers)
     for place, (it, number) in enumerate(zip(found.values(), numbers), 1):
         it.page = number if are_names else f"c{place}"

@@ -13,12 +13,14 @@ from thesaurus_tools.site_terms import FILES, Entry, letter_of, page_of_lead, pa
 from thesaurus_tools.texts import sort_key
 
 NAMES = ("prefLabel", "altLabel", "hiddenLabel")
-# The tags of labels in no language, or in several or unknown ones, such as codes: the search finds them in each language.
+# The tags of labels in no language, or in several or unknown ones, such as codes: the search finds them in each
+# language.
 OF_NO_LANGUAGE = ("zxx", "mul", "und", "mis")
 MAPPINGS = ("exactMatch", "closeMatch", "broadMatch", "narrowMatch", "relatedMatch")
 FROM_RIGHT = ("ar", "fa", "he", "ur", "yi")
 SCRIPT = '<script src="../site.js" defer></script>\n'
-# The most terms that the first page lists without a step to a letter; the most steps down in the tree, as browsers nest 512 elements.
+# The most terms that the first page lists without a step to a letter; the most steps down in the tree, as browsers nest
+# 512 elements.
 FEW_TERMS, MOST_DEEP = 500, 100
 
 
@@ -34,7 +36,9 @@ class Edition:
         self.names = {iri: it.name(self.order) for iri, it in thesaurus.resources.items()}
         self.keys = {iri: sort_key(name) for iri, (name, _) in self.names.items()}
         self.anchors = {iri: f'<a href="{it.page}.html">{self.name(it)}</a>' for iri, it in thesaurus.resources.items()}
-        self.concepts, self.schemes, self.collections = (self.sorted(thesaurus.of_kind(it)) for it in ("Concept", "ConceptScheme", "Collection"))
+        self.concepts, self.schemes, self.collections = (
+            self.sorted(thesaurus.of_kind(it)) for it in ("Concept", "ConceptScheme", "Collection")
+        )
         self.title = title or " · ".join(self.names[it.iri][0] for it in self.schemes) or self.words["scheme"]
         self.footer = f"{escape(self.title)} · {sum(it.is_live for it in self.concepts)} {self.words['concepts']}"
         self.member_of: dict[str, list[Resource]] = defaultdict(list)
@@ -69,7 +73,8 @@ class Edition:
         return sorted(found, key=lambda them: (them[0], self.keys[them[1].iri]))
 
     def find_entries(self) -> Iterator[Entry]:
-        """Yields each preferred term, and each alternative one and each of a dead concept with what to use in its place."""
+        """Yields each preferred term, and each alternative one and each of a dead concept with what to use in its
+        place."""
         leads: dict[str, list[Resource]] = defaultdict(list)
         for it in self.concepts:
             text, tag = self.names[it.iri]
@@ -78,7 +83,11 @@ class Edition:
                 yield Entry(self.keys[it.iri], text, it.page, it)
                 for lead in dict.fromkeys(it.texts("altLabel", self.lang)):
                     leads[lead].append(it)
-            elif target and tag == self.lang and text not in target.texts("prefLabel", self.lang) + target.texts("altLabel", self.lang):
+            elif (
+                target
+                and tag == self.lang
+                and text not in target.texts("prefLabel", self.lang) + target.texts("altLabel", self.lang)
+            ):
                 yield Entry(self.keys[it.iri], text, it.page, None, (target,))
         for text, use in leads.items():
             yield Entry(sort_key(text), text, page_of_lead(text), None, tuple(use))
@@ -88,29 +97,46 @@ class Edition:
     def write(self, name: str, kind: str, title: str, main: str, *, twin: str = "index", head: str = "") -> None:
         """Writes a page; `twin` is the page that corresponds to it in the other languages."""
         places = [("index", "az"), ("tree", "tree"), *[("collections", "collections")][: len(self.collections)]]
-        here = lambda page: ' aria-current="page"' if page == name else ""
-        other = lambda lang: f'<a href="../{lang}/{twin}.html" lang="{lang}" hreflang="{lang}">{self.languages[lang]}</a>'
+
+        def here(page: str) -> str:
+            return ' aria-current="page"' if page == name else ""
+
+        def other(lang: str) -> str:
+            return f'<a href="../{lang}/{twin}.html" lang="{lang}" hreflang="{lang}">{self.languages[lang]}</a>'
+
         current = f'<span aria-current="true">{self.languages[self.lang]}</span>'
         text = self.template.format(
-            lang=self.lang, direction="rtl" if self.lang.split("-")[0] in FROM_RIGHT else "ltr", kind=kind, head=head, main=main,
-            title=escape(title if title == self.title else f"{title} – {self.title}"), site=escape(self.title), search=self.words["search"],
+            lang=self.lang,
+            direction="rtl" if self.lang.split("-")[0] in FROM_RIGHT else "ltr",
+            kind=kind,
+            head=head,
+            main=main,
+            title=escape(title if title == self.title else f"{title} – {self.title}"),
+            site=escape(self.title),
+            search=self.words["search"],
+            skip=self.words["skip"],
+            pages_name=self.words["pages"],
+            languages_name=self.words["languages"],
             pages=" ".join(f'<a href="{page}.html"{here(page)}>{self.words[word]}</a>' for page, word in places),
-            languages=" ".join(current if it == self.lang else other(it) for it in self.langs) if len(self.langs) > 1 else "",
-            footer=self.footer)
+            languages=" ".join(current if it == self.lang else other(it) for it in self.langs)
+            if len(self.langs) > 1
+            else "",
+            footer=self.footer,
+        )
         with open(f"{self.out}/{name}.html", "w", encoding="utf-8") as file:
             file.write(text)
 
     def row(self, word: str, items: Iterable[str], short: str = "") -> str:
         """A row of the table on a page, or nothing where there are no items."""
         lines = "".join(f"<li>{it}</li>" for it in items)
-        abbreviation = f" <abbr>{self.words[short]}</abbr>" if short else ""
+        abbreviation = f' <abbr title="{self.words[word]}">{self.words[short]}</abbr>' if short else ""
         return f"<dt>{self.words[word]}{abbreviation}</dt><dd><ul>{lines}</ul></dd>\n" if lines else ""
 
     def notes(self, it: Resource) -> str:
         """The scope notes in this language, or in the first of the others that has some."""
-        lang, found = next(((lang, found) for lang in self.order if (found := it.texts("scopeNote", lang))), ("", ()))
+        lang = next((lang for lang in self.order if it.texts("scopeNote", lang)), self.lang)
         other = f' lang="{lang}"' if lang != self.lang else ""
-        return "".join(f'<p class="note"{other}>{escape(text)}</p>\n' for text in found)
+        return "".join(f'<p class="note"{other}>{escape(text)}</p>\n' for text in it.texts("scopeNote", lang))
 
     def use(self, word: str, targets: Iterable[Resource]) -> str:
         items = "".join(f"<li>{self.link(it)}</li>" for it in targets)
@@ -122,7 +148,9 @@ class Edition:
         for iri in it.links.get(kind, ()):
             if iri not in self.thesaurus.resources:
                 # (an address of another kind than http may be a script)
-                yield f'<a href="{escape(iri)}" rel="external">{escape(iri)}</a>' if re.match("https?://", iri) else escape(iri)
+                yield f'<a href="{escape(iri)}" rel="external">{escape(iri)}</a>' if re.match(
+                    "https?://", iri
+                ) else escape(iri)
 
     def path_to(self, it: Resource) -> list[Resource]:
         """The concepts from a top one down to the one above, by the first broader term of each."""
@@ -142,7 +170,11 @@ class Edition:
         """Writes the page of a concept or a collection."""
         replacement = self.thesaurus.replacement(it)
         own = it.texts("prefLabel", self.lang)
-        others = [f'<span lang="{tag}">{escape(text)}</span> <small>{tag}</small>' for tag, text in sorted(it.labels["prefLabel"]) if text not in own]
+        others = [
+            f'<span lang="{tag}">{escape(text)}</span> <small>{tag}</small>'
+            for tag, text in sorted(it.labels["prefLabel"])
+            if text not in own
+        ]
         rows = [
             self.row("used_for", map(escape, sorted(it.texts("altLabel", self.lang), key=sort_key)), "UF"),
             self.row("broader", self.hierarchy(it, "broader"), "BT"),
@@ -152,33 +184,61 @@ class Edition:
             self.row("in_collections", map(self.link, self.member_of.get(it.iri, ()))),
             *(self.row(kind, self.mapped(it, kind)) for kind in MAPPINGS),
             self.row("other", others),
-            self.row("scheme", [self.name(scheme) for scheme in self.thesaurus.linked(it, "inScheme")] if len(self.schemes) > 1 else ()),
+            self.row(
+                "scheme",
+                [self.name(scheme) for scheme in self.thesaurus.linked(it, "inScheme")]
+                if len(self.schemes) > 1
+                else (),
+            ),
             self.row("iri", [escape(it.iri)]),
         ]
         path = self.path_to(it)
-        above = f'<nav class="path">{"".join(map(self.link, path))}</nav>\n' if path else ""
+        above = (
+            f'<nav class="path" aria-label="{self.words["path"]}">{"".join(map(self.link, path))}</nav>\n'
+            if path
+            else ""
+        )
         is_in_tree = it.kind == "Concept" and it.is_live and len(path) < MOST_DEEP
         dead = "" if it.is_live else self.use("dead_use", [replacement]) if replacement else self.use("dead", [])
-        in_tree = f'<p class="no-print faint"><a href="tree.html#t{it.page}">{self.words["in_tree"]}</a></p>\n' if is_in_tree else ""
-        main = f'{above}<h1>{self.name(it)}</h1>\n{dead}{self.notes(it)}<dl class="rows">\n{"".join(rows)}</dl>\n{in_tree}'
+        in_tree = (
+            f'<p class="no-print faint"><a href="tree.html#t{it.page}">{self.words["in_tree"]}</a></p>\n'
+            if is_in_tree
+            else ""
+        )
+        main = (
+            f'{above}<h1>{self.name(it)}</h1>\n{dead}{self.notes(it)}<dl class="rows">\n{"".join(rows)}</dl>\n{in_tree}'
+        )
         self.write(it.page, "concept" if it.is_live else "gone", self.names[it.iri][0], main, twin=it.page)
 
     def line(self, entry: Entry) -> str:
         """A line of A to Z."""
         targets = ", ".join(map(self.link, entry.use))
         text = escape(entry.text)
-        return f'<li><a class="use-for" href="{entry.page}.html">{text}</a> → {targets}</li>' if targets else f'<li><a href="{entry.page}.html">{text}</a></li>'
+        return (
+            f'<li><a class="use-for" href="{entry.page}.html">{text}</a> → {targets}</li>'
+            if targets
+            else f'<li><a href="{entry.page}.html">{text}</a></li>'
+        )
 
     def letter_bar(self, prefix: str, current: str = "") -> str:
-        item = lambda it: f'<span aria-current="true">{it}</span>' if it == current else f'<a href="{prefix}-{page_of_letter(it)}.html">{it}</a>'
-        return f'<nav class="letters">{" ".join(map(item, self.letters))}</nav>\n'
+        def item(it: str) -> str:
+            return (
+                f'<span aria-current="true">{it}</span>'
+                if it == current
+                else f'<a href="{prefix}-{page_of_letter(it)}.html">{it}</a>'
+            )
+
+        return f'<nav class="letters" aria-label="{self.words["letters"]}">{" ".join(map(item, self.letters))}</nav>\n'
 
     def index_page(self) -> None:
         """Writes A to Z, with the search."""
         said = " ".join(f'data-{it}="{escape(self.words[it])}"' for it in ("none", "one", "many", "further"))
         links = " ".join(f'<a href="../{it}/index.html" lang="{it}">{self.languages[it]}</a>' for it in self.order[1:])
         elsewhere = f'<p class="elsewhere">{self.words["search_in"]} {links}</p>' if links else ""
-        results = f'<section id="results" aria-live="polite" {said} hidden><h1>{self.words["search"]}</h1>{elsewhere}</section>\n'
+        results = (
+            f'<section id="results" aria-live="polite" {said} '
+            f'hidden><h1>{self.words["search"]}</h1>{elsewhere}</section>\n'
+        )
         printed = f'<h2>{self.words["print"]}</h2>\n{self.letter_bar("print")}'
         browse = f'<div id="browse">\n<h1>{self.words["az"]}</h1>\n{self.lists()}{printed}</div>'
         main = f'<noscript><p class="faint">{self.words["no_script"]}</p></noscript>\n{results}{browse}'
@@ -187,35 +247,55 @@ class Edition:
     def lists(self) -> str:
         """All terms by their letters; or the letters and the top concepts, where there are many terms."""
         if sum(map(len, self.letters.values())) <= FEW_TERMS:
-            sections = [("az", f'<a href="az-{page_of_letter(it)}.html">{it}</a>', map(self.line, of)) for it, of in self.letters.items()]
+            sections = [
+                ("az", f'<a href="az-{page_of_letter(it)}.html">{it}</a>', [self.line(one) for one in of])
+                for it, of in self.letters.items()
+            ]
             bar = ""
         else:
-            sections = [("tops", self.name(it), (f"<li>{self.link(top)}</li>" for top in self.tops(it))) for it in self.schemes if self.tops(it)]
+            sections = [
+                ("tops", self.name(it), [f"<li>{self.link(top)}</li>" for top in self.tops(it)])
+                for it in self.schemes
+                if self.tops(it)
+            ]
             bar = self.letter_bar("az")
-        return bar + "".join(f'<section class="{name}"><h2>{title}</h2>\n<ul class="terms">{"".join(lines)}</ul></section>\n' for name, title, lines in sections)
+        return bar + "".join(
+            f'<section class="{name}"><h2>{title}</h2>\n<ul class="terms">{"".join(lines)}</ul></section>\n'
+            for name, title, lines in sections
+        )
 
     def terms_file(self) -> None:
-        """Writes what the search looks through: each term with its page; then what to use in its place; and 1 for a term that isn't shown."""
-        terms = []
+        """Writes what the search looks through: each term with its page; then what to use in its place; and 1 for a
+        term that isn't shown."""
+        terms: list[tuple[object, list[str | int]]] = []
         for entry in (it for of in self.letters.values() for it in of):
             use = [", ".join(self.names[it.iri][0] for it in entry.use)] if entry.use else []
             terms.append((entry.key, [entry.text, entry.page, *use]))
         for it in self.concepts:
-            hidden = it.texts("hiddenLabel", self.lang) + [text for tag in OF_NO_LANGUAGE if tag != self.lang for kind in NAMES for text in it.texts(kind, tag)]
+            hidden = it.texts("hiddenLabel", self.lang) + [
+                text for tag in OF_NO_LANGUAGE if tag != self.lang for kind in NAMES for text in it.texts(kind, tag)
+            ]
             if it.is_live:
                 terms += [(sort_key(text), [text, it.page, self.names[it.iri][0], 1]) for text in hidden]
         found = json.dumps([term for _, term in sorted(terms)], ensure_ascii=False, separators=(",", ":"))
         (self.out / "terms.js").write_text(f"window.TERMS={found};\n", encoding="utf-8")
 
     def tops(self, scheme: Resource) -> list[Resource]:
-        return [it for it in self.concepts if it.is_live and not self.broader(it) and scheme.iri in it.links["inScheme"]]
+        return [
+            it for it in self.concepts if it.is_live and not self.broader(it) and scheme.iri in it.links["inScheme"]
+        ]
 
     def letter_pages(self) -> None:
         """Writes the terms of each letter, as a list and as entries to print; and a page for each alternative label."""
         for letter, entries in self.letters.items():
             page = page_of_letter(letter)
             lines = "".join(map(self.line, entries))
-            self.write(f"az-{page}", "index", f"{self.words['az']}: {letter}", f'{self.letter_bar("az", letter)}<h1>{letter}</h1>\n<ul class="terms">{lines}</ul>')
+            self.write(
+                f"az-{page}",
+                "index",
+                f"{self.words['az']}: {letter}",
+                f'{self.letter_bar("az", letter)}<h1>{letter}</h1>\n<ul class="terms">{lines}</ul>',
+            )
             printed = "".join(map(self.printed, entries))
             main = f'{self.letter_bar("print", letter)}<h1>{letter}</h1>\n<div class="entries">\n{printed}</div>'
             self.write(f"print-{page}", "print", f"{self.words['print']}: {letter}", main)
@@ -229,7 +309,10 @@ class Edition:
         it, short = entry.concept, self.words
         if it is None:
             rows = [(short["USE"], self.link(other)) for other in entry.use]
-            return f'<dl class="entry"><dt class="use-for">{escape(entry.text)}</dt>{"".join(map(self.printed_row, rows))}</dl>\n'
+            return (
+                '<dl class="entry"><dt '
+                f'class="use-for">{escape(entry.text)}</dt>{"".join(map(self.printed_row, rows))}</dl>\n'
+            )
         rows = [(short["SN"], escape(text)) for text in it.texts("scopeNote", self.lang)]
         rows += [(short["UF"], escape(text)) for text in sorted(it.texts("altLabel", self.lang), key=sort_key)]
         rows += [(short["BT"] + types, self.link(other)) for types, other in self.typed(it, "broader")]
@@ -256,7 +339,9 @@ class Edition:
         types = self.thesaurus.types.get((it.iri, above.iri), "") if above else ""
         label = self.link(it) + "".join(f" <small>{self.words[letter]}</small>" for letter in types)
         if above and self.broader(it)[0] is not above:
-            return f'<li>{label} <a class="faint" href="#t{it.page}" title="{escape(self.words["elsewhere"])}">*</a></li>'
+            return (
+                f'<li>{label} <a class="faint" href="#t{it.page}" title="{escape(self.words["elsewhere"])}">*</a></li>'
+            )
         narrower = self.sorted(self.thesaurus.linked(it, "narrower"))
         if narrower and depth < MOST_DEEP:
             below = "".join(self.branch(other, it, depth + 1) for other in narrower)
@@ -264,8 +349,17 @@ class Edition:
         return f'<li id="t{it.page}">{label}{" …" if narrower else ""}</li>\n'
 
     def collections_page(self) -> None:
-        items = "".join(f"<h2>{self.link(it)}</h2>\n<ul>{''.join(f'<li>{link}</li>' for link in self.links(it, 'member'))}</ul>\n" for it in self.collections)
-        self.write("collections", "collections", self.words["collections"], f"<h1>{self.words['collections']}</h1>\n{items}", twin="collections")
+        items = "".join(
+            f"<h2>{self.link(it)}</h2>\n<ul>{''.join(f'<li>{link}</li>' for link in self.links(it, 'member'))}</ul>\n"
+            for it in self.collections
+        )
+        self.write(
+            "collections",
+            "collections",
+            self.words["collections"],
+            f"<h1>{self.words['collections']}</h1>\n{items}",
+            twin="collections",
+        )
 
     def write_all(self) -> int:
         """Writes all pages of the language, and returns their number."""

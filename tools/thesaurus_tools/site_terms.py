@@ -15,7 +15,8 @@ FILES = Path(__file__).resolve().parents[2] / "share" / "site"
 
 
 def words_of(lang: str) -> dict[str, str]:
-    """The words of the pages in a language; the English ones with the tag as the language's name, where there are none."""
+    """The words of the pages in a language; the English ones with the tag as the language's name, where there are
+    none."""
     every = json.loads((FILES / "words.json").read_text(encoding="utf-8"))
     return every.get(lang.split("-")[0]) or {**every["en"], "language": lang}
 
@@ -35,12 +36,14 @@ def letter_of(entry: Entry) -> str:
     first = entry.key[1][0]
     if not first.isalpha():
         return "0–9" if first.isdigit() else "#"
-    return first.upper() if ord(first) < 0x2E80 else re.split("[ -]", unicodedata.name(first, "?"))[0].title()
+    # (Python names no ideographs of Tangut, and all other letters)
+    return first.upper() if ord(first) < 0x2E80 else re.split("[ -]", unicodedata.name(first, "Tangut"))[0].title()
 
 
 def page_of_letter(letter: str) -> str:
+    """The name of a letter's page: its own if that needs no escape in a link."""
     plain = {"0–9": "0-9", "#": "other"}.get(letter, letter.lower())
-    return plain if plain.isascii() else "-".join(f"{ord(it):04x}" for it in plain)
+    return plain if re.fullmatch("[a-z0-9-]+", plain) else "-".join(f"{ord(it):04x}" for it in plain)
 
 
 def page_of_lead(text: str) -> str:

@@ -5,17 +5,20 @@ import argparse
 import re
 from collections import defaultdict
 from collections.abc import Iterator
+from typing import Any
 
 from thesaurus_tools.kinds import BROADER, CLASSES, LABEL_PROPERTIES, LINK_PROPERTIES
 from thesaurus_tools.link_rules import OUTSIDE
 from thesaurus_tools.ntriples import DCTERMS, OWL, RDF, SKOS, Blank, Iri, Literal, Triple
+from thesaurus_tools.skos_xl import plain_labels
 from thesaurus_tools.vocabulary import Resource, Vocabulary, by_numbers
 
 ISO_THES = "http://purl.org/iso25964/skos-thes#"
 RDFS_LABEL = "http://www.w3.org/2000/01/rdf-schema#label"
 TITLES = (RDFS_LABEL, DCTERMS + "title", "http://purl.org/dc/elements/1.1/title")
 LABELS = {SKOS + name: kind for name, kind in LABEL_PROPERTIES.items()}
-# Properties of links: the kind, and whether subject and object change places. Types of broader links have the words of ISO-THES.
+# Properties of links: the kind, and whether subject and object change places. Types of broader links have the words of
+# ISO-THES.
 LINKS = {
     **{SKOS + name: (kind, False) for name, kind in LINK_PROPERTIES.items()},
     SKOS + "narrower": ("broader", True),
@@ -37,14 +40,16 @@ class SkosReader:
 
     def __init__(self, triples: set[Triple], given: argparse.Namespace):
         self.given = given
-        self.vocabulary = Vocabulary(given.texts)
+        self.vocabulary = Vocabulary(given.texts, adopts=given.adopt)
         self.values: dict[str, dict[str, list]] = defaultdict(lambda: defaultdict(list))
-        for subject, predicate, node in triples:
+        for subject, predicate, node in plain_labels(triples):
             self.values[subject][predicate].append(node)
-        for subject, properties in self.values.items():
-            self.values[subject] = defaultdict(list, sorted(properties.items()))
+        for name, properties in self.values.items():
+            self.values[name] = defaultdict(list, sorted(properties.items()))
             for nodes in properties.values():
-                nodes.sort(key=lambda it: (isinstance(it, Literal), by_numbers(it[0] if isinstance(it, Literal) else it), it))
+                nodes.sort(
+                    key=lambda it: (isinstance(it, Literal), by_numbers(it[0] if isinstance(it, Literal) else it), it)
+                )
         self.subjects = sorted(self.values, key=by_numbers)
         self.is_title_label: set[str] = set()
 
@@ -78,10 +83,14 @@ class SkosReader:
                 continue
             kind = next(kind for kind in ("concept", "scheme", "collection") if kind in kinds[it])
             if len(kinds[it]) > 1:
-                self.vocabulary.find("S9" if "collection" not in kinds[it] else "S37", it, f"it is a {' and a '.join(sorted(kinds[it]))}; a {kind} stays")
+                self.vocabulary.find(
+                    "S9" if "collection" not in kinds[it] else "S37",
+                    it,
+                    f"it is a {' and a '.join(sorted(kinds[it]))}; a {kind} stays",
+                )
             self.vocabulary.resources[it] = Resource(it, kind)
 
-    def entailed(self, subject: str, predicate: str, node) -> Iterator[tuple[str, str]]:
+    def entailed(self, subject: str, predicate: str, node: Any) -> Iterator[tuple[str, str]]:
         """Yields what a triple says of the kinds of its subject and its object."""
         if predicate == RDF + "type" and node in KINDS:
             yield subject, KINDS[node]
@@ -125,7 +134,8 @@ class SkosReader:
         return found.kind if found else ""
 
     def usual_scheme(self, resource: Resource) -> str:
-        """Returns the scheme for what has none: that of a collection's first member, the only one, or the one of --scheme."""
+        """Returns the scheme for what has none: that of a collection's first member, the only one, or the one of
+        --scheme."""
         schemes = self.vocabulary.of_kind("scheme")
         for member in self.members(resource.name):
             if self.kind(member) == "concept" and self.values[member].get(SKOS + "inScheme"):
@@ -142,7 +152,9 @@ class SkosReader:
     def read_death(self, concept: Resource) -> None:
         """Notes whether a concept is dead, and what replaced it."""
         values = self.values[concept.name]
-        concept.is_dead = any(isinstance(it, Literal) and it.text in ("true", "1") for it in values.get(OWL + "deprecated", ()))
+        concept.is_dead = any(
+            isinstance(it, Literal) and it.text in ("true", "1") for it in values.get(OWL + "deprecated", ())
+        )
         replaced = values.get(DCTERMS + "isReplacedBy", [])
         for number, it in enumerate(replaced):
             if concept.is_dead and number == 0 and self.kind(it) == "concept":
@@ -162,14 +174,19 @@ class SkosReader:
         if resource.kind == "scheme" and not resource.labels["pref"]:
             self.read_titles(resource)
         if resource.kind == "concept" and self.given.hidden_codes:
-            codes = [short(resource.name), *(it.text for it in values.get(SKOS + "notation", ()) if isinstance(it, Literal))]
-            for code in dict.fromkeys(codes):
+            notations = [it.text for it in values.get(SKOS + "notation", ()) if isinstance(it, Literal)]
+            ends = [] if notations and not self.given.all_codes else [short(resource.name)]
+            for code in dict.fromkeys([*ends, *notations]):
                 vocabulary.add_label(resource, "hidden", self.given.hidden_codes, code)
 
     def read_titles(self, scheme: Resource) -> None:
         """Gives a scheme without preferred labels its title, or the text of --scheme."""
         for predicate in TITLES:
-            for it in self.values[scheme.name].get(predicate, ()) if not scheme.labels["pref"] or predicate in self.is_title_label else ():
+            for it in (
+                self.values[scheme.name].get(predicate, ())
+                if not scheme.labels["pref"] or predicate in self.is_title_label
+                else ()
+            ):
                 if isinstance(it, Literal):
                     self.is_title_label.add(predicate)
                     self.vocabulary.add_label(scheme, "pref", it.tag or self.given.lang, it.text)
@@ -204,18 +221,28 @@ class SkosReader:
                     else:
                         self.lose(subject, f"the member {member}, which is no concept of the file")
         if self.given.keep_iris:
-            links += [("exact", it.name, OUTSIDE + it.name) for it in self.vocabulary.of_kind("concept") if not it.is_dead]
+            links += [
+                ("exact", it.name, OUTSIDE + it.name) for it in self.vocabulary.of_kind("concept") if not it.is_dead
+            ]
 
     def declared_tops(self, subject: str) -> list[tuple]:
         """The top concepts that the triples of a subject declare, each with its scheme."""
         values = self.values[subject]
-        return [(subject, it) for it in values.get(SKOS + "topConceptOf", ())] + [(it, subject) for it in values.get(SKOS + "hasTopConcept", ())]
+        return [(subject, it) for it in values.get(SKOS + "topConceptOf", ())] + [
+            (it, subject) for it in values.get(SKOS + "hasTopConcept", ())
+        ]
 
-    def read_link(self, subject: str, predicate: str, node) -> None:
+    def read_link(self, subject: str, predicate: str, node: Any) -> None:
         kind, is_turned = LINKS[predicate]
         a, b = (node, subject) if is_turned else (subject, node)
         if isinstance(node, Literal) or isinstance(a, Blank) or isinstance(b, Blank):
-            self.lose(subject, f"{short(predicate)} {node[0] if isinstance(node, Literal) else node}, which is no resource with an IRI")
+            self.lose(
+                subject,
+                (
+                    f"{short(predicate)} {node[0] if isinstance(node, Literal) else node}, which is no "
+                    "resource with an IRI"
+                ),
+            )
             return
         if kind in ("exact", "close", "relMatch", *OPPOSITE):
             if self.kind(a) != "concept" and self.kind(b) == "concept":
@@ -230,7 +257,13 @@ class SkosReader:
 
     def read_rest(self, subject: str) -> None:
         """Notes the triples of a resource that a thesaurus has no place for."""
-        kept = {RDF + "type", *LABELS, *LINKS, *TRANSITIVE, *(SKOS + it for it in ("inScheme", "topConceptOf", "hasTopConcept", *self.given.as_scope))}
+        kept = {
+            RDF + "type",
+            *LABELS,
+            *LINKS,
+            *TRANSITIVE,
+            *(SKOS + it for it in ("inScheme", "topConceptOf", "hasTopConcept", *self.given.as_scope)),
+        }
         kept |= {OWL + "deprecated", DCTERMS + "isReplacedBy"} if self.kind(subject) == "concept" else set()
         kept |= self.is_title_label if self.kind(subject) == "scheme" else set()
         kept |= {SKOS + "notation"} if self.given.hidden_codes and self.kind(subject) == "concept" else set()
@@ -246,7 +279,9 @@ class SkosReader:
                     self.lose(subject, "memberList: the order of its members")
                 elif predicate == RDF + "type" and node not in KINDS:
                     self.lose(subject, f"type {text}")
-                elif predicate == RDFS_LABEL and ("pref", node) in {("pref", it) for it in self.values[subject].get(SKOS + "prefLabel", ())}:
+                elif predicate == RDFS_LABEL and ("pref", node) in {
+                    ("pref", it) for it in self.values[subject].get(SKOS + "prefLabel", ())
+                }:
                     continue
                 elif predicate not in kept:
                     self.lose(subject, f"{short(predicate)} {text}")

@@ -141,13 +141,17 @@ class Store:
         found = {it.b for it in links if at_a and it.a == number} | {it.a for it in links if at_b and it.b == number}
         return sorted(found, key=end_order)
 
+    def near(self, number: int, *, at_a: bool = False, at_b: bool = False) -> list[int]:
+        """Returns the other ends of broader links, which are concepts of the store."""
+        return [it for it in self.others(number, BROADER, at_a=at_a, at_b=at_b) if isinstance(it, int)]
+
     def broader(self, number: int) -> list[int]:
         """Returns the concepts broader than a concept in its scheme, whatever the types of the links."""
-        return self.others(number, BROADER, at_a=True)
+        return self.near(number, at_a=True)
 
     def narrower(self, number: int) -> list[int]:
         """Returns the concepts narrower than a concept in its scheme."""
-        return self.others(number, BROADER, at_b=True)
+        return self.near(number, at_b=True)
 
     def live_concepts(self) -> Iterator[Resource]:
         """Yields the live concepts in the order of their numbers."""
@@ -159,8 +163,10 @@ class Store:
         kind = found.kind if found else "outside concept" if number in self.outside.values() else None
         if not kind:
             raise ToolError(f"{self.name}: nothing has the number {number}", REFUSED)
-        if kind != "concept":
-            raise ToolError(f"{self.name}: number {number} is no concept, but a{'n' * (kind[0] == 'o')} {kind}", REFUSED)
+        if not found or kind != "concept":
+            raise ToolError(
+                f"{self.name}: number {number} is no concept, but a{'n' * (kind[0] == 'o')} {kind}", REFUSED
+            )
         return found
 
     def live_concept(self, number: int) -> Resource:
@@ -173,18 +179,22 @@ class Store:
 
     def live_end(self, number: int) -> int | None:
         """Returns the live concept to which replacements lead from a number, or None."""
-        while number and not self.resources[number].is_live:
-            number = self.resources[number].replaced
-        return number
+        found: int | None = number
+        while found and not self.resources[found].is_live:
+            found = self.resources[found].replaced
+        return found
 
     @cached_property
     def main_language(self) -> str:
         """The tag that most preferred labels have; among several that with most labels."""
-        preferred, labels = Counter(it.tag for it in self.labels if it.kind == "pref"), Counter(it.tag for it in self.labels)
+        preferred, labels = Counter(it.tag for it in self.labels if it.kind == "pref"), Counter(
+            it.tag for it in self.labels
+        )
         return min(preferred, key=lambda tag: (-preferred[tag], -labels[tag], tag), default="")
 
     def term(self, end: End | None, langs: Iterable[str] = ()) -> str:
-        """Returns a preferred label in the first of the languages that has one, else in the main or any language; else the IRI or number."""
+        """Returns a preferred label in the first of the languages that has one, else in the main or any language; else
+        the IRI or number."""
         if end is None or isinstance(end, str):
             return end or ""
         texts = {it.tag: it.text for it in self.labels_of.get(end, ()) if it.kind == "pref"}

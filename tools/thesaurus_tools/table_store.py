@@ -14,7 +14,8 @@ from thesaurus_tools.kinds import BROADER, LABEL_KINDS, MAPPINGS, RESOURCE_KINDS
 from thesaurus_tools.program import lock_file
 from thesaurus_tools.store import Label, Link, Move, Posting, Resource, Store
 
-# What the numbers in the tables mean: of resources and labels from 1, of links in `link` from 2, of types in `hier` from 0.
+# What the numbers in the tables mean: of resources and labels from 1, of links in `link` from 2, of types in `hier`
+# from 0.
 KIND_OF_RESOURCE = dict(enumerate(RESOURCE_KINDS, 1))
 KIND_OF_LABEL = dict(enumerate(LABEL_KINDS, 1))
 KIND_OF_LINK = dict(enumerate(("related", *MAPPINGS, "member"), 2))
@@ -26,7 +27,8 @@ EMPTY_LOG = 32 + 24 + 512
 
 @contextlib.contextmanager
 def open_tables(path: Path | str) -> Iterator[sqlite3.Connection]:
-    """Opens the tables of a store for reading, and changes neither of its files. No program can open the store meanwhile."""
+    """Opens the tables of a store for reading, and changes neither of its files. No program can open the store
+    meanwhile."""
     log = Path(f"{path}-wal")
     with contextlib.ExitStack() as stack:
         try:
@@ -54,17 +56,21 @@ class TableStore(Store):
         rows = list(self.rows("SELECT version, base FROM meta"))
         if len(rows) != 1:
             raise ToolError(f"{path}: not the store of a thesaurus")
-        (version, self.base), = rows
+        ((version, self.base),) = rows
         if version != TABLES_VERSION:
-            advice = "run `thesaurus migrate` on it first" if version < TABLES_VERSION else "these tools are older than it"
+            advice = (
+                "run `thesaurus migrate` on it first" if version < TABLES_VERSION else "these tools are older than it"
+            )
             raise ToolError(f"{path}: its tables have version {version}, not {TABLES_VERSION}: {advice}")
 
-    def rows(self, query: str, *values) -> Iterator[tuple]:
+    def rows(self, query: str, *values: object) -> Iterator[tuple]:
         """Yields the rows that a query finds."""
         try:
             yield from self.tables.execute(query, values)
         except sqlite3.Error as error:
-            raise ToolError(f"{self.name}: not the store of a thesaurus, or damaged ({error}): run `thesaurus check` on it") from None
+            raise ToolError(
+                f"{self.name}: not the store of a thesaurus, or damaged ({error}): run `thesaurus check` on it"
+            ) from None
 
     @staticmethod
     def kind(kinds: dict[int, str], number: int) -> str:
@@ -73,21 +79,24 @@ class TableStore(Store):
             raise ToolError(f"a kind has the number {number}: the store is damaged, run `thesaurus check` on it")
         return kinds[number]
 
-    @cached_property
+    @cached_property  # type: ignore[override]
     def resources(self) -> dict[int, Resource]:
         rows = self.rows("SELECT num, kind, scheme, live, replaced FROM resource WHERE kind IN (1, 2, 3)")
-        return {number: Resource(number, self.kind(KIND_OF_RESOURCE, kind), scheme, live == 1, by) for number, kind, scheme, live, by in rows}
+        return {
+            number: Resource(number, self.kind(KIND_OF_RESOURCE, kind), scheme, live == 1, by)
+            for number, kind, scheme, live, by in rows
+        }
 
-    @cached_property
+    @cached_property  # type: ignore[override]
     def outside(self) -> dict[str, int]:
-        return dict(self.rows("SELECT iri, num FROM outside"))
+        return {iri: number for iri, number in self.rows("SELECT iri, num FROM outside")}
 
-    @cached_property
+    @cached_property  # type: ignore[override]
     def labels(self) -> list[Label]:
         rows = self.rows("SELECT owner, kind, tag, text FROM label")
         return [Label(owner, self.kind(KIND_OF_LABEL, kind), tag, text) for owner, kind, tag, text in rows]
 
-    @cached_property
+    @cached_property  # type: ignore[override]
     def links(self) -> set[Link]:
         iris = {number: iri for iri, number in self.outside.items()}
         links = {Link(self.kind(KIND_OF_TYPE, typ), a, b) for a, b, typ in self.rows("SELECT a, b, typ FROM hier")}
@@ -95,14 +104,19 @@ class TableStore(Store):
         return links | {Link(self.kind(KIND_OF_LINK, kind), a, iris.get(b, b)) for kind, a, b in rows}
 
     def each_posting(self) -> Iterator[Posting]:
-        for *cells, withdrawn in self.rows("SELECT num, pkey, record, first_at, at, withdrawn FROM posting ORDER BY num"):
-            yield Posting(*cells, withdrawn == 1)
+        rows = self.rows("SELECT num, pkey, record, first_at, at, withdrawn FROM posting ORDER BY num")
+        for number, key, record, first, place, withdrawn in rows:
+            yield Posting(number, key, record, first, place, withdrawn == 1)
 
     def each_move(self) -> Iterator[Move]:
         return (Move(*row) for row in self.rows("SELECT num, posting, source, target FROM move ORDER BY num"))
 
     def moves_of(self, number: int) -> list[Move]:
-        return [Move(*row) for row in self.rows("SELECT num, posting, source, target FROM move WHERE posting = ? ORDER BY num", number)]
+        return [
+            Move(*row)
+            for row in self.rows("SELECT num, posting, source, target FROM move WHERE posting = ? ORDER BY num", number)
+        ]
 
     def count_postings(self) -> dict[int, int]:
-        return dict(self.rows("SELECT at, count(*) FROM posting WHERE withdrawn = 0 GROUP BY at"))
+        rows = self.rows("SELECT at, count(*) FROM posting WHERE withdrawn = 0 GROUP BY at")
+        return {place: count for place, count in rows}

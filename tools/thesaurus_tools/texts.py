@@ -18,16 +18,25 @@ def fold(text: str) -> str:
 def normalize(text: str) -> str:
     """Returns a text without case and variants of characters, and with one space for spaces and light signs."""
     folded = unicodedata.normalize("NFKC", unicodedata.normalize("NFKC", text).casefold())
-    return " ".join("".join(" " if unicodedata.category(it) in LIGHT_CATEGORIES or it in LIGHT_SIGNS else it for it in folded).split())
+    return " ".join(
+        "".join(
+            " " if unicodedata.category(it) in LIGHT_CATEGORIES or it in LIGHT_SIGNS else it for it in folded
+        ).split()
+    )
 
 
 def without_marks(text: str) -> str:
     """Returns a text without case and marks, those of other scripts among them, for sorting."""
     lower = text.casefold()
-    return lower if lower.isascii() else "".join(it for it in unicodedata.normalize("NFKD", lower) if not unicodedata.combining(it))
+    return (
+        lower
+        if lower.isascii()
+        else "".join(it for it in unicodedata.normalize("NFKD", lower) if not unicodedata.combining(it))
+    )
 
 
 def sort_key(text: str) -> tuple[bool, str, str]:
-    """Returns the key by which terms are sorted: letters before all else, without case, accents and marks before the first word."""
+    """Returns the key by which terms are sorted: letters before all else, without case, accents and marks before the
+    first word."""
     folded = without_marks(text).lstrip("\"'«»„“”‘’([-. ") or text
     return not folded[0].isalpha(), folded, text

@@ -38,7 +38,9 @@ class Finding(NamedTuple):
     def group(self) -> str:
         """Returns what kind of thing is lost, such as `notation`; "" for a rule that is broken."""
         words = self.what.split()
-        return " ".join(words[: 2 if words[0] in ("a", "the", "column") else 1]).strip(":") if self.rule == "lost" else ""
+        return (
+            " ".join(words[: 2 if words[0] in ("a", "the", "column") else 1]).strip(":") if self.rule == "lost" else ""
+        )
 
 
 @dataclass
@@ -68,6 +70,7 @@ class Vocabulary:
     places: dict[str, str] = field(default_factory=dict)  # what findings call a resource, where that isn't its name
     changed: int = 0
     tops: set[str] = field(default_factory=set)  # concepts that are said to be top concepts
+    adopts: bool = False  # whether concepts below one that is left out get its broader concepts
 
     def find(self, rule: str, resource: str, what: str) -> None:
         self.findings.append(Finding(rule, resource, what))
@@ -78,12 +81,21 @@ class Vocabulary:
     def add_label(self, owner: Resource, kind: str, tag: str, text: str) -> None:
         """Adds a label, unless it breaks a rule. Preferred labels are added before alternative and hidden ones."""
         said = f"{kind} label {text!r}@{tag}"
-        label = tag.lower(), fit_text(text, MOST_BYTES.get(kind, 256), self.texts)
+        fitted = fit_text(text, MOST_BYTES.get(kind, 256), self.texts)
+        label = tag.lower(), fitted or ""
         held = owner.labels[kind]
         if not TAG_FORM.fullmatch(tag):
-            self.find("BadTag", owner.name, f"{said} has no legal language tag" if tag else f"{said[:-1]} has no language tag; --lang gives one")
-        elif label[1] is None:
-            self.find("BadText", owner.name, f"{said} is empty, too long, or has spaces or control characters; --texts trim or cut")
+            self.find(
+                "BadTag",
+                owner.name,
+                f"{said} has no legal language tag" if tag else f"{said[:-1]} has no language tag; --lang gives one",
+            )
+        elif fitted is None:
+            self.find(
+                "BadText",
+                owner.name,
+                f"{said} is empty, too long, or has spaces or control characters; --texts trim or cut",
+            )
         elif label in held:
             return
         elif kind == "pref" and any(label[0] == it for it, _ in held):
@@ -96,12 +108,41 @@ class Vocabulary:
 
     def leave_out(self, names: Iterable[str]) -> None:
         """Leaves resources out, with the links at them, and what has no scheme then."""
-        for name in names:
+        gone = {it: None for it in names}
+        self.close_gaps(gone)
+        for name in gone:
             self.resources.pop(name, None)
         for it in list(self.resources.values()):
             if it.kind != "scheme" and it.scheme not in self.resources:
                 self.find("UnknownResource", it.name, "its scheme is left out")
                 del self.resources[it.name]
+
+    def close_gaps(self, gone: Iterable[str]) -> None:
+        """Gives the concepts below those that are left out their broader ones, or notes how many lose their place."""
+        above: dict[str, list[tuple[str, str]]] = {}
+        below: dict[str, list[tuple[str, str]]] = {}
+        for kind, a, b in self.links if gone else ():
+            if kind in BROADER:
+                above.setdefault(a, []).append((kind, b))
+                below.setdefault(b, []).append((kind, a))
+        for name in gone:
+            heirs = [(kind, it) for kind, it in below.get(name, ()) if it in self.resources and it not in gone]
+            if heirs and self.adopts:
+                self.links = [it for it in self.links if it[2] != name or it[0] not in BROADER]
+                self.links += [(kind, it, top) for kind, it in heirs for top in self.kept_above(name, gone, above)]
+            elif heirs:
+                self.find("lost", name, f"the place: {len(heirs)} concepts below it lose it; --adopt keeps one")
+
+    def kept_above(self, name: str, gone: Iterable[str], above: dict[str, list[tuple[str, str]]]) -> list[str]:
+        """Returns the nearest concepts above one that are not left out."""
+        found: list[str] = []
+        waiting, met = [name], {name}
+        while waiting:
+            for _, it in above.get(waiting.pop(), ()):
+                if it not in met:
+                    met.add(it)
+                    (waiting if it in gone or it not in self.resources else found).append(it)
+        return found
 
     def check(self, lang: str, qualify: bool = False) -> None:
         """Applies the rules to all labels and links."""
@@ -117,8 +158,11 @@ class Vocabulary:
             it.labels["pref"].sort(key=lambda label: (label[0] != lang.lower(), label))
         self.check_deaths()
         rules = LinkRules(self)
+
         # Of the links of a ring, one that leads up from a top concept is left out.
-        place = lambda it: (LINK_ORDER.index(it[0]), it[1] in self.tops)
+        def place(it: tuple[str, str, str]) -> tuple[int, bool]:
+            return (LINK_ORDER.index(it[0]), it[1] in self.tops)
+
         self.links = [it for it in sorted(self.links, key=place) if rules.accept(*it)]
         self.rules = rules
 
@@ -154,14 +198,23 @@ class Vocabulary:
             for name in others:
                 labels = self.resources[name].labels
                 labels["pref"].remove((tag, text))
-                self.find("P1", name, f"the preferred label {text!r}@{tag} is that of {first}" + ("" if labels["pref"] else "; the concept is left out"))
+                self.find(
+                    "P1",
+                    name,
+                    f"the preferred label {text!r}@{tag} is that of {first}"
+                    + ("" if labels["pref"] else "; the concept is left out"),
+                )
         self.leave_out([it.name for it in self.of_kind("concept") if not it.labels["pref"]])
 
     def check_deaths(self) -> None:
         """Leaves out replacements that a merge can't make."""
         for it in self.of_kind("concept"):
             way, end = {it.name}, it
-            while end.replaced in self.resources and end.replaced not in way and self.resources[end.replaced].scheme == it.scheme:
+            while (
+                end.replaced in self.resources
+                and end.replaced not in way
+                and self.resources[end.replaced].scheme == it.scheme
+            ):
                 end = self.resources[end.replaced]
                 way.add(end.name)
             if end.replaced:

@@ -1,0 +1,91 @@
+"""Gets the triples of a thesaurus: from an export, from a store that no program has open, or over HTTP."""
+from __future__ import annotations
+
+import shutil
+import tempfile
+from collections import defaultdict, deque
+from collections.abc import Iterable
+from pathlib import Path
+
+from thesaurus_tools.command_line import REFUSED, ToolError
+from thesaurus_tools.export_store import ExportStore, Properties
+from thesaurus_tools.files import read_file
+from thesaurus_tools.kinds import BROADER
+from thesaurus_tools.ntriples import SKOS, Iri, Triple, parse_ntriples
+from thesaurus_tools.opening import open_file
+from thesaurus_tools.program import find_program, run_program
+from thesaurus_tools.rdf_writing import ISO_THES
+
+SQLITE = b"SQLite format 3\0"
+# The types of hierarchical links, with the words of ISO-THES for them at the narrower and the broader concept.
+TYPES = {it: (ISO_THES + it, ISO_THES + it.replace("broader", "narrower")) for it in BROADER[1:]}
+
+
+def export_of_store(path: Path, program: str | None) -> bytes:
+    """Returns the export of a store, made from a copy, so that nothing is written beside it."""
+    with tempfile.TemporaryDirectory() as folder:
+        for end in ("", "-wal"):
+            if Path(f"{path}{end}").exists():
+                shutil.copyfile(f"{path}{end}", Path(folder, f"copy.db{end}"))
+        return run_program([find_program(program), "--db", str(Path(folder, "copy.db")), "export"])
+
+
+def read_triples(path: Path, program: str | None = None) -> list[Triple]:
+    """Returns the triples of an export, or of a store."""
+    with open(path, "rb") as file:
+        is_store = file.read(len(SQLITE)) == SQLITE
+    return list(parse_ntriples(export_of_store(path, program) if is_store else read_file(path), str(path)))
+
+
+def served_triples(url: str) -> list[Triple]:
+    """Returns the triples of a thesaurus that is served."""
+    from thesaurus_tools.server import Server  # (a tool starts faster without what talks HTTP)
+
+    return list(parse_ntriples(Server(url).export(), url))
+
+
+def base_of(triples: Iterable[Triple]) -> str:
+    """Returns what the IRIs of a thesaurus begin with."""
+    properties: Properties = defaultdict(list)
+    for subject, predicate, target in triples:
+        properties[predicate].append((subject, target))
+    return ExportStore.find_base(properties)
+
+
+def type_triples(path: Path) -> list[Triple]:
+    """Returns the types of the hierarchical links of a store, in the words of ISO-THES."""
+    with open_file(path) as store:
+        links = [it for it in sorted(store.links, key=str) if it.kind in TYPES]
+        iris = [(TYPES[it.kind], Iri(f"{store.base}{it.a}"), Iri(f"{store.base}{it.b}")) for it in links]
+    return [it for (up, down), a, b in iris for it in (Triple(a, Iri(up), b), Triple(b, Iri(down), a))]
+
+
+def choose_scheme(triples: list[Triple], base: str, scheme: int) -> list[Triple]:
+    """Returns the triples about a scheme, and about what belongs to it. Raises ToolError if there is no such scheme."""
+    iri = Iri(f"{base}{scheme}")
+    chosen = {it.subject for it in triples if it.predicate == SKOS + "inScheme" and it.object == iri} | {iri}
+    if not any(it.subject == iri and it.object == SKOS + "ConceptScheme" for it in triples):
+        raise ToolError(f"no scheme has the number {scheme}", REFUSED)
+    return [it for it in triples if it.subject in chosen]
+
+
+def choose_branch(triples: list[Triple], base: str, top: int) -> list[Triple]:
+    """Returns the triples about a concept and all below it. Raises ToolError if there is no such concept."""
+    below, chosen, waiting = defaultdict(list), {Iri(f"{base}{top}")}, deque([Iri(f"{base}{top}")])
+    for it in triples:
+        if it.predicate == SKOS + "narrower":
+            below[it.subject].append(it.object)
+    if not any(it.subject in chosen and it.object == SKOS + "Concept" for it in triples):
+        raise ToolError(f"no concept has the number {top}", REFUSED)
+    while waiting:
+        for other in below[waiting.popleft()]:
+            if isinstance(other, Iri) and other not in chosen:
+                chosen.add(other)
+                waiting.append(other)
+    return [it for it in triples if it.subject in chosen]
+
+
+def check_same_base(then: str, now: str) -> None:
+    """Raises ToolError unless two exports are of one thesaurus."""
+    if then and then != now:
+        raise ToolError(f"the IRIs of the older one begin with {then}, and not with {now}", REFUSED)

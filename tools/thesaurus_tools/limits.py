@@ -1,0 +1,18 @@
+"""The program's limits, which its options raise: they are given to a tool as to the program."""
+from __future__ import annotations
+
+import argparse
+
+LIMITED = ("resources", "labels", "links", "postings", "moves")
+
+
+def add_limit_options(parser: argparse.ArgumentParser) -> None:
+    """Adds --max-resources and the others."""
+    for it in LIMITED:
+        parser.add_argument(f"--max-{it}", metavar="N", help=f"the most {it} that the store may have")
+
+
+def limit_words(given: argparse.Namespace) -> list[str]:
+    """Returns the words of the command line that pass the limits on."""
+    found = [(it, getattr(given, f"max_{it}")) for it in LIMITED]
+    return [word for it, value in found if value is not None for word in (f"--max-{it}", value)]

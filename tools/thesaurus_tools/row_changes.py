@@ -1,0 +1,247 @@
+"""Turns the rows of a table into requests: new concepts, terms, links, moves, merges, ends and postings."""
+from __future__ import annotations
+
+import hashlib
+from collections.abc import Callable, Iterator
+from typing import Protocol
+
+from thesaurus_tools.drafts import Draft, Reference
+from thesaurus_tools.finding import ConceptFinder, RowError
+from thesaurus_tools.headings import LINKS, Column
+from thesaurus_tools.kinds import BROADER, LABEL_KINDS, MAPPINGS
+from thesaurus_tools.link_rules import IRI_FORM
+
+# What a row can ask for, with other words for it in the column `do`.
+DEEDS = {
+    "new": "new|add|neu|nouveau",
+    "change": "change|andern|changer",
+    "translate": "translate|ubersetzen|traduire",
+    "rename": "rename|umbenennen|renommer",
+    "move": "move|verschieben|deplacer",
+    "merge": "merge|zusammenfuhren|fusionner",
+    "deprecate": "deprecate|end|remove|delete|take out of use|streichen|loschen|supprimer",
+    "post": "post|index|indexieren|indexer",
+    "withdraw": "withdraw|zuruckziehen|retirer",
+    "split": "split|teilen|diviser",
+    "": "|-|no|nothing|keep|nichts|rien",
+}
+BY_DEED = {word: deed for deed, words in DEEDS.items() for word in words.split("|")}
+OUTSIDE = "outside "
+
+
+class Options(Protocol):
+    """What is said of a table beside its columns."""
+
+    lang: str
+    scheme: int | None
+    forget: bool
+
+
+class RowReader:
+    """Turns rows into requests over a draft, which takes them up at once."""
+
+    def __init__(self, draft: Draft, columns: list[Column], given: Options):
+        self.draft, self.columns, self.given = draft, columns, given
+        self.finder = ConceptFinder(draft, given.lang, given.scheme)
+        self.roles = {it.role for it in columns}
+        self.outside: dict[str, Reference] = {**draft.store.outside}
+        self.deeds: dict[str, Callable[[str, list[str]], Iterator[dict]]] = {
+            "new": self.add_concept, "change": self.change, "translate": self.change, "rename": self.rename,
+            "move": self.move, "merge": self.merge, "deprecate": self.deprecate, "post": self.post,
+            "withdraw": self.withdraw,
+        }  # fmt: skip
+        self.deed = ""
+
+    def read(self, name: str, deed: str, cells: list[str]) -> list[dict]:
+        """Returns the requests of a row; `name` is the name of what it makes. Raises RowError if it can't be done."""
+        self.deed = deed
+        requests = []
+        for it in self.deeds[deed](name, cells) if deed else ():
+            self.draft.apply(it)
+            requests.append(it)
+        return requests
+
+    # --- cells ---
+
+    def values(self, role: str, cells: list[str]) -> list[tuple[Column, str]]:
+        """Returns the values of columns with a role: | parts several values of a cell, but for a scope note."""
+        found = []
+        for column, cell in zip(self.columns, cells):
+            if column.role == role:
+                parts = [cell] if role == "scope" else cell.split("|")
+                found += [(column, it.strip()) for it in parts if it.strip()]
+        return found
+
+    def value(self, role: str, cells: list[str]) -> str:
+        """Returns the one value of a role, or nothing."""
+        found = [text for _, text in self.values(role, cells)]
+        if len(found) > 1:
+            raise RowError(f"several values for {role}: {', '.join(found)}")
+        return found[0] if found else ""
+
+    def concept(self, cells: list[str]) -> Reference:
+        """Returns the concept that a row is about, by its columns concept, iri, code or old, or its preferred term."""
+        for role in ("concept", "iri", "code", "old"):
+            if name := self.value(role, cells):
+                return self.finder.find(name)
+        preferred = [text for column, text in self.values("pref", cells) if column.tag == self.given.lang]
+        if preferred and self.deed != "rename":
+            return self.finder.find(preferred[0])
+        raise RowError("the row names no concept")
+
+    # --- terms and notes ---
+
+    def add_concept(self, name: str, cells: list[str]) -> Iterator[dict]:
+        preferred = [(column.tag or self.given.lang, text) for column, text in self.values("pref", cells)]
+        preferred = preferred or [(self.given.lang, self.value("new", cells))]
+        tag, text = next((it for it in preferred if it[0] == self.given.lang), preferred[0])
+        if not text:
+            raise RowError("the row has no preferred term")
+        holders = [owner for owner, kind, its in self.draft.by_text.get(text, ()) if (kind, its) == ("pref", tag)]
+        there = [it for it in holders if self.draft.is_live(it) and self.draft.scheme_of(it) == self.given.scheme]
+        if there:
+            raise RowError(f"“{text}” is there already: {self.finder.candidates(set(there))}")
+        yield {"as": name, "do": "concept", "scheme": self.given.scheme, "tag": tag, "text": text}
+        yield from self.add_labels(f"${name}", cells)
+        yield from self.add_links(f"${name}", cells)
+
+    def change(self, name: str, cells: list[str]) -> Iterator[dict]:
+        concept = self.concept(cells)
+        yield from self.add_labels(concept, cells)
+        yield from self.add_links(concept, cells)
+
+    def add_labels(self, owner: Reference, cells: list[str]) -> Iterator[dict]:
+        """Yields the requests for terms and notes that a concept lacks."""
+        wanted = [(it.role, it.tag, text) for kind in LABEL_KINDS for it, text in self.values(kind, cells)]
+        kind, tag, text = (self.value(it, cells) for it in ("label", "lang", "text"))
+        if text and kind in LABEL_KINDS:
+            wanted.append((kind, tag.lower(), text))
+        for kind, tag, text in wanted:
+            if not tag:
+                self.check_term(owner, text)
+            elif kind == "pref":
+                yield from self.set_preferred(owner, tag, text)
+            elif (kind, tag, text) not in self.draft.labels_of(owner):
+                yield {"do": "addLabel", "owner": owner, "kind": kind, "tag": tag, "text": text}
+
+    def check_term(self, owner: Reference, text: str) -> None:
+        """Checks that a term without a language is one of the concept's: a row may be about another one."""
+        if not any(text == it for _, _, it in self.draft.labels_of(owner)) and text != f"[{owner}]":
+            raise RowError(
+                f"{owner} is {self.draft.term(owner)}, and not “{text}”: --lang says whether this is its new term"
+            )
+
+    def set_preferred(self, owner: Reference, tag: str, text: str) -> Iterator[dict]:
+        """Yields the requests that make a term the preferred one of its language, also if it is an alternative one."""
+        (old,) = self.draft.texts(owner, "pref", tag) or [""]
+        if old == text:
+            return
+        if old and self.deed == "translate":
+            raise RowError(f"{self.draft.term(owner)} has “{old}” in {tag}: --renames changes it to “{text}”")
+        for kind in ("alt", "hidden"):
+            if (kind, tag, text) in self.draft.labels_of(owner):
+                yield {"do": "dropLabel", "owner": owner, "kind": kind, "tag": tag, "text": text}
+        if old:
+            yield {"do": "relabel", "owner": owner, "tag": tag, "text": text, "keep": not self.given.forget}
+        else:
+            yield {"do": "addLabel", "owner": owner, "kind": "pref", "tag": tag, "text": text}
+
+    def rename(self, name: str, cells: list[str]) -> Iterator[dict]:
+        concept, text = self.concept(cells), self.value("new", cells)
+        if text:
+            tag = self.value("lang", cells).lower() or self.given.lang
+            if not self.draft.texts(concept, "pref", tag):
+                raise RowError(f"{self.draft.term(concept)} has no preferred term in {tag or 'a language: --lang TAG'}")
+            yield from self.set_preferred(concept, tag, text)
+        yield from self.add_labels(concept, cells)
+
+    # --- links ---
+
+    def add_links(self, concept: Reference, cells: list[str]) -> Iterator[dict]:
+        """Yields the requests for links that a concept lacks."""
+        for kind in LINKS:
+            for _, text in self.values(kind, cells):
+                yield from self.add_link(kind, concept, text)
+
+    def add_link(self, kind: str, concept: Reference, text: str) -> Iterator[dict]:
+        """Yields what links a concept to the one that a cell names."""
+        a, b = concept, concept
+        if kind in MAPPINGS and IRI_FORM.fullmatch(text) and not text.startswith(self.draft.store.base):
+            yield from self.name_outside(text)
+            b = self.outside.get(text, f"${OUTSIDE}{text}")
+            is_there = self.draft.has_link(kind, a, text) or self.draft.has_link(kind, a, b)
+            if not is_there:
+                yield {"do": "link", "kind": kind, "a": a, "b": b}
+            return
+        scheme = None if kind in MAPPINGS else self.draft.scheme_of(concept)
+        other = self.finder.find(text, "collection" if kind == "member" else "concept", scheme)
+        if kind in ("narrower", "member"):
+            kind, a = "broader" if kind == "narrower" else kind, other
+        else:
+            b = other
+        typed = BROADER if kind == "broader" else (kind,)
+        if not any(self.draft.has_link(it, a, b) for it in typed):
+            yield {"do": "link", "kind": kind, "a": a, "b": b}
+
+    def name_outside(self, iri: str) -> Iterator[dict]:
+        """Yields the request for an outside concept that the store doesn't know."""
+        if iri not in self.outside:
+            self.outside[iri] = f"${OUTSIDE}{iri}"
+            yield {"as": f"{OUTSIDE}{iri}", "do": "outside", "iri": iri}
+
+    def move(self, name: str, cells: list[str]) -> Iterator[dict]:
+        concept = self.concept(cells)
+        before = self.draft.broader_links(concept)
+        places = [(kind, text) for kind in BROADER for _, text in self.values(kind, cells)]
+        scheme, kinds = self.draft.scheme_of(concept), {kind for kind, _ in before}
+        # (a place without a type gets the type of the old place, if there is one)
+        plain = next(iter(kinds)) if len(kinds) == 1 else "broader"
+        wanted = [
+            (plain if kind == "broader" else kind, self.finder.find(text, "concept", scheme)) for kind, text in places
+        ]
+        # The new place first, so that the concept is never without one.
+        for kind, above in wanted:
+            if (kind, above) not in before:
+                yield {"do": "link", "kind": kind, "a": concept, "b": above}
+        for kind, above in before:
+            if (kind, above) not in wanted:
+                yield {"do": "unlink", "kind": kind, "a": concept, "b": above}
+
+    # --- merges and ends ---
+
+    def merge(self, name: str, cells: list[str]) -> Iterator[dict]:
+        into = self.value("into", cells)
+        if into:
+            source = self.concept(cells)
+            target = self.finder.find(into, "concept", self.draft.scheme_of(source))
+            if source == target:
+                raise RowError(f"{self.draft.term(source)} can't be merged into itself")
+            yield {"do": "merge", "source": source, "target": target}
+
+    def deprecate(self, name: str, cells: list[str]) -> Iterator[dict]:
+        yield {"do": "deprecate", "concept": self.concept(cells)}
+
+    # --- postings ---
+
+    def post(self, name: str, cells: list[str]) -> Iterator[dict]:
+        record, key = self.value("record", cells), self.value("key", cells)
+        if not record:
+            raise RowError("the row names no record")
+        into = self.value("into", cells)
+        named = [(role, text) for role in ("concept", "iri", "code", "pref") for _, text in self.values(role, cells)]
+        if not into and not named:
+            raise RowError("the row names no concept")
+        concept = self.finder.find(into or named[0][1])
+        made = key or hashlib.sha256(f"{record}\0{into or named[0][1]}".encode()).hexdigest()[:32]
+        yield {"do": "post", "key": made, "record": record, "concept": concept}
+
+    def withdraw(self, name: str, cells: list[str]) -> Iterator[dict]:
+        record, concept = self.value("record", cells), self.concept(cells)
+        there = [
+            it
+            for it in self.draft.store.each_posting()
+            if it.record == record and it.place == concept and not it.is_withdrawn
+        ]
+        if not there:
+            raise RowError(f"“{record}” isn't indexed with {self.draft.term(concept)}")
+        yield from ({"do": "withdraw", "posting": it.number} for it in there)

@@ -1,0 +1,73 @@
+"""Performs the requests of a table row by row: a row is done whole, or what was done of it is taken back."""
+from __future__ import annotations
+
+from collections.abc import Iterator
+from typing import NamedTuple
+
+from thesaurus_tools.program import Performer
+from thesaurus_tools.sentences import reason_of
+
+INVERSES = {"addLabel": "dropLabel", "dropLabel": "addLabel", "link": "unlink", "unlink": "link"}
+ACCEPTED = ("ok", "done", "moved", "again")
+
+
+class RowPlan(NamedTuple):
+    """A row of the table, with the requests that it asks for, or why it can't be read."""
+
+    line: int
+    cells: list[str]
+    requests: list[dict]
+    reason: str = ""
+
+
+class RowRunner:
+    """Performs rows over a program or a server, and keeps the numbers of what has names."""
+
+    def __init__(self, performer: Performer):
+        self.performer = performer
+        self.numbers: dict[str, int] = {}
+
+    def resolved(self, request: dict) -> dict:
+        """Returns a request with numbers in place of names. Raises KeyError for one that no row made."""
+        return {
+            name: self.numbers[it[1:]]
+            if isinstance(it, str) and it.startswith("$") and name not in ("text", "record", "key")
+            else it
+            for name, it in request.items()
+            if name != "as"
+        }
+
+    def run(self, plan: RowPlan) -> str:
+        """Performs the requests of a row. Returns why the row is refused, or nothing."""
+        done: list[dict] = []
+        for request in plan.requests:
+            try:
+                sent = self.resolved(request)
+            except KeyError as error:
+                return self.take_back(done, f"it needs {error.args[0]}, which was refused")
+            answer = self.performer.ask(sent)
+            known: int = answer["number"] if answer.get("no") == "OutsideKnown" else 0
+            if not known and not any(it in answer for it in ACCEPTED):
+                return self.take_back(done, reason_of(answer))
+            if "as" in request:
+                self.numbers[request["as"]] = known or answer["ok"]
+            done.append(sent)
+        return ""
+
+    def take_back(self, done: list[dict], reason: str) -> str:
+        """Takes back what was done of a row as far as that can be. Returns the reason, with what stays."""
+        stays = 0
+        for request in reversed(done):
+            inverse = {**request, "do": INVERSES.get(request["do"], "")}
+            if not inverse["do"] or "done" not in self.performer.ask(inverse):
+                stays += 1
+        return f"{reason}; {stays} of its {len(done)} changes stay" if stays else reason
+
+
+def run_rows(runner: RowRunner, plans: list[RowPlan], keep_going: bool) -> Iterator[RowPlan]:
+    """Performs rows in their order, up to a refused one unless it keeps going, and yields each, with the reason."""
+    for plan in plans:
+        reason = plan.reason or runner.run(plan)
+        yield plan._replace(reason=reason)
+        if reason and not keep_going:
+            return

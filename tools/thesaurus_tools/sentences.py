@@ -1,0 +1,80 @@
+"""Says in words what requests do and why they are refused."""
+from __future__ import annotations
+
+from collections.abc import Callable
+
+KINDS = {"pref": "preferred term", "alt": "alternative term", "hidden": "hidden term", "scope": "scope note"}
+LINKS = {
+    "broader": "broader term",
+    "broaderGeneric": "broader term (generic)", "broaderPartitive": "broader term (partitive)",
+    "broaderInstantial": "broader term (instance)", "related": "related term", "exact": "exact match",
+    "close": "close match", "broad": "broader match", "narrow": "narrower match", "relMatch": "related match",
+    "member": "member",
+}  # fmt: skip
+REASONS = {
+    "UnknownResource": "no resource has this number",
+    "WrongKind": "it isn't of the kind that is needed, or an IRI belongs to this thesaurus",
+    "NotLive": "the concept is no longer in use",
+    "SameResource": "both are the same concept",
+    "OtherScheme": "they are in two schemes (or, for a match, in one)",
+    "LabelThere": "the term is there already",
+    "NoSuchLabel": "the term isn't there",
+    "LastPreferred": "it is the only preferred term",
+    "S13": "the text is another term of this concept in this language already (S13)",
+    "S14": "there is a preferred term in this language already (S14)",
+    "PreferredTaken": "another concept of the scheme has this preferred term",
+    "LinkThere": "the link is there already",
+    "NoSuchLink": "the link isn't there",
+    "Cycle": "a concept would be broader than itself",
+    "S27": "two concepts would be related, and one broader than the other (S27)",
+    "S46": "two concepts would be exact matches, and also broader or related matches (S46)",
+    "HasPostings": "records are indexed with it: merge it, or move them first",
+    "UnknownPosting": "no posting has this number",
+    "Withdrawn": "the posting is withdrawn",
+    "NotAtSource": "the posting is at another concept",
+    "ListedTwice": "a posting is listed twice",
+    "KeyReused": "a posting with this key has another record or concept",
+    "TooMany": "a limit of the store is reached: raise it by an option --max-..",
+    "BadTag": "the language tag isn't in its form",
+    "BadText": "the text is empty, too long, or has a space at an end or a control character",
+    "BadIri": "the address isn't in the form of an IRI",
+    "BadKey": "the key isn't 1 to 64 plain characters without a space",
+    "BadRecord": "the record's name is empty, too long, or has a control character",
+    "BadNumber": "a number isn't from 1 to 4294967295",
+    "BadShape": "a member is missing, is one too many, or has another type",
+}
+
+
+def reason_of(answer: dict) -> str:
+    """Returns why an answer isn't what was wanted."""
+    name = str(answer.get("no") or answer.get("bad") or answer.get("fault") or answer)
+    return f"{name}: {REASONS[name]}" if name in REASONS else name
+
+
+def sentence_of(request: dict, term: Callable[[int | str], str]) -> str:
+    """Returns what a request does, with terms in place of numbers."""
+    do, text = request["do"], f"“{request.get('text')}” ({request.get('tag')})"
+    if do in ("scheme", "concept", "collection"):
+        return f"new {do} {text}"
+    if do == "outside":
+        return f"outside concept {request['iri']}"
+    if do == "addLabel":
+        return f"{term(request['owner'])}: adds {KINDS[request['kind']]} {text}"
+    if do == "dropLabel":
+        return f"{term(request['owner'])}: removes {KINDS[request['kind']]} {text}"
+    if do == "relabel":
+        kept = ", keeps the old term as an alternative one" if request["keep"] else ""
+        return f"{term(request['owner'])}: renames to {text}{kept}"
+    if do in ("link", "unlink"):
+        verb = "adds" if do == "link" else "removes"
+        return f"{term(request['a'])}: {verb} {LINKS[request['kind']]} {term(request['b'])}"
+    if do == "merge":
+        return f"merges {term(request['source'])} into {term(request['target'])}"
+    if do == "split":
+        count = len(request["postings"])
+        return f"splits {text} from {term(request['source'])}, with {count} record{'s' * (count != 1)}"
+    if do == "deprecate":
+        return f"takes {term(request['concept'])} out of use"
+    if do == "post":
+        return f"indexes “{request['record']}” with {term(request['concept'])}"
+    return f"withdraws posting {request['posting']}"

@@ -1,0 +1,99 @@
+"""Talks to a triple store: SPARQL 1.1 Query and Update, and the Graph Store HTTP Protocol."""
+from __future__ import annotations
+
+import json
+import urllib.error
+import urllib.parse
+import urllib.request
+from dataclasses import dataclass
+from typing import Any
+
+from thesaurus_tools.command_line import ToolError
+from thesaurus_tools.ntriples import XSD, Iri, Literal, Node
+
+# The seconds that an answer may take, and the most characters of an error that are shown.
+PATIENCE, SHOWN = 600, 300
+TRUE = {"1", "true"}
+
+
+@dataclass
+class TripleStore:
+    """A triple store with a graph. Its methods raise ToolError if it can't be reached, or refuses."""
+
+    query_url: str
+    update_url: str
+    graph: str
+    # Where whole graphs are put; without it they are removed and inserted by updates.
+    graph_store_url: str = ""
+    user: str = ""
+    password: str = ""
+
+    def __post_init__(self) -> None:
+        passwords = urllib.request.HTTPPasswordMgrWithDefaultRealm()
+        for url in filter(None, (self.query_url, self.update_url, self.graph_store_url)):
+            passwords.add_password(None, url, self.user, self.password)
+        handlers = [urllib.request.HTTPDigestAuthHandler(passwords), urllib.request.HTTPBasicAuthHandler(passwords)]
+        self.opener = urllib.request.build_opener(*(handlers if self.user else ()))
+
+    def send(self, method: str, url: str, data: bytes | None, headers: dict[str, str]) -> bytes:
+        """Sends a request, and returns the body of the answer."""
+        request = urllib.request.Request(url, data, headers, method=method)
+        try:
+            with self.opener.open(request, timeout=PATIENCE) as answer:
+                return bytes(answer.read())
+        except urllib.error.HTTPError as error:
+            said = error.read().decode(errors="replace").strip()[:SHOWN]
+            raise ToolError(f"{url}: {error.code} {error.reason}: {said}") from None
+        except (OSError, ValueError) as error:
+            raise ToolError(f"{url}: {getattr(error, 'reason', error)}") from None
+
+    def update(self, text: str) -> None:
+        """Performs a SPARQL Update."""
+        form = urllib.parse.urlencode({"update": text}).encode()
+        self.send("POST", self.update_url, form, {"Content-Type": "application/x-www-form-urlencoded"})
+
+    def select(self, query: str) -> list[dict[str, Node]]:
+        """Returns the rows of a query."""
+        form = urllib.parse.urlencode({"query": query}).encode()
+        headers = {
+            "Content-Type": "application/x-www-form-urlencoded",
+            "Accept": "application/sparql-results+json",
+        }
+        body = self.send("POST", self.query_url, form, headers)
+        try:
+            rows = json.loads(body)["results"]["bindings"]
+            return [{name: node_of(it) for name, it in row.items()} for row in rows]
+        except (ValueError, KeyError, TypeError):
+            raise ToolError(f"{self.query_url}: no answer to a query of SPARQL: {body[:SHOWN]!r}") from None
+
+    def put(self, triples: bytes) -> None:
+        """Puts a whole graph, in N-Triples, in place of the one there."""
+        url = f"{self.graph_store_url}?{urllib.parse.urlencode({'graph': self.graph})}"
+        self.send("PUT", url, triples, {"Content-Type": "application/n-triples"})
+
+    def count(self) -> int:
+        """Returns the number of triples in the graph."""
+        (row,) = self.select(f"SELECT (COUNT(*) AS ?n) WHERE {{ GRAPH <{self.graph}> {{ ?s ?p ?o }} }}")
+        found = row["n"]
+        return int(found.text if isinstance(found, Literal) else found)
+
+    def about(self, subject: str) -> set[tuple[str, Node]]:
+        """Returns what the graph says of a subject."""
+        rows = self.select(f"SELECT ?p ?o WHERE {{ GRAPH <{self.graph}> {{ <{subject}> ?p ?o }} }}")
+        return {(str(row["p"]), plain(row["o"])) for row in rows}
+
+
+def node_of(value: dict[str, Any]) -> Node:
+    """Returns a node of an answer in JSON."""
+    if value["type"] == "uri":
+        return Iri(value["value"])
+    return Literal(value["value"], value.get("xml:lang", "").lower(), value.get("datatype", ""))
+
+
+def plain(node: Node) -> Node:
+    """Returns a node without the ways in which stores write the same: a truth as true, a text without a type."""
+    if not isinstance(node, Literal):
+        return node
+    if node.datatype in (f"{XSD}boolean", f"{XSD}integer") and node.text in TRUE:
+        return Literal("true", "", f"{XSD}boolean")
+    return Literal(node.text, node.tag.lower(), "" if node.datatype == f"{XSD}string" else node.datatype)
