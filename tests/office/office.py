@@ -1,4 +1,7 @@
-"""What the tests of the tools share: running a tool, scripts with names, and stores and exports made of the plain program's state."""
+"""What the tests of the tools share: running a tool, scripts with names, and stores and exports made of the plain
+program's state."""
+from __future__ import annotations
+
 import contextlib
 import json
 import os
@@ -6,12 +9,17 @@ import shutil
 import sqlite3
 import subprocess
 import sys
+from collections.abc import Iterator, Mapping
+from pathlib import Path
+from typing import Any
+
 from dice import Requests
 from plain import BASE, BROADER, Plain
 from plain_store import COLUMNS, LIMITS, rows_of
 from program import ROOT, Ended, built
 
-TOOLS = ROOT / "tools"
+TOOLS: Any = ROOT / "tools"
+Request = dict[str, Any]
 SKOS = "http://www.w3.org/2004/02/skos/core#"
 TYPE = "http://www.w3.org/1999/02/22-rdf-syntax-ns#type"
 DEPRECATED = "http://www.w3.org/2002/07/owl#deprecated"
@@ -23,17 +31,23 @@ BOTH_WAYS = {"related": "related", "exact": "exactMatch", "close": "closeMatch",
 ONE_WAY = {"broad": "broadMatch", "narrow": "narrowMatch", "member": "member"}
 
 
-def tool(name, *words, given=None, program_in=None):
-    """Runs a tool with these words and this standard input, and returns how it ended. It finds the program in a folder, if one is given."""
+def tool(name: str, *words: object, given: bytes | None = None, program_in: Path | None = None) -> Ended:
+    """Runs a tool with these words and this standard input, and returns how it ended. It finds the program in a folder,
+    if one is given."""
     environment = {**os.environ, "PATH": f"{program_in}:{os.environ['PATH']}"} if program_in else None
-    ran = subprocess.run([TOOLS / name, *map(str, words)], input=given, capture_output=True, check=False, env=environment)
+    ran = subprocess.run(
+        [TOOLS / name, *map(str, words)], input=given, capture_output=True, check=False, env=environment
+    )
     return Ended(ran.returncode, ran.stdout, ran.stderr)
 
 
-def python_with_rdflib():
+def python_with_rdflib() -> str | None:
     """An interpreter that has rdflib: this one, or the system's; None if neither has it."""
     for python in (sys.executable, "/usr/bin/python3"):
-        if shutil.which(python) and subprocess.run([python, "-c", "import rdflib"], capture_output=True, check=False).returncode == 0:
+        if (
+            shutil.which(python)
+            and subprocess.run([python, "-c", "import rdflib"], capture_output=True, check=False).returncode == 0
+        ):
             return python
     return None
 
@@ -41,16 +55,22 @@ def python_with_rdflib():
 # --- scripts with names ---
 
 
-def resolve(request, names):
+def resolve(request: Request, names: Mapping[str, int]) -> tuple[Request, str | None]:
     """A request with the numbers of its names, and the name of what it makes."""
-    number = lambda value: names[value[1:]] if isinstance(value, str) and value.startswith("$") else value
+
+    def number(value: Any) -> Any:
+        return names[value[1:]] if isinstance(value, str) and value.startswith("$") else value
+
     texts = ("text", "record", "key", "iri", "tag")
-    return {key: value if key in texts else number(value) for key, value in request.items() if key != "as"}, request.get("as")
+    return {
+        key: value if key in texts else number(value) for key, value in request.items() if key != "as"
+    }, request.get("as")
 
 
-def perform(plain, script):
+def perform(plain: Plain, script: str) -> tuple[Plain, dict[str, int], list[tuple[str, str]]]:
     """The state after the lines of a script with names, the names, and the refusals."""
-    names, refused = {}, []
+    names: dict[str, int] = {}
+    refused: list[tuple[str, str]] = []
     for line in script.splitlines():
         request, name = resolve(json.loads(line), names)
         plain, answer = plain.perform(request)
@@ -61,10 +81,14 @@ def perform(plain, script):
     return plain, names, refused
 
 
-def load(path, script):
-    """Has the program perform the lines of a script with names, and returns what it refuses, but for outside concepts that are known."""
-    names, refused, status = {}, [], 0
+def load(path: Path, script: str) -> list[tuple[Any, Any]]:
+    """Has the program perform the lines of a script with names, and returns what it refuses, but for outside concepts
+    that are known."""
+    names: dict[str, Any] = {}
+    refused: list[tuple[Any, Any]] = []
+    status = 0
     with subprocess.Popen([built(), "--db", path, "script"], stdin=subprocess.PIPE, stdout=subprocess.PIPE) as program:
+        assert program.stdin and program.stdout
         for line in script.splitlines():
             request, name = resolve(json.loads(line), names)
             program.stdin.write(json.dumps(request).encode() + b"\n")
@@ -73,7 +97,7 @@ def load(path, script):
             status |= "no" in answer
             answer = {"ok": answer["number"]} if answer.get("no") == "OutsideKnown" else answer
             refused += [(answer, line)] if set(answer) & {"no", "bad", "fault"} else []
-            names[name] = answer.get("ok")
+            names[name or ""] = answer.get("ok")
         program.stdin.close()
         return refused + ([("status", program.returncode)] if program.wait() != status else [])
 
@@ -81,18 +105,19 @@ def load(path, script):
 # --- the plain program's state ---
 
 
-def generated(seed, count, plain=None):
+def generated(seed: int, count: int, plain: Plain | None = None) -> tuple[list[Request], Plain]:
     """The requests that a seed throws, and the state after them, from an empty one on or from another."""
-    dice, plain, requests = Requests(seed), plain or Plain(LIMITS), []
+    dice, state = Requests(seed), plain or Plain(LIMITS)
+    requests: list[Request] = []
     while len(requests) < count:
-        request = dice.request(plain)
+        request = dice.request(state)
         if "do" in request:
-            plain, _ = plain.perform(request)
+            state, _ = state.perform(request)
             requests.append(request)
-    return requests, plain
+    return requests, state
 
 
-def write_store(path, plain, base=BASE):
+def write_store(path: Path, plain: Plain, base: str = BASE) -> None:
     """Writes the tables of a store that holds this state, as SQLite itself writes them."""
     path.unlink(missing_ok=True)
     with contextlib.closing(sqlite3.connect(path)) as tables:
@@ -103,10 +128,15 @@ def write_store(path, plain, base=BASE):
         tables.commit()
 
 
-def triples_of(plain, base=BASE):
+def triples_of(plain: Plain, base: str = BASE) -> Iterator[tuple[str, str, str]]:
     """The triples that a state states, each as three texts."""
-    iri = lambda n: f"<{plain.resources[n - 1]['iri'] or f'{base}{n}'}>"
-    skos = lambda name: f"<{SKOS}{name}>"
+
+    def iri(n: int) -> str:
+        return f"<{plain.resources[n - 1]['iri'] or f'{base}{n}'}>"
+
+    def skos(name: str) -> str:
+        return f"<{SKOS}{name}>"
+
     for n, it in enumerate(plain.resources, 1):
         if it["kind"] != "outside":
             yield iri(n), f"<{TYPE}>", skos(CLASSES[it["kind"]])
@@ -133,6 +163,6 @@ def triples_of(plain, base=BASE):
                 yield iri(b), skos(name), iri(a)
 
 
-def export_of(plain, base=BASE):
+def export_of(plain: Plain, base: str = BASE) -> bytes:
     """The export of a state, made without the program."""
     return b"".join(sorted({f"{' '.join(it)} .\n".encode() for it in triples_of(plain, base)}))

@@ -1,5 +1,5 @@
-"""Makes a vocabulary as another program's export would be: a tree of concepts in three languages, with links, notes and mappings, and with
-the defects that such files have; in Turtle, or in N-Triples. The same number gives the same text."""
+"""Makes a vocabulary as another program's export would be: a tree of concepts in three languages, with links, notes and
+mappings, and with the defects that such files have; in Turtle, or in N-Triples. The same number gives the same text."""
 from collections.abc import Iterator
 
 PREFIXES = {
@@ -18,8 +18,19 @@ BEGINNINGS = ("ba", "ko", "du", "fe", "gi", "ha", "ju", "la", "mo", "ne", "pi", 
 ENDS = ("lern", "mant", "nor", "pel", "ring", "sand", "tok", "wick")
 # One of this number of concepts has the defect, or something that a thesaurus can't keep.
 DEFECTS = {
-    "no label": 997, "two labels": 499, "same twice": 199, "no tag": 151, "spaces": 83, "too long": 1201, "homonym": 311, "cycle": 1499,
-    "above": 397, "unknown": 601, "dead": 401, "notation": 5, "definition": 7,
+    "no label": 997,
+    "two labels": 499,
+    "same twice": 199,
+    "no tag": 151,
+    "spaces": 83,
+    "too long": 1201,
+    "homonym": 311,
+    "cycle": 1499,
+    "above": 397,
+    "unknown": 601,
+    "dead": 401,
+    "notation": 5,
+    "definition": 7,
 }
 Fact = tuple[str, str]
 
@@ -57,7 +68,9 @@ def labels(number: int) -> Iterator[Fact]:
     if number % 9 == 0:
         yield "skos:hiddenLabel", f'"{name.lower()}z"@en'
     if number % 4 == 0:
-        yield "skos:scopeNote", f'"For {name.lower()} in the sense of \\"{number}\\"; for others see its broader term."@en'
+        yield "skos:scopeNote", (
+            f'"For {name.lower()} in the sense of \\"{number}\\"; for others ' 'see its broader term."@en'
+        )
     if has(number, "two labels"):
         yield "skos:prefLabel", f'"{name} bis"@en'
     if has(number, "same twice"):
@@ -95,8 +108,12 @@ def links(number: int, count: int) -> Iterator[Fact]:
 
 def subjects(count: int) -> Iterator[tuple[str, list[Fact]]]:
     """Yields the scheme and the concepts, each with what is said of it."""
-    yield SCHEME, [("a", "skos:ConceptScheme"), ("dct:title", '"Catalogue of things"@en'), ("dct:title", '"Katalog der Dinge"@de'),
-                   ("dct:created", '"2009-05-01"^^xsd:date')]
+    yield SCHEME, [
+        ("a", "skos:ConceptScheme"),
+        ("dct:title", '"Catalogue of things"@en'),
+        ("dct:title", '"Katalog der Dinge"@de'),
+        ("dct:created", '"2009-05-01"^^xsd:date'),
+    ]
     for number in range(1, count + 1):
         death = [("owl:deprecated", '"true"^^xsd:boolean'), ("dct:isReplacedBy", f"c:{number - 1}")]
         facts = [("a", "skos:Concept"), ("skos:inScheme", SCHEME), *labels(number)]
@@ -122,4 +139,6 @@ def term(text: str) -> str:
 
 def ntriples(count: int) -> str:
     """Returns the same vocabulary in N-Triples."""
-    return "".join(f"{term(it)} {term(predicate)} {term(value)} .\n" for it, facts in subjects(count) for predicate, value in facts)
+    return "".join(
+        f"{term(it)} {term(predicate)} {term(value)} .\n" for it, facts in subjects(count) for predicate, value in facts
+    )

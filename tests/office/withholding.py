@@ -1,7 +1,9 @@
-"""Runs the program for a client as a proxy that passes some answers on, withholds the next ones, and then kills the program or the client:
-what was performed, and what the client knows of it, differ most then.
+"""Runs the program for a client as a proxy that passes some answers on, withholds the next ones, and then kills the
+program or the client: what was performed, and what the client knows of it, differ most then.
 
 withholding.py PASSED WITHHELD client|program PROGRAM WORD.."""
+from __future__ import annotations
+
 import os
 import select
 import signal
@@ -12,12 +14,14 @@ import sys
 PATIENCE = 0.5
 
 
-def main():
-    passed, withheld, victim, program, *words = sys.argv[1:]
-    passed, withheld, client = int(passed), int(withheld), os.getppid()
+def main() -> int:
+    passed, withheld = map(int, sys.argv[1:3])
+    victim, program, *words = sys.argv[3:]
+    client = os.getppid()
     if "script" not in words:
         os.execv(program, [program, *words])
     with subprocess.Popen([program, *words], stdout=subprocess.PIPE, bufsize=0) as run:
+        assert run.stdout
         answers = b""
         while answers.count(b"\n") < passed + withheld:
             is_kept = answers.count(b"\n") >= passed

@@ -1,5 +1,5 @@
-"""Clients that send too much, or without end, don't read their answer, or go away: each costs the server its own answer, some time and
-little memory, and the next client is answered as usual."""
+"""Clients that send too much, or without end, don't read their answer, or go away: each costs the server its own
+answer, some time and little memory, and the next client is answered as usual."""
 import contextlib
 import re
 import socket
@@ -14,9 +14,11 @@ from serving import serving
 MILLION = 1_000_000
 # Bounds on what a server reads after an answer, in bytes and in seconds.
 MOST, SECONDS = 2_000 * MILLION, 20
-# An answer is given up after 30 seconds, and one more for each 100,000 bytes of it that were taken, some of them by the system's buffers.
+# An answer is given up after 30 seconds, and one more for each 100,000 bytes of it that were taken, some of them by the
+# system's buffers.
 PATIENCE = 120
-# The seconds between bytes that drip, after an answer and within a request; how long a client may take, and what may be measured beyond it.
+# The seconds between bytes that drip, after an answer and within a request; how long a client may take, and what may be
+# measured beyond it.
 PAUSES = (0.001, 0.0035, 0.01)
 SEEN_OFF, ALLOWED, SLACK = 2, 30, 8
 # Bounds on the growth of the peak memory, in KiB: without a body, and with a body of 16 MiB.
@@ -27,7 +29,8 @@ GONE = (b"", b"GET /exp", post("/import", b"key,record,concept\n", 60), get("/ex
 
 
 def long_ones():
-    """Requests with the bytes after their heads: bodies that are too long, bytes after a body, and after a request without one."""
+    """Requests with the bytes after their heads: bodies that are too long, bytes after a body, and after a request
+    without one."""
     for size in (17, 40, 100):
         for path in ("/import", "/requests"):
             yield post(path, b"", size * MILLION), bytes(size * MILLION), TOO_LONG
@@ -81,7 +84,10 @@ def now_and_then(served):
         with told_too_long(served) as client:
             drip(client, pause)
         if time.monotonic() - began >= SEEN_OFF + SLACK:
-            yield f"a client that sends a byte each {pause} seconds after its answer holds the server for {time.monotonic() - began:.0f}"
+            yield (
+                f"a client that sends a byte each {pause} seconds after its answer holds the server for "
+                f"{time.monotonic() - began:.0f}"
+            )
 
 
 def dripping(served):
@@ -92,7 +98,10 @@ def dripping(served):
             client.sendall(post("/import", b"", ANNOUNCED))
             drip(client, pause)
         if not ALLOWED - 1 <= time.monotonic() - began < ALLOWED + SLACK:
-            yield f"a body of which a byte comes each {pause} seconds holds the server for {time.monotonic() - began:.0f}"
+            yield (
+                f"a body of which a byte comes each {pause} seconds holds the server for "
+                f"{time.monotonic() - began:.0f}"
+            )
 
 
 def stays(served):
@@ -158,8 +167,8 @@ def patient(served):
 
 
 def unread(room):
-    """A client that doesn't read its answer loses the rest of it, and holds the next one up for no longer than a write may wait; so
-    does one that goes away within its answer, at once."""
+    """A client that doesn't read its answer loses the rest of it, and holds the next one up for no longer than a write
+    may wait; so does one that goes away within its answer, at once."""
     path = room / "unread.db"
     over(path, "script", lines_of([START[0], *({**START[1], "text": f"Concept {n}"} for n in range(CONCEPTS))]))
     with serving(path, 5) as served:
@@ -186,8 +195,8 @@ def unread(room):
 
 
 def late_and_unread(room):
-    """A client that takes its time for its request, and then doesn't read its answer, holds the next one up for both times and a second for
-    each 100,000 bytes that the system took, and no longer."""
+    """A client that takes its time for its request, and then doesn't read its answer, holds the next one up for both
+    times and a second for each 100,000 bytes that the system took, and no longer."""
     path, late = room / "late.db", ALLOWED - 2
     over(path, "script", lines_of([START[0], *({**START[1], "text": f"Concept {n}"} for n in range(CONCEPTS))]))
     with serving(path, 2) as served, socket.socket() as client, ThreadPoolExecutor(1) as pool:
@@ -203,9 +212,17 @@ def late_and_unread(room):
             while more := client.recv(65536):
                 taken += len(more)
         most = late + ALLOWED + taken / 100_000
-        print(f"a client that is late and doesn't read its answer: {waited:.1f} s, at most {most:.1f}, {taken} bytes taken")
+        print(
+            (
+                f"a client that is late and doesn't read its answer: {waited:.1f} s, at most {most:.1f}, "
+                f"{taken} bytes taken"
+            )
+        )
         if told != TOTAL or not late + ALLOWED - 1 <= waited < most + SLACK:
-            yield f"a client that is late and doesn't read its answer holds the next one up for {waited:.1f} s, not {most:.1f}: {told}"
+            yield (
+                "a client that is late and doesn't read its answer holds the next one up for "
+                f"{waited:.1f} s, not {most:.1f}: {told}"
+            )
 
 
 def wrong_answers(room):

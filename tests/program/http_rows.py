@@ -1,4 +1,5 @@
-"""Requests of HTTP at the bounds of each case, and their answers byte for byte, over a scheme of three concepts. None changes anything."""
+"""Requests of HTTP at the bounds of each case, and their answers byte for byte, over a scheme of three concepts. None
+changes anything."""
 from program import lines_of, over, text_of, values_of
 from serving import serving
 
@@ -13,15 +14,23 @@ TERMS = "Cats\nMammals\nPets"
 BROADER = b'{"do":"link","kind":"broader","a":2,"b":2}'
 WITHDRAW = b'{"do":"withdraw","posting":1}'
 REFUSED_ROW = b"key,record,concept\nk1,r1,9\n"
-VIEWS = ("/totals", "/concepts/2", "/concepts/2/postings", "/postings/1", "/export", *(
-    f"/display/{name}?scheme=1&lang=en" for name in ("alphabetical", "hierarchical")
-))
+VIEWS = (
+    "/totals",
+    "/concepts/2",
+    "/concepts/2/postings",
+    "/postings/1",
+    "/export",
+    *(f"/display/{name}?scheme=1&lang=en" for name in ("alphabetical", "hierarchical")),
+)
 
 
 def told(status, body, kind=JSON, allow=""):
     """An answer whose body is a line, or more of them."""
     last = f"Allow: {allow}\r\n" if allow else ""
-    head = f"HTTP/1.1 {status}\r\nContent-Type: {kind}\r\nContent-Length: {len(body) + 1}\r\nConnection: close\r\n{last}\r\n"
+    head = (
+        f"HTTP/1.1 {status}\r\nContent-Type: {kind}\r\nContent-Length: {len(body) + 1}\r\nConnection: "
+        f"close\r\n{last}\r\n"
+    )
     return f"{head}{body}\n".encode()
 
 
@@ -58,7 +67,9 @@ def get(target, *fields, version="1.1"):
 
 def post(path, body, length=None, *fields):
     """A posted body, with its announced length."""
-    return asked(f"POST {path} HTTP/1.1", f"Content-Length: {len(body) if length is None else length}", *fields, body=body)
+    return asked(
+        f"POST {path} HTTP/1.1", f"Content-Length: {len(body) if length is None else length}", *fields, body=body
+    )
 
 
 def tables():
@@ -144,9 +155,23 @@ def queries():
     shown, page = fine(TERMS, PLAIN), "/display/hierarchical"
     for query in ("scheme=%31&lang=%65n", "s%63heme=1&l%61ng=en", "&scheme=1&&lang=en&"):
         yield get(f"{page}?{query}"), shown
-    for query in ("", "scheme=1&lang=en&=", "scheme=1&lang=en&scheme=1", "lang=en&lang=en", "SCHEME=1&lang=en", "scheme=1;lang=en", "%zz"):
+    for query in (
+        "",
+        "scheme=1&lang=en&=",
+        "scheme=1&lang=en&scheme=1",
+        "lang=en&lang=en",
+        "SCHEME=1&lang=en",
+        "scheme=1;lang=en",
+        "%zz",
+    ):
         yield get(f"{page}?{query}"), bad("BadQuery")
-    for query in ("scheme&lang=en", "scheme=+1&lang=en", "scheme=1%00&lang=en", "scheme=%zz&lang=en", "scheme=-1&lang=en"):
+    for query in (
+        "scheme&lang=en",
+        "scheme=+1&lang=en",
+        "scheme=1%00&lang=en",
+        "scheme=%zz&lang=en",
+        "scheme=-1&lang=en",
+    ):
         yield get(f"{page}?{query}"), bad("BadNumber")
     for lang in ("", "%zz", "e+n", "en%00", "%ff", "en#x", "en?x", "%"):
         yield get(f"{page}?scheme=1&lang={lang}"), bad("BadTag")
@@ -158,9 +183,27 @@ def queries():
 
 def paths():
     """Paths, methods and versions."""
-    for path in ("/", "/totals/", "//totals", "/TOTALS", "/%74otals", "/totals#x", "/totals;x", "http://127.0.0.1/totals", "*"):
+    for path in (
+        "/",
+        "/totals/",
+        "//totals",
+        "/TOTALS",
+        "/%74otals",
+        "/totals#x",
+        "/totals;x",
+        "http://127.0.0.1/totals",
+        "*",
+    ):
         yield get(path), NO_PATH
-    for path in ("/concepts", "/concepts/", "/concepts/2/", "/concepts//postings", "/concepts/2/postings/", "/display", "/display/x"):
+    for path in (
+        "/concepts",
+        "/concepts/",
+        "/concepts/2/",
+        "/concepts//postings",
+        "/concepts/2/postings/",
+        "/display",
+        "/display/x",
+    ):
         yield get(path), NO_PATH
     for number in ("0", "01", "+1", "x", "-1", "%32", "2%00", "9" * 40):
         yield get(f"/concepts/{number}"), bad("BadNumber")

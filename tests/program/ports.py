@@ -1,4 +1,6 @@
 """Free ports of this machine."""
+from __future__ import annotations
+
 import random
 import socket
 from pathlib import Path
@@ -7,7 +9,7 @@ from pathlib import Path
 FIRST_OF_CLIENTS = int(Path("/proc/sys/net/ipv4/ip_local_port_range").read_text(encoding="ascii").split()[0])
 
 
-def free_port():
+def free_port() -> int:
     """A port on which nobody listens."""
     for _ in range(1000):
         port = random.randrange(min(10_000, FIRST_OF_CLIENTS // 2), FIRST_OF_CLIENTS)

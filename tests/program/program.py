@@ -1,4 +1,7 @@
-"""Runs the built program for the tests: the one that the variable THESAURUS_PROGRAM names, or else `./thesaurus`. `tests/run` sets it."""
+"""Runs the built program for the tests: the one that the variable THESAURUS_PROGRAM names, or else `./thesaurus`.
+`tests/run` sets it."""
+from __future__ import annotations
+
 import functools
 import json
 import os
@@ -6,14 +9,17 @@ import re
 import shutil
 import subprocess
 import sys
+from collections.abc import Iterable, Sequence
 from pathlib import Path
-from typing import NamedTuple
+from typing import Any, NamedTuple
 
 ROOT = Path(__file__).resolve().parents[2]
 LAUNCHER = ROOT / "thesaurus"
+# A word of a command line.
+Word = str | bytes | Path
 
 
-def program_of(crate):
+def program_of(crate: str) -> Path | None:
     """The program of a crate that `rt ci` built, or None if it isn't known to have done so (`tests/run --built`)."""
     return ROOT / "crates" / crate / "out" / crate if os.environ.get("THESAURUS_BUILT") else None
 
@@ -30,8 +36,9 @@ class Ended(NamedTuple):
 
 
 @functools.cache
-def built():
-    """The program itself, built by the launcher if need be; `tests/run` lets it build nothing."""
+def built() -> Any:
+    """The path of the program itself, built by the launcher if need be; `tests/run` lets it build nothing. (mypy
+    takes a list of paths and texts for one of objects.)"""
     if PROGRAM != LAUNCHER:
         return PROGRAM
     if status := subprocess.run([LAUNCHER, "--help"], stdout=subprocess.DEVNULL, check=False).returncode:
@@ -39,56 +46,65 @@ def built():
     return ROOT / "crates" / "thes_cli" / "out" / "thes_cli"
 
 
-def run(words, given=b"", program=PROGRAM, **streams):
+def run(words: Sequence[Word], given: bytes = b"", program: Path = PROGRAM, **streams: Any) -> Ended:
     """Runs the program with these words and this standard input, or other streams, and returns how it ended."""
-    how = {"stdout": subprocess.PIPE, "stderr": subprocess.PIPE, **({} if "stdin" in streams else {"input": given})}
+    how: dict[str, Any] = {
+        "stdout": subprocess.PIPE,
+        "stderr": subprocess.PIPE,
+        **({} if "stdin" in streams else {"input": given}),
+    }
     ran = subprocess.run([program, *words], check=False, **{**how, **streams})
     return Ended(ran.returncode, ran.stdout or b"", ran.stderr or b"")
 
 
-def over(path, command, given=b"", *options, after=(), **how):
+def over(path: Word, command: str, given: bytes = b"", *options: Word, after: Iterable[Word] = (), **how: Any) -> Ended:
     """Runs a command of the program itself over the store in a file, with options before the command, or after it."""
     return run(["--db", path, *options, command, *after], given, built(), **how)
 
 
-def fault(path, name, why=""):
+def fault(path: Path | str, name: str, why: str = "") -> Ended:
     """How the program ends if the store in a file has a fault; Store has a reason."""
     return Ended(3, b"", f"thesaurus: store {path}{why and f': {why}'}\nthesaurus: fault {name}\n".encode())
 
 
-def text_of(value):
+def text_of(value: object) -> bytes:
     """A value as the program writes it: compact JSON, its members in order."""
     return json.dumps(value, ensure_ascii=False, separators=(",", ":"), sort_keys=True).encode()
 
 
-def lines_of(values):
+def lines_of(values: Iterable[object]) -> bytes:
     """The lines of a script, or of its answers."""
     return b"".join(text_of(it) + b"\n" for it in values)
 
 
-def values_of(out):
+def values_of(out: bytes) -> list[Any]:
     """The answers in an output, without a last one that was cut."""
     return [json.loads(it) for it in out.splitlines(keepends=True) if it.endswith(b"\n")]
 
 
-def answers_to(requests):
+def answers_to(requests: Iterable[object]) -> list[str]:
     """Returns the answers to a script, line for line. A request is a text, or a value to write as JSON."""
     texts = [it if isinstance(it, str) else json.dumps(it, ensure_ascii=False) for it in requests]
     ended = run(["script"], "".join(f"{it}\n" for it in texts).encode())
     return ended.out.decode().split("\n")[:-1]
 
 
-def version():
+def version() -> str:
     """The version of the program, by the first heading of CHANGELOG.md that has a number."""
-    return re.search(r"^## \[?(\d+(?:\.\d+)+)", (ROOT / "CHANGELOG.md").read_text(encoding="utf-8"), re.M)[1]
+    return re.findall(r"^## \[?(\d+(?:\.\d+)+)", (ROOT / "CHANGELOG.md").read_text(encoding="utf-8"), re.M)[0]
 
 
-def skip(test, lacking, what):
-    """Reports a part that isn't tested, since something is lacking on this machine. `tests/run` lists such lines at its end."""
+def skip(test: str, lacking: str, what: str) -> None:
+    """Reports a part that isn't tested, since a tool isn't installed. Its test then counts as skipped."""
     print(f"{test}: skipped without {lacking}: {what}", flush=True)
 
 
-def has_tool(test, tool, what):
+def leave_out(test: str, why: str, what: str) -> None:
+    """Reports a part that this machine doesn't allow. Such lines are listed at the end of a run, and fail nothing."""
+    print(f"{test}: left out, since {why}: {what}", flush=True)
+
+
+def has_tool(test: str, tool: str, what: str) -> bool:
     """Whether a tool is installed; reports what is skipped if it isn't."""
     if shutil.which(tool):
         return True
@@ -96,7 +112,7 @@ def has_tool(test, tool, what):
     return False
 
 
-def report(name, failures, tried):
+def report(name: str, failures: Sequence[object], tried: int) -> int:
     """Prints the failures, and returns the exit status of the test."""
     for it in failures:
         print(f"{name}: {it}")

@@ -1,7 +1,13 @@
 """Runs the program as it serves a store in a file on a port of this machine."""
+from __future__ import annotations
+
 import contextlib
 import socket
 import subprocess
+from collections.abc import Iterator
+from pathlib import Path
+from typing import Any
+
 from ports import free_port
 from program import Ended, built
 
@@ -9,11 +15,12 @@ from program import Ended, built
 class Served:
     """A program that listens on a port."""
 
-    def __init__(self, program, port):
+    def __init__(self, program: subprocess.Popen[bytes], port: int) -> None:
         self.program, self.port = program, port
 
-    def answer(self, *parts, closes=True, patience=60):
-        """Sends bytes, in one part or more, and returns the whole answer. Closes the sending side unless `closes` is false."""
+    def answer(self, *parts: bytes, closes: bool = True, patience: float = 60) -> bytes:
+        """Sends bytes, in one part or more, and returns the whole answer. Closes the sending side unless `closes` is
+        false."""
         with socket.create_connection(("127.0.0.1", self.port), timeout=patience) as client:
             with contextlib.suppress(ConnectionResetError, BrokenPipeError):
                 for part in parts:
@@ -26,19 +33,20 @@ class Served:
                     told += more
             return told
 
-    def end(self):
+    def end(self) -> Ended:
         """Waits for the program's end, and returns it."""
         out, err = self.program.communicate(timeout=60)
         return Ended(self.program.returncode, out, err)
 
 
 @contextlib.contextmanager
-def serving(path, count, *options, **how):
+def serving(path: Path | str, count: int, *options: str, **how: Any) -> Iterator[Served]:
     """Runs the program as it serves `count` connections over the store in a file; `how` goes to Popen."""
     port = free_port()
     words = [built(), "--db", path, *options, "serve", "--port", str(port), "--count", str(count)]
     with subprocess.Popen(words, stdout=subprocess.PIPE, stderr=subprocess.PIPE, **how) as program:
         try:
+            assert program.stdout and program.stderr
             said = program.stdout.readline()
             assert said == f"listening on 127.0.0.1:{port}\n".encode(), said + program.stderr.read()
             yield Served(program, port)

@@ -1,5 +1,6 @@
-"""Additions that a user may make to a store besides its tables, and what a store must do with them as without them: it answers each kind
-of request, accepted and refused, and an import, and gets the same rows; and the additions stay as they were."""
+"""Additions that a user may make to a store besides its tables, and what a store must do with them as without them: it
+answers each kind of request, accepted and refused, and an import, and gets the same rows; and the additions stay as
+they were."""
 import contextlib
 import sqlite3
 from plain import Plain
@@ -13,7 +14,10 @@ TABLES = [
     "CREATE TABLE shelf (num INTEGER PRIMARY KEY, concept INTEGER NOT NULL UNIQUE, place TEXT DEFAULT 'A') STRICT; "
     "INSERT INTO shelf (concept) VALUES (2), (3), (77); CREATE INDEX places ON shelf (place)",
     "CREATE VIEW alive AS SELECT num, kind FROM resource WHERE live = 1",
-    "CREATE TABLE seen (posting REFERENCES posting (num), concept REFERENCES resource (num)); INSERT INTO seen VALUES (3, 2)",
+    (
+        "CREATE TABLE seen (posting REFERENCES posting (num), concept REFERENCES resource (num)); INSERT "
+        "INTO seen VALUES (3, 2)"
+    ),
     "CREATE TABLE sides (name PRIMARY KEY, number) WITHOUT ROWID; INSERT INTO sides VALUES ('left', 1)",
 ]
 COLUMN = "ALTER TABLE {0} ADD COLUMN note TEXT; UPDATE {0} SET note = 'mine'"
@@ -62,7 +66,10 @@ REQUESTS = [
     word("relabel", "House cats", owner=2, keep=True),
     {"do": "relabel", "owner": 2, "tag": "fr", "text": "Chats", "keep": False},
     *(link(*it) for it in (("broaderGeneric", 12, 3), ("related", 4, 5), ("narrow", 10, 2), ("broader", 3, 2))),
-    *(link(*it, "unlink") for it in (("related", 4, 5), ("broader", 2, 3), ("member", 7, 2), ("exact", 2, 8), ("exact", 2, 8))),
+    *(
+        link(*it, "unlink")
+        for it in (("related", 4, 5), ("broader", 2, 3), ("member", 7, 2), ("exact", 2, 8), ("exact", 2, 8))
+    ),
     link("broader", 2, 3),
     post("k6", "r6", 12),
     post("k7", "r7", 6),
@@ -85,15 +92,18 @@ REQUESTS = [
 MOST = {"resources": 15}
 # Additions that refuse a request: its answer is Store.
 REFUSING = {
-    "CREATE TABLE shelf (a, b, typ, FOREIGN KEY (a, b, typ) REFERENCES hier (a, b, typ)); INSERT INTO shelf VALUES (2, 3, 0)": link(
-        "broader", 2, 3, "unlink"
-    ),
+    (
+        "CREATE TABLE shelf (a, b, typ, FOREIGN KEY (a, b, typ) REFERENCES hier (a, b, typ)); INSERT "
+        "INTO shelf VALUES (2, 3, 0)"
+    ): link("broader", 2, 3, "unlink"),
     "ALTER TABLE posting ADD COLUMN note TEXT CHECK (withdrawn = 0 OR num = 2)": {"do": "withdraw", "posting": 3},
 }
 # Rows of a posting file: each is new, known, refused, or no posting.
 ROWS = "key,record,concept\nn1,r1,3\nk1,r1,2\nk1,r2,2\nn2,r1,1\nn3,r1,77\nn1,r1,3\nn 4,r1,3\nn5,r1\nn6,r1,6\n"
 # Each kind of request, and whether it is refused. Totals never are.
-EVERY = {(word, is_refused) for word in (*MEMBERS["do"], *MEMBERS["get"]) for is_refused in (False, True)} - {("totals", True)}
+EVERY = {(word, is_refused) for word in (*MEMBERS["do"], *MEMBERS["get"]) for is_refused in (False, True)} - {
+    ("totals", True)
+}
 
 
 def additions(tables=COLUMNS):
@@ -118,12 +128,15 @@ def unmet():
     plain, _ = performed(Plain({**LIMITS, **MOST}), START)
     answers = performed(plain, REQUESTS)[1]
     met = {(it.get("do") or it["get"], "no" in answer) for it, answer in zip(REQUESTS, answers)}
-    yield from (f"no {word} {'is refused' if is_refused else 'is accepted'}" for word, is_refused in sorted(EVERY - met))
+    yield from (
+        f"no {word} {'is refused' if is_refused else 'is accepted'}" for word, is_refused in sorted(EVERY - met)
+    )
     yield from (f"no rows of {table}" for table, rows in rows_of(plain).items() if not rows)
 
 
 def own_parts(path):
-    """What a store has besides its rows: its schema, the rows of other tables, the notes at numbered rows, and what SQLite says of it."""
+    """What a store has besides its rows: its schema, the rows of other tables, the notes at numbered rows, and what
+    SQLite says of it."""
     with contextlib.closing(sqlite3.connect(path)) as base:
         schema = base.execute("SELECT type, name, tbl_name, sql FROM sqlite_schema ORDER BY type, name").fetchall()
         tables = {name: text for kind, name, _, text in schema if kind == "table"}
@@ -141,8 +154,8 @@ def other_rows(path, plain):
 
 
 def differences(path, what):
-    """Yields where a store answers otherwise than the plain program, or gets other rows, and additions that don't stay. The store in the
-    file has the rows after START, and perhaps additions."""
+    """Yields where a store answers otherwise than the plain program, or gets other rows, and additions that don't stay.
+    The store in the file has the rows after START, and perhaps additions."""
     plain, parts = performed(Plain(LIMITS), START)[0], own_parts(path)
     yield from (f"{what}: at first {it}" for it in other_rows(path, plain))
     plain.limits = {**LIMITS, **MOST}

@@ -1,5 +1,13 @@
 """Throws numbers that are the same in each run and under each version of Python, and requests that are made by them."""
-from plain import BASE, BROADER, LABEL_KINDS, MAPPINGS
+from __future__ import annotations
+
+from collections.abc import Callable, Sequence
+from typing import Any, TypeVar
+
+from plain import BASE, BROADER, LABEL_KINDS, MAPPINGS, Plain
+
+T = TypeVar("T")
+Request = dict[str, Any]
 
 LINK_KINDS = ("broader", "broader", "broader", "related", "member", "member", *BROADER[1:], *MAPPINGS)
 IRIS = [f"{BASE}9", *(f"http://example.org/{n}" for n in range(1, 8))]
@@ -9,10 +17,10 @@ WORD = 2**64
 class Dice:
     """Throws numbers: the generator is SplitMix64."""
 
-    def __init__(self, seed):
+    def __init__(self, seed: int) -> None:
         self.state = seed
 
-    def throw(self):
+    def throw(self) -> int:
         """Returns a number below 2^64."""
         self.state = (self.state + 0x9E3779B97F4A7C15) % WORD
         mixed = self.state
@@ -20,30 +28,30 @@ class Dice:
         mixed = (mixed ^ mixed >> 27) * 0x94D049BB133111EB % WORD
         return mixed ^ mixed >> 31
 
-    def below(self, count):
+    def below(self, count: int) -> int:
         return self.throw() % count
 
-    def between(self, first, last):
+    def between(self, first: int, last: int) -> int:
         return first + self.below(last - first + 1)
 
-    def pick(self, items):
+    def pick(self, items: Sequence[T]) -> T:
         return items[self.below(len(items))]
 
-    def one_in(self, count):
+    def one_in(self, count: int) -> bool:
         return self.below(count) == 0
 
 
 class Requests(Dice):
     """Throws requests that are likely to be accepted, or to be refused for some reason."""
 
-    def number(self, last):
+    def number(self, last: int) -> int:
         """A number from 1 up to the last, or seldom the one after it."""
         return last + 1 if self.one_in(40) or not last else self.between(1, last)
 
-    def word(self):
+    def word(self) -> Request:
         return {"tag": self.pick(("de", "en", "en", "en", "en", "fr")), "text": f"t{self.between(10, 39)}"}
 
-    def making(self, plain):
+    def making(self, plain: Plain) -> Request:
         last = len(plain.resources)
         drawn = self.below(16)
         if last < 2 or drawn == 0:
@@ -54,7 +62,7 @@ class Requests(Dice):
             return {"do": "outside", "iri": self.pick(IRIS)}
         return {"do": "concept", "scheme": self.number(last) if drawn == 3 else self.between(1, 2), **self.word()}
 
-    def labelling(self, plain):
+    def labelling(self, plain: Plain) -> Request:
         """About a label that is held, or about any."""
         last = len(plain.resources)
         any_label = (self.number(last), self.pick(LABEL_KINDS), *self.word().values())
@@ -67,12 +75,12 @@ class Requests(Dice):
             return {"do": does, "owner": owner, **word, "keep": self.one_in(2)}
         return {"do": does, "owner": owner, "kind": kind if self.one_in(2) else self.pick(LABEL_KINDS), **word}
 
-    def ends(self, refuses, last):
+    def ends(self, refuses: Callable[[int, int], object], last: int) -> tuple[int, int]:
         """Two numbers, mostly such as may be linked or merged."""
         tried = [(self.number(last), self.number(last)) for _ in range(self.between(1, 30))]
         return next((it for it in tried if not refuses(*it)), tried[-1])
 
-    def linking(self, plain):
+    def linking(self, plain: Plain) -> Request:
         kind = self.pick(LINK_KINDS)
         a, b = self.ends(lambda a, b: plain.refuses_ends(kind, a, b), len(plain.resources))
         does = "unlink" if self.one_in(5) else "link"
@@ -83,7 +91,7 @@ class Requests(Dice):
             a, b = b, a
         return {"do": does, "kind": kind, "a": a, "b": b}
 
-    def splitting(self, plain):
+    def splitting(self, plain: Plain) -> Request:
         """Postings of a concept, and now and then any other, or one twice."""
         posting = self.number(len(plain.postings))
         source = plain.place(posting) if posting <= len(plain.postings) else self.number(len(plain.resources))
@@ -92,7 +100,7 @@ class Requests(Dice):
         listed += [posting] if self.one_in(4) else []
         return {"do": "split", "source": source, **self.word(), "postings": listed[::-1]}
 
-    def posting(self, plain):
+    def posting(self, plain: Plain) -> Request:
         last = len(plain.resources)
         drawn = self.below(20)
         if drawn < 12:
@@ -110,7 +118,7 @@ class Requests(Dice):
             return {"do": "merge", "source": source, "target": target}
         return {"do": "deprecate", "concept": self.number(last)}
 
-    def showing(self, plain):
+    def showing(self, plain: Plain) -> Request:
         concept = self.number(len(plain.resources))
         return self.pick(
             (
@@ -121,7 +129,7 @@ class Requests(Dice):
             )
         )
 
-    def request(self, plain, enough=24):
+    def request(self, plain: Plain, enough: int = 24) -> Request:
         """A request, likelier to make something as long as there are not enough resources."""
         if self.below(12) < (6 if len(plain.resources) < enough else 1):
             return self.making(plain)

@@ -1,20 +1,27 @@
 """Checks a store after a run that was cut short: it has the answered requests, and at most one more, whole."""
+from __future__ import annotations
+
 import shutil
 import tempfile
+from collections.abc import Iterable
 from pathlib import Path
+from typing import Any
+
 from plain import Plain
 from plain_store import LIMITS, judge, read_rows, rows_of
 from program import MEMORY, lines_of, over, values_of
 
-START = [
+Request = dict[str, Any]
+START: list[Request] = [
     {"do": "scheme", "tag": "en", "text": "Animals"},
     *({"do": "concept", "scheme": 1, "tag": "en", "text": f"Concept {n}"} for n in range(2, 8)),
 ]
 
 
-def performed(plain, requests):
+def performed(plain: Plain, requests: Iterable[Request]) -> tuple[list[Plain], list[Request]]:
     """The states after each of the requests in turn, and the answers."""
-    states, answers = [plain], []
+    states: list[Plain] = [plain]
+    answers: list[Request] = []
     for request in requests:
         plain, answer = plain.perform(request)
         states.append(plain)
@@ -22,7 +29,7 @@ def performed(plain, requests):
     return states, answers
 
 
-def started(path):
+def started(path: Path) -> Plain:
     """A new store in a file, and its state."""
     states, answers = performed(Plain(LIMITS), START)
     ended = over(path, "script", lines_of(START))
@@ -30,7 +37,7 @@ def started(path):
     return states[-1]
 
 
-def rows_beside(path):
+def rows_beside(path: Path) -> Any:
     """What SQLite itself reads in a copy of the two files."""
     with tempfile.TemporaryDirectory(dir=MEMORY) as room:
         for file in path.parent.glob(f"{path.name}*"):
@@ -38,8 +45,11 @@ def rows_beside(path):
         return read_rows(Path(room) / path.name)
 
 
-def stands(path, states, answers, told):
-    """The state whose rows are in the file: that after the answered requests, or after one more; or why it is neither."""
+def stands(
+    path: Path, states: list[Plain], answers: list[Request], told: list[Request]
+) -> tuple[Plain | None, str | None]:
+    """The state whose rows are in the file: that after the answered requests, or after one more; or why it is
+    neither."""
     if told != answers[: len(told)]:
         return None, f"answers {told[-3:]}, and not {answers[: len(told)][-3:]}"
     left = rows_beside(path)

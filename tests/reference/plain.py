@@ -1,5 +1,5 @@
-"""The plain program: it does what the rules say, over plain lists, without an index. A request is checked by making the whole next state
-and looking at all of it. Requests and answers are values of JSON."""
+"""The plain program: it does what the rules say, over plain lists, without an index. A request is checked by making the
+whole next state and looking at all of it. Requests and answers are values of JSON."""
 from collections import Counter
 
 BASE = "https://thesaurus.example/id/"
@@ -206,12 +206,16 @@ class Plain:
 
     def merge_links(self, source, target):
         """Each link has the target in place of the source."""
-        sent = lambda number: target if number == source else number
+
+        def sent(number):
+            return target if number == source else number
+
         held = [(kind, sent(a), sent(b)) for kind, a, b in self.links]
         self.links = list(dict.fromkeys(self.norm(*it) for it in held if it[1] != it[2]))
 
     def merge_labels(self, source, target):
-        """Copies the source's labels to the target, without notes and without texts that the target has under another kind."""
+        """Copies the source's labels to the target, without notes and without texts that the target has under another
+        kind."""
         names = {(tag, text) for owner, kind, tag, text in self.labels if owner == target and kind != "scope"}
         for owner, kind, tag, text in list(self.labels):
             if owner == source and kind != "scope" and (tag, text) not in names:
@@ -261,7 +265,10 @@ class Plain:
         """The first of the conditions on labels that is broken, or None."""
         names = [(owner, tag, text) for owner, kind, tag, text in self.labels if kind != "scope"]
         preferred = [(owner, tag, text) for owner, kind, tag, text in self.labels if kind == "pref"]
-        is_live = lambda owner: self.kind(owner) == "concept" and self.is_live(owner)
+
+        def is_live(owner):
+            return self.kind(owner) == "concept" and self.is_live(owner)
+
         live = [(self.scheme(owner), tag, text) for owner, tag, text in preferred if is_live(owner)]
         if stands_twice(names):
             return "S13"
@@ -284,7 +291,10 @@ class Plain:
 
     def is_too_much(self, before):
         """Whether a count is above both its limit and its count before."""
-        counts = lambda state, name: len(getattr(state, name))
+
+        def counts(state, name):
+            return len(getattr(state, name))
+
         return any(counts(self, it) > max(counts(before, it), limit) for it, limit in self.limits.items())
 
     def perform(self, request):
@@ -340,9 +350,16 @@ class Plain:
 
     def concept(self, number):
         held = at(self.resources, number)
-        ends = lambda kinds, own, other: {it[other] for it in self.links if it[0] in kinds and it[own] == number}
-        both = lambda kind, opposite: sorted(ends((kind,), 1, 2) | ends((opposite,), 2, 1))
-        labels = lambda kind: sorted(list(it[2:]) for it in self.labels if it[:2] == (number, kind))
+
+        def ends(kinds, own, other):
+            return {it[other] for it in self.links if it[0] in kinds and it[own] == number}
+
+        def both(kind, opposite):
+            return sorted(ends((kind,), 1, 2) | ends((opposite,), 2, 1))
+
+        def labels(kind):
+            return sorted(list(it[2:]) for it in self.labels if it[:2] == (number, kind))
+
         typed = [[kind, n] for kind in BROADER[1:] for n in ends((kind,), 1, 2)]
         typed += [[kind.replace("broader", "narrower"), n] for kind in BROADER[1:] for n in ends((kind,), 2, 1)]
         broader = sorted(ends(BROADER, 1, 2))

@@ -1,4 +1,5 @@
-"""The displays of the plain program: what a scheme's alphabetical and hierarchical display say in words, over plain lists."""
+"""The displays of the plain program: what a scheme's alphabetical and hierarchical display say in words, over plain
+lists."""
 from plain import BROADER
 
 # The symbols of the four kinds of broader links, upwards and downwards; and the marks of the typed ones in a hierarchy.
@@ -10,7 +11,11 @@ class PlainDisplay:
 
     def __init__(self, plain, scheme, tag):
         self.plain, self.tag = plain, tag
-        self.concepts = [n for n, it in enumerate(plain.resources, 1) if it["kind"] == "concept" and it["scheme"] == scheme and it["live"]]
+        self.concepts = [
+            n
+            for n, it in enumerate(plain.resources, 1)
+            if it["kind"] == "concept" and it["scheme"] == scheme and it["live"]
+        ]
 
     def term(self, number):
         label = self.plain.preferred(number, self.tag)
@@ -18,7 +23,11 @@ class PlainDisplay:
 
     def texts(self, number, kind):
         """The concept's labels of a kind in the language."""
-        return [(text, number) for owner, of_kind, tag, text in self.plain.labels if (owner, of_kind, tag) == (number, kind, self.tag)]
+        return [
+            (text, number)
+            for owner, of_kind, tag, text in self.plain.labels
+            if (owner, of_kind, tag) == (number, kind, self.tag)
+        ]
 
     def terms(self, kind, number, own, other):
         """The terms at the other ends of the concept's links of a kind."""
@@ -36,7 +45,9 @@ class PlainDisplay:
         entries = []
         for number in self.concepts:
             term = self.term(number)
-            lines = [f"  {symbol} {text}" for symbol, texts in self.parts(number) for text, _ in sorted(texts, key=place)]
+            lines = [
+                f"  {symbol} {text}" for symbol, texts in self.parts(number) for text, _ in sorted(texts, key=place)
+            ]
             entries.append((place((term, number)), False, [term, *lines]))
             entries += [(place(it), True, [it[0], f"  USE {term}"]) for it in self.texts(number, "alt")]
         return text_of(line for _, _, lines in sorted(entries) for line in lines)
@@ -61,7 +72,9 @@ class PlainDisplay:
                 way = [*(self.path(it) if it else []), number]
                 marks = "".join(mark for mark, kind in zip(MARKS, BROADER) if (kind, number, it) in self.plain.links)
                 star = " *" * (it is not None and it != above[0])
-                lines.append(([self.rank(step) for step in way], f"{'  ' * (len(way) - 1)}{self.term(number)}{marks}{star}"))
+                lines.append(
+                    ([self.rank(step) for step in way], f"{'  ' * (len(way) - 1)}{self.term(number)}{marks}{star}")
+                )
         return text_of(line for _, line in sorted(lines))
 
 

@@ -1,5 +1,6 @@
-"""Judges the rows of a store as the rules on its tables say in words: which table is the first that is faulty, or how much
-the store holds. The conditions on labels and links are those of the plain program, over the state that the rows encode."""
+"""Judges the rows of a store as the rules on its tables say in words: which table is the first that is faulty, or how
+much the store holds. The conditions on labels and links are those of the plain program, over the state that the rows
+encode."""
 import contextlib
 import sqlite3
 from plain import BASE, BROADER, LABEL_KINDS, Plain, at
@@ -44,18 +45,25 @@ def read_rows(path):
 
 def rows_of(plain, base=BASE):
     """The rows of the tables that hold a state, in the order in which they are read."""
-    number = lambda words, it: words.index(it) + 1
+
+    def number(words, it):
+        return words.index(it) + 1
+
     resources, postings = list(enumerate(plain.resources, 1)), list(enumerate(plain.postings, 1))
     hier = [(a, b, BROADER.index(kind)) for kind, a, b in plain.links if kind in BROADER]
     link = [(number(LINKS, kind), a, b) for kind, a, b in plain.links if kind not in BROADER]
     return {
         "meta": [(1, VERSION, base)],
-        "resource": [(n, number(KINDS, it["kind"]), it["scheme"], int(it["live"]), it["replaced"]) for n, it in resources],
+        "resource": [
+            (n, number(KINDS, it["kind"]), it["scheme"], int(it["live"]), it["replaced"]) for n, it in resources
+        ],
         "outside": [(n, it["iri"]) for n, it in resources if it["kind"] == "outside"],
         "label": sorted((owner, number(LABEL_KINDS, kind), tag, text) for owner, kind, tag, text in plain.labels),
         "link": sorted(link),
         "hier": sorted(hier),
-        "posting": [(n, it["key"], it["record"], it["first"], plain.place(n), int(it["withdrawn"])) for n, it in postings],
+        "posting": [
+            (n, it["key"], it["record"], it["first"], plain.place(n), int(it["withdrawn"])) for n, it in postings
+        ],
         "move": [(n, *it) for n, it in enumerate(plain.moves, 1)],
     }
 
@@ -91,7 +99,9 @@ class PlainStore:
         return not it["live"] and self.kind(by) == "concept" and by != number and self.plain.scheme(by) == it["scheme"]
 
     def is_resource(self, number, it):
-        has_scheme = self.kind(it["scheme"]) == "scheme" if it["kind"] in ("concept", "collection") else it["scheme"] is None
+        has_scheme = (
+            self.kind(it["scheme"]) == "scheme" if it["kind"] in ("concept", "collection") else it["scheme"] is None
+        )
         if it["kind"] is None or not has_scheme or not it["live"] and it["kind"] != "concept":
             return False
         return it["replaced"] is None or self.is_replaced(number, it)
@@ -114,7 +124,9 @@ class PlainStore:
         return all(self.is_resource(n, it) for n, it in numbered) and not any(self.returns(n) for n, _ in numbered)
 
     def outside(self, rows):
-        if [number for number, _ in rows] != [n for n, it in enumerate(self.plain.resources, 1) if it["kind"] == "outside"]:
+        if [number for number, _ in rows] != [
+            n for n, it in enumerate(self.plain.resources, 1) if it["kind"] == "outside"
+        ]:
             return False
         for number, iri in rows:
             if iri is None or not is_iri(iri) or iri.startswith(self.base):

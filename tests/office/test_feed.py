@@ -1,0 +1,187 @@
+"""Tests tools/feed with a real triple store: whole, by differences, and put right after either end was down."""
+from __future__ import annotations
+
+import json
+import subprocess
+import time
+from collections.abc import Iterator
+from dataclasses import dataclass
+from pathlib import Path
+
+import pytest
+from office import tool
+from ports import free_port
+from program import ROOT, Ended, built
+from thesaurus_tools.ntriples import parse_ntriples
+from thesaurus_tools.triple_store import TripleStore, plain
+
+GRAPH = "https://museum.example/id/"
+PASSWORD = "dba"
+SETTINGS = """
+[Database]
+DatabaseFile = {folder}/virtuoso.db
+ErrorLogFile = {folder}/virtuoso.log
+LockFile = {folder}/virtuoso.lck
+TransactionFile = {folder}/virtuoso.trx
+xa_persistent_file = {folder}/virtuoso.pxa
+[TempDatabase]
+DatabaseFile = {folder}/temp.db
+TransactionFile = {folder}/temp.trx
+[Parameters]
+ServerPort = {sql}
+NumberOfBuffers = 4000
+MaxDirtyBuffers = 3000
+DirsAllowed = {folder}
+[HTTPServer]
+ServerPort = 127.0.0.1:{http}
+ServerThreads = 4
+"""
+pytestmark = pytest.mark.needs("virtuoso-t", "isql-vt")
+
+
+@dataclass
+class Virtuoso:
+    """A Virtuoso on this machine."""
+
+    folder: Path
+    sql: int
+    http: int
+    process: subprocess.Popen[bytes] | None = None
+
+    def start(self) -> None:
+        (self.folder / "virtuoso.ini").write_text(
+            SETTINGS.format(folder=self.folder, sql=f"127.0.0.1:{self.sql}", http=self.http), encoding="utf-8"
+        )
+        words = ["virtuoso-t", "+foreground", "+configfile", str(self.folder / "virtuoso.ini")]
+        self.process = subprocess.Popen(words, cwd=self.folder, stdout=subprocess.DEVNULL, stderr=subprocess.DEVNULL)
+        end = time.monotonic() + 90
+        while self.sql_says("SELECT 1;").returncode:
+            assert time.monotonic() < end and self.process.poll() is None, "Virtuoso didn't start"
+            time.sleep(0.5)
+
+    def sql_says(self, text: str) -> subprocess.CompletedProcess[bytes]:
+        words = ["isql-vt", f"127.0.0.1:{self.sql}", "dba", PASSWORD, "VERBOSE=OFF", "ERRORS=STDOUT", f"EXEC={text}"]
+        return subprocess.run(words, capture_output=True, check=False, timeout=60)
+
+    def stop(self) -> None:
+        if self.process:
+            self.process.terminate()
+            self.process.wait(60)
+            self.process = None
+
+    def url(self, path: str) -> str:
+        return f"http://127.0.0.1:{self.http}{path}"
+
+    def store(self) -> TripleStore:
+        return TripleStore(self.url("/sparql"), self.url("/sparql-auth"), GRAPH, user="dba", password=PASSWORD)
+
+
+@pytest.fixture(scope="module")
+def virtuoso(tmp_path_factory: pytest.TempPathFactory) -> Iterator[Virtuoso]:
+    it = Virtuoso(tmp_path_factory.mktemp("virtuoso"), free_port(), free_port())
+    it.start()
+    yield it
+    it.stop()
+
+
+@pytest.fixture
+def db(tmp_path: Path) -> Path:
+    """A store of musical instruments."""
+    path = tmp_path / "museum.db"
+    perform(path, (ROOT / "examples/instruments.jsonl").read_bytes())
+    return path
+
+
+def perform(db: Path, script: bytes) -> None:
+    words = [built(), "--db", str(db), "--base", GRAPH, "script"]
+    ran = subprocess.run(words, input=script, capture_output=True, check=False)
+    assert b'"no"' not in ran.stdout, ran.stdout
+
+
+def export(db: Path) -> Path:
+    path = db.with_suffix(".nt")
+    words = [built(), "--db", str(db), "export"]
+    path.write_bytes(subprocess.run(words, capture_output=True, check=True).stdout)
+    return path
+
+
+def feed(virtuoso: Virtuoso, path: Path, *words: str) -> Ended:
+    """Runs the tool over an export."""
+    (path.parent / "password").write_text(PASSWORD, encoding="utf-8")
+    where = ["--query", virtuoso.url("/sparql"), "--update", virtuoso.url("/sparql-auth"), "--graph", GRAPH]
+    login = ["--user", "dba", "--password-file", path.parent / "password"]
+    return tool("feed", path, *where, *login, "--state", path.parent / "fed", *words)
+
+
+def is_equal(virtuoso: Virtuoso, path: Path) -> bool:
+    """Whether the triple store has the triples of an export, and no others."""
+    rows = virtuoso.store().select(f"SELECT ?s ?p ?o WHERE {{ GRAPH <{GRAPH}> {{ ?s ?p ?o }} }}")
+    found = {(str(it["s"]), str(it["p"]), plain(it["o"])) for it in rows}
+    return found == {(str(s), str(p), plain(o)) for s, p, o in parse_ntriples(path.read_bytes(), str(path))}
+
+
+HOSTILE = {"do": "concept", "scheme": 1, "tag": "en", "text": 'a "quoted" \\ <b> é\U0001d11e }'}
+
+
+def test_whole_and_then_by_differences(virtuoso: Virtuoso, db: Path) -> None:
+    first = feed(virtuoso, export(db))
+    assert first.status == 0 and b"triples were put" in first.err, first.err
+    assert is_equal(virtuoso, db.with_suffix(".nt"))
+    assert b"nothing has changed" in feed(virtuoso, export(db)).err
+    merge = {"do": "merge", "source": 6, "target": 5}
+    perform(db, "".join(json.dumps(it) + "\n" for it in (merge, HOSTILE)).encode())
+    changed = feed(virtuoso, export(db))
+    assert changed.status == 0 and b"removed" in changed.err and b"anew" not in changed.err, changed.err
+    assert is_equal(virtuoso, db.with_suffix(".nt"))
+
+
+def test_what_others_wrote_is_put_right(virtuoso: Virtuoso, db: Path) -> None:
+    feed(virtuoso, export(db))
+    virtuoso.store().update(f'INSERT DATA {{ GRAPH <{GRAPH}> {{ <{GRAPH}5> <http://x/y> "z" }} }}')
+    assert b"triples were put" in feed(virtuoso, export(db)).err
+    assert is_equal(virtuoso, db.with_suffix(".nt"))
+
+
+def test_the_feed_was_down(virtuoso: Virtuoso, db: Path) -> None:
+    """Its state is lost, or older than the store's: nobody knows what the store holds."""
+    feed(virtuoso, export(db))
+    state = db.parent / "fed"
+    older = state.read_bytes()
+    perform(db, json.dumps(HOSTILE).encode() + b"\n")
+    feed(virtuoso, export(db))
+    state.write_bytes(older)
+    assert feed(virtuoso, export(db)).status == 0 and is_equal(virtuoso, db.with_suffix(".nt"))
+    state.unlink()
+    assert feed(virtuoso, export(db)).status == 0 and is_equal(virtuoso, db.with_suffix(".nt"))
+
+
+def test_the_store_was_down(virtuoso: Virtuoso, db: Path) -> None:
+    feed(virtuoso, export(db))
+    virtuoso.stop()
+    perform(db, json.dumps(HOSTILE).encode() + b"\n")
+    ended = feed(virtuoso, export(db))
+    assert ended.status == 3 and b"Traceback" not in ended.err
+    virtuoso.start()
+    assert feed(virtuoso, export(db)).status == 0 and is_equal(virtuoso, db.with_suffix(".nt"))
+
+
+def test_a_store_that_refuses(virtuoso: Virtuoso, db: Path) -> None:
+    """A reader may not write there, and a page isn't a triple store."""
+    path = export(db)
+    state = ("--state", str(db.parent / "other"))
+    ended = tool(
+        "feed", path, "--query", virtuoso.url("/sparql"), "--update", virtuoso.url("/sparql"), "--graph", GRAPH, *state
+    )
+    assert ended.status == 3 and b"Traceback" not in ended.err
+    ended = tool("feed", path, "--query", virtuoso.url("/"), "--update", virtuoso.url("/"), "--graph", GRAPH, *state)
+    assert ended.status == 3 and b"Traceback" not in ended.err
+
+
+def test_a_change_is_quick(virtuoso: Virtuoso, db: Path) -> None:
+    """The start of Python is in it, and what else the machine does."""
+    feed(virtuoso, export(db))
+    perform(db, json.dumps(HOSTILE).encode() + b"\n")
+    path = export(db)
+    began = time.monotonic()
+    assert feed(virtuoso, path).status == 0
+    assert time.monotonic() - began < 5

@@ -1,0 +1,371 @@
+"""Tests tools/from-table: each kind of table, each form of file, lists that come back, and rows that are refused."""
+from __future__ import annotations
+
+import csv
+import io
+import json
+import subprocess
+import zipfile
+from collections.abc import Sequence
+from pathlib import Path
+
+import pytest
+from office import tool
+from program import Ended, built
+
+BASE = "https://museum.example/id/"
+SCRIPT: list[dict[str, object]] = [
+    {"do": "scheme", "tag": "en", "text": "Instruments"},
+    {"do": "concept", "scheme": 1, "tag": "en", "text": "Strings"},
+    {"do": "concept", "scheme": 1, "tag": "en", "text": "Violins"},
+    {"do": "concept", "scheme": 1, "tag": "en", "text": "Fiddles"},
+    {"do": "concept", "scheme": 1, "tag": "en", "text": "Harps"},
+    {"do": "addLabel", "owner": 3, "kind": "alt", "tag": "en", "text": "Fine violins"},
+    {"do": "addLabel", "owner": 3, "kind": "hidden", "tag": "zxx", "text": "V17"},
+    {"do": "addLabel", "owner": 5, "kind": "pref", "tag": "de", "text": "Harfen"},
+    {"do": "link", "kind": "broaderGeneric", "a": 3, "b": 2},
+    {"do": "link", "kind": "broader", "a": 4, "b": 2},
+    {"do": "post", "key": "p1", "record": "Violin 1668", "concept": 3},
+    {"do": "collection", "scheme": 1, "tag": "en", "text": "Room 12"},
+]
+
+
+def perform(path: Path, requests: Sequence[dict[str, object]]) -> list[dict[str, object]]:
+    """Has the program perform requests, and returns the answers."""
+    given = "".join(json.dumps(it) + "\n" for it in requests).encode()
+    words = [built(), "--db", path, "--base", BASE, "script"]
+    ran = subprocess.run(words, input=given, capture_output=True, check=False)
+    return [json.loads(it) for it in ran.stdout.splitlines()]
+
+
+@pytest.fixture
+def store(tmp_path: Path) -> Path:
+    """A small thesaurus."""
+    path = tmp_path / "museum.db"
+    assert not [it for it in perform(path, SCRIPT) if "no" in it]
+    return path
+
+
+def table(folder: Path, *rows: Sequence[str], separator: str = ",", name: str = "table.csv") -> Path:
+    """Writes a table."""
+    out = io.StringIO()
+    csv.writer(out, delimiter=separator).writerows(rows)
+    path = folder / name
+    path.write_text(out.getvalue(), encoding="utf-8")
+    return path
+
+
+def from_table(path: Path, store: Path, *words: str) -> Ended:
+    """Runs the tool over a store."""
+    return tool("from-table", path, "--db", store, "--program", built(), *words)
+
+
+def script_of(ended: Ended) -> list[dict[str, object]]:
+    """Returns the requests that the tool wrote."""
+    assert ended.status == 0, ended.err.decode()
+    return [json.loads(it) for it in ended.out.splitlines()]
+
+
+def concept(store: Path, number: int) -> dict[str, object]:
+    """Returns the program's view of a concept."""
+    return perform(store, [{"get": "concept", "number": number}])[0]
+
+
+# --- kinds of tables ---
+
+
+def test_new_concepts(store: Path, tmp_path: Path) -> None:
+    """A row may have a broader term that an earlier row makes."""
+    rows = [
+        ("Term (English)", "Deutsch", "Oberbegriff", "Synonym (German)", "SN", "wikidata", "Collection"),
+        ("Plucked", "Zupfinstrumente", "Strings", "", "All that is plucked.", "", ""),
+        ("Lutes", "Lauten", "Plucked", "Laute|Lautten", "", "http://www.wikidata.org/entity/Q180733", "Room 12"),
+    ]
+    ended = from_table(table(tmp_path, *rows), store, "--new", "--lang", "en", "--perform")
+    assert ended.status == 0, ended.err.decode()
+    made = concept(store, 8)
+    assert made["pref"] == [["de", "Lauten"], ["en", "Lutes"]]
+    assert made["alt"] == [["de", "Laute"], ["de", "Lautten"]]
+    assert (made["broader"], made["collections"], made["mappings"]) == ([7], [6], [["exact", 9]])
+    assert concept(store, 7)["scope"] == [["en", "All that is plucked."]]
+
+
+def test_a_new_concept_that_is_there(store: Path, tmp_path: Path) -> None:
+    path = table(tmp_path, ("pref@en",), ("Harps",))
+    ended = from_table(path, store, "--new", "--lang", "en")
+    assert (ended.status, ended.out) == (1, b"")
+    assert f"{path}:2: “Harps” is there already: 5 (Harps)" in ended.err.decode()
+
+
+def test_translations(store: Path, tmp_path: Path) -> None:
+    rows = [
+        ("number", "term", "pref@de", "alt@de"),
+        ("3", "Violins", "Geigen", "Violinen"),
+        ("5", "Harps", "Harfen", ""),
+    ]
+    requests = script_of(from_table(table(tmp_path, *rows), store, "--translations"))
+    assert requests == [
+        {"do": "addLabel", "owner": 3, "kind": "pref", "tag": "de", "text": "Geigen"},
+        {"do": "addLabel", "owner": 3, "kind": "alt", "tag": "de", "text": "Violinen"},
+    ]
+
+
+def test_a_translation_changes_no_term(store: Path, tmp_path: Path) -> None:
+    ended = from_table(table(tmp_path, ("number", "pref@de"), ("5", "Harfe")), store, "--translations")
+    assert ended.status == 1
+    assert "Harps has “Harfen” in de: --renames changes it to “Harfe”" in ended.err.decode()
+
+
+def test_a_row_about_another_concept(store: Path, tmp_path: Path) -> None:
+    """A term beside a number shows that a row was shifted."""
+    ended = from_table(table(tmp_path, ("number", "term", "pref@de"), ("3", "Harps", "Harfen")), store)
+    assert ended.status == 1 and "3 is Violins, and not “Harps”" in ended.err.decode()
+
+
+def test_rename_to_an_alternative_term(store: Path, tmp_path: Path) -> None:
+    """The two terms are exchanged: one text can't be both (S13)."""
+    path = table(tmp_path, ("old", "new"), ("Violins", "Fine violins"))
+    ended = from_table(path, store, "--renames", "--lang", "en", "--perform")
+    assert ended.status == 0, ended.err.decode()
+    assert (concept(store, 3)["pref"], concept(store, 3)["alt"]) == ([["en", "Fine violins"]], [["en", "Violins"]])
+
+
+def test_rename_and_forget(store: Path, tmp_path: Path) -> None:
+    path = table(tmp_path, ("number", "neue Benennung"), ("5", "Harp family"))
+    assert from_table(path, store, "--renames", "--lang", "en", "--forget", "--perform").status == 0
+    assert (concept(store, 5)["pref"], concept(store, 5)["alt"]) == ([["de", "Harfen"], ["en", "Harp family"]], [])
+
+
+def test_moves(store: Path, tmp_path: Path) -> None:
+    """A place without a type gets that of the old one; the new link comes before the old one goes."""
+    path = table(tmp_path, ("concept", "new parent"), ("V17", "Harps"), ("4", "5"), ("Harps", ""))
+    assert script_of(from_table(path, store, "--moves")) == [
+        {"do": "link", "kind": "broaderGeneric", "a": 3, "b": 5},
+        {"do": "unlink", "kind": "broaderGeneric", "a": 3, "b": 2},
+        {"do": "link", "kind": "broader", "a": 4, "b": 5},
+        {"do": "unlink", "kind": "broader", "a": 4, "b": 2},
+    ]
+
+
+def test_merges_by_the_column_do(store: Path, tmp_path: Path) -> None:
+    rows = [("do", "concept", "into"), ("merge", f"{BASE}4", "Violins"), ("-", "5", ""), ("end", "Harps", "")]
+    assert script_of(from_table(table(tmp_path, *rows, separator=";"), store)) == [
+        {"do": "merge", "source": 4, "target": 3},
+        {"do": "deprecate", "concept": 5},
+    ]
+
+
+def test_postings(store: Path, tmp_path: Path) -> None:
+    path = table(tmp_path, ("record", "concept"), ("Violin 1700", "V17"), ("Harp 1800", "Harps"))
+    ended = from_table(path, store, "--postings", "--perform")
+    assert ended.status == 0, ended.err.decode()
+    assert from_table(path, store, "--postings", "--perform").status == 0
+    assert (concept(store, 3)["postings"], concept(store, 5)["postings"]) == (2, 1)
+
+
+# --- what goes out and comes back ---
+
+
+@pytest.mark.parametrize(
+    "words",
+    [
+        ("missing", "--lang", "de"),
+        ("missing", "--lang", "en", "--kind", "scope"),
+        ("orphans",),
+        ("tops",),
+        ("below", "2"),
+        ("find", "violin"),
+        ("duplicates",),
+        ("counts", "--concepts"),
+    ],
+    ids=lambda it: it[0],
+)
+def test_a_list_comes_back_unchanged(store: Path, tmp_path: Path, words: tuple[str, ...]) -> None:
+    path = tmp_path / "list.csv"
+    path.write_bytes(tool("report", "--db", store, *words, "--csv").out)
+    if path.read_bytes().count(b"\n") > 1:
+        assert script_of(from_table(path, store)) == []
+
+
+def test_a_list_of_gaps_has_a_column_to_fill_in(store: Path, tmp_path: Path) -> None:
+    rows = list(csv.reader(io.StringIO(tool("report", "--db", store, "missing", "--lang", "de", "--csv").out.decode())))
+    assert rows[0] == ["number", "term", "pref@de"]
+    path = table(tmp_path, rows[0], *([number, term, f"{term} auf Deutsch"] for number, term, _ in rows[1:]))
+    assert from_table(path, store, "--perform").status == 0
+    assert tool("report", "--db", store, "missing", "--lang", "de").out == b"number  term\n"
+
+
+COLUMNS = "number,iri,pref@en,pref@de,alt@en,scope@en,broader,narrower,related,exact,member,records"
+
+
+@pytest.mark.parametrize("words", [(), ("--excel",), ("--below", "2"), ("--scheme", "1")], ids=lambda it: " ".join(it))
+def test_a_table_of_concepts_comes_back_unchanged(store: Path, tmp_path: Path, words: tuple[str, ...]) -> None:
+    more: list[dict[str, object]] = [
+        {"do": "outside", "iri": "http://www.wikidata.org/entity/Q8355"},
+        {"do": "link", "kind": "exact", "a": 3, "b": 7},
+        {"do": "link", "kind": "related", "a": 3, "b": 5},
+        {"do": "link", "kind": "member", "a": 6, "b": 3},
+        {"do": "addLabel", "owner": 3, "kind": "scope", "tag": "en", "text": "With | inside"},
+    ]
+    assert not [it for it in perform(store, more) if "no" in it]
+    path = tmp_path / "list.csv"
+    ended = tool("to-table", "--db", store, "--columns", COLUMNS, "-o", path, *words)
+    assert ended.status == 0, ended.err.decode()
+    assert path.read_bytes().count(b"Violins") >= 1
+    assert script_of(from_table(path, store)) == []
+    text = path.read_text(encoding="utf-8-sig").replace("Fine violins", "Fine violins|Best violins")
+    path.write_text(text, encoding="utf-8")
+    assert script_of(from_table(path, store)) == [
+        {"do": "addLabel", "owner": 3, "kind": "alt", "tag": "en", "text": "Best violins"}
+    ]
+
+
+def test_columns_that_there_are_not(store: Path) -> None:
+    ended = tool("to-table", "--db", store, "--columns", "number,colour")
+    assert ended.status == 2 and b"no column is called colour" in ended.err
+
+
+# --- rows that are refused ---
+
+
+def test_dry_changes_nothing(store: Path, tmp_path: Path) -> None:
+    before = store.read_bytes()
+    rows = [("concept", "broader"), ("Strings", "Violins"), ("Harps", "Strings"), ("Lutes", "Strings")]
+    ended = from_table(table(tmp_path, *rows), store, "--dry")
+    assert (ended.status, store.read_bytes()) == (1, before)
+    assert ended.out.decode() == (
+        "2: refused: Cycle: a concept would be broader than itself\n"
+        "3: Harps: adds broader term Strings\n"
+        "4: refused: no concept is called “Lutes”\n"
+    )
+
+
+def test_refused_rows_are_a_table_again(store: Path, tmp_path: Path) -> None:
+    rows = [("concept", "broader"), ("Strings", "Violins"), ("Harps", "Strings"), ("Lutes", "Strings")]
+    rest = tmp_path / "rest.csv"
+    words = ("--perform", "--keep-going", "--rejected", str(rest))
+    assert from_table(table(tmp_path, *rows), store, *words).status == 1
+    assert concept(store, 5)["broader"] == [2]
+    assert list(csv.reader(rest.open(encoding="utf-8"))) == [
+        ["concept", "broader", "reason"],
+        ["Strings", "Violins", "Cycle: a concept would be broader than itself"],
+        ["Lutes", "Strings", "no concept is called “Lutes”"],
+    ]
+
+
+def test_a_refused_row_is_taken_back(store: Path, tmp_path: Path) -> None:
+    """The term was added before the link was refused."""
+    path = table(tmp_path, ("concept", "alt@en", "broader"), ("Strings", "String family", "Violins"))
+    assert from_table(path, store, "--perform", "--keep-going").status == 1
+    assert concept(store, 2)["alt"] == []
+
+
+def test_ambiguous_names(store: Path, tmp_path: Path) -> None:
+    perform(store, [{"do": "addLabel", "owner": it, "kind": "alt", "tag": "en", "text": "Geige"} for it in (3, 4)])
+    ended = from_table(table(tmp_path, ("concept", "alt@de"), ("Geige", "Violine")), store)
+    assert ended.status == 1
+    assert "several have “Geige”: 3 (Violins), 4 (Fiddles); write the number" in ended.err.decode()
+
+
+# --- forms of files ---
+
+
+@pytest.mark.parametrize("encoding", ["utf-8", "utf-8-sig", "utf-16", "latin-1"])
+@pytest.mark.parametrize("separator", [",", ";", "\t"])
+def test_encodings(store: Path, tmp_path: Path, encoding: str, separator: str) -> None:
+    path = tmp_path / "table.csv"
+    path.write_bytes(f"number{separator}pref@fr\r\n3{separator}Violons «à archet»\r\n".encode(encoding))
+    words = ("--encoding", "latin-1") if encoding == "latin-1" else ()
+    (request,) = script_of(from_table(path, store, *words))
+    assert request["text"] == "Violons «à archet»"
+
+
+@pytest.mark.needs("openpyxl")
+def test_excel(store: Path, tmp_path: Path) -> None:
+    import openpyxl
+
+    book = openpyxl.Workbook()
+    book.active.append(["number", "Français"])
+    book.active.append([3, "Violons"])
+    book.active.append([5.0, "Harpes"])
+    book.save(tmp_path / "table.xlsx")
+    assert [it["owner"] for it in script_of(from_table(tmp_path / "table.xlsx", store))] == [3, 5]
+
+
+@pytest.mark.needs("odf")
+def test_open_document(store: Path, tmp_path: Path) -> None:
+    from odf import opendocument, table as tables, text
+
+    book = opendocument.OpenDocumentSpreadsheet()
+    page = tables.Table(name="Terms")
+    for cells in (("number", "Français"), ("3", "Violons")):
+        row = tables.TableRow()
+        for it in cells:
+            cell = tables.TableCell()
+            cell.addElement(text.P(text=it))
+            row.addElement(cell)
+        page.addElement(row)
+    book.spreadsheet.addElement(page)
+    book.save(tmp_path / "table.ods")
+    (request,) = script_of(from_table(tmp_path / "table.ods", store, "--sheet", "Terms"))
+    assert (request["owner"], request["text"]) == (3, "Violons")
+
+
+def archive(path: Path, parts: dict[str, bytes]) -> Path:
+    """Writes an archive."""
+    with zipfile.ZipFile(path, "w", zipfile.ZIP_DEFLATED) as out:
+        for name, data in parts.items():
+            out.writestr(name, data)
+    return path
+
+
+BOMB = b'<?xml version="1.0"?><!DOCTYPE a [<!ENTITY b "x"><!ENTITY c "&b;&b;">]><a>&c;</a>'
+
+
+@pytest.mark.parametrize(
+    ("parts", "says"),
+    [
+        ({"xl/workbook.xml": BOMB}, "declares a document type"),
+        ({"content.xml": BOMB}, "declares a document type"),
+        ({"xl/workbook.xml": b"\0" * (300 << 20)}, "unpacks to 300 megabytes"),
+        ({"xl/workbook.xml": b"<a/>"}, "damaged XLSX"),
+        ({"content.xml": b"<a/>"}, "damaged ODS"),
+        ({"other": b""}, "neither ODS nor XLSX"),
+    ],
+    ids=["xlsx entities", "ods entities", "zip bomb", "no workbook", "no document", "another archive"],
+)
+def test_hostile_archives(store: Path, tmp_path: Path, parts: dict[str, bytes], says: str) -> None:
+    ended = from_table(archive(tmp_path / "table.xlsx", parts), store)
+    assert ended.status in (1, 2) and ended.out == b""
+    assert says in ended.err.decode() and "Traceback" not in ended.err.decode()
+
+
+@pytest.mark.parametrize(
+    ("data", "says"),
+    [
+        (b"", "no row"),
+        (b"number,pref@fr\n3,\xff\n", ":2: no UTF-8"),
+        (b"number,pref@fr\n3,a\0b\n", ":2: a NUL"),
+        (b'number,pref@fr\n3,"open\n', "unexpected end of data"),
+        (b"number,pref@fr\n3,a,b\n", ":2: more values than columns"),
+        (b"PK\x03\x04broken", "damaged ODS or XLSX"),
+    ],
+    ids=["empty", "no UTF-8", "NUL", "open quote", "too many cells", "cut archive"],
+)
+def test_hostile_texts(store: Path, tmp_path: Path, data: bytes, says: str) -> None:
+    path = tmp_path / "table.csv"
+    path.write_bytes(data)
+    ended = from_table(path, store)
+    assert (ended.status, ended.out) == (1, b"")
+    assert says in ended.err.decode() and "Traceback" not in ended.err.decode()
+
+
+def test_columns_are_corrected(store: Path, tmp_path: Path) -> None:
+    path = table(tmp_path, ("number", "Nom", "Remarque"), ("3", "Violons", "x"))
+    assert "column Nom: left out" in from_table(path, store).err.decode()
+    (request,) = script_of(from_table(path, store, "--columns", "Nom=pref@fr"))
+    assert request == {"do": "addLabel", "owner": 3, "kind": "pref", "tag": "fr", "text": "Violons"}
+    saved = tmp_path / "columns"
+    saved.write_text("Nom=pref@fr\nRemarque=scope@fr\n", encoding="utf-8")
+    assert len(script_of(from_table(path, store, "--columns", str(saved)))) == 2
+    assert from_table(path, store, "--columns", "Autre=pref@fr").status == 2

@@ -1,0 +1,141 @@
+"""Tests what the tools have in common: where they write, what they run on, and what they say of a request's shape."""
+from __future__ import annotations
+
+import json
+import os
+import subprocess
+import sys
+from pathlib import Path
+
+import pytest
+from office import TOOLS, tool
+from program import ROOT, built
+from thesaurus_tools.shapes import CHANGES, QUERIES, shape_fault
+
+
+@pytest.fixture(scope="module")
+def store(tmp_path_factory: pytest.TempPathFactory) -> Path:
+    """The store of musical instruments."""
+    path = tmp_path_factory.mktemp("options") / "museum.db"
+    words = [built(), "--db", str(path), "script"]
+    subprocess.run(words, input=(ROOT / "examples/instruments.jsonl").read_bytes(), capture_output=True, check=True)
+    return path
+
+
+@pytest.fixture(scope="module")
+def export(store: Path) -> Path:
+    path = store.parent / "museum.nt"
+    path.write_bytes(subprocess.run([built(), "--db", str(store), "export"], capture_output=True, check=True).stdout)
+    return path
+
+
+# --- where they write ---
+
+
+def test_each_tool_that_prints_writes_to_a_file(store: Path, export: Path, tmp_path: Path) -> None:
+    calls: list[list[object]] = [
+        ["report", "--db", store, "tops"],
+        ["report", "--db", store, "--csv", "tops"],
+        ["picture", export, 5],
+        ["to-rdf", export],
+        ["to-marc", "--db", store, "--lang", "en"],
+        ["to-table", "--db", store, "--columns", "number,pref@en"],
+        ["to-print", "--db", store, "--scheme", 1, "--lang", "en"],
+    ]
+    environment = {"SOURCE_DATE_EPOCH": "1700000000"}
+    os.environ.update(environment)
+    for name, *words in calls:
+        printed = tool(str(name), *words)
+        path = tmp_path / "out"
+        written = tool(str(name), *words, "-o", path)
+        assert (printed.status, written.status, written.out) == (0, 0, b""), (name, printed.err, written.err)
+        assert path.read_bytes() == printed.out, name
+
+
+def test_csv_for_excel(store: Path) -> None:
+    plain, excel = (tool("report", "--db", store, it, "tops").out.decode() for it in ("--csv", "--excel"))
+    assert excel == "\ufeff" + plain.replace(",", ";").replace("\n", "\r\n")
+
+
+def test_names_of_options_agree(store: Path) -> None:
+    for name, options in {"site": ("--db", "--store"), "number-postings": ("--hidden-codes", "--codes")}.items():
+        text = tool(name, "--help").out.decode()
+        assert all(it in text for it in options), name
+
+
+# --- without locks, as on Windows ---
+
+WITHOUT = """
+import runpy, sys
+sys.modules["fcntl"] = None
+sys.argv = sys.argv[1:]
+runpy.run_path(sys.argv[0], run_name="__main__")
+"""
+
+
+def without_locks(name: str, *words: object) -> subprocess.CompletedProcess[str]:
+    """Runs a tool where there is no module fcntl."""
+    environment = {**os.environ, "PYTHONPATH": str(TOOLS)}
+    command = [sys.executable, "-c", WITHOUT, str(TOOLS / name), *map(str, words)]
+    return subprocess.run(command, capture_output=True, text=True, check=False, env=environment)
+
+
+@pytest.mark.parametrize(
+    "name",
+    ["from-csv", "from-skos", "check-skos", "site", "picture", "report", "load", "to-rdf", "to-marc", "to-table"]
+    + ["from-table", "number-postings", "unmerge", "repost", "to-print"],
+)
+def test_each_tool_starts(name: str) -> None:
+    ran = without_locks(name, "--help")
+    assert ran.returncode == 0 and ran.stdout.startswith("usage:"), ran.stderr
+
+
+def test_what_reads_exports_runs(export: Path, tmp_path: Path) -> None:
+    for name, *words in (["to-rdf", export], ["picture", export, 5], ["check-skos", export]):
+        ran = without_locks(str(name), *words)
+        assert ran.returncode == 0, (name, ran.stderr)
+    ran = without_locks("from-skos", export, "--lang", "en", "--drop", "-o", tmp_path / "script")
+    assert ran.returncode == 0, ran.stderr
+
+
+def test_a_store_is_refused_in_words(store: Path) -> None:
+    ran = without_locks("report", "--db", store, "tops")
+    assert ran.returncode == 3 and "use --http URL, or an export" in ran.stderr
+
+
+# --- the shape of a request ---
+
+
+def test_the_program_agrees_on_shapes() -> None:
+    """A request with its members has no fault of shape; one without a member, or with another, has one: for both."""
+    value: dict[str, object] = {"a text": "x", "a number": 1, "true or false": True, "a list of numbers": [1]}
+    lines: list[dict[str, object]] = []
+    for word, requests in (("do", CHANGES), ("get", QUERIES)):
+        for name, members in requests.items():
+            right: dict[str, object] = {word: name, **{it: value[kind] for it, kind in members.items()}}
+            if "kind" in right:
+                right["kind"] = "pref" if "Label" in name else "related"
+            lines += [right, {**right, "colour": "red"}]
+            lines += [{key: it for key, it in right.items() if key != left} for left in members]
+            lines += [{**right, key: None} for key in members]
+    given = "".join(json.dumps(it) + "\n" for it in lines).encode()
+    ran = subprocess.run([built(), "script"], input=given, capture_output=True, check=False)
+    for line, answer in zip(lines, ran.stdout.splitlines(), strict=True):
+        assert bool(shape_fault(line)) == (answer == b'{"bad":"BadShape"}'), (line, answer)
+
+
+@pytest.mark.parametrize(
+    ("line", "says"),
+    [
+        ('{"do":"concept","tag":"en","text":"A"}', "scheme is missing"),
+        ('{"do":"merge","source":1,"target":2,"keep":true}', "keep is one too many"),
+        ('{"do":"addLabel","owner":1,"kind":"note","tag":"en","text":"A"}', "kind is one of pref, alt, hidden, scope"),
+        ('{"do":"relabel","owner":1,"tag":"en","text":"A","keep":"yes"}', "keep is true or false"),
+        ('{"do":"fly"}', "do is 'fly', which is no request"),
+    ],
+)
+def test_load_says_which_member(store: Path, tmp_path: Path, line: str, says: str) -> None:
+    path = tmp_path / "script.jsonl"
+    path.write_text(line + "\n", encoding="utf-8")
+    ended = tool("load", "--db", store, "--dry", "--program", built(), path)
+    assert ended.status == 1 and f"BadShape ({says})" in ended.err.decode()

@@ -1,0 +1,46 @@
+"""The memory of labels that are gone: a program that takes them away again and again doesn't grow."""
+from __future__ import annotations
+
+import os
+import subprocess
+import tempfile
+from collections.abc import Iterator
+from typing import Any
+
+import pytest
+from program import built, lines_of
+
+START = [{"do": "scheme", "tag": "en", "text": "Animals"}, {"do": "concept", "scheme": 1, "tag": "en", "text": "Cats"}]
+FEW, MANY = 1_000, 100_000
+# What the texts of many labels take is five times as much, in kilobytes.
+MOST = 4_000
+
+
+def relabelled(count: int) -> Iterator[dict[str, Any]]:
+    """A concept gets a new preferred label this number of times, and loses the old one."""
+    return ({"do": "relabel", "owner": 2, "tag": "en", "text": f"{it:0200}", "keep": False} for it in range(count))
+
+
+def dropped(count: int) -> Iterator[dict[str, Any]]:
+    """A concept gets a preferred label and loses it, this number of times."""
+    for it in range(count):
+        label = {"owner": 2, "kind": "pref", "tag": "de", "text": f"{it:0200}"}
+        yield {"do": "addLabel", **label}
+        yield {"do": "dropLabel", **label}
+
+
+def peak(requests: Iterator[dict[str, Any]]) -> int:
+    """The most memory that the program has while it performs requests, in kilobytes."""
+    with tempfile.TemporaryFile() as given, tempfile.TemporaryFile() as answers:
+        given.write(lines_of([*START, *requests]))
+        given.seek(0)
+        with subprocess.Popen([built(), "script"], stdin=given, stdout=answers) as program:
+            _, status, used = os.wait4(program.pid, 0)
+            program.returncode = os.waitstatus_to_exitcode(status)
+        assert program.returncode == 0
+        return used.ru_maxrss
+
+
+@pytest.mark.parametrize("requests", [relabelled, dropped])
+def test_labels_that_are_gone_take_no_memory(requests) -> None:
+    assert peak(requests(MANY)) < peak(requests(FEW)) + MOST

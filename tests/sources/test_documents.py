@@ -1,0 +1,295 @@
+"""What the documents name is there: links and anchors, files, options of commands, requests with their refusals in
+order, names of refusals and faults, limits, and tests that aren't in the gate. Figures of speed are in bench/RESULTS.md
+alone, those of the gate in one table of CONTRIBUTING.md; and each document has its length. The sources say what there
+is; nothing is run."""
+from __future__ import annotations
+
+import re
+from collections.abc import Callable, Iterator
+from pathlib import Path
+
+import pytest
+from program import ROOT
+
+# Yields what is wrong in a document.
+Check = Callable[[Path, str], Iterator[str]]
+
+DOCUMENTS = [
+    *sorted(ROOT.glob("*.md")),
+    *sorted(ROOT.glob("docs/*.md")),
+    *sorted(ROOT.glob("bench/*.md")),
+    ROOT / "examples" / "README.md",
+]
+PROGRAM = ("./thesaurus", "thesaurus")
+# The most words of each document, by `wc -w`. WRONG_BODIES.md and RESULTS.md are made.
+LENGTHS: dict[tuple[str, ...], int] = {
+    ("README.md",): 800,
+    ("docs/GUIDE.md",): 4500,
+    ("thesaurus.1",): 1500,
+    ("docs/REQUESTS.md",): 3000,
+    ("docs/HTTP.md",): 1200,
+    ("SECURITY.md",): 800,
+    ("docs/OPERATING.md",): 3500,
+    ("docs/PROOFS.md",): 6050,
+    ("docs/ARCHITECTURE.md",): 5500,
+    ("CONTRIBUTING.md",): 2900,
+    ("docs/DECISIONS.md",): 5000,
+    ("docs/DEFINITIONS.md",): 6300,
+    ("bench/README.md",): 1000,
+}
+FENCE = re.compile(r"^```(\w*)\n(.*?)^```$", re.M | re.S)
+LINK = re.compile(r"\]\(([^)\s]+)\)")
+# A path in the text or in a command. A word in capitals is any name.
+NAMED = re.compile(r"(?<![\w./-])(?:\./)?((?:tools|tests|bench|examples|share|docs|crates|\.ci)/[\w./@-]*\w)")
+OPTION = re.compile(r"(?<![\w-])--[a-z][\w-]*")
+# A figure of speed: a number with a unit of time, memory or work, or a ratio. Time-outs are whole seconds, limits whole
+# bytes.
+FIGURE = re.compile(
+    (
+        r"\b\d[\d.,]* (?:CPU "
+        r"(?:minutes|seconds)|microseconds|milliseconds|ms|s|[KMG]B|instructions)\b|\b\d+\.\d+ "
+        r"(?:times|seconds|minutes)\b"
+    )
+)
+# The options that each command has, and those of pytest.
+ANYWHERE = ("--help", "--collect-only")
+RESULTS = ROOT / "bench" / "RESULTS.md"
+# A figure of the gate: a row of the table in CONTRIBUTING.md with minutes by the clock and of CPU.
+GATE = ROOT / "CONTRIBUTING.md", "| Part | Minutes by the clock | CPU minutes |"
+
+
+def read(path: Path) -> str:
+    return path.read_text(encoding="utf-8")
+
+
+def prose(text: str) -> str:
+    """A document without its blocks of code."""
+    return FENCE.sub("", text)
+
+
+def anchors(path: Path) -> set[str]:
+    """The anchors of the headings of a document."""
+    headings = re.findall(r"^#+ (.*)$", prose(read(path)), re.M)
+    plain = [re.sub(r"\[([^]]*)\]\([^)]*\)", r"\1", it).replace("`", "") for it in headings]
+    return {re.sub(r"[^\w -]", "", it.lower()).replace(" ", "-") for it in plain}
+
+
+def links(path: Path, text: str) -> Iterator[str]:
+    for target in LINK.findall(prose(text)):
+        if re.match(r"https?:", target):
+            continue
+        name, _, anchor = target.partition("#")
+        to = (path.parent / name).resolve() if name else path
+        if not to.exists():
+            yield f"a link to {target}, which isn't there"
+        elif anchor and anchor not in anchors(to):
+            yield f"a link to {target}, which is no heading there"
+
+
+def is_there(name: str) -> bool:
+    return (ROOT / name).exists() or bool(re.search(r"\b[A-Z]{2,}\b", name)) or "*" in name
+
+
+def paths(_: Path, text: str) -> Iterator[str]:
+    """The files that the text names, also in commands. What a link has is checked as a link."""
+    for name in sorted(set(NAMED.findall(LINK.sub("", text)))):
+        if not is_there(name):
+            yield f"{name}, which isn't there"
+
+
+def options_of(command: str) -> str | None:
+    """The text that has the options of a command, or None for one of elsewhere."""
+    if command in PROGRAM:
+        return " ".join(f'"--{it}"' for it in re.findall(r"\bFl Fl ([a-z][\w-]*)", read(ROOT / "thesaurus.1")))
+    path = ROOT / command
+    further = [ROOT / "tests" / "conftest.py"] if command == "tests/run" else []
+    return "".join(map(read, (*with_modules(path), *further))) if path.is_file() else None
+
+
+def with_modules(path: Path) -> list[Path]:
+    """A script, with the modules of its folder, or of the desk, that it imports, and those that these import."""
+    found, todo = [path], [path]
+    for file in todo:
+        named = re.findall(r"^ *(?:from|import) ([\w.]+)", read(file), re.M)
+        files = [folder / f"{it.replace('.', '/')}.py" for it in named for folder in (path.parent, ROOT / "desk")]
+        new = [it for it in dict.fromkeys(files) if it.is_file() and it not in found]
+        found += new
+        todo += new
+    return found
+
+
+def calls(text: str) -> Iterator[list[str]]:
+    """The commands in blocks and in code within the text, each as its words."""
+    lines = [line for kind, block in FENCE.findall(text) for line in block.splitlines()]
+    for line in [*lines, *re.findall(r"`([^`\n]+)`", prose(text))]:
+        for call in re.split(r"\||&&|;", line.removeprefix("$ ")):
+            words = re.split(r" -- ", call)[0].split()
+            while words and re.fullmatch(r"\w+=.*", words[0]):
+                words.pop(0)
+            if words and re.match(r"(\./)?thesaurus$|(tools|tests|bench)/\w", words[0]):
+                yield words
+
+
+def commands(_: Path, text: str) -> Iterator[str]:
+    """Commands that the program doesn't have. (The manual is compared with its help by tests/run manual.)"""
+    names = re.findall(r"^\.It Cm (\w+)", read(ROOT / "thesaurus.1"), re.M)
+    for words in calls(text):
+        if words[0] in PROGRAM:
+            values = {at + 1 for at, it in enumerate(words) if OPTION.fullmatch(it)}
+            named = [it for at, it in enumerate(words[1:], 1) if at not in values and re.match(r"[a-z]", it)][:1]
+            yield from (f"{words[0]} has no command {it}" for it in named if it not in names)
+
+
+def options(_: Path, text: str) -> Iterator[str]:
+    """Options that a command doesn't have."""
+    for command, *words in calls(text):
+        has = options_of(command)
+        for name in (it.partition("=")[0] for it in words if OPTION.match(it)):
+            if has is not None and f'"{name}"' not in has and f"{name}\n" not in has and name not in ANYWHERE:
+                yield f"{command} has no option {name}"
+
+
+def figures(path: Path, text: str) -> Iterator[str]:
+    """Figures of speed elsewhere than in RESULTS.md, and a second table of the gate's."""
+    if path != RESULTS:
+        yield from (
+            f"the figure {it}, whose place is bench/RESULTS.md or, for the gate, CONTRIBUTING.md"
+            for it in FIGURE.findall(prose(text))
+        )
+    if text.count(GATE[1]) != (path == GATE[0]):
+        yield f"{text.count(GATE[1])} tables of the gate's figures"
+
+
+def section_of(text: str, heading: str) -> str:
+    return text.split(f"\n{heading}\n", 1)[1].split("\n## ")[0].split("\n### ")[0]
+
+
+def table(text: str, heading: str, first: str = r"`?(\w+)`?") -> dict[str, list[str]]:
+    """The rows of the table under a heading, by their first cell."""
+    lines = [line for line in section_of(text, heading).splitlines() if line.startswith("| ")]
+    rows = [[it.strip() for it in re.split(r"(?<!\\)\|", line)[1:-1]] for line in lines[1:]]
+    named = [(re.match(first, row[0]), row[1:]) for row in rows]
+    return {match[1]: cells for match, cells in named if match}
+
+
+def variants(source: str, name: str) -> list[str]:
+    """The variants of an enum of thes_base, without their fields."""
+    (body,) = re.findall(rf"pub enum {name} \{{\n(.*?)^\}}", source, re.M | re.S)
+    return re.findall(r"^    (\w+)", body, re.M)
+
+
+def same(what: str, found: list[str], wanted: list[str]) -> Iterator[str]:
+    if found != wanted:
+        yield f"{what}: {', '.join(map(str, found))}; by the sources {', '.join(map(str, wanted))}"
+
+
+def requests() -> Iterator[str]:
+    """REQUESTS.md has each request with its refusals in the order of the definitions, and each name."""
+    text = read(ROOT / "docs" / "REQUESTS.md")
+    keywords = read(ROOT / "crates" / "thes_requests" / "src" / "keywords.rt")
+
+    def named(kind: str) -> dict[str, str]:
+        return dict(re.findall(rf'"(\w+)" => Some\({kind}::(\w+)\)', keywords))
+
+    verbs, rows = named("CommandKeyword"), table(text, "## Requests that change something")
+    yield from same("values of do", sorted(rows), sorted(verbs))
+    rules = read(ROOT / "crates" / "thes_base" / "specs" / "Checks.antt")
+    for verb, variant in verbs.items():
+        (rule,) = re.findall(rf"^checks_of setting s after \(request\.{variant} .*?\[\]$", rules, re.M | re.S)
+        wanted = [*(["KeyReused"] if verb == "post" else []), *re.findall(r"\bno\.(\w+)", rule)]
+        yield from same(f"the refusals of {verb}", rows.get(verb, ["", "", ""])[2].split(", "), wanted)
+    yield from same("values of get", sorted(table(text, "## Queries")), sorted(named("QueryKeyword")))
+    yield from same("kinds of labels", sorted(table(text, "### Labels")), sorted(named("LabelKind")))
+    yield from same("kinds of links", sorted(table(text, "### Links")), sorted(named("LinkKind")))
+    source = read(ROOT / "crates" / "thes_base" / "src" / "fault.rt")
+    yield from same(
+        "names of refusals", sorted(table(text, "## What the names mean")), sorted(variants(source, "Refusal"))
+    )
+    for name in (*variants(source, "FormFault"), *variants(source, "Fault")):
+        if name not in text:
+            yield f"{name} is missing"
+
+
+def columns() -> Iterator[tuple[str, list[str]]]:
+    """The columns of each table of a store, by the statements that create it."""
+    source = re.sub(r"\\\n\s*", "", read(ROOT / "crates" / "thes_sql" / "src" / "create.rt"))
+    for name, body in re.findall(r"CREATE TABLE (\w+) \((.*?)\) STRICT", source):
+        yield name, [it.split()[0] for it in re.sub(r", PRIMARY KEY \(.*\)", "", body).split(", ")]
+
+
+def faults() -> Iterator[str]:
+    """OPERATING.md has each fault, and each table of a store with its columns."""
+    text = read(ROOT / "docs" / "OPERATING.md")
+    source = read(ROOT / "crates" / "thes_base" / "src" / "fault.rt")
+    wanted = {*variants(source, "Fault"), *variants(source, "PipeFault"), "Net"} - {"Fault"}
+    found = {
+        it for row in table(text, "## Faults", r"(.*)$") for it in re.findall(r"\b[A-Z]\w+", row) if it not in ("HTTP",)
+    }
+    yield from same("names of faults", sorted(found), sorted(wanted))
+    rows, made = table(text, "## The tables"), dict(columns())
+    for names in ([*made], [it.lower() for it in variants(source, "Table")]):
+        yield from same("tables", sorted(rows), sorted(names))
+    for name, of_table in made.items():
+        described = set(re.findall(r"`(\w+)`", rows.get(name, [""])[0]))
+        yield from same(f"columns of {name}", sorted(described), sorted(of_table))
+
+
+def limits() -> Iterator[str]:
+    """The limits are those of the sources, wherever they stand."""
+    source = read(ROOT / "crates" / "thes_base" / "src" / "data.rt")
+    values = dict(re.findall(r"^            (\w+): ([\d_]+),$", source, re.M))
+    text = read(ROOT / "docs" / "REQUESTS.md")
+    yield from same(
+        "limits",
+        [it[0] for it in table(text, "## Limits").values()],
+        [f"{int(it.replace('_', '')):,}" for it in values.values()],
+    )
+    for path in (ROOT / "README.md", ROOT / "docs" / "OPERATING.md", ROOT / "thesaurus.1"):
+        text = read(path)
+        units = "|".join(values)
+        found = re.findall(rf"\b(\d[\d,]*) ({units})\b", text) + [
+            it[::-1] for it in re.findall(rf'^\.It ({units}) Ta "([\d,]+)"', text, re.M)
+        ]
+        for number, unit in found:
+            if int(number.replace(",", "")) != int(values[unit].replace("_", "")):
+                yield f"{path.name} has {number} {unit} as a limit"
+
+
+def trusted() -> Iterator[str]:
+    """PROOFS.md names each ported crate that crates.txt names; the parts of sqlite are one."""
+    lines = [it.partition(":") for it in read(ROOT / "crates.txt").splitlines() if it and it[0] != "#"]
+    own = {head.split()[0] for head, _, _ in lines}
+    ports = {re.sub(r"^sqlite_.*", "sqlite", it) for _, _, rest in lines for it in rest.split()} - own
+    section = read(ROOT / "docs" / "PROOFS.md").split("\n## Trusted\n")[1]
+    yield from same("ported crates", sorted(set(re.findall(r"`(\w+)`", section))), sorted(ports))
+
+
+def by_hand() -> Iterator[str]:
+    """PROOFS.md says of each test that is run by hand that it is, so that nobody takes it for a part of the gate."""
+    tests = [it for it in ROOT.glob("tests/*/*") if it.is_file() and not it.suffix and "\n# by hand" in read(it)]
+    for name in (f"tests/{it.parent.name}/{it.name}" for it in tests):
+        for found in re.findall(rf"`{name}`(, by hand)?", read(ROOT / "docs" / "PROOFS.md")):
+            if not found:
+                yield f"{name} without `, by hand`"
+
+
+@pytest.mark.parametrize("path", DOCUMENTS, ids=lambda it: str(it.relative_to(ROOT)))
+@pytest.mark.parametrize("check", [links, paths, commands, options, figures], ids=lambda it: it.__name__)
+def test_document_names_what_is_there(path: Path, check: Check) -> None:
+    assert not list(check(path, read(path)))
+
+
+def test_manual_names_files_that_are_there() -> None:
+    page = ROOT / "thesaurus.1"
+    assert not list(paths(page, read(page)))
+
+
+@pytest.mark.parametrize("check", [requests, faults, trusted, by_hand, limits], ids=lambda it: it.__name__)
+def test_documents_say_what_the_sources_have(check: Callable[[], Iterator[str]]) -> None:
+    assert not list(check())
+
+
+@pytest.mark.parametrize("names", LENGTHS, ids=" and ".join)
+def test_length(names: tuple[str, ...]) -> None:
+    found, wanted = sum(len(read(ROOT / it).split()) for it in names), LENGTHS[names]
+    assert found <= wanted
