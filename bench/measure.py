@@ -22,7 +22,7 @@ RUNS = 5
 # Runs a program, and has valgrind count its instructions.
 COUNTER = ["valgrind", "--tool=cachegrind", "--cache-sim=no", "--cachegrind-out-file=/dev/null"]
 # The decimals of a value by its unit.
-DECIMALS = {"s": 3, "times": 2, "microseconds": 1, "MB": 1, "bytes": 0, "instructions": 0}
+DECIMALS = {"s": 3, "ms": 1, "times": 2, "microseconds": 1, "MB": 1, "bytes": 0, "instructions": 0}
 
 
 class Measured(typing.NamedTuple):
@@ -46,7 +46,10 @@ class Measured(typing.NamedTuple):
 def words():
     """The arguments of the script but --write. With --help its description is printed."""
     if "--help" in sys.argv[1:]:
-        print(sys.modules["__main__"].__doc__ + "\nWith --write the figures also replace the script's section of bench/RESULTS.md.")
+        print(
+            sys.modules["__main__"].__doc__
+            + "\nWith --write the figures also replace the script's section of bench/RESULTS.md."
+        )
         sys.exit(0)
     return [it for it in sys.argv[1:] if it != "--write"]
 
@@ -93,11 +96,14 @@ def run(script):
 
 
 def counted(program, given, script=b""):
-    """The instructions of a run of a program, and the lines that it wrote. It may refuse a request, but meets no fault."""
+    """The instructions of a run of a program, and the lines that it wrote. It may refuse a request, but meets no
+    fault."""
     ran = subprocess.run([*COUNTER, program, *map(str, given)], input=script, capture_output=True, check=False)
     found = re.search(rb"I\s+refs:\s+([\d,]+)", ran.stderr)
     if ran.returncode > 1 or not found:
-        sys.exit(f"valgrind {program} {' '.join(map(str, given))} ended with {ran.returncode}: {ran.stderr.decode()[-300:]}")
+        sys.exit(
+            f"valgrind {program} {' '.join(map(str, given))} ended with {ran.returncode}: {ran.stderr.decode()[-300:]}"
+        )
     return int(found[1].replace(b",", b"")), ran.stdout.splitlines()
 
 
@@ -172,13 +178,17 @@ def machine():
 
 def commit():
     """The commit of the sources, and whether a crate differs from it."""
-    git = lambda *words: subprocess.run(["git", "-C", HOME, *words], capture_output=True, text=True, check=False).stdout.strip()
+
+    def git(*words):
+        return subprocess.run(["git", "-C", HOME, *words], capture_output=True, text=True, check=False).stdout.strip()
+
     changed = " with changes" if git("status", "--porcelain", "--", "crates", "crates.txt") else ""
     return f"commit {git('rev-parse', '--short=8', 'HEAD')}{changed}"
 
 
 def with_section(page, command, text):
-    """A page of results with this text as the section of a command: in the place of its former one, or else by its name."""
+    """A page of results with this text as the section of a command: in the place of its former one, or else by its
+    name."""
     head, *sections = re.split(r"^(?=## )", page, flags=re.M)
     found = {re.match(r"## `(.*)`\n", it)[1]: it.rstrip("\n") for it in sections}
     found[command] = f"## `{command}`\n\n{text.strip()}"
@@ -201,5 +211,7 @@ def report(measured):
         # (the benchmark itself is one of the programs at work)
         load = max(0, os.getloadavg()[1] - 1)
         command = f"bench/{pathlib.Path(sys.argv[0]).name}{' --db' if '--db' in sys.argv[1:] else ''}"
-        RESULTS.write_text(with_section(RESULTS.read_text(encoding="utf-8"), command, section(measured, load)), encoding="utf-8")
+        RESULTS.write_text(
+            with_section(RESULTS.read_text(encoding="utf-8"), command, section(measured, load)), encoding="utf-8"
+        )
     sys.exit(0 if all(it.is_held() for it in measured) else 1)

@@ -1,7 +1,8 @@
 """A plain program in Python, which answers the requests of bench/ratio as the program does: that is timed beside it.
 
-It keeps a store in dictionaries, and with --db also in the tables of a store, by Python's sqlite3 module. It knows schemes, concepts, labels,
-untyped broader and related links, posts and merges; posting files, exports, displays, and a count of all rows. It promises nothing."""
+It keeps a store in dictionaries, and with --db also in the tables of a store, by Python's sqlite3 module. It knows
+schemes, concepts, labels, untyped broader and related links, posts and merges; posting files, exports, displays, and a
+count of all rows. It promises nothing."""
 import csv
 import json
 import sqlite3
@@ -10,14 +11,18 @@ from collections import defaultdict
 
 TABLES = """
 CREATE TABLE meta (one INTEGER PRIMARY KEY, version INTEGER NOT NULL, base TEXT NOT NULL) STRICT;
-CREATE TABLE resource (num INTEGER PRIMARY KEY, kind INTEGER NOT NULL, scheme INTEGER, live INTEGER NOT NULL, replaced INTEGER) STRICT;
+CREATE TABLE resource (
+  num INTEGER PRIMARY KEY, kind INTEGER NOT NULL, scheme INTEGER, live INTEGER NOT NULL, replaced INTEGER) STRICT;
 CREATE TABLE outside (num INTEGER PRIMARY KEY, iri TEXT NOT NULL UNIQUE) STRICT;
-CREATE TABLE label (owner INTEGER NOT NULL, kind INTEGER NOT NULL, tag TEXT NOT NULL, text TEXT NOT NULL, PRIMARY KEY (owner, kind, tag, text)) STRICT;
+CREATE TABLE label (
+  owner INTEGER NOT NULL, kind INTEGER NOT NULL, tag TEXT NOT NULL, text TEXT NOT NULL,
+  PRIMARY KEY (owner, kind, tag, text)) STRICT;
 CREATE TABLE link (kind INTEGER NOT NULL, a INTEGER NOT NULL, b INTEGER NOT NULL, PRIMARY KEY (kind, a, b)) STRICT;
 CREATE TABLE hier (a INTEGER NOT NULL, b INTEGER NOT NULL, typ INTEGER NOT NULL, PRIMARY KEY (a, b, typ)) STRICT;
 CREATE TABLE posting (num INTEGER PRIMARY KEY, pkey TEXT NOT NULL UNIQUE, record TEXT NOT NULL,
  first_at INTEGER NOT NULL, at INTEGER NOT NULL, withdrawn INTEGER NOT NULL) STRICT;
-CREATE TABLE move (num INTEGER PRIMARY KEY, posting INTEGER NOT NULL, source INTEGER NOT NULL, target INTEGER NOT NULL) STRICT;
+CREATE TABLE move (
+  num INTEGER PRIMARY KEY, posting INTEGER NOT NULL, source INTEGER NOT NULL, target INTEGER NOT NULL) STRICT;
 CREATE INDEX posting_at ON posting (at);
 CREATE INDEX move_posting ON move (posting);
 INSERT INTO meta VALUES (1, 2, 'https://thesaurus.example/id/');
@@ -73,14 +78,18 @@ class Plain:
             self.base.executescript(TABLES)
         self.base.execute("PRAGMA journal_mode = WAL")
         self.base.execute("PRAGMA synchronous = FULL")
-        self.resources += [list(it) for it in self.base.execute("SELECT kind, scheme, live, replaced FROM resource ORDER BY num")]
+        self.resources += [
+            list(it) for it in self.base.execute("SELECT kind, scheme, live, replaced FROM resource ORDER BY num")
+        ]
         for owner, *label in self.base.execute("SELECT owner, kind, tag, text FROM label"):
             self.keep_label(owner, tuple(label))
         for a, b in self.base.execute("SELECT a, b FROM hier"):
             self.keep(self.up, self.down, a, b)
         for a, b in self.base.execute("SELECT a, b FROM link"):
             self.keep(self.related, self.related, a, b)
-        for number, *posting in self.base.execute("SELECT num, pkey, record, first_at, at, withdrawn FROM posting ORDER BY num"):
+        for number, *posting in self.base.execute(
+            "SELECT num, pkey, record, first_at, at, withdrawn FROM posting ORDER BY num"
+        ):
             self.keep_posting(number, posting)
         for _ in self.base.execute("SELECT num, posting, source, target FROM move ORDER BY num"):
             self.moves += 1
@@ -160,8 +169,11 @@ class Plain:
 
     def pair(self, a, b):
         """Checks that two numbers are two live concepts of a scheme."""
-        for name, is_right in (("UnknownResource", lambda it: 0 < it < len(self.resources)), ("WrongKind", lambda it: self.resources[it][0] == CONCEPT),
-                               ("NotLive", lambda it: self.resources[it][2])):
+        for name, is_right in (
+            ("UnknownResource", lambda it: 0 < it < len(self.resources)),
+            ("WrongKind", lambda it: self.resources[it][0] == CONCEPT),
+            ("NotLive", lambda it: self.resources[it][2]),
+        ):
             if not is_right(a) or not is_right(b):
                 raise Refused(name)
         if a == b or self.resources[a][1] != self.resources[b][1]:
@@ -237,7 +249,13 @@ class Plain:
         ways = (self.up, self.down), (self.down, self.up), (self.related, self.related)
         sent = [self.send(forth, back, source, target) for forth, back in ways]
         above = reached(self.up, target)
-        no = "Cycle" if not above.isdisjoint(self.down.get(target, ())) else "S27" if self.are_related(reached(self.down, target), above) else None
+        no = (
+            "Cycle"
+            if not above.isdisjoint(self.down.get(target, ()))
+            else "S27"
+            if self.are_related(reached(self.down, target), above)
+            else None
+        )
         if no:
             self.unsend(source, target, sent)
             raise Refused(no)
@@ -300,14 +318,27 @@ class Plain:
     # --- texts ---
 
     def check(self):
-        labels, links = sum(map(len, self.labels.values())), sum(map(len, self.up.values())) + sum(map(len, self.related.values())) // 2
+        labels, links = (
+            sum(map(len, self.labels.values())),
+            sum(map(len, self.up.values())) + sum(map(len, self.related.values())) // 2,
+        )
         withdrawn = sum(it[4] for it in self.postings[1:])
-        print(f"ok resources={len(self.resources) - 1} labels={labels} links={links} accepted={len(self.postings) - 1} withdrawn={withdrawn} moves={self.moves}")
+        print(
+            (
+                f"ok resources={len(self.resources) - 1} labels={labels} links={links} "
+                f"accepted={len(self.postings) - 1} withdrawn={withdrawn} moves={self.moves}"
+            )
+        )
 
     def triples(self):
         """Yields the lines of the export."""
-        node = lambda number: f"<{BASE}{number}>"
-        line = lambda a, name, b: f"{node(a)} <{SKOS}{name}> {b} .\n"
+
+        def node(number):
+            return f"<{BASE}{number}>"
+
+        def line(a, name, b):
+            return f"{node(a)} <{SKOS}{name}> {b} .\n"
+
         for number, (kind, scheme, _, _) in enumerate(self.resources[1:], 1):
             yield f"{node(number)} {TYPE} <{SKOS}{'ConceptScheme' if kind == SCHEME else 'Concept'}> .\n"
             if scheme:
@@ -327,13 +358,20 @@ class Plain:
 
     def terms(self, scheme, lang):
         """The preferred labels of live concepts, and a function that sorts concepts by these."""
-        terms = {owner: text for (in_scheme, tag, text), owner in self.taken.items() if (in_scheme, tag) == (scheme, lang)}
+        terms = {
+            owner: text for (in_scheme, tag, text), owner in self.taken.items() if (in_scheme, tag) == (scheme, lang)
+        }
         keys = {number: (*order(text), number) for number, text in terms.items()}
         return terms, lambda numbers: sorted(numbers, key=keys.__getitem__)
 
     def alphabetical(self, scheme, lang):
         terms, in_order = self.terms(scheme, lang)
-        texts = lambda number, kind: sorted((it[2] for it in self.labels[number] if it[:2] == (kind, lang)), key=order if kind == 2 else None)
+
+        def texts(number, kind):
+            return sorted(
+                (it[2] for it in self.labels[number] if it[:2] == (kind, lang)), key=order if kind == 2 else None
+            )
+
         headings = [(*order(text), False, number) for number, text in terms.items()]
         headings += [(*order(text), True, number) for number in terms for text in texts(number, 2)]
         for _, text, is_other, number in sorted(headings):
@@ -341,7 +379,9 @@ class Plain:
             if is_other:
                 sys.stdout.write(f"  USE {terms[number]}\n")
                 continue
-            sys.stdout.writelines(f"  {symbol} {it}\n" for symbol, kind in (("SN", 4), ("UF", 2)) for it in texts(number, kind))
+            sys.stdout.writelines(
+                f"  {symbol} {it}\n" for symbol, kind in (("SN", 4), ("UF", 2)) for it in texts(number, kind)
+            )
             for symbol, links in (("BT", self.up), ("NT", self.down), ("RT", self.related)):
                 sys.stdout.writelines(f"  {symbol} {terms[it]}\n" for it in in_order(links.get(number, ())))
 

@@ -59,7 +59,9 @@ def unrelated(concepts, count):
 def merges_up(concepts, count):
     """Merges of this number of concepts, each into one a level up, of the same place there. Some may be refused."""
     width, chance = concepts // LEVELS, random.Random(4)
-    return [line(do="merge", source=2 + n, target=2 + n - width) for n in chance.sample(range(width, width * LEVELS), count)]
+    return [
+        line(do="merge", source=2 + n, target=2 + n - width) for n in chance.sample(range(width, width * LEVELS), count)
+    ]
 
 
 def is_accepted(answer):

@@ -1,10 +1,12 @@
-"""The plain statements of a keeper, as Python's sqlite3 module runs them on a file: what the program's own are timed beside."""
+"""The plain statements of a keeper, as Python's sqlite3 module runs them on a file: what the program's own are timed
+beside."""
 import sqlite3
 
 TABLES = """
 CREATE TABLE posting (num INTEGER PRIMARY KEY, pkey TEXT NOT NULL UNIQUE, record TEXT NOT NULL,
  first_at INTEGER NOT NULL, at INTEGER NOT NULL, withdrawn INTEGER NOT NULL) STRICT;
-CREATE TABLE move (num INTEGER PRIMARY KEY, posting INTEGER NOT NULL, source INTEGER NOT NULL, target INTEGER NOT NULL) STRICT;
+CREATE TABLE move (
+  num INTEGER PRIMARY KEY, posting INTEGER NOT NULL, source INTEGER NOT NULL, target INTEGER NOT NULL) STRICT;
 CREATE INDEX posting_at ON posting (at);
 CREATE INDEX move_posting ON move (posting);
 """
@@ -33,7 +35,8 @@ def post_all(base, posts, concepts):
 
 
 def merge(base, source, target, postings, moves):
-    """Moves these postings, which are all at a concept, to another one, in one transaction, after this number of moves."""
+    """Moves these postings, which are all at a concept, to another one, in one transaction, after this number of
+    moves."""
     base.execute("BEGIN")
     base.execute(MOVE_ALL, (source, target))
     for move, posting in enumerate(postings, moves + 1):
