@@ -20,6 +20,7 @@ from thesaurus_desk.pages.saying import said
 from thesaurus_desk.performing import Desk
 from thesaurus_desk.program import NoAnswer
 from thesaurus_desk.settings import Settings
+from thesaurus_desk.shelf import Shelf
 from thesaurus_desk.words import LANGUAGES
 
 # The modules with pages: each has a blueprint `pages`.
@@ -48,7 +49,7 @@ LOG = logging.getLogger("thesaurus_desk")
 def create_app(desk: Desk, entry: Entry, settings: Settings) -> Flask:
     """Returns the application over a desk. Raises ValueError for a route that changes something and has no role."""
     app = DeskApp("thesaurus_desk")
-    app.extensions.update(desk=desk, entry=entry, settings=settings)
+    app.extensions.update(desk=desk, entry=entry, settings=settings, shelf=Shelf())
     app.jinja_env.trim_blocks = app.jinja_env.lstrip_blocks = True
     app.json.ensure_ascii = False  # type: ignore[attr-defined]
     install_checks(app)

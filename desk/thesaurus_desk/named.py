@@ -7,9 +7,7 @@ from typing import Any
 
 from thesaurus_desk.journal.entries import Request
 from thesaurus_desk.mirror.prospect import NUMBERS
-from thesaurus_desk.performing import Desk, Outcome
-
-LONGEST_PLAN = 128
+from thesaurus_desk.performing import LONGEST_PLAN, Desk, Outcome
 
 
 @dataclass

@@ -33,7 +33,9 @@ class Telling:
         number = self.request.get(member)
         if isinstance(number, int) and self.mirror.get(number) is not None:
             return self.links.link(number)
-        return self.say("new_one") if isinstance(number, str) else escape(str(number))
+        if isinstance(number, str):
+            return self.links.new(number) or self.say("new_one")
+        return escape(str(number))
 
     def label(self) -> Markup:
         return label_of(self.words, self.request["text"], str(self.request["tag"]).lower())
@@ -106,12 +108,14 @@ def write_withdraw(it: Telling) -> Markup:
 
 
 def write_import(it: Telling) -> Markup:
-    parts = []
-    for name, count in it.answer.items():
-        key = name if name in ("new", "again") else "refused"
-        parts.append(it.say(f"outcome.{key}", n=count, name=name))
+    outcomes = it.answer.get("outcomes", {})
+    # (of an import that was cut short only the numbers of its postings are known)
+    made = it.answer["last"] - it.answer["first"] + 1 if "last" in it.answer else 0
+    again = outcomes.get("again", 0)
+    counts = {"new": made, "again": again, "refused": sum(outcomes.values()) - outcomes.get("new", 0) - again}
+    parts = [it.say(f"outcome.{name}", n=count) for name, count in counts.items() if count]
     rows = it.say("rows", n=it.request.get("rows", 0))
-    return it.say("import", file=it.request.get("file", ""), outcomes=Markup(", ").join(parts) if parts else rows)
+    return it.say("import", file=it.request.get("name", ""), outcomes=Markup(", ").join(parts) if parts else rows)
 
 
 WRITERS: dict[str, Callable[[Telling], Markup]] = {

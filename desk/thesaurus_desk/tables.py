@@ -2,18 +2,32 @@
 from __future__ import annotations
 
 import tempfile
+from collections.abc import Callable
 from dataclasses import dataclass, field
 from pathlib import Path
 
+from thesaurus_desk.entry.roles import OF_HEADS
 from thesaurus_desk.mirror import Mirror
 from thesaurus_desk.mirror.as_store import MirrorStore
-from thesaurus_desk.named import NamedRun
-from thesaurus_desk.performing import Desk
+from thesaurus_desk.named import LONGEST_PLAN, NamedRun
+from thesaurus_desk.performing import Desk, Outcome
+from thesaurus_desk.words import Words
+from thesaurus_tools.command_line import ToolError
+from thesaurus_tools.finding import RowError
 from thesaurus_tools.headings import Column, find_columns, read_choices
 from thesaurus_tools.row_running import RowPlan
-from thesaurus_tools.sentences import reason_of, sentence_of
 from thesaurus_tools.spreadsheets import Row, read_table
 from thesaurus_tools.table_plans import TableOptions, plan_table
+
+
+@dataclass(frozen=True)
+class Bringer:
+    """Who brings a table in: whether merges and ends are allowed, and how refusals are put into words."""
+
+    name: str
+    is_head: bool
+    words: Words
+    tell: Callable[[Outcome], str]
 
 
 @dataclass
@@ -25,47 +39,71 @@ class TableRun:
     columns: list[Column]
     rows: list[Row]
     options: TableOptions
-    plans: list[RowPlan]
-    # What each row does, as sentences, by its line.
-    sentences: dict[int, list[str]] = field(default_factory=dict)
+    plans: list[RowPlan] = field(default_factory=list)
     is_done: bool = False
 
+    @property
+    def made(self) -> dict[str, str]:
+        """The terms and addresses of what rows make, by the references to it."""
+        requests = [it for plan in self.plans for it in plan.requests if "as" in it]
+        return {f"${it['as']}": it.get("text") or it.get("iri", "") for it in requests}
 
-def show_table(mirror: Mirror, name: str, data: bytes, columns: str, options: TableOptions) -> TableRun:
-    """Returns what a table would do. Raises ToolError for what is no table, with its line."""
+
+def read_sent_table(name: str, data: bytes, columns: str, options: TableOptions) -> TableRun:
+    """Returns a table, before its rows are looked at. Raises ToolError for what is no table, with its line."""
     with tempfile.TemporaryDirectory() as folder:
         path = Path(folder, "table" + (Path(name).suffix.lower() if Path(name).suffix.isascii() else ""))
         path.write_bytes(data)
-        heading, *rows = read_table(path)
+        try:
+            heading, *rows = read_table(path)
+        except ToolError as error:
+            raise ToolError(str(error).replace(str(path), name), error.status) from None
     found = find_columns(heading.cells, options.lang, read_choices(columns) if "=" in columns else {})
-    run = TableRun(name, heading.cells, found, rows, options, [])
-    plan(run, mirror)
-    return run
+    return TableRun(name, heading.cells, found, rows, options)
 
 
-def plan(run: TableRun, mirror: Mirror) -> None:
-    """Notes what the rows ask for, by the store as it is now."""
-    draft, run.plans = plan_table(MirrorStore(mirror), run.columns, run.rows, run.options)
-    run.sentences = {it.line: [sentence_of(one, draft.term) for one in it.requests] for it in run.plans}
+def plan_rows(run: TableRun, mirror: Mirror, bringer: Bringer) -> None:
+    """Notes what the rows ask for, by the store as it is now, and why some can't be done."""
+    _, plans = plan_table(MirrorStore(mirror), run.columns, run.rows, run.options)
+    run.plans = [it._replace(reason=reason_of(it, bringer)) for it in plans]
 
 
-def run_table(desk: Desk, user: str, run: TableRun) -> TableRun:
-    """Performs the rows of a table, each as one plan, and notes why rows were refused; the others are done."""
-    plan(run, desk.mirror)
-    names = NamedRun(desk, user, "table")
+def reason_of(row: RowPlan, bringer: Bringer) -> str:
+    """Returns why a row can't be done, or nothing."""
+    if row.error:
+        return reason_in_words(row.error, bringer.words)
+    if not bringer.is_head and any(it["do"] in OF_HEADS for it in row.requests):
+        return bringer.words("bring_in.of_heads")
+    if len(row.requests) > LONGEST_PLAN:
+        return bringer.words("bring_in.long_row", n=len(row.requests), more=LONGEST_PLAN)
+    return ""
+
+
+def reason_in_words(error: RowError, words: Words) -> str:
+    """Returns what is wrong with a row in the reader's language."""
+    kinds = {name: words(f"kinds.resource.{it}") for name, it in error.values.items() if name in ("kind", "found")}
+    return words(f"rows.{error.key}", **{**error.values, **kinds})
+
+
+def run_table(desk: Desk, run: TableRun, bringer: Bringer) -> None:
+    """Performs the rows of a table, each as one plan, and notes why rows were refused; the others are done.
+
+    A row that would do something else than was shown, since the store has changed, isn't done."""
+    shown = {it.line: it.requests for it in run.plans}
+    plan_rows(run, desk.mirror, bringer)
+    names = NamedRun(desk, bringer.name, "table")
     for place, it in enumerate(run.plans):
         if it.requests and not it.reason:
-            run.plans[place] = it._replace(reason=perform_row(names, it))
+            is_as_shown = it.requests == shown[it.line]
+            reason = perform_row(names, it, bringer) if is_as_shown else bringer.words("bring_in.changed")
+            run.plans[place] = it._replace(reason=reason)
     run.is_done = True
-    return run
 
 
-def perform_row(names: NamedRun, row: RowPlan) -> str:
+def perform_row(names: NamedRun, row: RowPlan, bringer: Bringer) -> str:
     """Performs a row. Returns why it was refused, or nothing."""
     try:
         outcome = names.perform(row.requests)
-    except KeyError as error:
-        return f"it needs {error.args[0]}, which was refused"
-    if outcome.is_done:
-        return ""
-    return reason_of(outcome.answer) if outcome.answer else outcome.state
+    except KeyError:
+        return bringer.words("bring_in.needs")
+    return "" if outcome.is_done else bringer.tell(outcome)

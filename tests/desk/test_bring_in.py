@@ -42,6 +42,7 @@ def test_a_posting_file(site: Site, anna: Client) -> None:
     rows = list(csv.DictReader(io.StringIO(anna.get(found[0]).text.removeprefix("\ufeff"))))
     assert [(it["key"], it["reason"]) for it in rows] == [("n2", "UnknownResource"), ("n3", "BadRecord")]
     assert site.client("ben").get(found[0]).status_code == 404  # (it is another's)
+    assert "posting file table.csv: 1 indexed, 2 refused" in text_of(anna.get("/changes"))
     again = send(anna, "/bring-in/postings", data)
     assert "1 was there before." in again.text
     assert "Violin 1700" in text_of(anna.get("/record?name=Violin 1700"))
@@ -70,7 +71,8 @@ def test_a_table_is_shown_and_then_performed(site: Site, anna: Client) -> None:
     harps = number(site, "Harps")
     data = f"number,term,pref@it,broader\n{harps},Harps,Arpe,\n{number(site, 'Violins')},Harps,x,\n".encode()
     page = send(anna, "/bring-in/table", data, kind="translations", tag="en")
-    assert "adds preferred term “Arpe” (it)" in text_of(page) and "1 row was refused." in page.text
+    assert "Harps : preferred term “ Arpe ” (it) added" in text_of(page).replace("  ", " "), text_of(page)
+    assert "1 row was refused." in page.text
     view = site.desk.mirror.view(harps)
     assert view and ("it", "Arpe") not in view.pref
     done = perform(anna, page, "/bring-in/table/perform")
@@ -95,9 +97,57 @@ def test_a_row_is_done_whole_or_not_at_all(site: Site, anna: Client) -> None:
     data = b"concept,alt@en,broader\nString instruments,String family,Violins\n"
     page = send(anna, "/bring-in/table", data)
     done = perform(anna, page, "/bring-in/table/perform")
-    assert "Cycle" in text_of(done)
+    assert "can’t be broader than" in text_of(done)
+    found = re.search(r"/bring-in/failed/[^\"]+\.csv", done.text)
+    assert found and "can’t be broader than" in anna.get(found[0]).text and "<a" not in anna.get(found[0]).text
     view = site.desk.mirror.view(number(site, "String instruments"))
     assert view and ("en", "String family") not in view.alt
+
+
+def test_an_editor_merges_by_no_table(site: Site) -> None:
+    ben, data, violins = site.client("ben"), b"concept,into\nViolins,Harps\n", number(site, "Violins")
+    page = send(ben, "/bring-in/table", data)
+    assert "Only a head merges" in text_of(page) and "/bring-in/table/perform" not in page.text
+    ends = b"concept,do,alt@en\nViolins,deprecate,\nHarps,change,Arched harps\n"
+    done = perform(ben, send(ben, "/bring-in/table", ends), "/bring-in/table/perform")
+    assert "1 row was done." in done.text and site.desk.mirror.is_live(violins)
+    anna = site.client("anna")
+    assert "1 row was done." in perform(anna, send(anna, "/bring-in/table", data), "/bring-in/table/perform").text
+    assert not site.desk.mirror.is_live(violins)
+
+
+def test_a_table_is_performed_once(site: Site, anna: Client) -> None:
+    page = send(anna, "/bring-in/table", b"Term,BT\nVihuelas,String instruments\n", kind="new", tag="en")
+    before = len(site.desk.mirror.resources)
+    for expected in (200, 409):
+        done = perform(anna, page, "/bring-in/table/perform")
+        assert done.status_code == expected
+    assert "it was brought in already" in text_of(done) and len(site.desk.mirror.resources) == before + 1
+
+
+def test_a_row_that_would_do_something_else_by_now(site: Site, anna: Client) -> None:
+    harps = number(site, "Harps")
+    page = send(anna, "/bring-in/table", f"concept,new\n{harps},Arched harps\n{harps + 1},X\n".encode(), tag="en")
+    label = {"do": "addLabel", "owner": harps, "kind": "alt", "tag": "en", "text": "Arched harps"}
+    assert site.desk.perform("ben", "add_term", [label]).is_done
+    done = perform(anna, page, "/bring-in/table/perform")
+    assert "The store has changed since this row was shown" in text_of(done) and "1 row was done." in done.text
+    view = site.desk.mirror.view(harps)
+    assert view and ("en", "Harps") in view.pref
+
+
+def test_a_row_of_more_changes_than_a_plan_has(site: Site, anna: Client) -> None:
+    many = "|".join(f"Harp {it}" for it in range(129))
+    page = send(anna, "/bring-in/table", f"concept,alt@en\nHarps,{many}\n".encode())
+    assert page.status_code == 200 and "asks for 129 changes" in text_of(page)
+
+
+def test_a_table_in_the_readers_language(site: Site, anna: Client) -> None:
+    anna.http.set_cookie("localhost", "pages", "de")
+    page = text_of(send(anna, "/bring-in/table", b"concept,alt@en\nHarps,Arched harps\nNone,x\n"))
+    assert "hinzugefügt" in page and "Nichts von dieser Art (Begriff) heißt „None“" in page
+    refused = text_of(send(anna, "/bring-in/table", b"concept,alt@en\nHarps,a,b\n", "liste.csv"))
+    assert "liste.csv:2: more values than columns" in refused and "/tmp" not in refused
 
 
 @pytest.mark.parametrize(

@@ -52,6 +52,9 @@ class PlainLinks:
     def link(self, number: int) -> Markup:
         return Markup('<a href="/c/{}">{}</a>').format(number, self.term(number))
 
+    def new(self, reference: str) -> Markup:
+        return Markup()
+
 
 @pytest.fixture(scope="module")
 def mirror() -> Mirror:
@@ -168,7 +171,7 @@ def test_each_request_is_a_sentence(mirror: Mirror, language: str) -> None:
         ({"do": "relabel", "owner": 3, "tag": "en", "text": "x", "keep": True}, {"done": True}),
         ({"do": "dropLabel", "owner": 3, "kind": "alt", "tag": "en", "text": "x"}, {"done": True}),
         ({"do": "unlink", "kind": "member", "a": 8, "b": 3}, {"done": True}),
-        ({"do": "import", "file": "x.csv", "rows": 3}, {"new": 2, "KeyReused": 1}),
+        ({"do": "import", "name": "x.csv", "rows": 3}, {"outcomes": {"new": 2, "KeyReused": 1}, "first": 1, "last": 2}),
     ]
     seen = set()
     for request, answer in REQUESTS + extra:
@@ -191,6 +194,11 @@ def test_sentences_name_what_was_done(mirror: Mirror) -> None:
     )
     split = {"do": "split", "source": 3, "tag": "en", "text": "Nordic", "postings": [1]}
     assert said(split, {"ok": 77, "moved": 2}).endswith("and 2 records given to the new concept “Nordic” (en)")
+    brought = {"do": "import", "name": "x.csv", "sha256": "0", "rows": 4}
+    came = {"outcomes": {"new": 1, "KeyReused": 1, "BadKey": 2}, "first": 7, "last": 7}
+    assert said(brought, came) == "posting file x.csv: 1 indexed, 3 refused"
+    assert said(brought, {"outcomes": {}}) == "posting file x.csv: 4 rows"
+    assert said(brought, {"outcomes": {}, "first": 7, "last": 9}) == "posting file x.csv: 3 indexed"
     reference = {"do": "link", "kind": "broader", "a": "$1", "b": 3}
     assert said(reference, {"done": True}) == "the new concept: broader term Violins added"
 

@@ -6,12 +6,17 @@ import re
 from thesaurus_tools.command_line import ToolError
 from thesaurus_tools.drafts import Draft, Reference
 from thesaurus_tools.link_rules import IRI_FORM
+from thesaurus_tools.sentences import ROWS
 
 SHOWN = 6
 
 
 class RowError(ToolError):
-    """Why a row of a table can't be done."""
+    """Why a row of a table can't be done: the key of its text in ROWS, by which others translate it, and its values."""
+
+    def __init__(self, key: str, **values: object):
+        super().__init__(ROWS[key].format(**values))
+        self.key, self.values = key, values
 
 
 class ConceptFinder:
@@ -37,11 +42,13 @@ class ConceptFinder:
         """Returns a number whose resource is live and of the kind. Raises RowError for another one."""
         found = self.draft.store.resources[number]
         if found.kind != kind:
-            raise RowError(f"{number} is a {found.kind}, and no {kind}")
+            raise RowError("wrong_kind", number=number, found=found.kind, kind=kind)
         if not self.draft.is_live(number):
             end = self.draft.store.live_end(number)
-            use = f": use {end} ({self.draft.term(end)})" if end and self.draft.is_live(end) else ""
-            raise RowError(f"{number} ({self.draft.term(number)}) is no longer in use{use}")
+            dead = {"number": number, "term": self.draft.term(number)}
+            if end and self.draft.is_live(end):
+                raise RowError("merged", **dead, end=end, its_term=self.draft.term(end))
+            raise RowError("ended", **dead)
         return number
 
     def find_text(self, text: str, kind: str, scheme: int | None) -> Reference:
@@ -53,12 +60,10 @@ class ConceptFinder:
             if len(found) == 1:
                 return found.pop()
             if found:
-                raise RowError(f"several have “{text}”: {self.candidates(found)}; write the number of the one you mean")
+                raise RowError("several_have", text=text, concepts=self.candidates(found))
         if holders:
-            raise RowError(
-                f"“{text}” is a term of what is no longer in use: {self.candidates({it[0] for it in holders})}"
-            )
-        raise RowError(f"no {kind} is called “{text}”")
+            raise RowError("term_of_ended", text=text, concepts=self.candidates({it[0] for it in holders}))
+        raise RowError("not_called", kind=kind, text=text)
 
     def is_of(self, owner: Reference, kind: str, scheme: int | None) -> bool:
         """Whether a resource is of a kind, and in a scheme if one is given."""
@@ -70,4 +75,4 @@ class ConceptFinder:
         """Returns the numbers and terms of some concepts."""
         listed = sorted(found, key=str)
         names = ", ".join(f"{it} ({self.draft.term(it)})" for it in listed[:SHOWN])
-        return names + (f" and {len(listed) - SHOWN} more" if len(listed) > SHOWN else "")
+        return names + (", …" if len(listed) > SHOWN else "")

@@ -76,7 +76,7 @@ class RowReader:
         """Returns the one value of a role, or nothing."""
         found = [text for _, text in self.values(role, cells)]
         if len(found) > 1:
-            raise RowError(f"several values for {role}: {', '.join(found)}")
+            raise RowError("several_values", role=role, values=", ".join(found))
         return found[0] if found else ""
 
     def concept(self, cells: list[str]) -> Reference:
@@ -87,7 +87,7 @@ class RowReader:
         preferred = [text for column, text in self.values("pref", cells) if column.tag == self.given.lang]
         if preferred and self.deed != "rename":
             return self.finder.find(preferred[0])
-        raise RowError("the row names no concept")
+        raise RowError("no_concept")
 
     # --- terms and notes ---
 
@@ -96,11 +96,11 @@ class RowReader:
         preferred = preferred or [(self.given.lang, self.value("new", cells))]
         tag, text = next((it for it in preferred if it[0] == self.given.lang), preferred[0])
         if not text:
-            raise RowError("the row has no preferred term")
+            raise RowError("no_preferred")
         holders = [owner for owner, kind, its in self.draft.by_text.get(text, ()) if (kind, its) == ("pref", tag)]
         there = [it for it in holders if self.draft.is_live(it) and self.draft.scheme_of(it) == self.given.scheme]
         if there:
-            raise RowError(f"“{text}” is there already: {self.finder.candidates(set(there))}")
+            raise RowError("there", text=text, concepts=self.finder.candidates(set(there)))
         yield {"as": name, "do": "concept", "scheme": self.given.scheme, "tag": tag, "text": text}
         yield from self.add_labels(f"${name}", cells)
         yield from self.add_links(f"${name}", cells)
@@ -127,9 +127,7 @@ class RowReader:
     def check_term(self, owner: Reference, text: str) -> None:
         """Checks that a term without a language is one of the concept's: a row may be about another one."""
         if not any(text == it for _, _, it in self.draft.labels_of(owner)) and text != f"[{owner}]":
-            raise RowError(
-                f"{owner} is {self.draft.term(owner)}, and not “{text}”: --lang says whether this is its new term"
-            )
+            raise RowError("other_term", number=owner, term=self.draft.term(owner), text=text)
 
     def set_preferred(self, owner: Reference, tag: str, text: str) -> Iterator[dict]:
         """Yields the requests that make a term the preferred one of its language, also if it is an alternative one."""
@@ -137,7 +135,7 @@ class RowReader:
         if old == text:
             return
         if old and self.deed == "translate":
-            raise RowError(f"{self.draft.term(owner)} has “{old}” in {tag}: --renames changes it to “{text}”")
+            raise RowError("has_preferred", term=self.draft.term(owner), old=old, tag=tag, text=text)
         for kind in ("alt", "hidden"):
             if (kind, tag, text) in self.draft.labels_of(owner):
                 yield {"do": "dropLabel", "owner": owner, "kind": kind, "tag": tag, "text": text}
@@ -151,7 +149,7 @@ class RowReader:
         if text:
             tag = self.value("lang", cells).lower() or self.given.lang
             if not self.draft.texts(concept, "pref", tag):
-                raise RowError(f"{self.draft.term(concept)} has no preferred term in {tag or 'a language: --lang TAG'}")
+                raise RowError("lacks_preferred" if tag else "no_language", term=self.draft.term(concept), tag=tag)
             yield from self.set_preferred(concept, tag, text)
         yield from self.add_labels(concept, cells)
 
@@ -215,7 +213,7 @@ class RowReader:
             source = self.concept(cells)
             target = self.finder.find(into, "concept", self.draft.scheme_of(source))
             if source == target:
-                raise RowError(f"{self.draft.term(source)} can't be merged into itself")
+                raise RowError("into_itself", term=self.draft.term(source))
             yield {"do": "merge", "source": source, "target": target}
 
     def deprecate(self, name: str, cells: list[str]) -> Iterator[dict]:
@@ -226,11 +224,11 @@ class RowReader:
     def post(self, name: str, cells: list[str]) -> Iterator[dict]:
         record, key = self.value("record", cells), self.value("key", cells)
         if not record:
-            raise RowError("the row names no record")
+            raise RowError("no_record")
         into = self.value("into", cells)
         named = [(role, text) for role in ("concept", "iri", "code", "pref") for _, text in self.values(role, cells)]
         if not into and not named:
-            raise RowError("the row names no concept")
+            raise RowError("no_concept")
         concept = self.finder.find(into or named[0][1])
         made = key or hashlib.sha256(f"{record}\0{into or named[0][1]}".encode()).hexdigest()[:32]
         yield {"do": "post", "key": made, "record": record, "concept": concept}
@@ -243,5 +241,5 @@ class RowReader:
             if it.record == record and it.place == concept and not it.is_withdrawn
         ]
         if not there:
-            raise RowError(f"“{record}” isn't indexed with {self.draft.term(concept)}")
+            raise RowError("not_indexed", record=record, term=self.draft.term(concept))
         yield from ({"do": "withdraw", "posting": it.number} for it in there)

@@ -4,6 +4,7 @@ from __future__ import annotations
 from collections.abc import Iterator
 from typing import NamedTuple
 
+from thesaurus_tools.finding import RowError
 from thesaurus_tools.program import Performer
 from thesaurus_tools.sentences import reason_of
 
@@ -12,12 +13,14 @@ ACCEPTED = ("ok", "done", "moved", "again")
 
 
 class RowPlan(NamedTuple):
-    """A row of the table, with the requests that it asks for, or why it can't be read."""
+    """A row of the table, with the requests that it asks for, or why it can't be done."""
 
     line: int
     cells: list[str]
     requests: list[dict]
     reason: str = ""
+    # What the reason says, if the row itself is at fault.
+    error: RowError | None = None
 
 
 class RowRunner:

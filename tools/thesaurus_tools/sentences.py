@@ -44,6 +44,28 @@ REASONS = {
     "BadShape": "a member is missing, is one too many, or has another type",
 }
 
+# Why a row of a table can't be done. The desk has the same in its languages.
+ROWS = {
+    "no_deed": "nothing is called {cell}: new, change, translate, rename, move, merge, deprecate, post, withdraw",
+    "no_concept": "the row names no concept",
+    "no_record": "the row names no record",
+    "no_preferred": "the row has no preferred term",
+    "several_values": "several values for {role}: {values}",
+    "there": "“{text}” is there already: {concepts}",
+    "other_term": "{number} is {term}, and not “{text}”: --lang says whether this is its new term",
+    "has_preferred": "{term} has “{old}” in {tag}: --renames changes it to “{text}”",
+    "lacks_preferred": "{term} has no preferred term in {tag}",
+    "no_language": "{term} has no preferred term in a language: --lang TAG",
+    "into_itself": "{term} can't be merged into itself",
+    "not_indexed": "“{record}” isn't indexed with {term}",
+    "wrong_kind": "{number} is a {found}, and no {kind}",
+    "ended": "{number} ({term}) is no longer in use",
+    "merged": "{number} ({term}) is no longer in use: use {end} ({its_term})",
+    "several_have": "several have “{text}”: {concepts}; write the number of the one you mean",
+    "term_of_ended": "“{text}” is a term of what is no longer in use: {concepts}",
+    "not_called": "no {kind} is called “{text}”",
+}
+
 
 def reason_of(answer: dict) -> str:
     """Returns why an answer isn't what was wanted."""

@@ -50,9 +50,7 @@ def deed_of(columns: list[Column], cells: list[str], options: TableOptions) -> s
     for column, cell in zip(columns, cells):
         if column.role == "do" and cell:
             if fold_heading(cell) not in BY_DEED and cell != "-":
-                raise RowError(
-                    f"nothing is called {cell}: new, change, translate, rename, move, merge, deprecate, post, withdraw"
-                )
+                raise RowError("no_deed", cell=cell)
             return BY_DEED.get(fold_heading(cell), "")
     roles = {it.role for it in columns}
     if options.kind or "do" in roles:
@@ -78,5 +76,5 @@ def read_rows(reader: RowReader, rows: list[Row], options: TableOptions) -> list
                 raise ToolError("new concepts need --scheme N and --lang TAG", USAGE)
             plans.append(RowPlan(row.line, row.cells, reader.read(f"row {row.line}", deed, row.cells)))
         except RowError as error:
-            plans.append(RowPlan(row.line, row.cells, [], str(error)))
+            plans.append(RowPlan(row.line, row.cells, [], str(error), error))
     return plans

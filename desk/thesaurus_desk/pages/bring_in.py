@@ -1,21 +1,21 @@
 """Bringing in: posting files, tables of changes with a preview, and whole vocabularies in SKOS."""
 from __future__ import annotations
 
-import secrets
-from collections import OrderedDict
-from dataclasses import dataclass
-from typing import Any
+from typing import Any, cast
 
 from flask import Blueprint, Response, abort, current_app, render_template, request
+from markupsafe import Markup
 
 from thesaurus_desk.bringing import MOST_BYTES, Brought, Row
 from thesaurus_desk.context import go, person, say, tags, the_desk, the_mirror, words
 from thesaurus_desk.entry.guard import role
 from thesaurus_desk.forms import FormState, Problem
 from thesaurus_desk.journal.history import to_csv
-from thesaurus_desk.pages.telling import LINKS
+from thesaurus_desk.pages.telling import LINKS, PageLinks, tell_outcome
 from thesaurus_desk.refusals import explain, explain_state
-from thesaurus_desk.tables import TableRun, run_table, show_table
+from thesaurus_desk.sentences import sentence_of
+from thesaurus_desk.shelf import Shelf
+from thesaurus_desk.tables import Bringer, TableRun, plan_rows, read_sent_table, run_table
 from thesaurus_desk.vocabularies import SkosOptions, SkosRun, perform_script, read_skos
 from thesaurus_tools.command_line import ToolError
 from thesaurus_tools.table_plans import KINDS, TableOptions
@@ -23,39 +23,18 @@ from thesaurus_tools.table_plans import KINDS, TableOptions
 pages = Blueprint("bring_in", __name__)
 # A form with a file: the file, and some room for the rest.
 LARGEST = MOST_BYTES + (1 << 16)
-# How many previews and lists of refused rows are kept, and how many rows a page shows.
-MOST_KEPT, SHOWN = 20, 500
+# How many rows a page shows.
+SHOWN = 500
 
 
-@dataclass
-class Kept:
-    """What a user has sent and looks at before it is performed, or what was refused of it."""
-
-    user: str
-    what: Any
-
-
-def the_kept() -> OrderedDict[str, Kept]:
+def the_shelf() -> Shelf:
     """Returns what is kept for users until they go on."""
-    found: OrderedDict[str, Kept] = current_app.extensions.setdefault("brought", OrderedDict())
-    return found
+    return cast(Shelf, current_app.extensions["shelf"])
 
 
-def keep(what: Any) -> str:
+def keep(what: object) -> str:
     """Keeps something for the reader, and returns its name."""
-    name = secrets.token_urlsafe(12)
-    the_kept()[name] = Kept(person().name, what)
-    while len(the_kept()) > MOST_KEPT:
-        the_kept().popitem(last=False)
-    return name
-
-
-def kept(name: str, kind: type) -> Any:
-    """Returns what was kept for the reader under a name."""
-    found = the_kept().get(name)
-    if found is None or found.user != person().name or not isinstance(found.what, kind):
-        abort(404)
-    return found.what
+    return the_shelf().keep(person().name, what)
 
 
 def file_of_form() -> tuple[str, bytes]:
@@ -121,14 +100,21 @@ def why_refused(row: Row) -> Any:
 @role("indexer")
 def failed_rows(name: str) -> Response:
     """Returns the rows that were refused as a table again, with a column of reasons."""
-    what = kept(name, (Brought, TableRun))  # type: ignore[arg-type]
+    what: Brought | TableRun | None = the_shelf().find(person().name, name, (Brought, TableRun))
+    if what is None:
+        abort(404)
     if isinstance(what, Brought):
         lines = [("key", "record", "concept", "reason"), *((*it.cells, it.outcome) for it in what.failed)]
     else:
-        lines = [(*what.heading, "reason"), *((*it.cells, it.reason) for it in what.plans if it.reason)]
+        lines = [(*what.heading, "reason"), *((*it.cells, plain(it.reason)) for it in what.plans if it.reason)]
     text = "".join(to_csv(tuple(it)) for it in lines)
     headers = {"Content-Disposition": 'attachment; filename="refused.csv"'}
     return Response("\ufeff" + text, content_type="text/csv; charset=utf-8", headers=headers)
+
+
+def plain(reason: str) -> str:
+    """Returns a reason without the links in it."""
+    return reason.striptags() if isinstance(reason, Markup) else reason
 
 
 # --- tables ---
@@ -139,25 +125,44 @@ def failed_rows(name: str) -> Response:
 def preview_table() -> Any:
     """Shows row by row what a table would do."""
     name, data = file_of_form()
+    if not the_mirror().numbers("scheme"):
+        return refused("table", say("bring_in.no_scheme"))
     scheme = request.form.get("scheme", "")
     kind = request.form.get("kind", "")
     options = TableOptions(KINDS[kind][0] if kind in KINDS else "", request.form.get("tag", "").strip().lower())
     options.scheme = int(scheme) if scheme.isascii() and scheme.isdigit() and len(scheme) < 11 else None
     options.forget = "forget" in request.form
     try:
-        run = show_table(the_mirror(), name, data, request.form.get("columns", ""), options)
+        run = read_sent_table(name, data, request.form.get("columns", ""), options)
+        plan_rows(run, the_mirror(), the_bringer())
     except ToolError as error:
         return refused("table", str(error))
     return table_page(run, keep(run), 200)
 
 
+def the_bringer() -> Bringer:
+    """Returns the reader as one who brings a table in."""
+    return Bringer(person().name, person().may("head"), words(), tell_outcome)
+
+
 def table_page(run: TableRun, name: str, status: int) -> Any:
     """Returns the preview of a table, or what came of it."""
-    changing = sum(bool(it.requests) and not it.reason for it in run.plans)
+    links = PageLinks(run.made)
     shown = [it for it in run.plans if it.reason or it.requests][:SHOWN]
-    failed = sum(bool(it.reason) for it in run.plans)
+    lines = {
+        it.line: [sentence_of(one, None, the_mirror(), words(), links) for one in it.requests]
+        for it in shown
+        if not it.reason
+    }
     page = render_template(
-        "bring_in/table.html", run=run, rows=shown, changing=changing, failed=failed, name=name, count=len(run.plans)
+        "bring_in/table.html",
+        run=run,
+        rows=shown,
+        lines=lines,
+        changing=sum(bool(it.requests) and not it.reason for it in run.plans),
+        failed=sum(bool(it.reason) for it in run.plans),
+        name=name,
+        count=len(run.plans),
     )
     return page, status
 
@@ -165,10 +170,11 @@ def table_page(run: TableRun, name: str, status: int) -> Any:
 @pages.post("/bring-in/table/perform")
 @role("editor")
 def perform_table() -> Any:
-    """Performs a table that was looked at: each row is done whole or not at all."""
-    name = request.form.get("name", "")
-    run = run_table(the_desk(), person().name, kept(name, TableRun))
-    del the_kept()[name]
+    """Performs a table that was looked at, once: each row is done whole or not at all."""
+    run = the_shelf().take(person().name, request.form.get("name", ""), TableRun)
+    if run is None:
+        return refused("table", say("bring_in.not_kept"), "")
+    run_table(the_desk(), run, the_bringer())
     return table_page(run, keep(run), 200)
 
 
@@ -197,11 +203,11 @@ def preview_skos() -> Any:
 @pages.post("/bring-in/skos/perform")
 @role("head")
 def perform_skos() -> Any:
-    """Brings in a vocabulary that was looked at."""
-    name = request.form.get("name", "")
-    run: SkosRun = kept(name, SkosRun)
+    """Brings in a vocabulary that was looked at, once."""
+    run = the_shelf().take(person().name, request.form.get("name", ""), SkosRun)
+    if run is None:
+        return refused("skos", say("bring_in.not_kept"), "")
     outcome = perform_script(the_desk(), person().name, run)
-    del the_kept()[name]
     if outcome.is_done and run.scheme:
         return go(f"/c/{run.scheme}", outcome.plan)
     run.is_cut = True

@@ -10,6 +10,7 @@ from markupsafe import Markup
 
 from thesaurus_desk.context import go, person, say, the_desk, the_mirror, words
 from thesaurus_desk.entry.guard import role
+from thesaurus_desk.entry.roles import OF_HEADS
 from thesaurus_desk.forms import FormState, Problem
 from thesaurus_desk.journal import Plan
 from thesaurus_desk.journal.takeback import Remark, TakeBack
@@ -19,8 +20,6 @@ from thesaurus_desk.sentences import sentence_of
 pages = Blueprint("changes", __name__)
 PAGE = 50
 TIME = re.compile(r"\d{4}(-\d\d){0,2}")
-# What only a head may do, so that only a head takes it back.
-OF_HEADS = {"merge", "split", "deprecate"}
 FORM = "back"
 
 
@@ -79,7 +78,7 @@ def changed_since() -> Any:
 
 
 def may_take_back(plan: Plan) -> bool:
-    """Whether the reader may ask for a plan to be taken back."""
+    """Whether the reader may ask for a plan to be taken back: what only a head may do, only a head takes back."""
     is_whole = plan.state == "done" and plan.steps and not plan.taken_back_by
     lowest = "head" if any(it.request["do"] in OF_HEADS for it in plan.steps) else "editor"
     return bool(is_whole) and person().may(lowest)

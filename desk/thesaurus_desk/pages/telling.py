@@ -1,8 +1,8 @@
 """Puts plans of the journal, refusals and differences into the reader's words."""
 from __future__ import annotations
 
-from collections.abc import Iterable
-from dataclasses import dataclass
+from collections.abc import Iterable, Mapping
+from dataclasses import dataclass, field
 from typing import Any
 
 from markupsafe import Markup, escape
@@ -20,14 +20,21 @@ from thesaurus_desk.sentences import sentence_of
 MOST_STEPS = 6
 
 
+@dataclass(frozen=True)
 class PageLinks:
-    """Terms and links as the reader's pages have them."""
+    """Terms and links as the reader's pages have them. `made`: the terms of what isn't there yet, by references."""
+
+    made: Mapping[str, str] = field(default_factory=dict)
 
     def term(self, number: int) -> str:
         return context.term(number)
 
     def link(self, number: int) -> Markup:
         return context.link(number)
+
+    def new(self, reference: str) -> Markup:
+        """Returns the term of what a reference stands for; nothing if it isn't known."""
+        return Markup('<span dir="auto">{}</span>').format(self.made[reference]) if reference in self.made else Markup()
 
 
 LINKS = PageLinks()

@@ -22,6 +22,9 @@ class Links(Protocol):
     def link(self, number: int) -> Markup:
         """Returns a link to the page of a resource, with its term."""
 
+    def new(self, reference: str) -> Markup:
+        """Returns the term of what a reference stands for; nothing if it isn't known."""
+
 
 @dataclass(frozen=True)
 class Case:
