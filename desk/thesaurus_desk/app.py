@@ -42,7 +42,7 @@ NAVIGATION = (
     ("/new", "shell.new", "editor"),
     ("/users", "shell.users", "head"),
 )
-KNOWN_ERRORS = (400, 404, 405, 413, 415, 429)
+KNOWN_ERRORS = (400, 403, 404, 405, 413, 415, 429)
 LOG = logging.getLogger("thesaurus_desk")
 
 

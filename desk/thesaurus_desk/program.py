@@ -52,6 +52,8 @@ class Program:
 
     def __init__(self, program: str, db: Path, base: str | None = None, options: tuple[str, ...] = ()) -> None:
         self.words = [program, "--db", str(db), *(["--base", base] if base else []), *options]
+        # Those that raise limits.
+        self.options = options
         self.lock = threading.RLock()
         self.port = 0
         # Whether it takes several requests as one: found out at the first start.

@@ -88,13 +88,16 @@ def run_tool(tool: str, *words: str) -> subprocess.CompletedProcess[str]:
 def try_on_copy(desk: Desk, folder: Path, script: Path) -> list[str]:
     """Returns what a copy of the store refuses of a script."""
     copy = folder / "copy.db"
-    with desk.lock:
+    with desk.alone() as is_free:
+        if not is_free:
+            raise ToolError("something long is under way, such as an import: try again in a minute", REFUSED)
         for end in ("", "-wal"):
             if Path(f"{desk.db}{end}").exists():
                 shutil.copyfile(f"{desk.db}{end}", f"{copy}{end}")
-    words = ["--db", str(copy), "--program", desk.program.words[0], "--keep-going", str(script)]
+    words = ["--db", str(copy), "--program", desk.program.words[0], *desk.program.options, "--keep-going", str(script)]
     ran = run_tool("load", *words)
-    return [it for it in ran.stderr.splitlines() if it.startswith(str(script)) or "refused" in it][:SHOWN]
+    lines = [it for it in ran.stderr.splitlines() if it.startswith(str(script)) or "refused" in it]
+    return [it.replace(str(script), script.name) for it in lines[:SHOWN]]
 
 
 def perform_script(desk: Desk, user: str, run: SkosRun) -> Outcome:

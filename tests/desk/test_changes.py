@@ -5,10 +5,15 @@ import csv
 import io
 import json
 import re
+import time
+from concurrent.futures import ThreadPoolExecutor
+from typing import Any
 
 import pytest
 from clients import Client, Site, text_of
-from thesaurus_desk.journal.entries import Request
+from thesaurus_desk.journal.entries import Draft, Request
+from thesaurus_desk.journal.settling import BY_OTHERS, Found
+from thesaurus_desk.journal.takeback import TakeBack
 
 
 def number(site: Site, text: str) -> int:
@@ -81,7 +86,9 @@ def test_taking_a_term_back(site: Site, anna: Client) -> None:
     assert view and ("en", "Fine violins") not in view.alt
     assert "Taken back" in text_of(anna.get("/changes")) or "taken back" in text_of(anna.get("/changes"))
     again = anna.post(f"/changes/{plan}/back", {"form": "back"})
-    assert again.status_code == 403  # (it was taken back already)
+    # (it was taken back already: nothing more is done)
+    assert again.headers["Location"] == answer.headers["Location"].replace(f"/c/{number(site, 'Violins')}", "/changes")
+    assert len(site.desk.history.recent()) == 2
 
 
 def test_taking_a_merge_back(site: Site, anna: Client) -> None:
@@ -107,6 +114,28 @@ def test_a_merge_is_taken_back_by_a_head(site: Site) -> None:
     assert ben.post(f"/changes/{plan}/back", {"form": "back"}).status_code == 403
 
 
+def test_taking_back_twice_at_once(site: Site, anna: Client, monkeypatch: pytest.MonkeyPatch) -> None:
+    """A record that was withdrawn is indexed again once, however fast the button is pressed."""
+    violins = number(site, "Violins")
+    post = {"do": "post", "key": "v-1", "record": "Violin 1700", "concept": violins}
+    perform(site, post)
+    posting = site.desk.mirror.postings.by_key["v-1"]
+    plan = perform(site, {"do": "withdraw", "posting": posting})
+    look = site.desk.take_back
+
+    def look_slowly(*given: Any) -> TakeBack:
+        time.sleep(0.3)
+        return look(*given)
+
+    monkeypatch.setattr(site.desk, "take_back", look_slowly)
+    with ThreadPoolExecutor(2) as pool:
+        both = [pool.submit(client.post, f"/changes/{plan}/back") for client in (anna, site.client("anna"))]
+        places = {it.result().headers["Location"] for it in both}
+    assert len(places) == 1
+    found = site.desk.mirror.postings.of_record("Violin 1700")
+    assert [it.is_withdrawn for it in found] == [True, False]
+
+
 def test_taking_back_what_others_changed_since(site: Site, anna: Client) -> None:
     plan = perform(site, label(site, "Fine violins"))
     perform(site, label(site, "Old violins"), user="anna")
@@ -129,3 +158,28 @@ def test_a_refused_taking_back_says_why(site: Site, anna: Client) -> None:
     perform(site, {"do": "addLabel", "owner": violins, "kind": "hidden", "tag": "de", "text": "Violinen"})
     answer = anna.post(f"/changes/{plan}/back", {"form": "back"})
     assert answer.status_code == 409 and "Violinen" in text_of(answer)
+
+
+def test_a_change_by_another_program(site: Site, anna: Client) -> None:
+    """It is in the history of the concept, in the list of changes, and in the table."""
+    violins, journal = number(site, "Violins"), site.desk.journal
+    journal.finish(journal.begin(Draft("", BY_OTHERS, [])), "done", [], changed=[violins], note="restored from a backup")
+    for path in (f"/c/{violins}", "/changes", "/"):
+        page = text_of(anna.get(path))
+        assert "by other means" in page and "changed while the desk was down, by another program" in page, path
+        assert "The store was restored from a backup." in page
+    assert ",by other means,done," in anna.get("/changes.csv").text
+
+
+def test_a_restored_store_is_said(site: Site, anna: Client) -> None:
+    """Also if nobody knows from when the backup is."""
+    warning = "The store lacks changes that the journal has"
+    for restored, is_said in ((None, False), ("", True), ("2026-11-28T10:00:00.000Z", True)):
+        site.desk.found = Found((), (5,), restored)
+        assert (warning in text_of(anna.get("/"))) is is_said
+
+
+def test_what_is_another_persons(site: Site, anna: Client) -> None:
+    site.desk.proposals.comment("anna", 5, "Look at this.")
+    answer = site.client("ben").post("/c/5/comments/1/remove")
+    assert answer.status_code == 403 and "You may not do this" in answer.text

@@ -28,9 +28,9 @@ def failing(error: Exception) -> Callable[..., Any]:
     "error, status, title, german",
     [
         (NoAnswer("the line is cut"), 503, "The program doesn’t answer", "Das Programm antwortet nicht"),
-        (RuntimeError("secret inside"), 500, "The desk made a mistake", "Der Schreibtisch hat einen Fehler gemacht"),
-        (Fault("Store"), 500, "The desk made a mistake", "Der Schreibtisch hat einen Fehler gemacht"),
-        (ToolError("secret inside"), 500, "The desk made a mistake", "Der Schreibtisch hat einen Fehler gemacht"),
+        (RuntimeError("secret inside"), 500, "The desk made a mistake", "Der Arbeitsplatz hat einen Fehler gemacht"),
+        (Fault("Store"), 500, "The desk made a mistake", "Der Arbeitsplatz hat einen Fehler gemacht"),
+        (ToolError("secret inside"), 500, "The desk made a mistake", "Der Arbeitsplatz hat einen Fehler gemacht"),
     ],
 )
 def test_a_page_that_fails(

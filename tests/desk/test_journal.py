@@ -12,10 +12,11 @@ from pathlib import Path
 from typing import Any
 
 import pytest
-from thesaurus_desk.journal import Journal, journal_of
+from thesaurus_desk.journal import Draft, Journal, Step, journal_of
 from thesaurus_desk.journal.checking import check
 from thesaurus_desk.journal.tables import now
 from thesaurus_desk.mirror import read_mirror
+from thesaurus_desk.mirror.changes import apply
 from thesaurus_desk.performing import Desk
 from thesaurus_desk.program import free_port
 from thesaurus_tools.command_line import ToolError
@@ -59,6 +60,45 @@ def test_dates(desk: Desk) -> None:
     assert desk.history.dates(7).modified is None
     assert dict(desk.history.changed_since(later.modified)) == {number: later.modified, 4: later.modified}
     assert [it[0] for it in desk.history.changed_since("")] == [4, number]
+
+
+def test_all_that_was_changed_since(desk: Desk) -> None:
+    """However many resources were changed, none is left out, unless only some are asked for."""
+    plan = desk.perform("anna", "note", [note(5, "Bowed.")]).plan
+    with desk.journal.writing() as rows:
+        rows.executemany("INSERT INTO concern VALUES (?, ?, 1)", [(number, plan) for number in range(1000, 3000)])
+    assert len(desk.history.changed_since("2026")) == 2001
+    assert len(desk.history.changed_since("2026", 10)) == 10
+
+
+def test_a_plan_is_read_as_it_is_at_one_moment(desk: Desk, monkeypatch: pytest.MonkeyPatch) -> None:
+    """A plan that ends while it is read is read as before."""
+    step = Step(note(5, "Bowed."))
+    plan = desk.journal.begin(Draft("anna", "note", [step]))
+    step.state = "done"
+    ask = desk.journal.all
+
+    def ask_slowly(query: str, *values: Any) -> list[sqlite3.Row]:
+        found = ask(query, *values)
+        if "FROM plan" in query:
+            desk.journal.finish(plan, "done", [step])
+        return found
+
+    monkeypatch.setattr(desk.journal, "all", ask_slowly)
+    found = desk.journal.plan(plan)
+    assert found and (found.state, found.steps[0].state) == ("sent", "sent")
+
+
+def test_a_form_made_during_a_plan(desk: Desk) -> None:
+    """Who made the plan is said in the conflict to which it leads."""
+    step = Step(note(5, "Bowed."))
+    plan = desk.journal.begin(Draft("ben", "note", [step]))
+    mark = desk.seen.mark(5, "notes")
+    apply(desk.mirror, step.request, {"done": True})
+    step.state = "done"
+    desk.journal.finish(plan, "done", [step], changed=[5])
+    conflict = desk.seen.conflict(mark)
+    assert conflict and [(it.id, it.user) for it in conflict.plans] == [(plan, "ben")]
 
 
 def test_csv(desk: Desk) -> None:

@@ -84,8 +84,11 @@ def test_a_choice_among_concepts(reader: Reader, desk: Desk) -> None:
     page = link(reader, HARPS, "add-related", "Cello")
     form = page.form("add-related")
     assert str(CELLOS) in form.values("chosen") or "Cellos" in form.text
-    reader.send(form, chosen=str(CELLOS))
-    assert view(desk, HARPS).related == (CELLOS,)
+    # (a text that is corrected goes before the choice among what the first one may have meant)
+    reader.send(form, other="Bows")
+    assert view(desk, HARPS).related == (BOWS,)
+    reader.send(link(reader, HARPS, "add-related", "Cello").form("add-related"), chosen=str(CELLOS))
+    assert view(desk, HARPS).related == (CELLOS, BOWS)
 
 
 def test_a_link_gets_another_type(reader: Reader, desk: Desk) -> None:

@@ -2,10 +2,14 @@
 from __future__ import annotations
 
 import re
+import time
+from concurrent.futures import ThreadPoolExecutor
+from typing import Any
 
 import pytest
 from clients import Client, Site, text_of
 from test_changes import number
+from thesaurus_desk.performing import Outcome
 
 
 @pytest.fixture
@@ -117,3 +121,19 @@ def test_comments(site: Site, rita: Client) -> None:
     assert rita.post(found[0]).status_code == 303
     assert "Lyres" not in rita.get(f"/c/{harps}").text
     assert rita.post("/c/99999/comments", {"text": "x"}).status_code == 404
+
+
+def test_two_who_accept_at_once(site: Site, rita: Client, monkeypatch: pytest.MonkeyPatch) -> None:
+    """One of them performs it, and both find it accepted."""
+    made = propose(rita, concept=str(number(site, "Violins")), kind="pref", text="Violins and others")
+    perform = site.desk.perform
+
+    def perform_slowly(*given: Any, **named: Any) -> Outcome:
+        time.sleep(0.3)
+        return perform(*given, **named)
+
+    monkeypatch.setattr(site.desk, "perform", perform_slowly)
+    with ThreadPoolExecutor(2) as pool:
+        both = [pool.submit(site.client(it).post, f"/proposals/{made}/accept") for it in ("anna", "ben")]
+        assert [it.result().status_code for it in both] == [303, 303]
+    assert len(site.desk.history.recent()) == 1

@@ -14,6 +14,12 @@ PACKAGE = Path(thesaurus_desk.__file__).parent
 # A key as the whole first argument of the call: those that are put together are tried by the pages' own tests.
 CALLS = re.compile(r"""(?:\b_|\bsay|g\.words)\(\s*["']([a-z_]+(?:\.\w+)+)["']\s*[,)]""")
 OTHERS = [it for it in LANGUAGES if it != "en"]
+# Words for what has another name: the desk, the store, the journal, kinds of terms, and what is done.
+OTHER_WORDS = {
+    "en": "data ?base|keyword|descriptor",
+    "de": "Schreibtisch|Pult\\b|indexiert|andere Benennung|zusammenführ|Datenbank",
+    "fr": "bureau|préféré|alternatif|reprendre|apporter|base de données",
+}
 
 
 def placeholders(text: str) -> set[str]:
@@ -51,7 +57,13 @@ def test_texts_are_whole(language: str) -> None:
             assert set(text) == PLURAL and "{n}" in text["other"], key
         for words in forms_of(text).values():
             assert "<" not in words and "  " not in words.replace("  ( / )", "") and words == words.strip(), key
-            assert "'" not in words or language == "fr", f"{key}: a typewriter's apostrophe"
+            assert "'" not in words, f"{key}: a typewriter's apostrophe"
+
+
+@pytest.mark.parametrize(("language", "others"), OTHER_WORDS.items())
+def test_one_word_for_one_thing(language: str, others: str) -> None:
+    found = [(key, it) for key, text in texts_of(language).items() for it in forms_of(text).values()]
+    assert [(key, it) for key, it in found if re.search(others, it, re.IGNORECASE)] == []
 
 
 def files() -> list[Path]:

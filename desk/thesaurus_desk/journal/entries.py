@@ -97,7 +97,8 @@ def concerned(request: Request, answer: Answer | None = None) -> set[int]:
 class Journal(Database):
     """Who asked for what, when, and what the program answered."""
 
-    # The number of the last plan, once it is known.
+    # The number of the last plan that has ended, once it is known: a page that is made while another one is under way
+    # shows nothing of that.
     last: int | None = None
 
     # --- writing ---
@@ -120,7 +121,6 @@ class Journal(Database):
                 ],
             )
             self.concern(rows, plan, numbers, set())
-        self.last = plan
         return plan
 
     @staticmethod
@@ -153,6 +153,7 @@ class Journal(Database):
             self.concern(rows, plan, numbers, set(changed))
             rows.executemany("INSERT OR REPLACE INTO seal VALUES (?, ?)", list((seals or {}).items()))
             rows.executemany("INSERT OR REPLACE INTO count VALUES (?, ?)", list((counts or {}).items()))
+        self.last = max(plan, self.last_plan())
 
     def note_stop(self, digest: str) -> None:
         """Notes that the desk ends, and the digest of the store."""
@@ -166,9 +167,9 @@ class Journal(Database):
         return {it["name"]: it["value"] for it in self.all("SELECT name, value FROM count")}
 
     def last_plan(self) -> int:
-        """Returns the number of the last plan, or 0."""
+        """Returns the number of the last plan that has ended, or 0."""
         if self.last is None:
-            found = self.one("SELECT max(id) FROM plan")
+            found = self.one("SELECT max(id) FROM plan WHERE state <> 'sent'")
             self.last = int(found[0] or 0) if found else 0
         return self.last
 
@@ -192,8 +193,8 @@ class Journal(Database):
         return self.plans(f"SELECT * FROM plan WHERE state IN ('sent', 'unknown') AND id NOT IN ({back}) ORDER BY id")
 
     def plans(self, query: str, *values: Any) -> list[Plan]:
-        """Returns the plans that a query finds, with their steps."""
-        with self.reading:
+        """Returns the plans that a query finds, with their steps, all as they are at one moment."""
+        with self.at_one_moment():
             return [self.plan_of(it) for it in self.all(query, *values)]
 
     def plan_of(self, row: sqlite3.Row) -> Plan:

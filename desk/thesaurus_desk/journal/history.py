@@ -7,7 +7,7 @@ import json
 from collections.abc import Iterator
 from dataclasses import dataclass
 
-from thesaurus_desk.journal.entries import Journal, Plan
+from thesaurus_desk.journal.entries import Journal, Plan, Step
 
 COLUMNS = ("plan", "step", "time", "user", "proposed by", "action", "state", "request", "answer", "takes back")
 
@@ -71,8 +71,9 @@ class History:
         made = {it.answer.get("ok") for it in plan.steps if it.answer and it.request["do"] != "post"}
         return Dates(found["created"] if number in made else None, found["modified"])
 
-    def changed_since(self, time: str, most: int = 1000) -> list[tuple[int, str]]:
-        """Returns the resources that were changed at a time or later, with the time of their last change."""
+    def changed_since(self, time: str, most: int = -1) -> list[tuple[int, str]]:
+        """Returns the resources that were changed at a time or later, with the time of their last change, the last
+        first: all of them, or at most a number."""
         found = self.journal.all(
             "SELECT number, max(at) AS last FROM plan JOIN concern ON plan = id"
             " WHERE state = 'done' AND changes = 1 AND at >= ? GROUP BY number ORDER BY last DESC, number LIMIT ?",
@@ -82,12 +83,12 @@ class History:
         return [(it["number"], it["last"]) for it in found]
 
     def csv(self) -> Iterator[str]:
-        """Yields the journal as CSV, the earliest first: a line for each request."""
+        """Yields the journal as CSV, the earliest first: a line for each request, and one for what others changed."""
         yield to_csv(COLUMNS)
         last = 0
         while plans := self.journal.plans("SELECT * FROM plan WHERE id > ? ORDER BY id LIMIT 500", last):
             for plan in plans:
-                for place, it in enumerate(plan.steps, 1):
+                for place, it in enumerate(plan.steps or [Step({}, plan.state)], 1):
                     about = (plan.id, place, plan.at, plan.user, plan.proposer or "", plan.action, it.state)
                     texts = (json.dumps(it.request, ensure_ascii=False), json.dumps(it.answer) if it.answer else "")
                     yield to_csv((*about, *texts, plan.takes_back or ""))

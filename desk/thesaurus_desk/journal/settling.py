@@ -14,6 +14,8 @@ from thesaurus_desk.mirror.sealing import digest_of, seals
 log = logging.getLogger("desk")
 # The action of a plan that notes what other programs changed.
 BY_OTHERS = "by other means"
+# What its note begins with, if the store was restored; the time of the backup follows, if it is known.
+RESTORED = "restored from a backup"
 
 
 @dataclass(frozen=True, slots=True)
@@ -24,8 +26,8 @@ class Found:
     settled: tuple[Plan, ...] = ()
     # Resources that were changed by other means since.
     changed: tuple[int, ...] = ()
-    # When an earlier desk stopped with the store as it is now, or with more in it than there is now: the store was
-    # restored from a backup.
+    # When an earlier desk stopped with the store as it is now: it was restored from a backup. "" if only less is there
+    # than was there.
     restored: str | None = None
 
 
@@ -114,7 +116,7 @@ def start(journal: Journal, mirror: Mirror) -> Found:
     if changed:
         restored = restored_from(journal, mirror)
         draft = Draft("", BY_OTHERS, [])
-        note = f"restored from a backup of {restored}" if restored else None
+        note = None if restored is None else f"{RESTORED} of {restored}" if restored else RESTORED
         journal.finish(journal.begin(draft), "done", [], changed=changed, note=note)
         log.warning("%d resources were changed by other means%s", len(changed), f"; {note}" if note else "")
     return Found(tuple(settled), tuple(sorted(changed)), restored)

@@ -138,6 +138,19 @@ class Database:
                     self.rows.execute("ROLLBACK")
                 raise
 
+    @contextlib.contextmanager
+    def at_one_moment(self) -> Iterator[None]:
+        """Has several queries see nothing of what is written meanwhile."""
+        with self.reading:
+            is_outer = not self.reader.in_transaction
+            if is_outer:
+                self.reader.execute("BEGIN")
+            try:
+                yield
+            finally:
+                if is_outer:
+                    self.reader.execute("COMMIT")
+
     def all(self, query: str, *values: Any) -> list[sqlite3.Row]:
         """Returns the rows that a query finds."""
         with self.reading:

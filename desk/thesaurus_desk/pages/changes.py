@@ -19,6 +19,8 @@ from thesaurus_desk.sentences import sentence_of
 
 pages = Blueprint("changes", __name__)
 PAGE = 50
+# How many resources the page of those that were changed shows.
+MOST_CHANGED = 1000
 TIME = re.compile(r"\d{4}(-\d\d){0,2}")
 FORM = "back"
 
@@ -71,7 +73,8 @@ def changed_since() -> Any:
     since = request.args.get("since", "")
     found = the_desk().history.changed_since(since) if TIME.fullmatch(since) else []
     known = [(it, at) for it, at in found if the_mirror().kind(it)]
-    return render_template("changes/since.html", since=since, found=known)
+    more = len(known) - MOST_CHANGED
+    return render_template("changes/since.html", since=since, found=known[:MOST_CHANGED], more=more)
 
 
 # --- taking back ---
@@ -129,11 +132,19 @@ def tell_remark(remark: Remark) -> Markup:
 @role("editor")
 def take_back(number: int) -> Any:
     """Takes a plan back, as far as that can be, in one plan."""
-    plan = plan_or_404(number)
-    tag, text = request.form.get("tag", "").strip().lower(), " ".join(request.form.get("text", "").split())
-    back = the_desk().take_back(plan, (tag, text) if text else None)
+    with the_desk().alone():
+        # (whoever presses the button twice waits here, and finds that it was taken back)
+        return take_back_now(plan_or_404(number))
+
+
+def take_back_now(plan: Plan) -> Any:
+    """Takes a plan back, and shows what came of it."""
+    if plan.taken_back_by:
+        return go("/changes", plan.taken_back_by)
     if not may_take_back(plan):
         abort(403)
+    tag, text = request.form.get("tag", "").strip().lower(), " ".join(request.form.get("text", "").split())
+    back = the_desk().take_back(plan, (tag, text) if text else None)
     if not back.requests or back.needs_label and not text:
         field, key = ("text", "choose_label") if back.requests else ("", "nothing")
         return back_page(plan, back, FormState(FORM, request.form, [Problem(field, say(f"changes.{key}"))]), 409)

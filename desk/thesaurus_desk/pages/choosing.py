@@ -25,13 +25,13 @@ def choose(
 ) -> Chosen:
     """Returns the concept that a field names; one of a scheme, if its terms alone are to decide."""
     text = " ".join(values.get(name, "").split())
-    for given in (values.get("chosen", ""), values.get(f"{name}_number", "")):
-        if (
-            is_number(given)
-            and is_one_of(int(given), kinds)
-            and (given == values.get("chosen") or has_term(int(given), text))
-        ):
-            return Chosen(int(given))
+    # (a choice was offered for a text, and holds as long as that stays)
+    chosen = values.get("chosen", "") if values.get("chosen_for", "") == text else ""
+    if is_number(chosen) and is_one_of(int(chosen), kinds):
+        return Chosen(int(chosen))
+    given = values.get(f"{name}_number", "")
+    if is_number(given) and is_one_of(int(given), kinds) and has_term(int(given), text):
+        return Chosen(int(given))
     if not text:
         return Chosen(None, say("refusals.Choice.empty"))
     number = by_number_or_iri(text)

@@ -25,7 +25,7 @@ KINDS = ("alt", "pref", "scope", "concept", "broader", "related", "words")
 
 def the_proposals() -> Proposals:
     """Returns the proposals and comments of the journal."""
-    return Proposals(the_desk().journal)
+    return the_desk().proposals
 
 
 # --- looking ---
@@ -155,7 +155,14 @@ def refused(page: Callable[[FormState, int], Any], field: str, text: str, form: 
 @role("editor")
 def accept(number: int) -> Any:
     """Performs a proposal, under the names of both, or closes one that is in words alone."""
-    proposal = proposal_or_404(number)
+    with the_desk().alone():
+        # (two who accept it at once are one after the other, and the second finds it decided)
+        return accept_now(proposal_or_404(number))
+
+
+def accept_now(proposal: Proposal) -> Any:
+    """Performs a proposal that is open, and shows what came of it."""
+    number = proposal.id
     if proposal.state != "open":
         return go(f"/proposals/{number}")
     plan = None
@@ -176,7 +183,8 @@ def decline(number: int) -> Any:
     word = request.form.get("word", "").strip()
     if not word:
         return refused(partial(proposal_page, number), "word", say("proposals.no_word"), "decline")
-    the_proposals().decide(number, "declined", person().name, word)
+    with the_desk().alone():
+        the_proposals().decide(number, "declined", person().name, word)
     return go(f"/proposals/{number}")
 
 
@@ -186,7 +194,8 @@ def withdraw(number: int) -> Any:
     """Withdraws a proposal of one's own."""
     if proposal_or_404(number).user != person().name:
         abort(403)
-    the_proposals().decide(number, "withdrawn", person().name)
+    with the_desk().alone():
+        the_proposals().decide(number, "withdrawn", person().name)
     return go(f"/proposals/{number}")
 
 

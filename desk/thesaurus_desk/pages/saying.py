@@ -43,7 +43,7 @@ def warnings() -> list[str]:
     desk = the_desk()
     found = {
         "open": bool(desk.journal.open_plans()),
-        "restored": bool(desk.found.restored),
+        "restored": desk.found.restored is not None,
         "changed": bool(desk.found.changed),
         "ended": desk.program.has_ended(),
     }

@@ -11,6 +11,7 @@ from thesaurus_desk import context
 from thesaurus_desk.context import say, the_mirror, words
 from thesaurus_desk.journal import Plan, Step
 from thesaurus_desk.journal.entries import Request
+from thesaurus_desk.journal.settling import RESTORED
 from thesaurus_desk.performing import Outcome
 from thesaurus_desk.refusals import explain, explain_state, label_of
 from thesaurus_desk.seeing import Change
@@ -42,12 +43,15 @@ LINKS = PageLinks()
 
 @dataclass(frozen=True)
 class ToldPlan:
-    """A plan of the journal for a page: a sentence for each step, with the reason if it was refused."""
+    """A plan of the journal for a page: a sentence for each step, with the reason if it was refused.
+
+    `restored`: what is said of a store that was restored from a backup."""
 
     plan: Plan
     lines: list[tuple[Markup, str, Markup]]
     # How many further steps it has.
     more: int = 0
+    restored: str | Markup = ""
 
 
 def tell_plan(plan: Plan, most: int = MOST_STEPS) -> ToldPlan:
@@ -55,7 +59,15 @@ def tell_plan(plan: Plan, most: int = MOST_STEPS) -> ToldPlan:
     shown = plan.steps[:most]
     refused = [it for it in plan.steps[most:] if it.state in ("refused", "fault")]
     lines = [(tell_step(it), it.state, why_refused(it)) for it in (*shown, *refused)]
-    return ToldPlan(plan, lines, len(plan.steps) - len(lines))
+    return ToldPlan(plan, lines, len(plan.steps) - len(lines), tell_restored(plan.note or ""))
+
+
+def tell_restored(note: str) -> str | Markup:
+    """Returns what the note of a plan says of a backup; nothing if it is about something else."""
+    if not note.startswith(RESTORED):
+        return ""
+    at = note.removeprefix(RESTORED).removeprefix(" of ")
+    return say("changes.restored_of", at=at[:16].replace("T", " ")) if at else say("changes.restored")
 
 
 def tell_step(step: Step) -> Markup:

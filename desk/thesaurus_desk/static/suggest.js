@@ -33,6 +33,9 @@
     for (const [name, value] of [["role", "combobox"], ["aria-autocomplete", "list"], ["aria-expanded", "false"], ["aria-controls", list.id]]) input.setAttribute(name, value);
 
     function close() {
+      // (an answer that is still on its way opens the list no more)
+      clearTimeout(timer);
+      asked++;
       list.hidden = true;
       mark(-1);
       input.setAttribute("aria-expanded", "false");
