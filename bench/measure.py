@@ -84,6 +84,11 @@ def spent():
     return usage.ru_utime + usage.ru_stime
 
 
+def spent_by(pid):
+    """The seconds of CPU that a running program of one thread has spent."""
+    return int(pathlib.Path(f"/proc/{pid}/schedstat").read_text(encoding="ascii").split()[0]) / 1e9
+
+
 def run(script):
     """The seconds of CPU of one run, and what the program wrote."""
     before = spent()
@@ -210,7 +215,8 @@ def report(measured):
     if "--write" in sys.argv[1:]:
         # (the benchmark itself is one of the programs at work)
         load = max(0, os.getloadavg()[1] - 1)
-        command = f"bench/{pathlib.Path(sys.argv[0]).name}{' --db' if '--db' in sys.argv[1:] else ''}"
+        option = next((f" {it}" for it in ("--db", "--seconds") if it in sys.argv[1:]), "")
+        command = f"bench/{pathlib.Path(sys.argv[0]).name}{option}"
         RESULTS.write_text(
             with_section(RESULTS.read_text(encoding="utf-8"), command, section(measured, load)), encoding="utf-8"
         )

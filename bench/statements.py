@@ -44,13 +44,14 @@ def merge(base, source, target, postings, moves):
     base.execute("COMMIT")
 
 
-def fill(base, posts, concepts):
-    """Adds the postings to the concepts in turn, each moved once, in one transaction."""
+def fill(base, posts, concepts, is_moved=True):
+    """Adds the postings to the concepts in turn, each moved once or not at all, in one transaction."""
     at = [2 + number % concepts for number in range(posts + 1)]
     numbers = range(1, posts + 1)
     base.execute("BEGIN")
-    base.executemany(INSERT, ((it, f"k{it}", f"r{it}", at[it - 1], at[it], 0) for it in numbers))
-    base.executemany(INSERT_MOVE, ((it, it, at[it - 1], at[it]) for it in numbers))
+    base.executemany(INSERT, ((it, f"k{it}", f"r{it}", at[it - is_moved], at[it], 0) for it in numbers))
+    if is_moved:
+        base.executemany(INSERT_MOVE, ((it, it, at[it - 1], at[it]) for it in numbers))
     base.execute("COMMIT")
 
 

@@ -28,11 +28,11 @@ PAGE = "# Results\n\nText.\n\n## `bench/a`\n\nOld a.\n\n## `bench/c`\n\nOld c.\n
 
 
 def commands() -> list[str]:
-    """The benchmarks, each as its command; bench/script is two."""
+    """The benchmarks, each as its command; bench/ratio and bench/script are two each."""
     scripts = [
         it for it in sorted((ROOT / "bench").iterdir()) if it.is_file() and not it.suffix and os.access(it, os.X_OK)
     ]
-    return sorted([*(f"bench/{it.name}" for it in scripts), "bench/script --db"])
+    return sorted([*(f"bench/{it.name}" for it in scripts), "bench/ratio --seconds", "bench/script --db"])
 
 
 def sections(page: str) -> dict[str, list[str]]:
@@ -55,7 +55,7 @@ NEW = section(
 def test_each_benchmark_has_a_section_and_a_row() -> None:
     described = (ROOT / "bench" / "README.md").read_text(encoding="utf-8")
     assert list(FOUND) == commands()
-    assert sorted(re.findall(r"^\| `(bench/\w+(?: --db)?)", described, re.M)) == commands()
+    assert sorted(re.findall(r"^\| `(bench/\w+(?: --(?:db|seconds))?)", described, re.M)) == commands()
 
 
 @pytest.mark.parametrize("name", [name for name, lines in FOUND.items() if lines != [UNMEASURED]])
