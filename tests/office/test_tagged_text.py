@@ -22,6 +22,8 @@ DUMP = (
     "JSON::PP->new->utf8->encode($t->{$t->{baselang}})"
 )
 INVERSES = {"BT": "NT", "NT": "BT", "RT": "RT", "USE": "UF", "UF": "USE"}
+# How many seconds one of its tools may take.
+PATIENCE = 60
 LANGS = {"en": 35, "de": 37, "fr": 30}
 # What is read: the relations, as triples of texts, and the terms.
 Read = tuple[set[tuple[str, str, str]], set[str]]
@@ -50,6 +52,8 @@ def sample(shared_room: Path) -> Sample:
     store = shared_room / "sample.db"
     over(store, "script", (ROOT / "examples" / "instruments.jsonl").read_bytes())
     displays = {it: over(store, "alphabetical", after=["--scheme", "1", "--lang", it]).out for it in LANGS}
+    # (of a file without entries Biblio::Thesaurus reads without end)
+    assert all(displays.values())
     return Sample(over(store, "export").out, displays)
 
 
@@ -61,7 +65,7 @@ def write_tagged(file: Path, display: bytes) -> None:
 
 def read_by_perl(file: Path) -> Read:
     """What Biblio::Thesaurus finds. Nothing is completed by it."""
-    ran = subprocess.run(["perl", "-e", DUMP, file], capture_output=True, check=True)
+    ran = subprocess.run(["perl", "-e", DUMP, file], capture_output=True, check=True, timeout=PATIENCE)
     terms = json.loads(ran.stdout)
     parts = [(term, name, its) for term, found in terms.items() for name, its in found.items() if name != "_NAME_"]
     return {(term, name, it) for term, name, its in parts for it in its}, set(terms)
@@ -107,8 +111,10 @@ def test_display_without_one_of_its_lines_is_found_out(sample: Sample, room: Pat
 def test_its_own_tools_make_html_and_tex(sample: Sample, room: Path) -> None:
     write_tagged(room / "sample.the", sample.displays["en"])
     terms = read_export(sample.export, "en")[1]
-    subprocess.run(["thesaurus2htmls", "sample.the"], cwd=room, capture_output=True, check=True)
-    subprocess.run(["thesaurus2tex", "sample.the", "sample"], cwd=room, capture_output=True, check=True)
+    subprocess.run(["thesaurus2htmls", "sample.the"], cwd=room, capture_output=True, check=True, timeout=PATIENCE)
+    subprocess.run(
+        ["thesaurus2tex", "sample.the", "sample"], cwd=room, capture_output=True, check=True, timeout=PATIENCE
+    )
     pages = "".join(it.read_text(encoding="utf-8") for it in (room / "_").iterdir())
     assert set(re.findall(r"<h3>(.*?)</h3>", pages)) == terms
     assert set(re.findall(r"\\term\{(.*?)\}", (room / "sample.tex").read_text(encoding="utf-8"))) == terms
