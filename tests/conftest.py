@@ -18,6 +18,7 @@ import re
 import shutil
 import signal
 import subprocess
+import tempfile
 import time
 from collections.abc import Callable, Generator, Iterator
 from pathlib import Path
@@ -168,6 +169,25 @@ def pytest_runtest_protocol(item: pytest.Item) -> Iterator[None]:
     limit = own.args[0] if own else float(item.config.getini("timeout") or 24 * 3600)
     item.add_marker(pytest.mark.timeout(max(0.1, min(limit, left()))), append=False)
     yield
+
+
+@pytest.fixture
+def room() -> Iterator[Path]:
+    """A folder in memory, for files that needn't survive a power cut."""
+    yield from room_in_memory()
+
+
+@pytest.fixture(scope="module")
+def shared_room() -> Iterator[Path]:
+    """A folder in memory for all tests of a file."""
+    yield from room_in_memory()
+
+
+def room_in_memory() -> Iterator[Path]:
+    from program import MEMORY  # (once it is said which program is meant)
+
+    with tempfile.TemporaryDirectory(dir=MEMORY) as place:
+        yield Path(place).resolve()
 
 
 @pytest.fixture

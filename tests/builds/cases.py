@@ -2,10 +2,10 @@
 from __future__ import annotations
 
 import subprocess
-import sys
 import tempfile
 from concurrent.futures import ThreadPoolExecutor
 from pathlib import Path
+
 from program import ROOT
 
 # The arguments of each case, by its name.
@@ -30,7 +30,6 @@ def run_in_lane(crate: str, cases: Cases, options: tuple[object, ...]) -> dict[s
         ran = subprocess.run(
             words, cwd=ROOT / "crates" / crate, stdout=subprocess.PIPE, stderr=subprocess.STDOUT, text=True, check=False
         )
-    if ran.returncode:
-        sys.exit(ran.stdout)
+    assert not ran.returncode, ran.stdout
     lines = ran.stdout.splitlines()
     return {head.split()[1]: line for head, line in zip(lines, lines[1:]) if head.startswith("== ")}

@@ -9,7 +9,7 @@ import shutil
 import sqlite3
 import subprocess
 import sys
-from collections.abc import Iterator, Mapping
+from collections.abc import Iterable, Iterator, Mapping
 from pathlib import Path
 from typing import Any
 
@@ -31,13 +31,14 @@ BOTH_WAYS = {"related": "related", "exact": "exactMatch", "close": "closeMatch",
 ONE_WAY = {"broad": "broadMatch", "narrow": "narrowMatch", "member": "member"}
 
 
-def tool(name: str, *words: object, given: bytes | None = None, program_in: Path | None = None) -> Ended:
-    """Runs a tool with these words and this standard input, and returns how it ended. It finds the program in a folder,
-    if one is given."""
+def tool(
+    name: str, *words: object, given: bytes | None = None, program_in: Path | None = None, cwd: Path | None = None
+) -> Ended:
+    """Runs a tool with these words and this standard input, in a folder, and returns how it ended. It finds the program
+    in a folder, if one is given."""
     environment = {**os.environ, "PATH": f"{program_in}:{os.environ['PATH']}"} if program_in else None
-    ran = subprocess.run(
-        [TOOLS / name, *map(str, words)], input=given, capture_output=True, check=False, env=environment
-    )
+    call = [TOOLS / name, *map(str, words)]
+    ran = subprocess.run(call, input=given, capture_output=True, check=False, env=environment, cwd=cwd)
     return Ended(ran.returncode, ran.stdout, ran.stderr)
 
 
@@ -79,6 +80,14 @@ def perform(plain: Plain, script: str) -> tuple[Plain, dict[str, int], list[tupl
         if name and "ok" in answer:
             names[name] = answer["ok"]
     return plain, names, refused
+
+
+def perform_all(plain: Plain, requests: Iterable[Request]) -> Plain:
+    """The state after requests, none of which may be refused."""
+    for request in requests:
+        plain, answer = plain.perform(request)
+        assert "no" not in answer, (request, answer)
+    return plain
 
 
 def load(path: Path, script: str) -> list[tuple[Any, Any]]:

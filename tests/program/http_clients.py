@@ -1,15 +1,19 @@
 """Clients that send too much, or without end, don't read their answer, or go away: each costs the server its own
 answer, some time and little memory, and the next client is answered as usual."""
+from __future__ import annotations
+
 import contextlib
 import re
 import socket
 import struct
 import time
+from collections.abc import Iterator
 from concurrent.futures import ThreadPoolExecutor
 from pathlib import Path
+
 from http_rows import BAD_HEAD, BROADER, CODING, CONFLICT, CUT, SIZES, START, TOO_LONG, TOTAL, asked, bad, get, post
 from program import lines_of, over
-from serving import serving
+from serving import Served, serving
 
 MILLION = 1_000_000
 # Bounds on what a server reads after an answer, in bytes and in seconds.
@@ -28,7 +32,7 @@ CONCEPTS = 8_000
 GONE = (b"", b"GET /exp", post("/import", b"key,record,concept\n", 60), get("/export"), post("/requests", BROADER))
 
 
-def long_ones():
+def long_ones() -> Iterator[tuple[bytes, bytes, bytes]]:
     """Requests with the bytes after their heads: bodies that are too long, bytes after a body, and after a request
     without one."""
     for size in (17, 40, 100):
@@ -44,12 +48,12 @@ def long_ones():
 CASES = len(list(long_ones())) + 2 + 2 * len(PAUSES) + 10 + 2 * len(GONE) + 1 + 3
 
 
-def connected(served):
+def connected(served: Served) -> socket.socket:
     return socket.create_connection(("127.0.0.1", served.port), timeout=PATIENCE)
 
 
 @contextlib.contextmanager
-def told_too_long(served):
+def told_too_long(served: Served) -> Iterator[socket.socket]:
     """A client that has read its answer, which must say that its body is too long, and can send more."""
     with connected(served) as client:
         client.sendall(post("/import", b"", 17 * MILLION))
@@ -59,7 +63,7 @@ def told_too_long(served):
             yield client
 
 
-def without_end(served):
+def without_end(served: Served) -> Iterator[str]:
     """A client that sends as fast as it can."""
     sent = 0
     with told_too_long(served) as client:
@@ -69,7 +73,7 @@ def without_end(served):
         yield f"a client that sends without end could send {sent} bytes"
 
 
-def drip(client, pause):
+def drip(client: socket.socket, pause: float) -> None:
     """Sends a byte after each pause, until the server closes the connection or a good while has passed."""
     began = time.monotonic()
     while time.monotonic() - began < PATIENCE:
@@ -77,7 +81,7 @@ def drip(client, pause):
         time.sleep(pause)
 
 
-def now_and_then(served):
+def now_and_then(served: Served) -> Iterator[str]:
     """Clients that send a byte now and then after their answers are seen off in two seconds."""
     for pause in PAUSES:
         began = time.monotonic()
@@ -90,7 +94,7 @@ def now_and_then(served):
             )
 
 
-def dripping(served):
+def dripping(served: Served) -> Iterator[str]:
     """Clients whose body drips have thirty seconds, and nothing is performed."""
     for pause in PAUSES:
         began = time.monotonic()
@@ -104,23 +108,23 @@ def dripping(served):
             )
 
 
-def stays(served):
+def stays(served: Served) -> Iterator[str]:
     """A client that has its answer, and neither sends nor closes."""
     with told_too_long(served):
         began = time.monotonic()
         told = served.answer(get("/totals"))
         if told != TOTAL or time.monotonic() - began >= SECONDS:
-            yield f"a client that stays holds the server: {told}"
+            yield f"a client that stays holds the server: {told!r}"
 
 
-def announces(served):
+def announces(served: Served) -> Iterator[str]:
     """Clients that announce a long body and send ten bytes of it."""
     for _ in range(10):
         if served.answer(post("/import", b"key,record", ANNOUNCED)) != CUT:
             yield "a long body of which ten bytes come is not cut"
 
 
-def goes_away(served):
+def goes_away(served: Served) -> Iterator[str]:
     """Clients that go away before, within and after a request, with a close or a reset."""
     for sent in GONE:
         for resets in (0, 1):
@@ -128,34 +132,36 @@ def goes_away(served):
                 client.setsockopt(socket.SOL_SOCKET, socket.SO_LINGER, struct.pack("ii", resets, 0))
                 client.sendall(sent)
             if served.answer(get("/totals")) != TOTAL:
-                yield f"behind a client that went away, {sent[:40]}: another answer"
+                yield f"behind a client that went away, {sent[:40]!r}: another answer"
 
 
-def peak(served):
+def peak(served: Served) -> int:
     """The peak of the program's virtual memory, in KiB."""
     status = Path(f"/proc/{served.program.pid}/status").read_text(encoding="ascii")
-    return int(re.search(r"VmPeak:\s+(\d+) kB", status)[1])
+    found = re.search(r"VmPeak:\s+(\d+) kB", status)
+    assert found, status
+    return int(found[1])
 
 
-def memory(served, least, most):
+def memory(served: Served, least: int, most: int) -> Iterator[str]:
     if peak(served) - least > most:
         yield f"the program had {peak(served) - least} KiB more than before"
 
 
-def next_one(served, name):
+def next_one(served: Served, name: str) -> Iterator[str]:
     told = served.answer(get("/totals"))
     if told != TOTAL:
-        yield f"behind the client {name}: {told}"
+        yield f"behind the client {name}: {told!r}"
 
 
-def patient(served):
+def patient(served: Served) -> Iterator[str]:
     """Runs each client, and checks what it cost."""
     served.answer(get("/totals"))
     least = peak(served)
     for head, more, wanted in long_ones():
         told = served.answer(head, more)
         if told != wanted:
-            yield f"{head[:80]} and {len(more)} bytes more: {told[:200]}"
+            yield f"{head[:80]!r} and {len(more)} bytes more: {told[:200]!r}"
         yield from next_one(served, "that sends much")
     for client in (without_end, now_and_then, dripping, stays, announces, goes_away):
         yield from client(served)
@@ -166,7 +172,7 @@ def patient(served):
     yield from memory(served, least, BODY)
 
 
-def unread(room):
+def unread(room: Path) -> Iterator[str]:
     """A client that doesn't read its answer loses the rest of it, and holds the next one up for no longer than a write
     may wait; so does one that goes away within its answer, at once."""
     path = room / "unread.db"
@@ -194,7 +200,7 @@ def unread(room):
             yield "behind a client that went away within its answer: another answer"
 
 
-def late_and_unread(room):
+def late_and_unread(room: Path) -> Iterator[str]:
     """A client that takes its time for its request, and then doesn't read its answer, holds the next one up for both
     times and a second for each 100,000 bytes that the system took, and no longer."""
     path, late = room / "late.db", ALLOWED - 2
@@ -221,11 +227,11 @@ def late_and_unread(room):
         if told != TOTAL or not late + ALLOWED - 1 <= waited < most + SLACK:
             yield (
                 "a client that is late and doesn't read its answer holds the next one up for "
-                f"{waited:.1f} s, not {most:.1f}: {told}"
+                f"{waited:.1f} s, not {most:.1f}: {told!r}"
             )
 
 
-def wrong_answers(room):
+def wrong_answers(room: Path) -> Iterator[str]:
     """What clients of each kind are answered otherwise, and whether all is left as it was."""
     path = room / "clients.db"
     over(path, "script", lines_of(START))

@@ -1,9 +1,15 @@
 """Requests of HTTP at the bounds of each case, and their answers byte for byte, over a scheme of three concepts. None
 changes anything."""
+from __future__ import annotations
+
+from collections.abc import Iterator
+from pathlib import Path
+from typing import Any
+
 from program import lines_of, over, text_of, values_of
 from serving import serving
 
-START = [
+START: list[dict[str, Any]] = [
     {"do": "scheme", "tag": "en", "text": "Animals"},
     *({"do": "concept", "scheme": 1, "tag": "en", "text": term} for term in ("Cats", "Mammals", "Pets")),
 ]
@@ -24,7 +30,11 @@ VIEWS = (
 )
 
 
-def told(status, body, kind=JSON, allow=""):
+# What is sent, and the answer.
+Row = tuple[bytes, bytes]
+
+
+def told(status: str, body: str, kind: str = JSON, allow: str = "") -> bytes:
     """An answer whose body is a line, or more of them."""
     last = f"Allow: {allow}\r\n" if allow else ""
     head = (
@@ -34,15 +44,15 @@ def told(status, body, kind=JSON, allow=""):
     return f"{head}{body}\n".encode()
 
 
-def fine(body, kind=JSON):
+def fine(body: str, kind: str = JSON) -> bytes:
     return told("200 OK", body, kind)
 
 
-def bad(name):
+def bad(name: str) -> bytes:
     return told("400 Bad Request", f'{{"bad":"{name}"}}')
 
 
-def refused(name, status="404 Not Found"):
+def refused(name: str, status: str = "404 Not Found") -> bytes:
     return told(status, f'{{"no":"{name}"}}')
 
 
@@ -55,24 +65,24 @@ TOO_LONG = told("413 Payload Too Large", '{"bad":"TooLong"}')
 CONFLICT = refused("SameResource", "409 Conflict")
 
 
-def asked(line, *fields, body=b""):
+def asked(line: str | bytes, *fields: str | bytes, body: bytes = b"") -> bytes:
     """A request by its first line and its fields."""
     texts = (it if isinstance(it, bytes) else it.encode() for it in (line, *fields))
     return b"\r\n".join(texts) + b"\r\n\r\n" + body
 
 
-def get(target, *fields, version="1.1"):
+def get(target: str, *fields: str | bytes, version: str = "1.1") -> bytes:
     return asked(f"GET {target} HTTP/{version}", *fields)
 
 
-def post(path, body, length=None, *fields):
+def post(path: str, body: bytes, length: int | str | None = None, *fields: str | bytes) -> bytes:
     """A posted body, with its announced length."""
     return asked(
         f"POST {path} HTTP/1.1", f"Content-Length: {len(body) if length is None else length}", *fields, body=body
     )
 
 
-def tables():
+def tables() -> Iterator[Row]:
     """What each case of the answers is, as examples."""
     yield post("/requests", b'{"do"', 50), CUT
     yield asked("POST /requests HTTP/1.1", "Transfer-Encoding: chunked"), CODING
@@ -90,7 +100,7 @@ def tables():
     yield get("/display/hierarchical?lang=en&scheme=2"), refused("WrongKind")
 
 
-def orders():
+def orders() -> Iterator[Row]:
     """Requests with two faults or more, of which the first is reported."""
     coding, many = "transfer-ENCODING: identity", "Content-Length: 1048577"
     yield asked("GET /totals HTTP/2.0", coding), BAD_HEAD
@@ -118,7 +128,7 @@ def orders():
     yield post("/requests", text_of({"do": "post", "key": "", "record": "r", "concept": 9})), bad("BadKey")
 
 
-def fields():
+def fields() -> Iterator[Row]:
     """Lengths, and fields that are looked at or not."""
     for length in ("", "+1", "-1", "1,1", "0x1", "1 1", "1.0", "\xb2"):
         yield post("/requests", BROADER, length), BAD_HEAD
@@ -135,7 +145,7 @@ def fields():
     yield get("/totals", "Content-Length: 99999999"), TOTAL
 
 
-def bodies():
+def bodies() -> Iterator[Row]:
     """Bodies that are shorter and longer than is said, and that are no text."""
     yield post("/requests", BROADER, len(BROADER) + 1), CUT
     yield post("/requests", BROADER, len(BROADER) - 1), bad("NotJson")
@@ -150,7 +160,7 @@ def bodies():
     yield post("/import", b"key,concept\n"), bad("BadShape")
 
 
-def queries():
+def queries() -> Iterator[Row]:
     """The queries of a display, and the paths that have none."""
     shown, page = fine(TERMS, PLAIN), "/display/hierarchical"
     for query in ("scheme=%31&lang=%65n", "s%63heme=1&l%61ng=en", "&scheme=1&&lang=en&"):
@@ -181,7 +191,7 @@ def queries():
     yield get("/totals?a?b#c"), TOTAL
 
 
-def paths():
+def paths() -> Iterator[Row]:
     """Paths, methods and versions."""
     for path in (
         "/",
@@ -223,7 +233,7 @@ def paths():
     yield asked("GET /totals http/1.1"), BAD_HEAD
 
 
-def heads():
+def heads() -> Iterator[Row]:
     """Heads at their bounds, and bytes that are no text."""
     line = b"GET /totals HTTP/1.1\r\n"
     for size, whole in ((8191, TOTAL), (8192, TOTAL), (8193, BAD_HEAD)):
@@ -245,19 +255,19 @@ def heads():
     yield b"\xff\xfe\xfd\r\n\r\n", BAD_HEAD
 
 
-def fronts():
+def fronts() -> Iterator[Row]:
     """Each proper prefix of a whole request, for each path."""
     for sent in (*map(get, VIEWS), post("/requests", BROADER), post("/import", REFUSED_ROW)):
         for size in range(len(sent)):
             yield sent[:size], CUT
 
 
-def rows():
+def rows() -> Iterator[Row]:
     for part in (tables, orders, fields, bodies, queries, paths, heads, fronts):
         yield from part()
 
 
-def wrong_answers(room):
+def wrong_answers(room: Path) -> Iterator[str]:
     """What is answered otherwise, and whether all is left as it was."""
     path, cases = room / "rows.db", list(rows())
     made = over(path, "script", lines_of(START))
@@ -267,7 +277,7 @@ def wrong_answers(room):
         for sent, wanted in cases:
             answer = served.answer(sent)
             if answer != wanted:
-                yield f"{wanted} is wanted: {sent[:200]} of {len(sent)} bytes: {answer[:300]}"
+                yield f"{wanted!r} is wanted: {sent[:200]!r} of {len(sent)} bytes: {answer[:300]!r}"
         ended = served.end()
         if ended != (0, b"", b""):
             yield f"the program ended with {ended}"

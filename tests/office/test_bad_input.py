@@ -1,17 +1,23 @@
-#!/usr/bin/env python3
 """Calls each tool wrongly: with files that are missing, folders, empty or of another kind, with wrong options, over a
 store in use, and with an output that is closed, full, a pipe that nobody reads, or not UTF-8. Each must say in one line
 what is wrong, end with its status, and leave the files as they are."""
+from __future__ import annotations
+
+import contextlib
 import hashlib
 import os
+import shutil
 import signal
 import subprocess
 import sys
-import tempfile
 import time
+from collections.abc import Iterator
 from pathlib import Path
-from office import TOOLS, export_of, generated, python_with_rdflib, tool, write_store
-from program import MEMORY, built, over, report
+from typing import Any
+
+import pytest
+from office import TOOLS, export_of, generated, tool, write_store
+from program import Ended, built, over
 
 DONE, REFUSED, USAGE, FAULT = 0, 1, 2, 3
 USED = "another program has it open"
@@ -23,8 +29,8 @@ TURTLE = (
 CSV = "id,broader,pref@en\n1,,Cats\n2,1,Lions\n"
 
 
-def make_files(room):
-    """Makes the files that the tools are given."""
+def make_files(room: Path) -> str:
+    """Makes the files that the tools are given, and returns the number of a concept."""
     _, plain = generated(3, 300)
     concept = next(number for number, it in enumerate(plain.resources, 1) if it["kind"] == "concept")
     write_store(room / "store.db", plain)
@@ -50,7 +56,13 @@ def make_files(room):
     return str(concept)
 
 
-def reading(tool_name, words, place, missing="No such file", other=NO_STORE):
+# A tool, its words, the status that is wanted, None for a refusal, a fault or none, and a part of what it says.
+Case = tuple[str, list[str], int | None, str]
+
+
+def reading(
+    tool_name: str, words: list[str], place: int, missing: str = "No such file", other: str = NO_STORE
+) -> Iterator[Case]:
     """The cases of a tool that reads a file, whose name stands at a place of the words."""
     for name, status, text in (
         ("missing", FAULT, missing),
@@ -61,12 +73,10 @@ def reading(tool_name, words, place, missing="No such file", other=NO_STORE):
         yield tool_name, [*words[:place], name, *words[place:]], status, text
 
 
-def cases():
-    """Each call with its status, None for a refusal or a fault, and a part of what it says."""
+def cases() -> Iterator[Case]:
     yield from reading("from-skos", ["--form", "nt"], 2, other="other.db:1: no UTF-8")
-    if python_with_rdflib():
-        yield "from-skos", ["other.ttl"], REFUSED, "utf-8"
-        yield "from-skos", ["a.ttl"], REFUSED, "NoScheme 1"
+    yield "from-skos", ["other.ttl"], REFUSED, "utf-8"
+    yield "from-skos", ["a.ttl"], REFUSED, "NoScheme 1"
     yield "from-skos", ["other.txt"], USAGE, "--form says what it is"
     yield "from-skos", ["a.nt"], REFUSED, "a.nt:1: no triple of N-Triples"
     yield "from-skos", ["a.ttl", "--form", "rdf"], USAGE, "invalid choice"
@@ -116,8 +126,8 @@ def cases():
     yield "backup", ["store.db", "a.csv"], FAULT, "a.csv"
     yield "backup", ["store.db", "backups", "--keep", "0"], USAGE, "not 1 or more"
     yield "backup", ["store.db", "backups", "--program", "missing"], USAGE, "can't be run"
-    yield "backup", ["other.db", "backups", "--program", built()], REFUSED, "the copy doesn't pass the check"
-    program = ["--program", built()]
+    yield "backup", ["other.db", "backups", "--program", "{program}"], REFUSED, "the copy doesn't pass the check"
+    program = ["--program", "{program}"]
     yield from reading("load", ["--db", "new.db", *program], 2, other="other.db:1: no UTF-8")
     yield "load", ["other.jsonl", "--db", "new.db", *program], REFUSED, "other.jsonl:1:"
     yield "load", ["broken.jsonl", "--db", "new.db", *program], REFUSED, "broken.jsonl:1:"
@@ -141,6 +151,18 @@ def cases():
     yield "install", ["prefix", "--program", "missing"], FAULT, "missing"
 
 
+CASES = list(cases())
+# The call that needs a reader of Turtle.
+TURTLES = ("other.ttl", "a.ttl")
+
+
+def parameters() -> Iterator[Any]:
+    """The cases, each with a name, and a mark if it needs a reader of Turtle."""
+    for number, case in enumerate(CASES):
+        marks = [pytest.mark.needs("rdflib")] * (case[1][:1] in [[it] for it in TURTLES] and "--form" not in case[1])
+        yield pytest.param(case, id=f"{number}-{case[0]}", marks=marks)
+
+
 # The calls that print something, for outputs that fail; $N is the number of a concept.
 PRINTING = (
     ("check-skos", "store.nt"),
@@ -154,91 +176,146 @@ PRINTING = (
 )
 
 
-def is_clean(ended):
+@pytest.fixture(scope="module")
+def made(shared_room: Path) -> tuple[Path, str]:
+    """A folder with the files, which are only copied, and the number of a concept in its store."""
+    place = shared_room / "made"
+    place.mkdir()
+    return place, make_files(place)
+
+
+def digests(room: Path) -> dict[str, str]:
+    return {it.name: hashlib.sha256(it.read_bytes()).hexdigest() for it in room.iterdir() if it.is_file()}
+
+
+@pytest.fixture
+def files(made: tuple[Path, str], room: Path) -> Iterator[Path]:
+    """A copy of the files. After the test they must be as they were; others may be there."""
+    place = shutil.copytree(made[0], room / "files")
+    before = digests(place)
+    yield place
+    assert {name: digest for name, digest in digests(place).items() if name in before} == before
+
+
+def is_clean(err: bytes) -> bool:
     """Whether a tool says what is wrong without the lines of Python."""
-    return b"Traceback" not in ended.err and b"Exception ignored" not in ended.err
+    return b"Traceback" not in err and b"Exception ignored" not in err
 
 
-def wrong_cases():
-    """Yields the calls that end otherwise."""
-    for name, words, status, text in cases():
-        ended = tool(name, *words)
-        is_right = ended.status == status if status is not None else ended.status in (DONE, REFUSED, FAULT)
-        if not is_right or text.encode() not in ended.err or ended.status and ended.out or not is_clean(ended):
-            yield f"{name} {' '.join(map(str, words))}: wanted {status} {text!r}: {ended}"
+def call(files: Path, name: str, *words: str) -> Ended:
+    return tool(name, *(str(built()) if it == "{program}" else it for it in words), cwd=files)
 
 
-def wrong_outputs(concept):
-    """Yields the calls that end otherwise where the output takes nothing."""
-    for words in PRINTING:
-        called = [TOOLS / words[0], *(concept if it == "$N" else it for it in words[1:])]
-        how = {"stdin": subprocess.DEVNULL, "stderr": subprocess.PIPE, "check": False}
+@pytest.mark.parametrize("case", parameters())
+def test_wrong_call(case: Case, files: Path) -> None:
+    name, words, status, text = case
+    ended = call(files, name, *words)
+    assert ended.status == status if status is not None else ended.status in (DONE, REFUSED, FAULT), ended
+    assert text.encode() in ended.err and is_clean(ended.err)
+    assert not (ended.status and ended.out)
+
+
+# --- outputs ---
+
+# What becomes of an output, with the status that is wanted then, and a part of what is said.
+OUTPUTS = {
+    "full": (FAULT, b"No space left"),
+    "unread": (DONE, b""),
+    "closed": (FAULT, b"standard output is closed"),
+    "ASCII": (DONE, b""),
+}
+
+
+@contextlib.contextmanager
+def output(kind: str) -> Iterator[dict[str, Any]]:
+    """How a tool is run so that its output is of this kind."""
+    if kind == "full":
+        with open("/dev/full", "wb") as full:
+            yield {"stdout": full}
+    elif kind == "unread":
         reader, writer = os.pipe()
         os.close(reader)
-        with open("/dev/full", "wb") as full, open(writer, "wb") as pipe:
-            runs = [
-                ("full", subprocess.run(called, stdout=full, **how), FAULT, b"No space left"),
-                ("unread", subprocess.run(called, stdout=pipe, **how), DONE, b""),
-                (
-                    "closed",
-                    subprocess.run(called, preexec_fn=lambda: os.close(1), **how),
-                    FAULT,
-                    b"standard output is closed",
-                ),
-                (
-                    "ASCII",
-                    subprocess.run(
-                        called, stdout=subprocess.DEVNULL, env={**os.environ, "PYTHONIOENCODING": "ascii"}, **how
-                    ),
-                    DONE,
-                    b"",
-                ),
-            ]
-        for what, ran, status, text in runs:
-            if (
-                ran.returncode != status
-                or text not in ran.stderr
-                or b"Traceback" in ran.stderr
-                or b"Exception ignored" in ran.stderr
-            ):
-                yield f"{' '.join(words)}: {what}: wanted {status}, {ran.returncode} {ran.stderr}"
+        with open(writer, "wb") as pipe:
+            yield {"stdout": pipe}
+    elif kind == "closed":
+        yield {"preexec_fn": lambda: os.close(1)}
+    else:
+        yield {"stdout": subprocess.DEVNULL, "env": {**os.environ, "PYTHONIOENCODING": "ascii"}}
 
 
-def wrong_locks(room):
-    """Yields the calls that end otherwise while a program has the store."""
-    (room / "scheme.jsonl").write_text('{"do":"scheme","tag":"en","text":"X"}\n', encoding="utf-8")
-    used = [
-        ("report", "tops"),
-        ("unmerge", "--before", "store.nt", "2"),
-        ("repost", "--posting", "1", "--to", "2"),
-        ("load", "scheme.jsonl", "--dry", "--program", built()),
-    ]
-    with subprocess.Popen(
-        [built(), "--db", "used.db", "script"], stdin=subprocess.PIPE, stdout=subprocess.PIPE
-    ) as program:
+@pytest.mark.parametrize("kind", OUTPUTS)
+@pytest.mark.parametrize("words", PRINTING, ids=[" ".join(it[:4]) for it in PRINTING])
+def test_output_that_takes_nothing(words: tuple[str, ...], kind: str, files: Path, made: tuple[Path, str]) -> None:
+    status, text = OUTPUTS[kind]
+    called = [TOOLS / words[0], *(made[1] if it == "$N" else it for it in words[1:])]
+    with output(kind) as how:
+        ran = subprocess.run(called, cwd=files, stdin=subprocess.DEVNULL, stderr=subprocess.PIPE, check=False, **how)
+    assert ran.returncode == status and text in ran.stderr and is_clean(ran.stderr), ran
+
+
+# --- stores in use ---
+
+IN_USE = (
+    ("report", "tops"),
+    ("unmerge", "--before", "store.nt", "2"),
+    ("repost", "--posting", "1", "--to", "2"),
+    ("load", "scheme.jsonl", "--dry", "--program", "{program}"),
+)
+
+
+@pytest.fixture
+def holder(files: Path) -> Iterator[subprocess.Popen[bytes]]:
+    """A program that has the store used.db."""
+    (files / "scheme.jsonl").write_text('{"do":"scheme","tag":"en","text":"X"}\n', encoding="utf-8")
+    words = [built(), "--db", "used.db", "script"]
+    with subprocess.Popen(words, cwd=files, stdin=subprocess.PIPE, stdout=subprocess.PIPE) as program:
+        assert program.stdin and program.stdout
         program.stdin.write(b'{"get":"totals"}\n')
         program.stdin.flush()
         program.stdout.readline()
-        for name, *words in used:
-            ended = tool(name, *words, "--db", "used.db")
-            if (ended.status, ended.out) != (FAULT, b"") or USED.encode() not in ended.err or not is_clean(ended):
-                yield f"{name} over a store in use: {ended}"
-        ended = tool("backup", "used.db", "backups", "--program", built())
-        if ended.status != REFUSED or b"a program has it open" not in ended.err:
-            yield f"backup over a store in use: {ended}"
-        loading = subprocess.Popen(
-            [TOOLS / "load", "scheme.jsonl", "--db", "used.db", "--program", built()], stderr=subprocess.PIPE
-        )
-        said = loading.stderr.readline()
-        program.stdin.close()
-        program.stdout.read()
-    if USED.encode() not in said or loading.communicate()[1] != b"load: 1 requests: 1 done\n" or loading.returncode:
-        yield f"load doesn't wait for a store in use: {said} {loading.returncode}"
-    if over(room / "used.db", "check").out[:24] != b"ok resources=1 labels=1 ":
-        yield "load waited for a store in use, and did nothing"
+        yield program
 
 
-def wait_for_reading(pid):
+@pytest.mark.parametrize("words", IN_USE, ids=[it[0] for it in IN_USE])
+@pytest.mark.usefixtures("holder")
+def test_store_in_use(words: tuple[str, ...], files: Path) -> None:
+    ended = call(files, *words, "--db", "used.db")
+    assert (ended.status, ended.out) == (FAULT, b"")
+    assert USED.encode() in ended.err and is_clean(ended.err)
+
+
+@pytest.mark.usefixtures("holder")
+def test_backup_of_a_store_in_use(files: Path) -> None:
+    ended = call(files, "backup", "used.db", "backups", "--program", "{program}")
+    assert ended.status == REFUSED and b"a program has it open" in ended.err
+
+
+def test_load_waits_for_a_store_in_use(holder: subprocess.Popen[bytes], files: Path) -> None:
+    words = [TOOLS / "load", "scheme.jsonl", "--db", "used.db", "--program", built()]
+    with subprocess.Popen(words, cwd=files, stderr=subprocess.PIPE) as loading:
+        assert loading.stderr and holder.stdin and holder.stdout
+        assert USED.encode() in loading.stderr.readline()
+        holder.stdin.close()
+        holder.stdout.read()
+        assert loading.communicate()[1] == b"load: 1 requests: 1 done\n"
+    assert not loading.returncode
+    assert over(files / "used.db", "check").out.startswith(b"ok resources=1 labels=1 ")
+
+
+# --- interrupts, and another Python ---
+
+INTERRUPTED: dict[str, tuple[list[str], int, bytes]] = {
+    "load": (["load", "-", "--db", "new.db", "--program", "{program}"], FAULT, b"load: it was interrupted\n"),
+    "load with a journal": (
+        ["load", "-", "--db", "new.db", "--journal", "new.journal", "--program", "{program}"],
+        FAULT,
+        b"load: it was interrupted; run it again with the same journal\n",
+    ),
+    "check-skos": (["check-skos", "-"], 130, b"check-skos: interrupted\n"),
+}
+
+
+def wait_for_reading(pid: int) -> None:
     """Waits until a program reads standard input, or for ten seconds."""
     end = time.monotonic() + 10
     while time.monotonic() < end:
@@ -248,64 +325,23 @@ def wait_for_reading(pid):
         time.sleep(0.05)
 
 
-def wrong_interrupts():
-    """Yields the calls that end otherwise if they are interrupted while they read standard input."""
-    for words, status, text in (
-        (("load", "-", "--db", "new.db", "--program", built()), FAULT, b"load: it was interrupted\n"),
-        (
-            ("load", "-", "--db", "new.db", "--journal", "new.journal", "--program", built()),
-            FAULT,
-            b"load: it was interrupted; run it again with the same journal\n",
-        ),
-        (("check-skos", "-"), 130, b"check-skos: interrupted\n"),
-    ):
-        with subprocess.Popen(
-            [TOOLS / words[0], *words[1:]], stdin=subprocess.PIPE, stdout=subprocess.PIPE, stderr=subprocess.PIPE
-        ) as run:
-            wait_for_reading(run.pid)
-            run.send_signal(signal.SIGINT)
-            _, said = run.communicate(timeout=60)
-        if (run.returncode, said) != (status, text):
-            yield f"{' '.join(map(str, words))} interrupted: {run.returncode} {said}"
+@pytest.mark.parametrize("what", INTERRUPTED)
+def test_interrupted_as_it_reads_standard_input(what: str, files: Path) -> None:
+    (name, *words), status, text = INTERRUPTED[what]
+    called = [TOOLS / name, *(str(built()) if it == "{program}" else it for it in words)]
+    streams: dict[str, Any] = dict.fromkeys(("stdin", "stdout", "stderr"), subprocess.PIPE)
+    with subprocess.Popen(called, cwd=files, **streams) as run:
+        wait_for_reading(run.pid)
+        run.send_signal(signal.SIGINT)
+        _, said = run.communicate(timeout=60)
+    assert (run.returncode, said) == (status, text)
 
 
-def wrong_versions():
-    """An older Python is refused in one line."""
+def test_older_python_is_refused_in_one_line() -> None:
     code = (
         f"import sys; sys.version_info = (3, 9, 2); sys.path.insert(0, {str(TOOLS)!r}); sys.argv = "
         "['tools/load']; import thesaurus_tools"
     )
     ran = subprocess.run([sys.executable, "-c", code], capture_output=True, check=False)
-    if (
-        ran.returncode != 1
-        or not ran.stderr.startswith(b"tools/load: it needs Python 3.11 or later")
-        or ran.stderr.count(b"\n") != 1
-    ):
-        yield f"an older Python: {ran.returncode} {ran.stderr}"
-
-
-def digests(room):
-    return {
-        it.name: hashlib.sha256(it.read_bytes()).hexdigest()
-        for it in room.iterdir()
-        if it.is_file() and it.suffix != ".db-wal"
-    }
-
-
-def main():
-    with tempfile.TemporaryDirectory(dir=MEMORY) as folder:
-        room = Path(folder)
-        concept = make_files(room)
-        os.chdir(room)
-        before = digests(room)
-        failures = [*wrong_cases(), *wrong_outputs(concept)]
-        failures += [
-            f"{name} was changed" for name, digest in digests(room).items() if before.get(name, digest) != digest
-        ]
-        failures += [*wrong_locks(room), *wrong_interrupts(), *wrong_versions()]
-        os.chdir("/")
-    return report("bad-input", failures, len(list(cases())) + 4 * len(PRINTING) + 10)
-
-
-if __name__ == "__main__":
-    sys.exit(main())
+    assert ran.returncode == 1
+    assert ran.stderr.startswith(b"tools/load: it needs Python 3.11 or later") and ran.stderr.count(b"\n") == 1

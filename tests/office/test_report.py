@@ -1,23 +1,28 @@
-#!/usr/bin/env python3
-"""Tests tools/report: each report on a store in a file and on the same store as the program serves it, and the objects
-of tools/thesaurus_tools against the plain program's state. Files stay as they are, also where a kill left a log; a
-store that is open, none, or a damaged one is refused."""
+"""tools/report: each report on a store in a file and on the same store as the program serves it, and the objects of
+tools/thesaurus_tools against the plain program's state. Files stay as they are, also where a kill left a log; a store
+that is open, none, or a damaged one is refused."""
+from __future__ import annotations
+
 import contextlib
 import hashlib
 import shutil
 import sqlite3
 import subprocess
-import sys
-import tempfile
+from collections.abc import Iterable, Iterator
 from pathlib import Path
-from office import generated, tool, write_store
+from typing import Any, NamedTuple
+
+import pytest
+from office import Request, generated, tool, write_store
+from plain import Plain
 from ports import free_port
-from program import MEMORY, built, lines_of, over, report, values_of
+from program import Ended, built, lines_of, over, values_of
 from serving import serving
 from thesaurus_tools.opening import open_file
 from thesaurus_tools.served_store import ServedStore
+from thesaurus_tools.store import Store
 
-BEFORE = [
+BEFORE: list[Request] = [
     {"do": "scheme", "tag": "en", "text": "Instruments"},
     *(
         {"do": "concept", "scheme": 1, "tag": "en", "text": text}
@@ -48,7 +53,7 @@ BEFORE = [
         for n, concept in enumerate((3, 3, 4, 5, 10), 1)
     ),
 ]
-SINCE = [
+SINCE: list[Request] = [
     {"do": "concept", "scheme": 1, "tag": "de", "text": "Drehleiern"},
     {"do": "deprecate", "concept": 11},
     {"do": "merge", "source": 4, "target": 3},
@@ -60,7 +65,7 @@ SINCE = [
     {"do": "outside", "iri": "http://example.org/unused"},
 ]
 # What each report prints of the store, as CSV.
-REPORTS = {
+REPORTS: dict[tuple[str, ...], str] = {
     (
         "find",
         "violin",
@@ -191,7 +196,7 @@ posting,key,record,first,place,term,state
     ): "move,posting,from,term,to,its term\n1,3,4,Fiddles,3,Violins\n2,6,4,Fiddles,3,Violins\n",
 }
 # The same of the store as it was before.
-EARLIER = {
+EARLIER: dict[tuple[str, ...], str] = {
     ("below", "2"): "steps,number,term\n1,3,Violins\n1,4,Fiddles\n2,5,Bows\n",
     (
         "path",
@@ -280,103 +285,152 @@ steps  number  term
 """
 
 
-def untold(text):
+# All reports, those of changes since a copy of the store.
+ALL = {**REPORTS, ("counts",): COUNTS, ("changed", "--since", "{before}"): CHANGED}
+
+
+class Stores(NamedTuple):
+    """A store in a file, a copy from before its last changes, and each report of it over HTTP."""
+
+    store: Path
+    before: Path
+    served: dict[tuple[str, ...], Ended]
+    while_served: Ended
+
+    def call(self, words: tuple[str, ...], *more: object) -> Ended:
+        return tool("report", *(it.format(before=self.before, store=self.store) for it in words), *more)
+
+
+@pytest.fixture(scope="module")
+def made(shared_room: Path) -> Stores:
+    (shared_room / "made").mkdir()
+    store, before = shared_room / "made" / "store.db", shared_room / "made" / "before.db"
+    answers = values_of(over(store, "script", lines_of(BEFORE)).out)
+    shutil.copy(store, before)
+    answers += values_of(over(store, "script", lines_of(SINCE)).out)
+    assert not [it for it in answers if "no" in it or "bad" in it]
+    it = Stores(store, before, {}, Ended(0, b"", b""))
+    with serving(store, 1_000_000) as served:
+        address = f"http://127.0.0.1:{served.port}"
+        found = {words: it.call(words, "--http", address, "--csv") for words in ALL}
+        return Stores(store, before, found, it.call(("counts",), "--db", store))
+
+
+def digests(room: Path) -> dict[str, str]:
+    return {it.name: hashlib.sha256(it.read_bytes()).hexdigest() for it in room.iterdir()}
+
+
+@pytest.fixture
+def stores(made: Stores) -> Iterator[Stores]:
+    """The stores, of which all files must stay as they are."""
+    before = digests(made.store.parent)
+    yield made
+    assert digests(made.store.parent) == before
+
+
+def names(reports: Iterable[tuple[str, ...]]) -> Any:
+    return pytest.mark.parametrize("words", list(reports), ids=[" ".join(it) for it in reports])
+
+
+@names(ALL)
+def test_report_of_a_file(words: tuple[str, ...], stores: Stores) -> None:
+    assert stores.call(words, "--db", stores.store, "--csv") == (0, ALL[words].encode(), b"")
+
+
+def untold(text: str) -> list[str]:
     """A report without what HTTP doesn't tell."""
     return [it for it in text.splitlines() if it not in UNTOLD and it != "links,broader,1"]
 
 
-def each_report(since):
-    yield from REPORTS.items()
-    yield ("counts",), COUNTS
-    yield ("changed", "--since", since), CHANGED
+@names(ALL)
+def test_report_over_http(words: tuple[str, ...], stores: Stores) -> None:
+    ended = stores.served[words]
+    assert (ended.status, ended.err) == (0, b"")
+    assert untold(ended.out.decode()) == untold(ALL[words])
 
 
-def wrong_reports(store, before):
-    """Each report on the store in a file, and as it is served."""
-    with serving(store, 1_000_000) as served:
-        address = f"http://127.0.0.1:{served.port}"
-        over_http = {words: tool("report", *words, "--http", address, "--csv") for words, _ in each_report(before)}
-        refused = tool("report", "counts", "--db", store)
-        if refused.status != 3 or refused.out or b"another program has it open" not in refused.err:
-            yield f"a store that is open: {refused}"
-    first = digests(store.parent)
-    for words, wanted in each_report(before):
-        ended = tool("report", "--db", store, "--csv", *words)
-        if ended != (0, wanted.encode(), b""):
-            yield f"{words}: {ended.status} {ended.err}\n{ended.out.decode()}"
-        if (over_http[words].status, over_http[words].err) != (0, b"") or untold(
-            over_http[words].out.decode()
-        ) != untold(wanted):
-            yield f"{words} over HTTP: {over_http[words]}"
-    for words, wanted in EARLIER.items():
-        ended = tool("report", "--db", before, "--csv", *words)
-        if ended[:2] != (0, wanted.encode()) or bool(ended.err) != ("--most" in words):
-            yield f"{words}, before: {ended}"
-    ended = tool("report", "below", 2, "--langs", "de", "--db", store)
-    if ended != (0, TEXT.encode(), b""):
-        yield f"as text: {ended}"
-    if digests(store.parent) != first:
-        yield f"the files have changed: {first} {digests(store.parent)}"
+@names(EARLIER)
+def test_report_of_the_store_before(words: tuple[str, ...], stores: Stores) -> None:
+    ended = stores.call(words, "--db", stores.before, "--csv")
+    assert ended[:2] == (0, EARLIER[words].encode())
+    assert bool(ended.err) == ("--most" in words)
 
 
-def wrong_ends(room, store):
-    """What is refused, with the status and words of the message."""
-    older, other, text = room / "older.db", room / "other.db", room / "text.db"
-    shutil.copy(store, older)
+def test_report_as_text(stores: Stores) -> None:
+    assert stores.call(("below", "2", "--langs", "de"), "--db", stores.store) == (0, TEXT.encode(), b"")
+
+
+def test_store_that_is_open_is_refused(stores: Stores) -> None:
+    status, out, err = stores.while_served
+    assert (status, out) == (3, b"") and b"another program has it open" in err
+
+
+# What is refused, with places in braces, the status, and a part of the message.
+REFUSED: dict[str, tuple[list[str], int, bytes]] = {
+    "nothing of this number": (["path", "99", "--db", "{store}"], 1, b"nothing has the number 99"),
+    "a dead concept": (["below", "4", "--db", "{store}"], 1, b"concept 4 is dead: replaced by 3"),
+    "a collection": (["path", "8", "--db", "{store}"], 1, b"number 8 is no concept, but a collection"),
+    "an outside concept": (["path", "7", "--db", "{store}"], 1, b"number 7 is no concept, but an outside concept"),
+    "no posting": (["moves", "9", "--db", "{store}"], 1, b"no posting has the number 9"),
+    "a later state": (["changed", "--since", "{store}", "--db", "{before}"], 1, b"not an earlier state"),
+    "no store": (["tops"], 2, b"one of --db FILE and --http URL"),
+    "two stores": (["tops", "--db", "{store}", "--http", "http://127.0.0.1:1"], 2, b"and not both"),
+    "no number": (["path", "x", "--db", "{store}"], 2, b"not a number"),
+    "no report": (["fly", "--db", "{store}"], 2, b"invalid choice"),
+    "no URL": (["tops", "--http", "127.0.0.1:1"], 2, b"no URL of a server"),
+    "no server": (["tops", "--http", "http://127.0.0.1:{free}"], 3, b"refused"),
+    "no file": (["tops", "--db", "{room}/missing.db"], 3, b"No such file"),
+    "a folder": (["tops", "--db", "{room}"], 3, b"Is a directory"),
+    "an older store": (
+        ["tops", "--db", "{room}/older.db"],
+        3,
+        b"its tables have version 1, not 2: run `thesaurus migrate`",
+    ),
+    "another database": (["tops", "--db", "{room}/other.db"], 3, b"not the store of a thesaurus"),
+    "a text": (["tops", "--db", "{room}/text.db"], 3, b"not the store of a thesaurus"),
+}
+
+
+@pytest.mark.parametrize("what", REFUSED)
+def test_refused(what: str, stores: Stores, room: Path) -> None:
+    older, other = room / "older.db", room / "other.db"
+    shutil.copy(stores.store, older)
     for path, change in ((older, "UPDATE meta SET version = 1"), (other, "CREATE TABLE other (x)")):
         with contextlib.closing(sqlite3.connect(path)) as tables:
             tables.execute(change)
             tables.commit()
-    text.write_text("no database\n" * 100, encoding="utf-8")
-    cases = [
-        (["path", 99, "--db", store], 1, b"nothing has the number 99"),
-        (["below", 4, "--db", store], 1, b"concept 4 is dead: replaced by 3"),
-        (["path", 8, "--db", store], 1, b"number 8 is no concept, but a collection"),
-        (["path", 7, "--db", store], 1, b"number 7 is no concept, but an outside concept"),
-        (["moves", 9, "--db", store], 1, b"no posting has the number 9"),
-        (["changed", "--since", store, "--db", room / "before.db"], 1, b"not an earlier state"),
-        (["tops"], 2, b"one of --db FILE and --http URL"),
-        (["tops", "--db", store, "--http", "http://127.0.0.1:1"], 2, b"and not both"),
-        (["path", "x", "--db", store], 2, b"not a number"),
-        (["fly", "--db", store], 2, b"invalid choice"),
-        (["tops", "--http", "127.0.0.1:1"], 2, b"no URL of a server"),
-        (["tops", "--http", f"http://127.0.0.1:{free_port()}"], 3, b"refused"),
-        (["tops", "--db", room / "missing.db"], 3, b"No such file"),
-        (["tops", "--db", room], 3, b"Is a directory"),
-        (["tops", "--db", older], 3, b"its tables have version 1, not 2: run `thesaurus migrate`"),
-        (["tops", "--db", other], 3, b"not the store of a thesaurus"),
-        (["tops", "--db", text], 3, b"not the store of a thesaurus"),
-    ]
-    for words, status, message in cases:
-        ended = tool("report", *words)
-        if (ended.status, ended.out) != (status, b"") or message not in ended.err or b"Traceback" in ended.err:
-            yield f"{words}: {ended}"
+    (room / "text.db").write_text("no database\n" * 100, encoding="utf-8")
+    words, status, message = REFUSED[what]
+    places = {"store": stores.store, "before": stores.before, "free": free_port(), "room": room}
+    ended = tool("report", *(it.format(**places) for it in words))
+    assert (ended.status, ended.out) == (status, b"")
+    assert message in ended.err and b"Traceback" not in ended.err, ended
 
 
-def digests(room):
-    return {it.name: hashlib.sha256(it.read_bytes()).hexdigest() for it in room.iterdir()}
-
-
-def wrong_log(room):
-    """After a kill the log holds what was answered: it is read, and both files stay as they are."""
-    room.mkdir()
+def test_log_of_a_killed_program_is_read_and_left(room: Path) -> None:
+    """After a kill the log holds what was answered."""
     path = room / "killed.db"
     over(path, "script", lines_of(BEFORE[:2]))
     with subprocess.Popen([built(), "--db", path, "script"], stdin=subprocess.PIPE, stdout=subprocess.PIPE) as program:
+        assert program.stdin and program.stdout
         program.stdin.write(lines_of(BEFORE[2:4]))
         program.stdin.flush()
-        answers = [program.stdout.readline() for _ in range(2)]
+        for _ in range(2):
+            program.stdout.readline()
         program.kill()
     before = digests(room)
     ended = tool("report", "tops", "--db", path, "--csv")
-    if (
-        ended.out != b"scheme,number,term,below\n1,2,Strings,0\n1,3,Violins,0\n1,4,Fiddles,0\n"
-        or digests(room) != before
-    ):
-        yield f"after a kill: {answers} {ended} {sorted(before)} {sorted(digests(room))}"
+    assert ended.out == b"scheme,number,term,below\n1,2,Strings,0\n1,3,Violins,0\n1,4,Fiddles,0\n", ended
+    assert digests(room) == before
 
 
-def objects(store):
+# --- the objects of a store ---
+
+# Resources, labels, links, postings, moves and counts.
+Objects = tuple[Any, ...]
+
+
+def objects(store: Store) -> Objects:
     """What the objects of a store tell, in the plain program's words."""
     resources = {number: (it.kind, it.scheme, it.is_live, it.replaced) for number, it in store.resources.items()}
     postings = [(it.key, it.record, it.first, it.is_withdrawn, it.place) for it in store.each_posting()]
@@ -390,11 +444,11 @@ def objects(store):
     )
 
 
-def plain_objects(plain, is_served):
+def plain_objects(plain: Plain, is_served: bool) -> Objects:
     """The same of the plain program's state; over HTTP no plain broader link stands beside a typed one."""
     numbered = list(enumerate(plain.resources, 1))
 
-    def end(n):
+    def end(n: int) -> Any:
         return plain.resources[n - 1]["iri"] or n
 
     typed = {(a, b) for kind, a, b in plain.links if kind.startswith("broader") and kind != "broader"}
@@ -414,37 +468,16 @@ def plain_objects(plain, is_served):
     return resources, set(plain.labels), links, postings, plain.moves, counts
 
 
-def wrong_objects(room):
-    """Generated stores as objects: those of the tables, and one that is served."""
-    for seed in range(1, 9):
-        _, plain = generated(seed, 300)
-        write_store(room / "objects.db", plain)
-        with open_file(room / "objects.db") as store:
-            if objects(store) != plain_objects(plain, False):
-                yield f"seed {seed}: other objects in the tables"
+@pytest.mark.parametrize("seed", range(1, 9))
+def test_objects_of_a_file_are_those_of_the_plain_program(seed: int, room: Path) -> None:
+    _, plain = generated(seed, 300)
+    write_store(room / "objects.db", plain)
+    with open_file(room / "objects.db") as store:
+        assert objects(store) == plain_objects(plain, False)
+
+
+def test_objects_over_http_are_those_of_the_plain_program(room: Path) -> None:
     requests, plain = generated(1, 200)
     over(room / "served.db", "script", lines_of(requests))
     with serving(room / "served.db", 1_000_000) as served:
-        if objects(ServedStore(f"http://127.0.0.1:{served.port}")) != plain_objects(plain, True):
-            yield "other objects over HTTP"
-
-
-def main():
-    with tempfile.TemporaryDirectory(dir=MEMORY) as folder:
-        room = Path(folder)
-        store, before = room / "store.db", room / "before.db"
-        answers = values_of(over(store, "script", lines_of(BEFORE)).out)
-        shutil.copy(store, before)
-        answers += values_of(over(store, "script", lines_of(SINCE)).out)
-        failures = [f"the store isn't made: {it}" for it in answers if "no" in it or "bad" in it]
-        failures += [
-            *wrong_reports(store, before),
-            *wrong_ends(room, store),
-            *wrong_log(room / "log"),
-            *wrong_objects(room),
-        ]
-    return report("report", failures, 2 * len(list(each_report(before))) + len(EARLIER) + 2 + 17 + 1 + 9)
-
-
-if __name__ == "__main__":
-    sys.exit(main())
+        assert objects(ServedStore(f"http://127.0.0.1:{served.port}")) == plain_objects(plain, True)

@@ -1,33 +1,38 @@
-#!/usr/bin/env python3
-"""Tests that the program reports the first faulty table of altered stores: after the changes listed here, and for 3,000
-stores, the same in each run, with one to three altered cells, and now and then a row or a table. The plain program
+"""The program reports the first faulty table of altered stores: after the changes listed here, and for 3,000 stores,
+the same in each run, with one to three altered cells, and now and then a row or a table. The plain program
 (plain_store.py) checks each of these, too; if one still loads, its views, its export and its displays must be those of
 the state that its rows encode. Tables are also declared otherwise than the program declares them, with the same rows;
 and columns have values of kinds that their declarations exclude. A store with additions of a user's, or with tables
 made again, answers requests and imports, and gets rows, as any store."""
+from __future__ import annotations
+
 import contextlib
+import functools
 import re
 import shutil
 import sqlite3
-import sys
 import tempfile
-from collections import Counter
+from collections.abc import Iterator
 from pathlib import Path
+from typing import Any
+
 import additions
+import pytest
 from dice import IRIS, Requests
+from kept import Request
 from office import export_of
 from plain import BASE, Plain
 from plain_display import PlainDisplay
 from plain_store import COLUMNS, LIMITS, judge, read_rows, rows_of
-from program import MEMORY, fault, lines_of, over, report, values_of
+from program import MEMORY, Ended, fault, lines_of, over, values_of
 
-START = [
+START: list[Request] = [
     {"do": "scheme", "tag": "en", "text": "Animals"},
     *({"do": "concept", "scheme": 1, "tag": "en", "text": text} for text in ("Cats", "Mammals", "Pets")),
 ]
-POST = {"do": "post", "key": "k1", "record": "r1", "concept": 2}
+POST: Request = {"do": "post", "key": "k1", "record": "r1", "concept": 2}
 # Stores by the requests that make them, each with changes and the fault after each change.
-LISTED = [
+LISTED: list[tuple[list[Request], dict[str, str]]] = [
     (
         [*START, POST, {"do": "merge", "source": 2, "target": 3}],
         {
@@ -69,7 +74,7 @@ LISTED = [
 DECLARED = {
     "meta": "one INTEGER PRIMARY KEY, version INTEGER NOT NULL, base TEXT NOT NULL",
     "resource": (
-        "num INTEGER PRIMARY KEY, kind INTEGER NOT NULL, scheme INTEGER, live INTEGER NOT NULL, replaced " "INTEGER"
+        "num INTEGER PRIMARY KEY, kind INTEGER NOT NULL, scheme INTEGER, live INTEGER NOT NULL, replaced INTEGER"
     ),
     "outside": "num INTEGER PRIMARY KEY, iri TEXT NOT NULL UNIQUE",
     "label": (
@@ -105,7 +110,7 @@ REDECLARED = [
     ("move", "target INTEGER", "target REAL"),
 ]
 # Requests of which each table has a row.
-EVERY_TABLE = [
+EVERY_TABLE: list[Request] = [
     *START,
     {"do": "outside", "iri": "http://example.org/x"},
     {"do": "link", "kind": "exact", "a": 4, "b": 5},
@@ -144,166 +149,183 @@ TEXTS = [
     *(b"x:" + b"y" * (most - 2) for most in (35, 36, 64, 65, 128, 129, 200, 201, 256, 257, 512, 513, 2000, 2001)),
     *(b"\xff", b"a\xc0\x80", b"\xed\xa0\x80", b"\xf4\x90\x80\x80", b"x:\xc3"),
 ]
+TOTALS = b'{"get":"totals"}\n'
 
 
-def change(path, text):
+def change(path: Path, text: str) -> None:
     with contextlib.closing(sqlite3.connect(path)) as base:
         base.executescript(text)
 
 
-def differences_of(path, what, wanted):
-    """Yields the commands that end otherwise than expected, or change the file."""
-    for command, ends in wanted.items():
+def changed(path: Path, copy: Path, text: str) -> Path:
+    """A copy of a store, changed by SQLite itself."""
+    shutil.copy(path, copy)
+    change(copy, text)
+    return copy
+
+
+def assert_ends(path: Path, wanted: Ended, *commands: str) -> None:
+    """Asserts how commands end, none of which may change the file."""
+    for command in commands:
         before = path.read_bytes()
-        ended = over(path, command, b'{"get":"totals"}\n')
-        if ended != ends:
-            yield f"{command} after {what}: {ended}, and not {ends}"
-        if path.read_bytes() != before:
-            yield f"{command} after {what}: the file was changed"
+        assert over(path, command, TOTALS) == wanted, command
+        assert path.read_bytes() == before, f"{command} changed the file"
 
 
-def listed(room):
-    """Makes the changes of the list above."""
-    for requests, changes in LISTED:
-        path = room / "listed.db"
-        path.unlink(missing_ok=True)
-        over(path, "script", lines_of(requests))
-        for number, (text, name) in enumerate(changes.items()):
-            copy = room / f"listed{number}.db"
-            shutil.copy(path, copy)
-            change(copy, text)
-            yield from differences_of(copy, text, dict.fromkeys(("check", "script"), fault(copy, name)))
+def store_of(path: Path, requests: list[Request]) -> Path:
+    """Makes a store by requests; some may be refused."""
+    over(path, "script", lines_of(requests))
+    return path
 
 
-def added(room):
-    """A store with additions does what one without them does, and so does one whose tables were made again, with
-    further columns or without the program's indexes."""
-    path = room / "added.db"
-    over(path, "script", lines_of(additions.START))
-    whole = over(path, "check")
-    for number, text in enumerate(["", *additions.additions(), *remade()]):
-        copy = room / f"added{number}.db"
-        shutil.copy(path, copy)
-        change(copy, text)
-        yield from differences_of(copy, text, {"check": whole})
-        yield from additions.differences(copy, text)
-    yield from additions.unmet()
-    plain = additions.performed(Plain(LIMITS), additions.START)[0]
-    for number, (text, request) in enumerate(additions.REFUSING.items()):
-        copy = room / f"refusing{number}.db"
-        shutil.copy(path, copy)
-        change(copy, text)
-        post = additions.post("k9", "r9", 2)
-        after, answer = plain.perform(post)
-        ended = over(copy, "script", lines_of([request, post]))
-        if ended != (3, lines_of([{"fault": "Store"}, answer]), b"thesaurus: fault Store\n"):
-            yield f"{text}: {ended}"
-        yield from (f"{text}: {it}" for it in additions.other_rows(copy, after))
+# --- listed changes ---
+
+CHANGES = [(number, text) for number, (_, changes) in enumerate(LISTED) for text in changes]
 
 
-def others(room):
-    """A database of other tables is no store."""
+@pytest.mark.parametrize(("number", "text"), CHANGES, ids=[f"{n}-{text[:60]}" for n, text in CHANGES])
+def test_listed_change_is_the_fault_of_its_table(number: int, text: str, room: Path) -> None:
+    requests, changes = LISTED[number]
+    path = changed(store_of(room / "listed.db", requests), room / "changed.db", text)
+    assert_ends(path, fault(path, changes[text]), "check", "script")
+
+
+def test_database_of_other_tables_is_no_store(room: Path) -> None:
     other = room / "other.db"
     change(other, "CREATE TABLE other (x)")
-    yield from differences_of(
-        other, "the making of another table", dict.fromkeys(("check", "script"), fault(other, "BadStore meta"))
-    )
+    assert_ends(other, fault(other, "BadStore meta"), "check", "script")
 
 
-def remaking(table, declaration, strict=" STRICT"):
+# --- tables that are declared otherwise ---
+
+
+def remaking(table: str, declaration: str, strict: str = " STRICT") -> str:
     """Statements that make a table again with another declaration, and the same rows."""
     columns = ", ".join(COLUMNS[table])
     return f"""ALTER TABLE {table} RENAME TO former; CREATE TABLE {table} ({declaration}){strict};
 INSERT INTO {table} ({columns}) SELECT {columns} FROM former ORDER BY rowid; DROP TABLE former;"""
 
 
-def widened(declaration, columns):
+def widened(declaration: str, columns: str) -> str:
     """A declaration with further columns, which stand before a key of several."""
     given, mark, key = declaration.partition(", PRIMARY KEY (")
     return f"{given}, {columns}{mark}{key}"
 
 
-def remade():
+def redeclared() -> Iterator[tuple[str, str]]:
+    """Statements that declare a table otherwise, and the table."""
+    yield from BOUND.items()
+    for table, declaration in DECLARED.items():
+        yield remaking(table, declaration, ""), table
+        yield remaking(table, widened(declaration, "note TEXT"), ""), table
+        yield remaking(table, declaration, " STRICT, WITHOUT ROWID"), table
+    for table, part, other in REDECLARED:
+        assert DECLARED[table].count(part) == 1
+        yield remaking(table, DECLARED[table].replace(part, other)), table
+
+
+OTHERWISE = list(redeclared())
+
+
+@pytest.mark.parametrize(("text", "table"), OTHERWISE, ids=[f"{n}-{it[1]}" for n, it in enumerate(OTHERWISE)])
+def test_table_that_is_declared_otherwise_is_a_fault(text: str, table: str, room: Path) -> None:
+    """Also if its rows are those of a store."""
+    path = changed(store_of(room / "declared.db", LISTED[0][0][:-1]), room / "changed.db", text)
+    assert_ends(path, fault(path, f"BadStore {table}"), "check", "script")
+
+
+# --- additions ---
+
+
+def remade() -> list[str]:
     """Statements that make tables again as they were, one by one and all, and with further columns that may be null."""
     same = [remaking(*it) for it in DECLARED.items()]
-    wider = [
-        remaking(table, widened(declaration, "note TEXT, seen INTEGER")) for table, declaration in DECLARED.items()
-    ]
+    wider = [remaking(table, widened(it, "note TEXT, seen INTEGER")) for table, it in DECLARED.items()]
     return [*same, *wider, "".join(same), "".join(reversed(wider)), "DROP INDEX posting_at; DROP INDEX move_posting"]
 
 
-def redeclared(room):
-    """A table that is declared otherwise than in a store is the fault of that table, also if its rows are those of a
-    store."""
-    path = room / "declared.db"
-    over(path, "script", lines_of(LISTED[0][0][:-1]))
-    changes = dict(BOUND)
-    for table, declaration in DECLARED.items():
-        changes[remaking(table, declaration, "")] = table
-        changes[remaking(table, widened(declaration, "note TEXT"), "")] = table
-        changes[remaking(table, declaration, " STRICT, WITHOUT ROWID")] = table
-    for table, part, other in REDECLARED:
-        assert DECLARED[table].count(part) == 1
-        changes[remaking(table, DECLARED[table].replace(part, other))] = table
-    for number, (text, table) in enumerate(changes.items()):
-        copy = room / f"declared{number}.db"
-        shutil.copy(path, copy)
-        change(copy, text)
-        yield from differences_of(copy, text, dict.fromkeys(("check", "script"), fault(copy, f"BadStore {table}")))
+ADDED = ["", *additions.additions(), *remade()]
 
 
-def declare(path, table, text):
+@pytest.mark.parametrize("text", ADDED, ids=[f"{n}-{text[:50]}" for n, text in enumerate(ADDED)])
+def test_store_with_additions_does_what_one_without_them_does(text: str, room: Path) -> None:
+    """So does one whose tables were made again, with further columns or without the program's indexes."""
+    path = store_of(room / "added.db", additions.START)
+    whole = over(path, "check")
+    copy = changed(path, room / "copy.db", text)
+    assert_ends(copy, whole, "check")
+    assert not list(additions.differences(copy, text))
+
+
+def test_requests_to_stores_with_additions_are_of_each_kind() -> None:
+    assert not list(additions.unmet())
+
+
+@pytest.mark.parametrize("text", additions.REFUSING, ids=["a foreign key", "a check"])
+def test_addition_that_refuses_a_request(text: str, room: Path) -> None:
+    """The request's answer is Store, and the next one is performed."""
+    copy = changed(store_of(room / "added.db", additions.START), room / "copy.db", text)
+    request, post = additions.REFUSING[text], additions.post("k9", "r9", 2)
+    after, answer = additions.performed(Plain(LIMITS), additions.START)[0].perform(post)
+    wanted = 3, lines_of([{"fault": "Store"}, answer]), b"thesaurus: fault Store\n"
+    assert over(copy, "script", lines_of([request, post])) == wanted
+    assert not list(additions.other_rows(copy, after))
+
+
+# --- values of other kinds ---
+
+
+def declare(path: Path, table: str, text: str) -> str:
     """Gives a table another declaration, and leaves its rows as they are. Returns the former declaration."""
     with contextlib.closing(sqlite3.connect(path)) as base, base:
-        former = base.execute("SELECT sql FROM sqlite_schema WHERE name = ?", (table,)).fetchone()[0]
+        former: str = base.execute("SELECT sql FROM sqlite_schema WHERE name = ?", (table,)).fetchone()[0]
         base.execute("PRAGMA writable_schema = ON")
         base.execute("UPDATE sqlite_schema SET sql = ? WHERE name = ?", (text, table))
     return former
 
 
-def other_kinds():
+def other_kinds() -> Iterator[tuple[str, str, str]]:
     """The columns of each table, each with values of the kinds that its declaration excludes. (A number that is a row's
     key can't be of another kind.)"""
     for table, declaration in DECLARED.items():
-        for column, kind, rest in re.findall(
-            r"(\w+) (INTEGER|TEXT)([^,]*)", declaration.partition(", PRIMARY KEY (")[0]
-        ):
+        columns = declaration.partition(", PRIMARY KEY (")[0]
+        for column, kind, rest in re.findall(r"(\w+) (INTEGER|TEXT)([^,]*)", columns):
             allowed = {"INTEGER": ("7",), "TEXT": ("'2'",)}[kind] + ("NULL",) * ("NOT NULL" not in rest)
             if "PRIMARY KEY" not in rest:
                 yield from ((table, column, it) for it in VALUES if it not in allowed)
 
 
-def kinds(room):
-    """A value of a kind that its column excludes is a fault of its table, which is declared without kinds; or of the
-    file, if the table is then declared as before: the library checks the values as it opens a database."""
-    path, copy = room / "kinds.db", room / "kind.db"
-    over(path, "script", lines_of(EVERY_TABLE))
-    for table, column, value in other_kinds():
-        shutil.copy(path, copy)
-        columns = re.sub(r" (INTEGER|TEXT)(?! PRIMARY)| NOT NULL", "", DECLARED[table])
-        former = declare(copy, table, f"CREATE TABLE {table} ({columns})")
-        change(copy, f"UPDATE {table} SET {column} = {value} WHERE rowid = (SELECT max(rowid) FROM {table})")
-        what = f"{table}.{column} = {value}"
-        yield from differences_of(copy, what, {"check": fault(copy, f"BadStore {table}")})
-        declare(copy, table, former)
-        with contextlib.closing(sqlite3.connect(copy)) as base:
-            last = base.execute(f"SELECT typeof({column}), quote({column}) FROM {table} ORDER BY rowid DESC").fetchone()
-            if last != base.execute(f"SELECT typeof({value}), quote({value})").fetchone():
-                yield f"{what}: it is {last}"
-        yield from differences_of(
-            copy, f"{what}, as before", dict.fromkeys(("check", "script"), fault(copy, "Store", "not a database"))
-        )
+KINDS = list(other_kinds())
 
 
-def rows_in(plain):
+@pytest.mark.parametrize(("table", "column", "value"), KINDS, ids=[f"{it[0]}.{it[1]} = {it[2]}" for it in KINDS])
+def test_value_of_a_kind_that_its_column_excludes(table: str, column: str, value: str, room: Path) -> None:
+    """It is a fault of its table, which is declared without kinds; or of the file, if the table is then declared as
+    before: the library checks the values as it opens a database."""
+    path = store_of(room / "kind.db", EVERY_TABLE)
+    columns = re.sub(r" (INTEGER|TEXT)(?! PRIMARY)| NOT NULL", "", DECLARED[table])
+    former = declare(path, table, f"CREATE TABLE {table} ({columns})")
+    change(path, f"UPDATE {table} SET {column} = {value} WHERE rowid = (SELECT max(rowid) FROM {table})")
+    assert_ends(path, fault(path, f"BadStore {table}"), "check")
+    declare(path, table, former)
+    with contextlib.closing(sqlite3.connect(path)) as base:
+        last = base.execute(f"SELECT typeof({column}), quote({column}) FROM {table} ORDER BY rowid DESC").fetchone()
+        assert last == base.execute(f"SELECT typeof({value}), quote({value})").fetchone()
+    assert_ends(path, fault(path, "Store", "not a database"), "check", "script")
+
+
+# --- generated stores ---
+
+
+def rows_in(plain: Plain) -> int:
     """How many rows the tables of a state have."""
     irises = sum(it["kind"] == "outside" for it in plain.resources)
     return 1 + irises + sum(len(getattr(plain, name)) for name in LIMITS)
 
 
-def thrown(dice):
+def thrown(dice: Requests) -> tuple[list[Request], list[Request], Plain]:
     """Requests that make a store of a few rows up to most, the answers to them, and the state then."""
-    plain, requests, answers = Plain(LIMITS), [], []
+    plain, requests, answers = Plain(LIMITS), list[Request](), list[Request]()
     enough = dice.between(6, MOST_ROWS)
     while len(requests) < 120:
         request = dice.posting(plain) if len(plain.resources) > 3 and dice.one_in(3) else dice.request(plain, 8)
@@ -321,10 +343,11 @@ def thrown(dice):
 class Alterer:
     """Alters the rows of a store by SQLite itself. What its schema refuses is no change."""
 
-    def __init__(self, dice, base):
-        self.dice, self.base, self.changes = dice, base, []
+    def __init__(self, dice: Requests, base: sqlite3.Connection) -> None:
+        self.dice, self.base = dice, base
+        self.changes: list[tuple[Any, ...]] = []
 
-    def cell(self, column, rows):
+    def cell(self, column: str, rows: list[Any]) -> Any:
         """A cell for a column: that of another row, one near it, or any."""
         near = self.dice.pick(rows)
         if column in TEXT_COLUMNS:
@@ -334,18 +357,18 @@ class Alterer:
             return self.dice.pick((None, self.dice.between(1, 9)))
         return self.dice.pick((near, near - 1, near + 1, self.dice.between(1, 9), self.dice.pick(NUMBERS)))
 
-    def perform(self, statement, *values):
+    def perform(self, statement: str, *values: Any) -> None:
         """Performs a statement, and notes it if the schema allows it and it changes something."""
         with contextlib.suppress(sqlite3.IntegrityError, OverflowError):
             if self.base.execute(statement, values).rowcount != 0:
                 self.changes.append((statement, *values))
 
-    def alter(self):
+    def alter(self) -> None:
         """Tries a change: mostly of a cell, now and then a row goes, comes again with another cell, or a table goes."""
         table = self.dice.pick([table for table, weight in WEIGHTS.items() for _ in range(weight)])
         rows = self.rows(table)
         if not rows:
-            return None
+            return
         if self.dice.one_in(60):
             return self.perform(f"DROP TABLE {table}")
         columns = COLUMNS[table]
@@ -363,7 +386,7 @@ class Alterer:
         update = f"UPDATE {table} SET {column} = {marks[place]} WHERE rowid = ? AND {column} IS NOT {marks[place]}"
         return self.perform(update, cell, number, cell)
 
-    def rows(self, table):
+    def rows(self, table: str) -> list[Any]:
         """The rows of a table with their row numbers, or none if the table is gone."""
         with contextlib.suppress(sqlite3.OperationalError):
             return self.base.execute(
@@ -372,7 +395,7 @@ class Alterer:
         return []
 
 
-def alter(dice, path):
+def alter(dice: Requests, path: Path) -> list[tuple[Any, ...]]:
     """Alters a store in a file by one to three changes, and returns them."""
     with contextlib.closing(sqlite3.connect(path)) as base:
         base.text_factory = bytes
@@ -385,33 +408,7 @@ def alter(dice, path):
     return alterer.changes
 
 
-def differences(path, dice, met):
-    """Makes a store, alters it, and yields the answers that differ from the plain program's."""
-    requests, answers, made = thrown(dice)
-    ended = over(path, "script", lines_of(requests))
-    if ended.err or values_of(ended.out) != answers:
-        yield f"the answers to {lines_of(requests)}: {ended}"
-    if read_rows(path) != rows_of(made) or not judge(rows_of(made))[1]:
-        yield f"the rows that {lines_of(requests)} made: {read_rows(path)}"
-    changes = alter(dice, path)
-    rows = read_rows(path)
-    verdict, plain = judge(rows)
-    met[verdict.removeprefix("fault ").partition(" resources=")[0]] += 1
-    ended = over(path, "check")
-    if ended != ((0, f"{verdict}\n".encode(), b"") if plain else fault(path, verdict.removeprefix("fault "))):
-        yield f"{verdict} is wanted after {changes}: {ended}; the rows: {rows}"
-    elif plain:
-        asked = plain.queries()
-        ended = over(path, "script", lines_of(asked))
-        if values_of(ended.out) != [plain.show(it) for it in asked]:
-            yield f"other views after {changes}: {ended}; the rows: {rows}"
-        for command, after, wanted in texts_of(plain, rows["meta"][0][2]):
-            ended = over(path, command, after=after)
-            if ended != (0, wanted, b""):
-                yield f"another {command} {after} after {changes}: {ended}, and not {wanted}; the rows: {rows}"
-
-
-def texts_of(plain, base):
+def texts_of(plain: Plain, base: str) -> Iterator[tuple[str, tuple[str, ...], bytes]]:
     """The export of a state, and the displays of its first scheme in two languages, each with its command and the words
     after it."""
     yield "export", (), export_of(plain, base)
@@ -422,20 +419,40 @@ def texts_of(plain, base):
         yield from (("alphabetical", after, shown.alphabetical()), ("hierarchical", after, shown.hierarchical()))
 
 
-def generated(room):
-    met = Counter()
-    for seed in range(1, STORES + 1):
-        for it in differences(room / f"generated{seed}.db", Requests(seed), met):
-            yield f"store {seed}: {it}"
-        for file in room.glob(f"generated{seed}.db*"):
-            file.unlink()
-    print("altered:", ", ".join(f"{name} {met[name]}" for name in VERDICTS))
-    yield from (f"no store was judged as {name}" for name in VERDICTS if not met[name])
+def assert_shows(path: Path, plain: Plain, base: str) -> None:
+    """Asserts that a store's views, export and displays are those of a state."""
+    asked = plain.queries()
+    assert values_of(over(path, "script", lines_of(asked)).out) == [plain.show(it) for it in asked]
+    for command, after, wanted in texts_of(plain, base):
+        assert over(path, command, after=after) == (0, wanted, b""), (command, after)
 
 
-if __name__ == "__main__":
-    with tempfile.TemporaryDirectory(dir=MEMORY) as place:
-        failures = [it for part in (listed, added, others, redeclared, kinds, generated) for it in part(Path(place))]
-    changed = 2 + len(additions.additions()) + len(additions.REFUSING) + len(remade()) + len(list(other_kinds()))
-    changed += sum(len(changes) for _, changes in LISTED) + len(BOUND) + len(REDECLARED) + 3 * len(DECLARED)
-    sys.exit(report("altered", failures, STORES + 2 * changed))
+@functools.cache
+def verdict_of(seed: int) -> str:
+    """Makes a store, alters it, and asserts that the answers are those of the plain program, whose verdict is
+    returned."""
+    dice = Requests(seed)
+    with tempfile.TemporaryDirectory(dir=MEMORY) as room:
+        path = Path(room) / "generated.db"
+        requests, answers, made = thrown(dice)
+        ended = over(path, "script", lines_of(requests))
+        assert not ended.err and values_of(ended.out) == answers, lines_of(requests)
+        assert read_rows(path) == rows_of(made) and judge(rows_of(made))[1], lines_of(requests)
+        changes = alter(dice, path)
+        rows = read_rows(path)
+        verdict, plain = judge(rows)
+        wanted = Ended(0, f"{verdict}\n".encode(), b"") if plain else fault(path, verdict.removeprefix("fault "))
+        assert over(path, "check") == wanted, (changes, rows)
+        if plain:
+            assert_shows(path, plain, rows["meta"][0][2])
+    return verdict.removeprefix("fault ").partition(" resources=")[0]
+
+
+@pytest.mark.parametrize("seed", range(1, STORES + 1))
+def test_altered_store_ends_as_by_the_plain_program(seed: int) -> None:
+    assert verdict_of(seed) in VERDICTS
+
+
+@pytest.mark.parametrize("verdict", VERDICTS)
+def test_verdict_is_met(verdict: str) -> None:
+    assert any(verdict_of(seed) == verdict for seed in range(1, STORES + 1))

@@ -1,24 +1,28 @@
-#!/usr/bin/env python3
 """Does the week of an office, by the tools: a vocabulary and a table become a store, records are indexed, terms are
 kept, concepts are merged, split and corrected, and the thesaurus is published, backed up, restored and served behind
 nginx. The commands are those of README.md and docs/GUIDE.md, with this office's files, names and numbers in place of
-theirs; after each, what it prints and what the store holds is checked. A part that needs a tool which isn't installed
-is skipped by name."""
+theirs; after each, what it prints and what the store holds is checked. What needs a tool is a task of its own, and left
+out where the tool isn't installed. Each test looks at what was found wrong in one task."""
+from __future__ import annotations
+
 import csv
+import importlib.util
 import io
 import json
 import os
 import re
+import shutil
 import subprocess
-import sys
-import tempfile
 import time
+from collections.abc import Callable
 from pathlib import Path
-from fronting import EDITOR, READER, fronted
-from office import python_with_rdflib
+from typing import Any, NamedTuple
+
+import pytest
+from fronting import EDITOR, READER, Site, fronted
 from ports import free_port
-from program import MEMORY, ROOT, built, has_tool, lines_of, over, report, skip, values_of
-from serving import serving
+from program import ROOT, built, lines_of, over, values_of
+from serving import Served, serving
 from vocabulary import has, ntriples, parent, turtle, word
 
 README, GUIDE = ROOT / "README.md", ROOT / "docs" / "GUIDE.md"
@@ -30,22 +34,32 @@ COMMAND = re.compile(r"(?:.*<<'END'.*\n(?:.*\n)*?END\n|(?:.*(?:[|\\]|&&)\n)*.*\n
 PATIENCE = 300
 
 
-def kept(number):
+def kept(number: int) -> bool:
     """Whether a concept of the vocabulary is in the store: one homonym has no label that isn't another concept's."""
     return not has(number, "homonym")
 
 
-class Office:
-    """The office's folder with its store, the documents' commands, and what was found wrong."""
+# What a command should print: a text, or a pattern of it.
+Wanted = str | re.Pattern[str] | None
+# A change of a command: what stands in it, and what is put in its place.
+Change = tuple[str, str]
 
-    def __init__(self, room):
-        self.room, self.store, self.numbers, self.failures, self.tried = room, room / "museum.db", {}, [], 0
+
+class Office:
+    """The office's folder with its store, the documents' commands, and what was checked in each task: what is wrong of
+    it, if anything."""
+
+    def __init__(self, room: Path) -> None:
+        self.room, self.store = room, room / "museum.db"
+        self.numbers: dict[str, int] = {}
+        self.task = ""
+        self.checked: dict[str, list[str | None]] = {}
         launcher = room / "thesaurus"
         launcher.write_text(f'#!/bin/sh\nexec "{built()}" "$@"\n', encoding="utf-8")
         launcher.chmod(0o755)
         (room / "tools").symlink_to(ROOT / "tools")
 
-    def command(self, part, page):
+    def command(self, part: str, page: Path) -> str:
         """Returns the first command of a page that has a part."""
         for block in BLOCK.findall(page.read_text(encoding="utf-8")):
             for command in COMMAND.findall(block):
@@ -53,7 +67,9 @@ class Office:
                     return command
         raise AssertionError(f"{page} has no command with {part}")
 
-    def do(self, what, part, *changes, page=GUIDE, wanted=None, status=0):
+    def do(
+        self, what: str, part: str, *changes: Change, page: Path = GUIDE, wanted: Wanted = None, status: int = 0
+    ) -> str:
         """Runs a command of a page, each of the changes made in it, checks what it prints, and returns that."""
         command = self.command(part, page)
         for old, new in changes:
@@ -61,7 +77,7 @@ class Office:
             command = command.replace(old, new)
         return self.run(what, command, wanted, status)
 
-    def run(self, what, command, wanted=None, status=0):
+    def run(self, what: str, command: str, wanted: Wanted = None, status: int = 0) -> str:
         """Runs a command, checks its status and what it prints, which is a text or a pattern, and returns that."""
         environment = {
             **os.environ,
@@ -82,27 +98,26 @@ class Office:
         self.check(what, ran.returncode == status and is_right, f"status {ran.returncode}: {text[-600:]}\nof {command}")
         return text
 
-    def check(self, what, is_right, found=""):
-        self.tried += 1
-        if not is_right:
-            self.failures.append(f"{what}: {found}")
+    def check(self, what: str, is_right: object, found: object = "") -> None:
+        """Notes whether something is right, or else what was found."""
+        self.checked[self.task].append(None if is_right else f"{what}: {found}")
 
-    def ask(self, *requests):
+    def ask(self, *requests: object) -> list[Any]:
         """Returns the program's own answers."""
         return values_of(over(self.store, "script", lines_of(requests)).out)
 
-    def view(self, number):
+    def view(self, number: int) -> Any:
         return self.ask({"get": "concept", "number": number})[0]
 
-    def count(self):
+    def count(self) -> int:
         """Returns how many resources the store has."""
-        return int(re.match(rb"ok resources=(\d+) ", over(self.store, "check").out)[1])
+        return int(over(self.store, "check").out.split()[1].removeprefix(b"resources="))
 
-    def number(self, concept):
+    def number(self, concept: int) -> int:
         """Returns the number of a concept of the vocabulary."""
         return self.numbers[f"https://old.example/concepts/{concept}"]
 
-    def report(self, words):
+    def report(self, words: str) -> list[list[str]]:
         """Returns the rows of a report, without the heading."""
         ran = subprocess.run(
             [ROOT / "tools" / "report", "--db", self.store, *words.split(), "--csv"],
@@ -113,19 +128,18 @@ class Office:
         return list(csv.reader(io.StringIO(ran.stdout)))[1:]
 
 
-def lines(*texts):
+def lines(*texts: str) -> str:
     return "".join(f"{it}\n" for it in texts)
 
 
 # --- Monday: the vocabulary comes in ---
 
 
-def bring_in(office):
+def bring_in(office: Office) -> None:
     """A vocabulary in Turtle, with its defects, and a table in another scheme of the store."""
-    ending = "ttl" if python_with_rdflib() else "nt"
-    if ending == "nt":
-        skip("week", "rdflib", "the vocabulary is read as N-Triples, and not as Turtle")
-    (office.room / f"museum.{ending}").write_text((turtle if ending == "ttl" else ntriples)(CONCEPTS), encoding="utf-8")
+    # (where nothing reads Turtle, it is N-Triples)
+    ending, write = ("ttl", turtle) if is_installed("rdflib") else ("nt", ntriples)
+    (office.room / f"museum.{ending}").write_text(write(CONCEPTS), encoding="utf-8")
     lost = {
         kind: sum(has(it, kind) for it in range(1, CONCEPTS + 1))
         for kind in ("notation", "definition", "spaces", "same twice")
@@ -164,7 +178,7 @@ def bring_in(office):
     office.check("a dead concept", not died["live"] and died["replaced"] == office.number(400), died)
 
 
-def bring_in_table(office):
+def bring_in_table(office: Office) -> None:
     """A table, into a second scheme of the store."""
     own = ("instruments.db", "museum.db")
     office.do("the table", "cat > instruments.csv")
@@ -188,22 +202,24 @@ def bring_in_table(office):
         ("--scheme 1", f"--scheme {scheme}"),
         wanted=lines("Instruments à cordes", "  Harpes", "  Luths"),
     )
-    check_rules(office)
 
 
-def check_rules(office):
-    """The export keeps the rules of SKOS, and another reader reads it."""
+def check_rules(office: Office) -> None:
+    """The export keeps the rules of SKOS."""
     office.do("export", "./thesaurus --db museum.db export > museum.nt", wanted="")
     office.do("rules", "tools/check-skos museum.nt", wanted="all rules hold\n")
-    if has_tool("week", "rapper", "another reader of the export"):
-        count = len((office.room / "museum.nt").read_bytes().splitlines())
-        office.do("another reader", "rapper -q -i ntriples -c museum.nt", wanted=f"{count}\n")
+
+
+def read_export(office: Office) -> None:
+    """Another reader reads the export."""
+    count = len((office.room / "museum.nt").read_bytes().splitlines())
+    office.do("another reader", "rapper -q -i ntriples -c museum.nt", wanted=f"{count}\n")
 
 
 # --- Tuesday: records are indexed ---
 
 
-def index(office):
+def index(office: Office) -> None:
     """A file of postings, once more with a further row, and with rows that are wrong."""
     rows = [f'p-{it},"Object {it}, found",{office.number(place_of(it))}' for it in range(1, RECORDS + 1)]
     (office.room / "postings.csv").write_text(lines("key,record,concept", *rows), encoding="utf-8")
@@ -237,12 +253,12 @@ def index(office):
     )
 
 
-def place_of(record):
+def place_of(record: int) -> int:
     """The concept of a record: one of those at hand, in turn."""
     return 1 + record % 300
 
 
-def number_old(office):
+def number_old(office: Office) -> None:
     """A file of postings with the concepts' old IRIs gets their numbers, by the names that the load wrote; one that the
     store lacks is reported."""
     there = [it for it in range(1, 31) if kept(place_of(it))]
@@ -271,7 +287,7 @@ def number_old(office):
     )
 
 
-def index_one(office):
+def index_one(office: Office) -> None:
     """A single posting, and what is indexed with a concept, and by a record."""
     number = office.number(20)
     there = sum(place_of(it) == 20 for it in range(1, RECORDS + 1))
@@ -304,7 +320,7 @@ def index_one(office):
 # --- Wednesday: terms ---
 
 
-def add_terms(office):
+def add_terms(office: Office) -> None:
     """Labels and notes, another preferred label, what a rule refuses, and new concepts by their names."""
     ends = {it: office.number(it) for it in (30, 31, 32, 33)}
     swap = [
@@ -354,7 +370,7 @@ def add_terms(office):
     office.numbers["plucked"], office.numbers["lutes"] = int(found[0][0]), int(found[0][0]) + 1
 
 
-def link(office):
+def link(office: Office) -> None:
     """A concept gets another place; related concepts, a cycle that is refused, mappings, and a collection."""
     plucked, lutes, there = office.numbers["plucked"], office.numbers["lutes"], office.number(5)
     office.do(
@@ -413,7 +429,7 @@ def link(office):
     )
 
 
-def link_changes(office):
+def link_changes(office: Office) -> list[Change]:
     """The guide's six links and the one that closes a cycle, among six concepts that have none of them yet."""
     old = {2: 60, 3: 320, 4: 322, 5: 323, 6: 330, 7: 331}
     return (
@@ -423,7 +439,7 @@ def link_changes(office):
     )
 
 
-def find(office):
+def find(office: Office) -> None:
     """What the reports find, against the vocabulary that came in."""
     name = word(77)
     office.do(
@@ -464,14 +480,14 @@ def find(office):
     office.do("duplicates", "tools/report --db museum.db duplicates", wanted=re.compile("^group +number"))
     office.do("to translate", "missing --lang de --csv", ("--lang de", "--lang fr"), wanted="")
     rows = list(csv.reader((office.room / "to-translate.csv").open(encoding="utf-8")))
-    wanted = [["number", "term", "pref@fr"], [str(office.number(3)), word(3), ""]]
-    office.check("to translate", rows[:1] == wanted[:1] and wanted[1] in rows, rows[:4])
+    row = [str(office.number(3)), word(3), ""]
+    office.check("to translate", rows[0] == ["number", "term", "pref@fr"] and row in rows, rows[:4])
 
 
 # --- Thursday: merges, splits, mistakes ---
 
 
-def merge(office):
+def merge(office: Office) -> None:
     """A merge moves what is posted and what is sent later; a split gives some of it a concept of its own."""
     source, target = office.number(16), office.number(17)
     moved, stays = ([it for it in range(1, RECORDS + 1) if place_of(it) == at] for at in (16, 17))
@@ -529,7 +545,7 @@ def merge(office):
     )
 
 
-def correct(office):
+def correct(office: Office) -> None:
     """A wrong posting, a posting too many, a merge taken back, and a concept that ends."""
     posting, there = RECORDS + 2, office.number(20)
     text = office.do(
@@ -574,13 +590,12 @@ def correct(office):
     )
     ends = (('"concept":3', f'"concept":{target}'), ('"concept":7', f'"concept":{office.number(419)}'))
     office.do("ended", '{"do":"deprecate"', *ends, wanted=lines('{"no":"HasPostings"}', '{"done":true}', "status 1"))
-    check_rules(office)
 
 
 # --- Friday: publishing, copies, a service ---
 
 
-def publish(office):
+def publish(office: Office) -> None:
     """Displays, a web site and a picture."""
     shown = office.do("alphabetical", "./thesaurus --db museum.db alphabetical", (" | head -n 7", ""))
     office.check(
@@ -609,11 +624,14 @@ def publish(office):
         ("museum.nt 3", f"museum.nt {office.number(17)}"),
         wanted="digraph thesaurus {\n",
     )
-    if has_tool("week", "dot", "a picture is drawn"):
-        office.run("drawn", "dot -Tsvg violins.dot | grep -c '<svg'", "1\n")
 
 
-def copy(office):
+def draw(office: Office) -> None:
+    """The picture is drawn."""
+    office.run("drawn", "dot -Tsvg violins.dot | grep -c '<svg'", "1\n")
+
+
+def copy(office: Office) -> None:
     """A backup, what has changed since Thursday, and the backup restored."""
     sizes = office.do("check", "./thesaurus --db museum.db check", wanted=re.compile("^ok resources="))
     office.do("a backup", "tools/backup museum.db backups", wanted="a backup\n")
@@ -635,98 +653,124 @@ def copy(office):
     )
 
 
-def serve(office):
-    """The guide's own requests, and then readers and editors behind nginx, while a backup is made."""
+def serve(office: Office) -> None:
+    """The guide's own requests."""
     port = free_port()
-    if has_tool("week", "curl", "requests by curl"):
-        command = "".join(
-            office.command(it, GUIDE)
-            for it in (
-                "serve --port 8080 --count 2",
-                "http://127.0.0.1:8080/postings",
-                "127.0.0.1:8080/totals",
-                "wait\n",
-            )
-        )
-        office.run(
-            "served",
-            command.replace("8080", str(port)).replace("/postings/8", f"/postings/{RECORDS + 3}"),
-            re.compile(
-                f"^listening on 127.0.0.1:{port}\n"
-                f'{{"first":.*"number":{RECORDS + 3},.*\n{{"accepted":{RECORDS + 4},.*\n$'
-            ),
-        )
-    if not has_tool("week", "nginx", "the service behind nginx") or not has_tool(
-        "week", "openssl", "the service behind nginx"
-    ):
-        return
+    parts = "serve --port 8080 --count 2", "http://127.0.0.1:8080/postings", "127.0.0.1:8080/totals", "wait\n"
+    command = "".join(office.command(it, GUIDE) for it in parts)
+    wanted = (
+        f"^listening on 127.0.0.1:{port}\n" f'{{"first":.*"number":{RECORDS + 3},.*\n{{"accepted":{RECORDS + 4},.*\n$'
+    )
+    command = command.replace("8080", str(port)).replace("/postings/8", f"/postings/{RECORDS + 3}")
+    office.run("served", command, re.compile(wanted))
+
+
+def serve_behind_nginx(office: Office) -> None:
+    """Readers and editors behind nginx, while a backup is made."""
     with serving(office.store, 1_000_000) as served, fronted(office.room, served.port, "localhost") as site:
-        reader, editor = (
-            f"https://{name}:{password.replace(' ', '%20')}@localhost:{site.tls}" for name, password in (READER, EDITOR)
-        )
-        office.run(
-            "a reader's report",
-            f'tools/report --http "{reader}" path {office.number(130)}',
-            re.compile(f"> {word(130)} "),
-        )
-        (office.room / "today.jsonl").write_text(
-            (
-                '{"as":"x","do":"concept","scheme":1,"tag":"en","text":"A term of '
-                'today"}\n{"do":"link","kind":"broader","a":"$x","b":%d}\n'
-            )
-            % office.number(9),
-            encoding="utf-8",
-        )
-        office.run("a reader's change", f'tools/load --http "{reader}" today.jsonl', re.compile("401"), status=3)
-        office.run(
-            "an editor's change",
-            f'tools/load --http "{editor}" --journal today.journal today.jsonl',
-            "load: 2 requests: 2 done\n",
-        )
-        office.run(
-            "a stranger", f'tools/report --http "https://localhost:{site.tls}" tops', re.compile("401"), status=3
-        )
-        status, body, _ = site.ask(
-            "POST",
-            "/requests",
-            '{"do":"scheme","tag":"en","text":"By a page"}',
-            user=EDITOR,
-            host="localhost",
-            name="localhost",
-            Origin="https://evil.example",
-        )
-        office.check("a page of another site", status == 403, body)
-        status, body, _ = site.ask("GET", "/site/", host="localhost", name="localhost")
-        office.check("the site", status == 200 and b"<html" in body, body[:200])
-        office.run(
-            "a backup while it serves",
-            f"tools/backup museum.db nightly --port {served.port}",
-            re.compile("the program was held for"),
-        )
-        office.run("in use", "tools/report --db museum.db tops", re.compile("another program has it open"), status=3)
+        change_behind_nginx(office, site)
+        read_behind_nginx(office, site, served)
     office.check("what was served", len(office.report("find today")) == 1, office.report("find today"))
     office.do("the end", "./thesaurus --db museum.db check", wanted=re.compile("^ok resources="))
 
 
-DAYS = {
-    "Monday": (bring_in, bring_in_table),
-    "Tuesday": (index, number_old, index_one),
-    "Wednesday": (add_terms, link, find),
-    "Thursday": (merge, correct),
-    "Friday": (publish, copy, serve),
-}
+def url_of(user: tuple[str, str], site: Site) -> str:
+    return f"https://{user[0]}:{user[1].replace(' ', '%20')}@localhost:{site.tls}"
 
 
-def main():
-    with tempfile.TemporaryDirectory(dir=MEMORY) as folder:
-        office = Office(Path(folder))
-        for day, tasks in DAYS.items():
-            for task in tasks:
-                before = len(office.failures)
-                task(office)
-                office.failures[before:] = [f"{day}: {it}" for it in office.failures[before:]]
-    return report("week", office.failures, office.tried)
+def change_behind_nginx(office: Office, site: Site) -> None:
+    """A reader may change nothing, and an editor may."""
+    made = '{"as":"x","do":"concept","scheme":1,"tag":"en","text":"A term of today"}\n'
+    linked = '{"do":"link","kind":"broader","a":"$x","b":%d}\n' % office.number(9)
+    (office.room / "today.jsonl").write_text(made + linked, encoding="utf-8")
+    reader, editor = url_of(READER, site), url_of(EDITOR, site)
+    office.run("a reader's change", f'tools/load --http "{reader}" today.jsonl', re.compile("401"), status=3)
+    office.run(
+        "an editor's change",
+        f'tools/load --http "{editor}" --journal today.journal today.jsonl',
+        "load: 2 requests: 2 done\n",
+    )
+    host = {"host": "localhost", "name": "localhost"}
+    scheme = '{"do":"scheme","tag":"en","text":"By a page"}'
+    status, body, _ = site.ask("POST", "/requests", scheme, user=EDITOR, **host, Origin="https://evil.example")
+    office.check("a page of another site", status == 403, body)
 
 
-if __name__ == "__main__":
-    sys.exit(main())
+def read_behind_nginx(office: Office, site: Site, served: Served) -> None:
+    """A reader's report, a stranger's, the site, and a backup."""
+    report = f'tools/report --http "{url_of(READER, site)}" path {office.number(130)}'
+    office.run("a reader's report", report, re.compile(f"> {word(130)} "))
+    report = f'tools/report --http "https://localhost:{site.tls}" tops'
+    office.run("a stranger", report, re.compile("401"), status=3)
+    status, body, _ = site.ask("GET", "/site/", host="localhost", name="localhost")
+    office.check("the site", status == 200 and b"<html" in body, body[:200])
+    backup = f"tools/backup museum.db nightly --port {served.port}"
+    office.run("a backup while it serves", backup, re.compile("the program was held for"))
+    office.run("in use", "tools/report --db museum.db tops", re.compile("another program has it open"), status=3)
+
+
+class Task(NamedTuple):
+    """A task of a day, and the tools that it needs."""
+
+    day: str
+    perform: Callable[[Office], None]
+    tools: tuple[str, ...] = ()
+
+    @property
+    def name(self) -> str:
+        return f"{self.day}: {self.perform.__name__}"
+
+
+TASKS = (
+    Task("Monday", bring_in),
+    Task("Monday", bring_in_table),
+    Task("Monday", check_rules),
+    Task("Monday", read_export, ("rapper",)),
+    Task("Tuesday", index),
+    Task("Tuesday", number_old),
+    Task("Tuesday", index_one),
+    Task("Wednesday", add_terms),
+    Task("Wednesday", link),
+    Task("Wednesday", find),
+    Task("Thursday", merge),
+    Task("Thursday", correct),
+    Task("Thursday", check_rules),
+    Task("Thursday", read_export, ("rapper",)),
+    Task("Friday", publish),
+    Task("Friday", draw, ("dot",)),
+    Task("Friday", copy),
+    Task("Friday", serve, ("curl",)),
+    Task("Friday", serve_behind_nginx, ("nginx", "openssl")),
+)
+
+
+def is_installed(tool: str) -> bool:
+    return bool(shutil.which(tool) or importlib.util.find_spec(tool))
+
+
+@pytest.fixture(scope="module")
+def week(shared_room: Path) -> Office:
+    """The office after its week."""
+    office = Office(shared_room)
+    for task in TASKS:
+        office.task = task.name
+        office.checked[task.name] = []
+        if all(map(is_installed, task.tools)):
+            try:
+                task.perform(office)
+            except Exception as error:  # a task that breaks off is wrong, and the next one is tried
+                office.check("broken off", False, repr(error))
+    return office
+
+
+@pytest.mark.parametrize(
+    "task", [pytest.param(it, id=it.name, marks=[pytest.mark.needs(*it.tools)] * bool(it.tools)) for it in TASKS]
+)
+def test_task(task: Task, week: Office) -> None:
+    assert week.checked[task.name]
+    assert [it for it in week.checked[task.name] if it] == []
+
+
+@pytest.mark.needs("rdflib")
+def test_vocabulary_comes_in_as_turtle(week: Office) -> None:
+    assert (week.room / "museum.ttl").exists()

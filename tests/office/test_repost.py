@@ -1,13 +1,16 @@
-#!/usr/bin/env python3
-"""Tests tools/repost: its scripts move postings to another concept, anew or with their keys, over the plain program's
-states and by the program itself; and it refuses postings and concepts that don't fit."""
-import sys
-import tempfile
-from pathlib import Path
-from office import generated, load, perform, tool, write_store
-from program import MEMORY, lines_of, over, report, values_of
+"""tools/repost: its scripts move postings to another concept, anew or with their keys, over the plain program's states
+and by the program itself; and it refuses postings and concepts that don't fit."""
+from __future__ import annotations
 
-START = [
+from pathlib import Path
+
+import pytest
+from office import Request, load, perform, tool, write_store
+from plain import Plain
+from plain_store import LIMITS
+from program import lines_of, over, values_of
+
+START: list[Request] = [
     {"do": "scheme", "tag": "en", "text": "Instruments"},
     *({"do": "concept", "scheme": 1, "tag": "en", "text": text} for text in ("Harps", "Violins", "Fiddles")),
     {"do": "scheme", "tag": "en", "text": "Places"},
@@ -21,7 +24,7 @@ START = [
     {"do": "merge", "source": 4, "target": 3},
 ]
 # What is refused, with words of the message.
-REFUSED = {
+REFUSED: dict[str, tuple[list[object], int, bytes]] = {
     "a posting that is withdrawn": (["--posting", 4, "--to", 3], 1, b"posting 4 is withdrawn"),
     "a posting that is there": (["--posting", 1, "--posting", 3, "--to", 2], 1, b"posting 3 is at 2 already"),
     "no posting": (["--posting", 1, "--posting", 9, "--to", 2], 1, b"no posting has the number 9"),
@@ -35,7 +38,7 @@ REFUSED = {
     "no target": (["--posting", 1], 2, b"--to"),
 }
 # Scripts that are printed, and the postings at Harps, Violins and Paris afterwards, as keys.
-PERFORMED = {
+PERFORMED: dict[str, tuple[list[object], list[list[str]]]] = {
     "a posting": (["--posting", 1, "--to", 2], [["p1.2", "p1.3"], ["p2", "k" * 63], []]),
     "a record": (["--record", "Pedal harp, Paris", "--at", 3, "--to", 2], [["p1.2", "p1.3"], ["p2", "k" * 63], []]),
     "a record that is there": (["--record", "Violin", "--at", 3, "--to", 2], [["p1.2"], ["p1", "k" * 63], []]),
@@ -49,63 +52,57 @@ PERFORMED = {
 }
 
 
-def wrong_refusals(store):
-    for what, (words, status, message) in REFUSED.items():
-        ended = tool("repost", "--db", store, *words)
-        if (ended.status, ended.out) != (status, b"") or message not in ended.err:
-            yield f"{what}: {ended}"
-
-
-def wrong_scripts(store, plain):
-    for what, (words, wanted) in PERFORMED.items():
-        ended = tool("repost", "--db", store, *words)
-        after, _, refused = perform(plain, ended.out.decode())
-        found = [[after.postings[n - 1]["key"] for n in after.standing_at(concept)] for concept in (2, 3, 6)]
-        same = after.labels[: len(plain.labels)] == plain.labels and all(
-            it[0] > 6 or it in plain.labels for it in after.labels
-        )
-        if ended.status or refused or found != wanted or not same or after.links != plain.links:
-            yield f"{what}: {found} {refused} {ended}"
-
-
-def wrong_by_program(path):
-    """The program performs a script of each way."""
-    over(path, "script", lines_of(START))
-    for words in (["--posting", 1, "--to", 2], ["--posting", 2, "--to", 6], ["--posting", 5, "--to", 2, "--keep-key"]):
-        ended = tool("repost", "--db", path, *words)
-        refused = load(path, ended.out.decode())
-        if ended.status or refused:
-            yield f"by the program: {ended} {refused}"
-    views = values_of(
-        over(
-            path,
-            "script",
-            lines_of([{"get": "totals"}, {"get": "postings", "concept": 2}, {"get": "posting", "number": 5}]),
-        ).out
-    )
-    wanted = [[3, "p1.2", "Violin"], [5, "k" * 63, "Lute"], [6, "p1.3", "Pedal harp, Paris"]]
-    if (
-        views[0] != {"accepted": 7, "standing": 4, "withdrawn": 3}
-        or views[1]["postings"] != wanted
-        or views[2]["place"] != 2
-    ):
-        yield f"by the program: {views}"
-
-
-def main():
-    _, plain = generated(1, 0)
+@pytest.fixture(scope="module")
+def plain() -> Plain:
+    """The state after START, of which one request is refused."""
+    state = Plain(LIMITS)
     for request in START:
-        plain, _ = plain.perform(request)
-    with tempfile.TemporaryDirectory(dir=MEMORY) as folder:
-        store = Path(folder) / "store.db"
-        write_store(store, plain)
-        failures = [
-            *wrong_refusals(store),
-            *wrong_scripts(store, plain),
-            *wrong_by_program(Path(folder) / "program.db"),
-        ]
-    return report("repost", failures, len(REFUSED) + len(PERFORMED) + 3)
+        state, _ = state.perform(request)
+    return state
 
 
-if __name__ == "__main__":
-    sys.exit(main())
+@pytest.fixture
+def store(plain: Plain, room: Path) -> Path:
+    """The store of that state."""
+    path = room / "store.db"
+    write_store(path, plain)
+    return path
+
+
+@pytest.mark.parametrize("what", REFUSED)
+def test_refused(what: str, store: Path) -> None:
+    words, status, message = REFUSED[what]
+    ended = tool("repost", "--db", store, *words)
+    assert (ended.status, ended.out) == (status, b"") and message in ended.err
+
+
+@pytest.mark.parametrize("what", PERFORMED)
+def test_script_moves_the_postings_and_nothing_else(what: str, store: Path, plain: Plain) -> None:
+    words, wanted = PERFORMED[what]
+    ended = tool("repost", "--db", store, *words)
+    assert not ended.status, ended
+    after, _, refused = perform(plain, ended.out.decode())
+    assert not refused
+    assert [[after.postings[n - 1]["key"] for n in after.standing_at(concept)] for concept in (2, 3, 6)] == wanted
+    assert after.labels[: len(plain.labels)] == plain.labels
+    assert all(it[0] > 6 or it in plain.labels for it in after.labels)
+    assert after.links == plain.links
+
+
+def test_program_performs_the_scripts(room: Path) -> None:
+    path = room / "program.db"
+    over(path, "script", lines_of(START))
+    words: list[list[object]] = [
+        ["--posting", 1, "--to", 2],
+        ["--posting", 2, "--to", 6],
+        ["--posting", 5, "--to", 2, "--keep-key"],
+    ]
+    for it in words:
+        ended = tool("repost", "--db", path, *it)
+        assert not ended.status, ended
+        assert not load(path, ended.out.decode())
+    asked = [{"get": "totals"}, {"get": "postings", "concept": 2}, {"get": "posting", "number": 5}]
+    totals, postings, posting = values_of(over(path, "script", lines_of(asked)).out)
+    assert totals == {"accepted": 7, "standing": 4, "withdrawn": 3}
+    assert postings["postings"] == [[3, "p1.2", "Violin"], [5, "k" * 63, "Lute"], [6, "p1.3", "Pedal harp, Paris"]]
+    assert posting["place"] == 2

@@ -1,15 +1,17 @@
-#!/usr/bin/env python3
-"""Tests tools/picture: Graphviz itself reads its text and finds the concepts and lines that are wanted, also where
-labels have quotes and backslashes. It needs dot for that; what is printed is compared without it."""
+"""tools/picture: Graphviz itself reads its text and finds the concepts and lines that are wanted, also where labels
+have quotes and backslashes."""
+from __future__ import annotations
+
 import json
 import subprocess
-import sys
-import tempfile
 from pathlib import Path
-from office import export_of, generated, tool
-from program import MEMORY, has_tool, report
 
-START = [
+import pytest
+from office import Request, export_of, perform_all, tool
+from plain import Plain
+from plain_store import LIMITS
+
+START: list[Request] = [
     {"do": "scheme", "tag": "en", "text": "Instruments"},
     *(
         {"do": "concept", "scheme": 1, "tag": "en", "text": text}
@@ -39,7 +41,7 @@ START = [
 BASE = "https://thesaurus.example/id/"
 OUTSIDE = "http://example.org/violin?a=b&c"
 # Words, the labels of the concepts in the picture, and its lines: from, to, and what is written at it.
-PICTURES = {
+PICTURES: dict[str, tuple[list[str], dict[str, str], set[tuple[str, str, str]]]] = {
     "one step": (
         ["4"],
         {
@@ -70,7 +72,8 @@ PICTURES = {
     ),
     "a dead concept": (["11"], {"11": "Old"}, set()),
 }
-REFUSED = {
+# What is refused, with the status and a part of the message.
+REFUSED: dict[str, tuple[list[str], int, bytes]] = {
     "a scheme": (["1"], 1, b"number 1 is no concept, but a scheme"),
     "no concept": (["99"], 1, b"nothing has the number 99"),
     "no number": (["x"], 2, b"invalid int"),
@@ -78,47 +81,43 @@ REFUSED = {
 }
 
 
-def read_by_dot(text):
-    """The labels and the lines that Graphviz finds."""
+@pytest.fixture
+def export(room: Path) -> Path:
+    """The export of the store."""
+    path = room / "export.nt"
+    path.write_bytes(export_of(perform_all(Plain(LIMITS), START)))
+    return path
+
+
+@pytest.mark.parametrize("what", PICTURES)
+def test_picture_is_whole(what: str, export: Path) -> None:
+    words, labels, lines = PICTURES[what]
+    ended = tool("picture", export, *words)
+    assert (ended.status, ended.err) == (0, b"")
+    assert ended.out.count(b" -> ") == len(lines) and ended.out.count(b" URL=") == len(labels)
+    assert ended.out.endswith(b"\n}\n")
+
+
+@pytest.mark.needs("dot")
+@pytest.mark.parametrize("what", PICTURES)
+def test_graphviz_finds_what_is_wanted(what: str, export: Path) -> None:
+    words, labels, lines = PICTURES[what]
+    text = tool("picture", export, *words).out
     graph = json.loads(subprocess.run(["dot", "-Tjson"], input=text, capture_output=True, check=True).stdout)
     names = [it["name"] for it in graph["objects"]]
-    labels = {it["name"]: it["label"].replace("\\\\", "\\") for it in graph["objects"]}
-    return labels, {(names[it["tail"]], names[it["head"]], it.get("label", "")) for it in graph.get("edges", ())}
+    assert {it["name"]: it["label"].replace("\\\\", "\\") for it in graph["objects"]} == labels
+    assert {(names[it["tail"]], names[it["head"]], it.get("label", "")) for it in graph.get("edges", ())} == lines
 
 
-def wrong_pictures(export, has_dot):
-    for what, (words, labels, lines) in PICTURES.items():
-        ended = tool("picture", export, *words)
-        found = read_by_dot(ended.out) if has_dot and not ended.status else (labels, lines)
-        is_whole = (
-            ended.out.count(b" -> ") == len(lines)
-            and ended.out.count(b" URL=") == len(labels)
-            and ended.out.endswith(b"\n}\n")
-        )
-        if (ended.status, ended.err) != (0, b"") or found != (labels, lines) or not is_whole:
-            yield f"{what}: {ended} {found}"
+@pytest.mark.parametrize("what", REFUSED)
+def test_refused(what: str, export: Path) -> None:
+    words, status, message = REFUSED[what]
+    ended = tool("picture", export, *words)
+    assert (ended.status, ended.out) == (status, b"") and message in ended.err
 
 
-def main():
-    _, plain = generated(1, 0)
-    for request in START:
-        plain, answer = plain.perform(request)
-        assert "no" not in answer, (request, answer)
-    has_dot = has_tool("picture", "dot", "what Graphviz finds")
-    with tempfile.TemporaryDirectory(dir=MEMORY) as folder:
-        export, other = Path(folder) / "export.nt", Path(folder) / "other.nt"
-        export.write_bytes(export_of(plain))
-        other.write_bytes(export.read_bytes() + b"no triple\n")
-        failures = list(wrong_pictures(export, has_dot))
-        for what, (words, status, message) in REFUSED.items():
-            ended = tool("picture", export, *words)
-            if (ended.status, ended.out) != (status, b"") or message not in ended.err:
-                failures.append(f"{what}: {ended}")
-        ended = tool("picture", other, 4)
-        if ended.status != 1 or b"other.nt:" not in ended.err:
-            failures.append(f"a line that is no triple: {ended}")
-    return report("picture", failures, len(PICTURES) + len(REFUSED) + 1)
-
-
-if __name__ == "__main__":
-    sys.exit(main())
+def test_line_that_is_no_triple_is_reported(export: Path, room: Path) -> None:
+    other = room / "other.nt"
+    other.write_bytes(export.read_bytes() + b"no triple\n")
+    ended = tool("picture", other, 4)
+    assert ended.status == 1 and b"other.nt:" in ended.err

@@ -1,13 +1,14 @@
-#!/usr/bin/env python3
-"""Tests tools/check-skos: it finds nothing in the exports of the stored examples and of generated stores, and in broken
+"""tools/check-skos: it finds nothing in the exports of the stored examples and of generated stores, and in broken
 exports each rule, by what a file says and by what that entails. The exports of the program are also those of the plain
 program, byte for byte."""
+from __future__ import annotations
+
 import re
-import sys
-import tempfile
 from pathlib import Path
+
+import pytest
 from office import SKOS, export_of, generated, tool
-from program import MEMORY, ROOT, lines_of, over, report
+from program import ROOT, Ended, lines_of, over
 
 EXAMPLES = ROOT / "crates" / "test_examples" / "data" / "exports.txt"
 SEEDS, COUNT = range(1, 5), 400
@@ -27,7 +28,7 @@ WELL = [
     f'{C} skos:prefLabel "C"@en',
 ]
 # What is added to these lines, and the rules that are broken then.
-CASES = {
+CASES: dict[str, tuple[list[str], list[str]]] = {
     "nothing": ([], []),
     "all kinds of links": (
         [f"{A} skos:broader {B}", f"{A} skos:related {C}", f"{A} skos:exactMatch <x:1>", f"{A} skos:broadMatch <x:2>"],
@@ -95,9 +96,8 @@ CASES = {
         ["preferred", "preferred"],
     ),
 }
-
-
-ENDS = {
+# Files with how the tool ends on them, which are called FILE.
+ENDS: dict[str, tuple[str, tuple[int, bytes, bytes]]] = {
     "a line that is no triple": (
         f"{A} {IS} {B} .\n{A} {B}\n",
         (1, b"", b"check-skos: FILE:2: no triple of N-Triples\n"),
@@ -115,75 +115,62 @@ ENDS = {
 }
 
 
-def checked(file, data):
+def checked(file: Path, data: bytes) -> Ended:
     """How the tool ends on a file of this content, with the file called FILE."""
     file.write_bytes(data)
     ended = tool("check-skos", file)
     return ended._replace(out=ended.out.replace(bytes(file), b"FILE"), err=ended.err.replace(bytes(file), b"FILE"))
 
 
-def rules_in(ended):
-    """The rules that the tool reports, and the last line."""
-    *lines, last = ended.out.decode().splitlines()
-    return sorted(it.split(": ")[1] for it in lines), last
+@pytest.mark.parametrize("is_reversed", [False, True], ids=["in order", "reversed"])
+@pytest.mark.parametrize("what", CASES)
+def test_rules_that_are_broken(what: str, is_reversed: bool, room: Path) -> None:
+    more, wanted = CASES[what]
+    lines = [re.sub(r"skos:(\w+)", rf"<{SKOS}\1>", it) + " .\n" for it in (*WELL, *more)]
+    ended = checked(room / "case.nt", "".join(reversed(lines) if is_reversed else lines).encode())
+    assert not ended.err and ended.status == bool(wanted)
+    assert sorted(it.split(": ")[1] for it in ended.out.decode().splitlines()[:-1]) == sorted(wanted)
 
 
-def wrong_for_cases(room):
-    for what, (more, wanted) in CASES.items():
-        data = "".join(re.sub(r"skos:(\w+)", rf"<{SKOS}\1>", it) + " .\n" for it in (*WELL, *more)).encode()
-        for way in (data, b"".join(reversed(data.splitlines(keepends=True)))):
-            ended = checked(room / "case.nt", way)
-            found = rules_in(ended)[0] if not ended.err else ended.err
-            if found != sorted(wanted) or ended.status != bool(wanted):
-                yield f"{what}: {ended}"
+@pytest.mark.parametrize("what", ENDS)
+def test_end(what: str, room: Path) -> None:
+    text, wanted = ENDS[what]
+    assert checked(room / "end.nt", text.encode()) == wanted
 
 
-def wrong_for_ends(room):
-    for what, (text, wanted) in ENDS.items():
-        ended = checked(room / "end.nt", text.encode())
-        if ended != wanted:
-            yield f"{what}: {ended}"
-    for what, words, status in (("a missing file", [room / "missing.nt"], 3), ("no file", [], 2)):
-        ended = tool("check-skos", *words)
-        if (ended.status, ended.out) != (status, b"") or not ended.err:
-            yield f"{what}: {ended}"
+@pytest.mark.parametrize(("words", "status"), [(["missing.nt"], 3), ([], 2)], ids=["a missing file", "no file"])
+def test_no_file(words: list[str], status: int, room: Path) -> None:
+    ended = tool("check-skos", *(room / it for it in words))
+    assert (ended.status, ended.out) == (status, b"") and ended.err
 
 
-def stored_exports():
+def stored_exports() -> dict[str, bytes]:
     """The exports in the stored examples."""
+    found = {}
     for example in EXAMPLES.read_text(encoding="utf-8").split("\n% ")[1:]:
         name, _, rest = example.partition("\n")
-        yield f"stored: {name}", f"{rest.partition('@ export')[2].strip()}\n".encode()
+        found[name] = f"{rest.partition('@ export')[2].strip()}\n".encode()
+    return found
 
 
-def generated_exports(room):
-    """The exports of generated stores, or none for one that is other than the plain program's."""
-    for seed in SEEDS:
-        requests, plain = generated(seed, COUNT)
-        path = room / f"{seed}.db"
-        over(path, "script", lines_of(requests))
-        export = over(path, "export").out
-        yield f"seed {seed}", export if export == export_of(plain) else None
+STORED = stored_exports()
 
 
-def wrong_for_exports(exports, room):
-    for name, export in exports:
-        ended = checked(room / "export.nt", export or b"")
-        if export is None:
-            yield f"{name}: the export is other than the plain program's"
-        elif ended.status or not re.match(
-            rf"FILE: {len(export.splitlines())} triples, [1-9].*, 0 broken$", ended.out.decode()
-        ):
-            yield f"{name}: {ended}"
+def assert_keeps_all_rules(file: Path, export: bytes) -> None:
+    ended = checked(file, export)
+    said = rf"FILE: {len(export.splitlines())} triples, [1-9].*, 0 broken$"
+    assert not ended.status and re.match(said, ended.out.decode()), ended
 
 
-def main():
-    with tempfile.TemporaryDirectory(dir=MEMORY) as folder:
-        room = Path(folder)
-        exports = [*stored_exports(), *generated_exports(room)]
-        failures = [*wrong_for_cases(room), *wrong_for_ends(room), *wrong_for_exports(exports, room)]
-    return report("check-skos", failures, len(CASES) + len(ENDS) + 2 + len(exports))
+@pytest.mark.parametrize("name", STORED)
+def test_stored_export_keeps_all_rules(name: str, room: Path) -> None:
+    assert_keeps_all_rules(room / "export.nt", STORED[name])
 
 
-if __name__ == "__main__":
-    sys.exit(main())
+@pytest.mark.parametrize("seed", SEEDS)
+def test_export_is_that_of_the_plain_program_and_keeps_all_rules(seed: int, room: Path) -> None:
+    requests, plain = generated(seed, COUNT)
+    over(room / "generated.db", "script", lines_of(requests))
+    export = over(room / "generated.db", "export").out
+    assert export == export_of(plain)
+    assert_keeps_all_rules(room / "export.nt", export)

@@ -1,20 +1,23 @@
-#!/usr/bin/env python3
 """Measures how long a client that stalls holds up the next one: if it is silent, if its head or its body drips, and if
 it stays or drips after its answer. The server must give it up at the deadline that docs/HTTP.md names, neither later
 nor sooner, and end with 0 after the count of connections. One more client is late with its request and doesn't read its
 answer. Each client has a server of its own, and all stall at the same time, for half a minute, the last one for a
 minute and a half."""
+from __future__ import annotations
+
 import contextlib
-import sys
+import socket
 import tempfile
 import threading
 import time
 from concurrent.futures import ThreadPoolExecutor
 from pathlib import Path
 from typing import NamedTuple
+
+import pytest
 from http_clients import ALLOWED, ANNOUNCED, MILLION, PATIENCE, PAUSES, SEEN_OFF, SLACK, connected, late_and_unread
 from http_rows import TOO_LONG, TOTAL, get, post
-from program import MEMORY, report
+from program import MEMORY, Ended
 from serving import serving
 
 
@@ -41,15 +44,22 @@ CLIENTS = (
 )
 
 
-def hold(client, link, over):
+class Stalled(NamedTuple):
+    """How a server fared with a client that stalls: the seconds that the next one waited, its answer, and the end."""
+
+    waited: float
+    told: bytes
+    ended: Ended
+
+
+def hold(client: Client, link: socket.socket, over: threading.Event) -> None:
     """Sends a byte after each pause, until the server closes the connection or the next client has its answer."""
     with contextlib.suppress(ConnectionResetError, BrokenPipeError):
         while not over.wait(client.pause or PATIENCE):
             link.send(b"a")
 
 
-def stall(client):
-    """The seconds that the next client waits, its answer, and how the program ends."""
+def stall(client: Client) -> Stalled:
     with tempfile.TemporaryDirectory(dir=MEMORY) as room, serving(Path(room) / "stalls.db", 2) as served, connected(
         served
     ) as link:
@@ -64,26 +74,30 @@ def stall(client):
         waited = time.monotonic() - began
         over.set()
         holding.join()
-        return waited, told, served.end()
+        return Stalled(waited, told, served.end())
 
 
-def unread():
-    """What is wrong with how a client that doesn't read its answer is given up."""
-    with tempfile.TemporaryDirectory(dir=MEMORY) as room:
-        return list(late_and_unread(Path(room)))
+class AllStalled(NamedTuple):
+    """How the servers fared, and what is wrong with how a client that doesn't read its answer is given up."""
+
+    clients: dict[str, Stalled]
+    unread: list[str]
 
 
-def failures():
+@pytest.fixture(scope="module")
+def stalled(shared_room: Path) -> AllStalled:
     with ThreadPoolExecutor(len(CLIENTS) + 1) as pool:
-        last = pool.submit(unread)
-        for client, (waited, told, ended) in zip(CLIENTS, pool.map(stall, CLIENTS)):
-            print(f"stalls: a client {client.what}: {waited:.1f} s")
-            if not client.bound - 1 <= waited < client.bound + SLACK:
-                yield f"a client {client.what} holds the next one up for {waited:.1f} s, not {client.bound}"
-            if told != TOTAL or ended != (0, b"", b""):
-                yield f"behind a client {client.what}: {told}, {ended}"
-        yield from last.result()
+        unread = pool.submit(lambda: list(late_and_unread(shared_room)))
+        clients = dict(zip((it.what for it in CLIENTS), pool.map(stall, CLIENTS)))
+        return AllStalled(clients, unread.result())
 
 
-if __name__ == "__main__":
-    sys.exit(report("stalls", list(failures()), len(CLIENTS) + 1))
+@pytest.mark.parametrize("client", CLIENTS, ids=[it.what for it in CLIENTS])
+def test_client_holds_up_the_next_one_until_the_deadline(client: Client, stalled: AllStalled) -> None:
+    found = stalled.clients[client.what]
+    assert client.bound - 1 <= found.waited < client.bound + SLACK
+    assert (found.told, found.ended) == (TOTAL, (0, b"", b""))
+
+
+def test_client_that_is_late_and_doesnt_read_its_answer(stalled: AllStalled) -> None:
+    assert not stalled.unread

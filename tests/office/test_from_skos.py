@@ -1,0 +1,329 @@
+"""tools/from-skos: an export comes back as the same export up to numbers, for stores of random requests, for a triple
+of each kind and for the sample; and each thing that is lost or breaks a rule is reported before anything is written,
+and left out with --drop."""
+from __future__ import annotations
+
+import csv
+import io
+import json
+import os
+import re
+import subprocess
+import sys
+from collections.abc import Iterator
+from pathlib import Path
+from typing import Any
+
+import pytest
+from dice import Requests
+from office import TOOLS, tool
+from plain import BASE, Plain
+from plain_store import LIMITS
+from program import ROOT, built, lines_of, over
+
+EXAMPLES = ROOT / "crates" / "test_examples" / "data" / "exports.txt"
+OTHER = "https://other.example/#"
+STORES, REQUESTS = 12, 300
+PREFIXES = """
+@prefix : <http://old.example/> .
+@prefix skos: <http://www.w3.org/2004/02/skos/core#> .
+@prefix owl: <http://www.w3.org/2002/07/owl#> .
+@prefix dct: <http://purl.org/dc/terms/> .
+@prefix iso: <http://purl.org/iso25964/skos-thes#> .
+"""
+needs_rdflib = pytest.mark.needs("rdflib")
+
+
+def from_skos(*words: str | Path, seed: str = "0") -> tuple[int, str, list[str]]:
+    """Runs the tool, and returns its status, the script and the lines of its report."""
+    call = [sys.executable, TOOLS / "from-skos", *words]
+    ran = subprocess.run(call, capture_output=True, check=False, env={**os.environ, "PYTHONHASHSEED": seed})
+    return ran.returncode, ran.stdout.decode(), ran.stderr.decode().splitlines()
+
+
+def load(path: Path, script: str) -> dict[str, str]:
+    """Loads a script into a new store, and returns the numbers of the names."""
+    file, names = path.with_suffix(".jsonl"), path.with_suffix(".csv")
+    file.write_text(script, encoding="utf-8")
+    words = ["--program", built(), "--db", path, "--base", OTHER, "--journal", path.with_suffix(".journal")]
+    ended = tool("load", *words, "--names", names, file)
+    assert not ended.status, ended.err.decode()
+    return dict(list(csv.reader(io.StringIO(names.read_text(encoding="utf-8"))))[1:])
+
+
+# --- what comes back ---
+
+
+def random_requests(seed: int) -> Iterator[dict[str, Any]]:
+    """Requests that make many concepts, and merge and deprecate often."""
+    dice, plain = Requests(seed), Plain(LIMITS)
+    for number in range(REQUESTS):
+        request = dice.request(plain, 30)
+        if number > REQUESTS // 2 and dice.one_in(3):
+            ends = dice.ends(plain.refuses_merge, len(plain.resources))
+            request = {"do": "merge", **dict(zip(("source", "target"), ends))}
+        if "do" in request:
+            plain, _ = plain.perform(request)
+            yield request
+
+
+def requests_of(name: str) -> bytes:
+    """The requests that make a store."""
+    if name == "the sample":
+        return (ROOT / "examples" / "instruments.jsonl").read_bytes()
+    if name == "each kind":
+        example = EXAMPLES.read_text(encoding="utf-8").split("\n% ")[2].partition("\n@ export\n")[0]
+        return "".join(f"{it[2:]}\n" for it in example.splitlines() if it.startswith("> ")).encode()
+    return lines_of(random_requests(int(name.split()[1])))
+
+
+@pytest.mark.parametrize("name", ["each kind", "the sample", *(f"store {seed}" for seed in range(STORES))])
+def test_export_comes_back(name: str, room: Path) -> None:
+    path, file, back = room / "first.db", room / "first.nt", room / "back.db"
+    over(path, "script", requests_of(name))
+    file.write_bytes(over(path, "export").out)
+    status, script, told = from_skos(file)
+    assert (status, told) == (0, [])
+    numbers = load(back, script)
+    export = file.read_text(encoding="utf-8")
+    mapped = re.sub(rf"<({re.escape(BASE)}\d+)>", lambda it: f"<{OTHER}{numbers[it[1]]}>", export)
+    assert set(over(back, "export").out.decode().splitlines()) == set(mapped.splitlines())
+
+
+# --- what is lost ---
+
+# A vocabulary whose only fault is each of these triples: the rule that is reported, and of which resource.
+SOUND = """
+:s a skos:ConceptScheme ; skos:prefLabel "Scheme"@en .
+:a a skos:Concept ; skos:inScheme :s ; skos:prefLabel "Bass"@en ; skos:altLabel "Low"@en ; skos:broader :b .
+:b a skos:Concept ; skos:inScheme :s ; skos:prefLabel "Fish"@en .
+:c a skos:Concept ; skos:inScheme :s ; skos:prefLabel "Voice"@en ; skos:related :b .
+:k a skos:Collection ; skos:inScheme :s ; skos:prefLabel "Group"@en ; skos:member :a .
+:t a skos:ConceptScheme ; skos:prefLabel "Other"@en .
+:d a skos:Concept ; skos:inScheme :t ; skos:prefLabel "Bass"@en ; skos:broadMatch :a .
+"""
+LOSSY: dict[str, tuple[str, str, str]] = {
+    ':a skos:notation "B1" .': ("lost", "a", "notation 'B1'"),
+    ':a skos:definition "A fish."@en .': ("lost", "a", "definition"),
+    ":a skos:inScheme :t .": ("lost", "a", "a further scheme, http://old.example/t"),
+    ":k skos:memberList (:b :c) .": ("lost", "k", "the order of its members"),
+    ':k skos:member :k2 . :k2 a skos:Collection ; skos:inScheme :s ; skos:prefLabel "Inner"@en .': (
+        "lost",
+        "k",
+        "the member http://old.example/k2",
+    ),
+    ':a skos:scopeNote [ <http://x.example/value> "x" ] .': ("lost", "a", "scopeNote _:"),
+    '[] a skos:Concept ; skos:prefLabel "Nameless"@en .': ("lost", "_:", "the concept is a blank node"),
+    ':a dct:created "2001" .': ("lost", "a", "created '2001'"),
+    ':b skos:topConceptOf :s ; skos:broader :z . :z a skos:Concept ; skos:inScheme :s ; skos:prefLabel "Z"@en .': (
+        "lost",
+        "b",
+        "topConceptOf",
+    ),
+    ":c skos:broaderTransitive :a .": ("lost", "c", "broaderTransitive http://old.example/a"),
+    ":a dct:isReplacedBy :b .": ("lost", "a", "isReplacedBy"),
+    ":x skos:exactMatch :y .": ("lost", "x", "neither is a concept of the file"),
+    ":b skos:broader :a .": (
+        "Cycle",
+        "b",
+        "broader http://old.example/a, which closes the ring http://old.example/a < http://old.example/b",
+    ),
+    # (a link that leads up from a declared top concept is the one that is left out)
+    ":a skos:topConceptOf :s . :b skos:broader :a .": (
+        "Cycle",
+        "a",
+        "broader http://old.example/b, which closes the ring",
+    ),
+    ":d skos:narrowMatch :b .": ("Cycle", "d", "narrow http://old.example/b"),
+    ":c a skos:Collection .": ("S37", "c", "a concept stays"),
+    ":t a skos:Concept ; skos:inScheme :s .": ("S9", "t", "a concept stays"),
+    ':a skos:hiddenLabel "Low"@en .': ("S13", "a", "hidden label 'Low'@en"),
+    ':a skos:altLabel "Bass"@EN .': ("S13", "a", "alt label 'Bass'@EN"),
+    ':a skos:prefLabel "Basses"@en .': ("S14", "a", "pref label 'Basses'@en"),
+    ":a skos:related :b .": ("S27", "a", "related http://old.example/b"),
+    ":d skos:exactMatch :a .": ("S46", "d", "exact http://old.example/a"),
+    ':c skos:prefLabel "Baß"@de . :b skos:prefLabel "Baß"@de .': (
+        "P1",
+        "c",
+        "'Baß'@de is that of http://old.example/b",
+    ),
+    ':a skos:altLabel "Untagged" .': ("BadTag", "a", "--lang"),
+    ':a skos:altLabel " Spaced"@en .': ("BadText", "a", "' Spaced'@en"),
+    f':a skos:altLabel "{"x" * 257}"@en .': ("BadText", "a", "xxx"),
+    ":a skos:closeMatch <urn:" + "x" * 509 + "> .": ("BadIri", "a", "close"),
+    ":e a skos:Concept ; skos:inScheme :s .": ("NoLabel", "e", "no preferred label"),
+    ':e a skos:Concept ; skos:prefLabel "E"@en .': ("NoScheme", "e", "--scheme"),
+    ":a skos:broader :d .": ("OtherScheme", "a", "broader"),
+    ":a skos:related :a .": ("SameResource", "a", "related"),
+    ":a skos:exactMatch :c .": ("OtherScheme", "a", "exact"),
+    ":c owl:deprecated true .": ("NotLive", "c", "related"),
+}
+
+
+def finding(line: str) -> tuple[str, str, str]:
+    """The rule, the resource and the text of a line of the report."""
+    found = re.fullmatch(r"from-skos: (\w+): (\S+): (.*)", line)
+    assert found, line
+    return found[1], found[2], found[3]
+
+
+def without_nodes(told: list[str]) -> str:
+    """A report without the names of blank nodes, which are others each time."""
+    return re.sub(r"_:\w+", "_:", "\n".join(told[:-1]))
+
+
+@needs_rdflib
+@pytest.mark.parametrize("triples", LOSSY, ids=[f"{n}-{it[0]}-{it[1]}" for n, it in enumerate(LOSSY.values())])
+def test_loss_is_reported_and_left_out_with_drop(triples: str, room: Path) -> None:
+    file = room / "lossy.ttl"
+    file.write_text(PREFIXES + SOUND + triples, encoding="utf-8")
+    status, script, told = from_skos(file)
+    assert (status, script) == (1, ""), told
+    rule, resource, what = LOSSY[triples]
+    begins = resource if resource == "_:" else f"http://old.example/{resource}"
+    found = [finding(it) for it in told[:-1]]
+    assert any(it[0] == rule and it[1].startswith(begins) and what in it[2] for it in found), told
+    status, script, again = from_skos("--drop", file)
+    assert not status and without_nodes(again) == without_nodes(told), again
+    load(room / "lossy.db", script)
+
+
+@pytest.fixture
+def sound(room: Path) -> Path:
+    """A file of a vocabulary without faults."""
+    file = room / "sound.ttl"
+    file.write_text(PREFIXES + SOUND, encoding="utf-8")
+    return file
+
+
+@needs_rdflib
+def test_nothing_is_reported_of_a_vocabulary_without_faults(sound: Path, room: Path) -> None:
+    status, script, told = from_skos(sound)
+    assert (status, told) == (0, [])
+    load(room / "sound.db", script)
+
+
+@needs_rdflib
+@pytest.mark.parametrize("seed", "123")
+def test_script_is_the_same_each_time(seed: str, sound: Path) -> None:
+    assert from_skos(sound, seed=seed) == from_skos(sound)
+
+
+# --- options, and files that can't be read ---
+
+PLAIN_TEXTS = """<http://old.example/s> <http://www.w3.org/1999/02/22-rdf-syntax-ns#type> \
+<http://www.w3.org/2004/02/skos/core#ConceptScheme> .
+<http://old.example/s> <http://purl.org/dc/terms/title> "Fish" .
+<http://old.example/a> <http://www.w3.org/2004/02/skos/core#topConceptOf> <http://old.example/s> .
+<http://old.example/a> <http://www.w3.org/2004/02/skos/core#prefLabel> " Sea \\n bass" .
+<http://old.example/a> <http://www.w3.org/2004/02/skos/core#notation> "B1" .
+<http://old.example/b> <http://www.w3.org/2004/02/skos/core#broader> <http://old.example/a> .
+<http://old.example/b> <http://www.w3.org/2004/02/skos/core#prefLabel> "Old" .
+<http://old.example/c> <http://www.w3.org/2004/02/skos/core#broader> <http://old.example/b> .
+<http://old.example/c> <http://www.w3.org/2004/02/skos/core#prefLabel> "Old" .
+<http://old.example/c> <http://www.w3.org/2004/02/skos/core#definition> "LONG" .
+"""
+
+
+OPTIONS = ["--lang", "en", "--qualify", "parent", "--texts", "cut", "--as-scope", "definition"]
+
+
+@pytest.fixture
+def options_file(room: Path) -> Path:
+    """A file for options, with a text that is too long."""
+    file = room / "options.nt"
+    file.write_text(PLAIN_TEXTS.replace("LONG", "é" * 1001), encoding="utf-8")
+    return file
+
+
+def test_codes_become_hidden_labels(options_file: Path) -> None:
+    status, script, told = from_skos(options_file, *OPTIONS, "--hidden-codes", "zxx")
+    assert (status, told) == (0, ["from-skos: 2 texts were trimmed or cut"])
+    terms = ["Fish", "Sea   bass", "Old (Sea   bass)", "Old (Old)"]
+    texts = [json.loads(it).get("text") for it in script.splitlines()]
+    assert texts == [*terms, "B1", "b", "c", "é" * 1000, None, None]
+
+
+def test_old_iris_are_kept(options_file: Path, room: Path) -> None:
+    status, script, _ = from_skos(options_file, *OPTIONS, "--keep-iris", "--drop")
+    assert not status
+    assert "outside http://old.example/c" in load(room / "options.db", script)
+    assert over(room / "options.db", "export").out.count(b"#exactMatch> <http://old.example/") == 3
+
+
+def test_old_iris_and_codes_are_kept_together(options_file: Path, room: Path) -> None:
+    _, with_iris, _ = from_skos(options_file, *OPTIONS, "--keep-iris", "--drop")
+    _, with_codes, _ = from_skos(options_file, *OPTIONS, "--hidden-codes", "zxx")
+    status, both, _ = from_skos(options_file, *OPTIONS, "--hidden-codes", "zxx", "--keep-iris")
+    assert not status
+    assert sorted(both.splitlines()) == sorted({*with_iris.splitlines(), *with_codes.splitlines()})
+    load(room / "both.db", both)
+    codes = re.findall(r'#hiddenLabel> "(\w+)"@zxx', over(room / "both.db", "export").out.decode())
+    assert sorted(codes) == ["B1", "b", "c"]
+
+
+def test_all_codes_are_kept(options_file: Path) -> None:
+    _, script, _ = from_skos(options_file, *OPTIONS, "--hidden-codes", "zxx", "--all-codes")
+    requests = [json.loads(it) for it in script.splitlines()]
+    assert [it["text"] for it in requests if it.get("tag") == "zxx"] == ["a", "B1", "b", "c"]
+
+
+LEFT_OUT = (
+    "BadTag 4, lost 2 (notation 1, definition 1), NoLabel 4, UnknownResource 2; options that keep more: --lang TAG "
+    "(BadTag), --hidden-codes TAG (notation), --as-scope definition (definition)"
+)
+
+
+@pytest.mark.parametrize(
+    ("words", "wanted", "why"),
+    [
+        (["options.txt"], 2, "--form says what it is"),
+        (["options.txt", "--form", "nt"], 1, LEFT_OUT),
+        (["empty.nt"], 1, "nothing in it is a concept"),
+    ],
+    ids=["no form", "a form", "an empty file"],
+)
+def test_form_of_a_file(words: list[str], wanted: int, why: str, options_file: Path, room: Path) -> None:
+    """The end of a name or --form says what a file is. What is left out is counted by kind, with the options that keep
+    it."""
+    (room / "options.txt").write_bytes(options_file.read_bytes())
+    (room / "empty.nt").write_text("", encoding="utf-8")
+    status, script, told = from_skos(room / words[0], *words[1:])
+    assert (status, script) == (wanted, "") and why in told[-1], told
+
+
+# Runs the tool by a Python that lacks rdflib, as another installation than the system's may.
+WITHOUT = """
+import os, runpy, sys
+sys.modules["rdflib"], sys.executable = None, "another"
+del sys.argv[0]
+sys.path.insert(0, os.path.dirname(sys.argv[0]))
+runpy.run_path(sys.argv[0], run_name="__main__")
+"""
+
+
+@pytest.mark.needs("rdflib")
+@pytest.mark.skipif(Path(sys.executable).resolve() != Path("/usr/bin/python3").resolve(), reason="another Python")
+def test_python_without_rdflib_has_the_systems_do_it(sound: Path) -> None:
+    call = [sys.executable, "-c", WITHOUT, TOOLS / "from-skos", sound]
+    ran = subprocess.run(call, capture_output=True, check=False)
+    assert (ran.returncode, ran.stdout.decode(), ran.stderr) == (0, from_skos(sound)[1], b"")
+
+
+# Files, what is in them, the status that is wanted, and a part of what is said.
+WRONG: dict[str, tuple[str | None, int, str]] = {
+    "wrong.nt": ("<http://a> <http://b> c .\n", 1, "wrong.nt:1: no triple"),
+    "cut.nt": ("\n<http://a> <http://b> ", 1, "cut.nt:2: no triple"),
+    "none.nt": (None, 3, "No such file"),
+    "wrong.ttl": (":a :b .", 1, "wrong.ttl: "),
+    "none.rdf": (None, 3, "none.rdf"),
+}
+
+
+@pytest.mark.parametrize("name", [pytest.param(it, marks=[needs_rdflib] * (not it.endswith(".nt"))) for it in WRONG])
+def test_file_that_cant_be_read(name: str, room: Path) -> None:
+    text, wanted, why = WRONG[name]
+    if text is not None:
+        (room / name).write_text(text, encoding="utf-8")
+    status, script, told = from_skos(room / name)
+    assert (status, script) == (wanted, "") and why in told[0], told
