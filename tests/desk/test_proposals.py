@@ -159,3 +159,13 @@ def test_proposals_in_pages(site: Site, rita: Client) -> None:
     assert "Reason 51." in page.text and "Reason 02." in page.text and "Reason 01." not in page.text
     assert 'href="/proposals?state=open&amp;before=3"' in page.text
     assert "Reason 01." in rita.get("/proposals?state=open&before=3").text
+
+
+def test_editors_see_what_waits(site: Site, rita: Client) -> None:
+    """Proposals are named on the first page, and comments after the proposals."""
+    propose(rita, kind="words")
+    rita.post("/c/5/comments", {"text": "Is this right?"})
+    assert "1 proposal waits for an answer." in text_of(site.client("ben").get("/"))
+    assert "waits for an answer" not in text_of(rita.get("/"))
+    page = site.client("ben").get("/proposals")
+    assert "Is this right?" in page.text and 'href="/c/5#comments"' in page.text

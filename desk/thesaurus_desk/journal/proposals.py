@@ -116,7 +116,7 @@ class Proposals:
         rows = self.journal.all("SELECT * FROM comment WHERE number = ? AND removed_at IS NULL ORDER BY id", number)
         return [Comment(**dict(it)) for it in rows]
 
-    def recent_comments(self, most: int = 50) -> list[Comment]:
+    def recent_comments(self, most: int) -> list[Comment]:
         """Returns the last comments, the last first."""
         rows = self.journal.all("SELECT * FROM comment WHERE removed_at IS NULL ORDER BY id DESC LIMIT ?", most)
         return [Comment(**dict(it)) for it in rows]

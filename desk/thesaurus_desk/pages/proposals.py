@@ -21,6 +21,8 @@ pages = Blueprint("proposals", __name__)
 FORM = "propose"
 # How many proposals a page shows.
 PAGE = 50
+# How many comments are shown after the proposals.
+MOST_COMMENTS = 20
 STATES = ("open", "accepted", "declined", "withdrawn")
 # What can be proposed: a term for a concept, a new concept below one, a link, or a change in words alone.
 KINDS = ("alt", "pref", "scope", "concept", "broader", "related", "words")
@@ -43,7 +45,8 @@ def proposals() -> Any:
     found = the_proposals().find(state=chosen, before=before, most=PAGE + 1)
     further = f"/proposals?state={chosen}&before={found[PAGE - 1].id}" if len(found) > PAGE else ""
     told = [(it, tell_proposal(it)) for it in found[:PAGE]]
-    return render_template("proposals/list.html", state=chosen, states=STATES, proposals=told, further=further)
+    page = {"state": chosen, "states": STATES, "proposals": told, "further": further}
+    return render_template("proposals/list.html", **page, comments=the_proposals().recent_comments(MOST_COMMENTS))
 
 
 def tell_proposal(proposal: Proposal) -> list[Any]:
