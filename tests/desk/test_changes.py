@@ -192,9 +192,10 @@ def test_a_plan_that_stays_unknown_is_closed(site: Site, anna: Client) -> None:
     journal = site.desk.journal
     step = Step(label(site, "Fine violins"))
     plan = journal.begin(Draft("ben", "test", [step]))
-    assert "nobody knows whether they were performed" in text_of(anna.get("/"))
+    assert "nobody knows whether they were performed" not in text_of(anna.get("/"))  # (it is under way)
     step.state = "unknown"
     journal.finish(plan, "unknown", [step])
+    assert "nobody knows whether they were performed" in text_of(anna.get("/"))
     page = anna.get("/changes")
     assert "Not known to be done" in page.text and f'action="/changes/{plan}/close"' in page.text
     assert site.client("ina").post(f"/changes/{plan}/close").status_code == 403

@@ -313,3 +313,13 @@ def test_journal_survives_a_kill_of_its_writer(tmp_path: Path) -> None:
         os._exit(0)
     with closing(Journal(path)) as journal:
         assert [it.user for it in journal.open_plans()] == ["anna"]
+
+
+def test_a_plan_that_is_under_way_is_not_open(desk: Desk) -> None:
+    """Only one that ended without an answer is said to have none."""
+    first = desk.journal.begin(Draft("anna", "note", [Step(note(5, "Bowed."))]))
+    assert desk.journal.open_plans() == []
+    second = desk.journal.begin(Draft("ben", "note", [Step(note(5, "Plucked."))]))
+    assert [it.id for it in desk.journal.open_plans()] == [first]
+    desk.journal.finish(second, "done", [Step(note(5, "Plucked."), "done", {"done": True})])
+    assert [it.id for it in desk.journal.open_plans()] == [first] and desk.journal.under_way is None

@@ -98,8 +98,8 @@ class History:
 
 
 def to_csv(cells: tuple[object, ...]) -> str:
-    """Returns a line of CSV. A cell that a spreadsheet would take for a formula begins with an apostrophe, which a table
-    that is brought in loses again."""
+    """Returns a line of CSV. A cell that a spreadsheet would take for a formula begins with an apostrophe, which goes
+    when the table is brought in."""
     out = io.StringIO()
     csv.writer(out).writerow([f"'{it}" if isinstance(it, str) and NEEDS_GUARD.match(it) else it for it in cells])
     return out.getvalue()
