@@ -9,12 +9,14 @@ from pathlib import Path
 from typing import Any
 
 from selenium import webdriver
+from selenium.common.exceptions import JavascriptException, NoSuchElementException, StaleElementReferenceException
 from selenium.webdriver.chrome.service import Service
 from selenium.webdriver.common.by import By
 from selenium.webdriver.remote.webelement import WebElement
 from selenium.webdriver.support.ui import WebDriverWait
 
 PATIENCE = 60
+GOING = (JavascriptException, NoSuchElementException, StaleElementReferenceException)
 WIDE, NARROW = (1280, 960), (360, 800)
 # What the browser reports that a page of the desk must not cause.
 WRONG = re.compile(r"Content Security Policy|Uncaught| 5\d\d |Refused to")
@@ -49,7 +51,8 @@ class Browser:
 
     def wait(self, what: Callable[[], Any]) -> Any:
         """Waits until something is so, and returns it."""
-        return WebDriverWait(self.driver, PATIENCE, 0.05).until(lambda _: what())
+        # (a page that goes meanwhile takes its elements with it, and ends a script)
+        return WebDriverWait(self.driver, PATIENCE, 0.05, GOING).until(lambda _: what())
 
     def run(self, script: str, *values: Any) -> Any:
         """Returns what a script returns."""
@@ -93,9 +96,9 @@ class Browser:
         return list(self.run(f"{script}.map((it) => it.textContent)"))
 
     def pick(self, field: WebElement, text: str) -> None:
-        """Types into a field with suggestions, and takes the first."""
+        """Types into a field with suggestions, and takes the first of those for the whole text."""
         field.send_keys(text)
-        self.wait(self.options)
+        self.wait(lambda: self.all("[role=option][aria-selected=true]"))
         field.send_keys("\ue007")
 
     def use_scheme(self, scheme: str) -> None:
