@@ -95,6 +95,12 @@ class Browser:
         script = "return [...document.querySelectorAll('[role=option]')].filter((it) => it.checkVisibility())"
         return list(self.run(f"{script}.map((it) => it.textContent)"))
 
+    def suggested(self, text: str) -> list[str]:
+        """Waits for the answer to a whole text, and returns its suggestions: one for its beginning may come before."""
+        answered = "return performance.getEntriesByType('resource').some((it) => it.name.includes(arguments[0]))"
+        self.wait(lambda: self.run(answered, f"q={text}&"))
+        return list(self.wait(self.options))
+
     def pick(self, field: WebElement, text: str) -> None:
         """Types into a field with suggestions, and takes the first of those for the whole text."""
         field.send_keys(text)
