@@ -15,7 +15,7 @@ from selenium.webdriver.common.by import By
 from selenium.webdriver.remote.webelement import WebElement
 from selenium.webdriver.support.ui import WebDriverWait
 
-PATIENCE = 60
+PATIENCE = 180
 GOING = (JavascriptException, NoSuchElementException, StaleElementReferenceException)
 WIDE, NARROW = (1280, 960), (360, 800)
 # What the browser reports that a page of the desk must not cause.

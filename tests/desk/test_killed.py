@@ -30,9 +30,9 @@ def run_killed(store: Path, program: str, plan: list[dict[str, Any]], point: str
     """Runs a desk that is killed at a point, and waits until its program has ended, too."""
     words = [str(ROOT / "tests/desk/killed_desk.py"), str(store), program, json.dumps(plan), point, str(number)]
     paths = os.pathsep.join(str(ROOT / it) for it in ("desk", "tools"))
-    ran = subprocess.run([sys.executable, *words], env={**os.environ, "PYTHONPATH": paths}, check=False, timeout=120)
+    ran = subprocess.run([sys.executable, *words], env={**os.environ, "PYTHONPATH": paths}, check=False, timeout=300)
     assert ran.returncode == -signal.SIGKILL
-    end = time.monotonic() + 20
+    end = time.monotonic() + 120
     while is_in_use(store):
         assert time.monotonic() < end, "the program outlives its desk"
         time.sleep(0.01)
