@@ -163,7 +163,7 @@ def read_ods(path: Path, data: bytes, sheet: str) -> Iterator[tuple[int, list[st
 def repeats(path: Path, element: Any, name: str) -> int:
     """Returns how often a cell or a row of an OpenDocument file stands there."""
     text = element.getAttribute(name) or "1"
-    if not (text.isascii() and text.isdigit()):
+    if not (text.isascii() and text.isdigit() and len(text) < 16):
         raise ToolError(f"{path}: a damaged ODS file: {name} is {text!r}", REFUSED)
     return int(text)
 
