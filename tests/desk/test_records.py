@@ -69,7 +69,7 @@ def test_records_in_pages_with_those_below(reader: Reader, desk: Desk) -> None:
     for path, count in ((f"/c/{VIOLINS}/records.csv", 250), (f"/c/{BOWED}/records.csv?with=below", 250)):
         heading, *rows = reader.get(path).html.splitlines()
         assert heading == "\ufeffKey,record,number,term" and len(rows) == count
-        assert rows[0] == f"v-0,Violin 0000,{VIOLINS},Violins"
+        assert rows[0] == f"k-0,Violin 0000,{VIOLINS},Violins"
     assert reader.get("/c/1/records.csv").status == 404
 
 
