@@ -120,8 +120,8 @@ def site_name() -> str:
 
 
 def time_element(at: str) -> Markup:
-    """Returns a time of the journal (UTC) as an element; a script shows it in the reader's zone."""
-    return Markup('<time datetime="{}">{}</time>').format(at, at[:16].replace("T", " "))
+    """Returns a time of the journal as an element: in UTC, as it says; a script shows it in the reader's zone."""
+    return Markup('<time datetime="{}">{} UTC</time>').format(at, at[:16].replace("T", " "))
 
 
 def install_errors(app: Flask) -> None:

@@ -72,8 +72,9 @@ def bring_in(desk: Desk, user: str, data: bytes, name: str) -> Brought:
     """Imports a posting file, under the desk's lock."""
     cells = cells_of(data)
     request = {"do": "import", "name": name, "sha256": hashlib.sha256(data).hexdigest(), "rows": len(cells)}
-    steps = [Step(request, facts=[])]
     before = len(desk.mirror.postings.all)
+    # (if the desk is killed meanwhile, the postings from there on are the import's)
+    steps = [Step(request, kept={"before": before}, facts=[])]
     try:
         desk.write_late()
         brought = Brought("done", plan=desk.journal.begin(Draft(user, "import", steps)))

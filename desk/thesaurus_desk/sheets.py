@@ -8,7 +8,7 @@ from flask import Response, stream_with_context
 
 from thesaurus_desk.context import person, say, tags, the_mirror
 from thesaurus_desk.journal.history import to_csv
-from thesaurus_desk.mirror import View
+from thesaurus_desk.mirror import Posting, View
 
 # What a visitor doesn't see comes last.
 COLUMNS = ("number", "address", "kind", "term", "language", "alternative", "broader", "state", "replaced", "records")
@@ -35,8 +35,20 @@ def rows_of(numbers: Iterable[int]) -> Iterator[str]:
             yield to_csv(cells_of(view)[:width])
 
 
+def rows_of_postings(postings: Iterable[Posting]) -> Iterator[str]:
+    """Yields the lines of a table of postings."""
+    yield to_csv((say("edit.key"), *(say(f"lists.column.{it}") for it in ("record", "number", "term"))))
+    for it in postings:
+        yield to_csv((it.key, it.record, it.place, the_mirror().term(it.place, tags())[1]))
+
+
 def sheet(name: str, numbers: Iterable[int]) -> Response:
-    """Returns a table of resources as a file. It begins with a byte order mark, by which spreadsheets know UTF-8."""
-    rows = stream_with_context(chain(("\ufeff",), rows_of(numbers)))
+    """Returns a table of resources as a file."""
+    return sheet_of_rows(name, rows_of(numbers))
+
+
+def sheet_of_rows(name: str, lines: Iterable[str]) -> Response:
+    """Returns a table as a file. It begins with a byte order mark, by which spreadsheets know UTF-8."""
+    rows = stream_with_context(chain(("\ufeff",), lines))
     headers = {"Content-Disposition": f'attachment; filename="{name}.csv"'}
     return Response(rows, content_type="text/csv; charset=utf-8", headers=headers)

@@ -20,6 +20,10 @@ LONGEST, SHOWN = 120, 200
 FORMS = {".nt": "nt", ".ttl": "turtle", ".rdf": "xml", ".xml": "xml", ".jsonld": "json-ld", ".json": "json-ld"}
 
 
+class StoreBusy(Exception):
+    """Something long is under way, such as an import, and the store can't be copied meanwhile."""
+
+
 @dataclass
 class SkosOptions:
     """How a vocabulary is converted."""
@@ -57,7 +61,8 @@ class SkosRun:
 
 
 def read_skos(desk: Desk, name: str, data: bytes, options: SkosOptions) -> SkosRun:
-    """Converts a vocabulary, and tries it on a copy. Raises ToolError with the report of a conversion that fails."""
+    """Converts a vocabulary, and tries it on a copy. Raises ToolError with the report of a conversion that fails, and
+    StoreBusy."""
     suffix = Path(name).suffix.lower()
     if suffix not in FORMS:
         raise ToolError(f"{name}: the name of a vocabulary ends with {', '.join(FORMS)}", REFUSED)
@@ -86,11 +91,11 @@ def run_tool(tool: str, *words: str) -> subprocess.CompletedProcess[str]:
 
 
 def try_on_copy(desk: Desk, folder: Path, script: Path) -> list[str]:
-    """Returns what a copy of the store refuses of a script."""
+    """Returns what a copy of the store refuses of a script. Raises StoreBusy."""
     copy = folder / "copy.db"
     with desk.alone() as is_free:
         if not is_free:
-            raise ToolError("something long is under way, such as an import: try again in a minute", REFUSED)
+            raise StoreBusy
         for end in ("", "-wal"):
             if Path(f"{desk.db}{end}").exists():
                 shutil.copyfile(f"{desk.db}{end}", f"{copy}{end}")

@@ -9,12 +9,14 @@ from pathlib import Path
 from typing import Any
 
 from selenium import webdriver
+from selenium.common.exceptions import JavascriptException, NoSuchElementException, StaleElementReferenceException
 from selenium.webdriver.chrome.service import Service
 from selenium.webdriver.common.by import By
 from selenium.webdriver.remote.webelement import WebElement
 from selenium.webdriver.support.ui import WebDriverWait
 
-PATIENCE = 60
+PATIENCE = 180
+GOING = (JavascriptException, NoSuchElementException, StaleElementReferenceException)
 WIDE, NARROW = (1280, 960), (360, 800)
 # What the browser reports that a page of the desk must not cause.
 WRONG = re.compile(r"Content Security Policy|Uncaught| 5\d\d |Refused to")
@@ -49,7 +51,8 @@ class Browser:
 
     def wait(self, what: Callable[[], Any]) -> Any:
         """Waits until something is so, and returns it."""
-        return WebDriverWait(self.driver, PATIENCE, 0.05).until(lambda _: what())
+        # (a page that goes meanwhile takes its elements with it, and ends a script)
+        return WebDriverWait(self.driver, PATIENCE, 0.05, GOING).until(lambda _: what())
 
     def run(self, script: str, *values: Any) -> Any:
         """Returns what a script returns."""
@@ -92,10 +95,16 @@ class Browser:
         script = "return [...document.querySelectorAll('[role=option]')].filter((it) => it.checkVisibility())"
         return list(self.run(f"{script}.map((it) => it.textContent)"))
 
+    def suggested(self, text: str) -> list[str]:
+        """Waits for the answer to a whole text, and returns its suggestions: one for its beginning may come before."""
+        answered = "return performance.getEntriesByType('resource').some((it) => it.name.includes(arguments[0]))"
+        self.wait(lambda: self.run(answered, f"q={text}&"))
+        return list(self.wait(self.options))
+
     def pick(self, field: WebElement, text: str) -> None:
-        """Types into a field with suggestions, and takes the first."""
+        """Types into a field with suggestions, and takes the first of those for the whole text."""
         field.send_keys(text)
-        self.wait(self.options)
+        self.wait(lambda: self.all("[role=option][aria-selected=true]"))
         field.send_keys("\ue007")
 
     def use_scheme(self, scheme: str) -> None:

@@ -50,7 +50,7 @@ def fronted_desk(room: Path, upstream: int, asks: bool = False) -> Iterator[Site
     assert tested.returncode == 0, tested.stderr
     with subprocess.Popen(words, stderr=subprocess.DEVNULL) as nginx:
         try:
-            end = time.monotonic() + 60
+            end = time.monotonic() + 180
             while socket.socket().connect_ex(("127.0.0.1", site.tls)):
                 assert time.monotonic() < end, (room / "error.log").read_text(encoding="utf-8")
                 time.sleep(0.1)

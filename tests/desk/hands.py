@@ -140,8 +140,12 @@ class Hand(ABC):
     def pick(self, name: str, typed: str, term: str = "") -> None:
         """Types the beginning of a term into a field, and takes the suggestion."""
         self.fill(name, typed)
-        self.wait(lambda: self.driver.execute_script(OPTIONS), f"a suggestion for {typed}")
+        self.wait(self.chosen, f"a suggestion for {typed}")
         self.take(term or typed)
+
+    def chosen(self) -> list[WebElement]:
+        """Returns the suggestion that Enter takes: there is one once those for the whole text are there."""
+        return [it for it in self.driver.execute_script(OPTIONS) if it.get_attribute("aria-selected") == "true"]
 
     def picture(self, path: Path, height: int, part: str = "body") -> None:
         """Writes a picture of the page, from a part of it on."""
@@ -210,7 +214,7 @@ class Keyboard(Hand):
 
     def take(self, text: str) -> None:
         for _ in range(MOST_TABS):
-            chosen = [it for it in self.driver.execute_script(OPTIONS) if it.get_attribute("aria-selected") == "true"]
+            chosen = self.chosen()
             if chosen and chosen[0].text.startswith(text):
                 self.type_keys(Keys.ENTER)
                 return

@@ -13,7 +13,7 @@ from pathlib import Path
 
 ROOT = Path(__file__).resolve().parents[2]
 DESK = ROOT / "tools" / "desk"
-PATIENCE = 60
+PATIENCE = 300
 
 
 @dataclass

@@ -4,6 +4,7 @@ from __future__ import annotations
 import csv
 import io
 import re
+from concurrent.futures import ThreadPoolExecutor
 from typing import Any
 
 import pytest
@@ -185,3 +186,13 @@ def test_a_vocabulary(site: Site, anna: Client) -> None:
 def test_no_vocabulary(anna: Client, name: str, data: bytes) -> None:
     page = send(anna, "/bring-in/skos", data, name, tag="en")
     assert page.status_code == 409 and 'role="alert"' in page.text
+
+
+@pytest.mark.needs("rdflib")
+def test_a_vocabulary_while_the_desk_is_busy(site: Site, anna: Client, monkeypatch: pytest.MonkeyPatch) -> None:
+    monkeypatch.setattr("thesaurus_desk.performing.PATIENCE", 0.1)
+    with ThreadPoolExecutor(1) as other:
+        other.submit(site.desk.lock.acquire).result()
+        page = send(anna, "/bring-in/skos", SKOS.encode(), "places.ttl", tag="en")
+        other.submit(site.desk.lock.release).result()
+    assert page.status_code == 409 and "Something long is under way" in text_of(page)

@@ -11,7 +11,7 @@ from typing import Any
 
 import pytest
 from clients import Client, Site, text_of
-from thesaurus_desk.journal.entries import Draft, Request
+from thesaurus_desk.journal.entries import Draft, Request, Step
 from thesaurus_desk.journal.settling import BY_OTHERS, Found
 from thesaurus_desk.journal.takeback import TakeBack
 
@@ -163,7 +163,9 @@ def test_a_refused_taking_back_says_why(site: Site, anna: Client) -> None:
 def test_a_change_by_another_program(site: Site, anna: Client) -> None:
     """It is in the history of the concept, in the list of changes, and in the table."""
     violins, journal = number(site, "Violins"), site.desk.journal
-    journal.finish(journal.begin(Draft("", BY_OTHERS, [])), "done", [], changed=[violins], note="restored from a backup")
+    journal.finish(
+        journal.begin(Draft("", BY_OTHERS, [])), "done", [], changed=[violins], note="restored from a backup"
+    )
     for path in (f"/c/{violins}", "/changes", "/"):
         page = text_of(anna.get(path))
         assert "by other means" in page and "changed while the desk was down, by another program" in page, path
@@ -183,3 +185,22 @@ def test_what_is_another_persons(site: Site, anna: Client) -> None:
     site.desk.proposals.comment("anna", 5, "Look at this.")
     answer = site.client("ben").post("/c/5/comments/1/remove")
     assert answer.status_code == 403 and "You may not do this" in answer.text
+
+
+def test_a_plan_that_stays_unknown_is_closed(site: Site, anna: Client) -> None:
+    """The warning ends when somebody has looked at what came of it."""
+    journal = site.desk.journal
+    step = Step(label(site, "Fine violins"))
+    plan = journal.begin(Draft("ben", "test", [step]))
+    assert "nobody knows whether they were performed" not in text_of(anna.get("/"))  # (it is under way)
+    step.state = "unknown"
+    journal.finish(plan, "unknown", [step])
+    assert "nobody knows whether they were performed" in text_of(anna.get("/"))
+    page = anna.get("/changes")
+    assert "Not known to be done" in page.text and f'action="/changes/{plan}/close"' in page.text
+    assert site.client("ina").post(f"/changes/{plan}/close").status_code == 403
+    assert anna.post(f"/changes/{plan}/close").status_code == 303
+    assert "Not known to be done" not in anna.get("/changes").text
+    assert "nobody knows whether they were performed" not in text_of(anna.get("/"))
+    found = journal.plan(plan)
+    assert found and (found.state, found.note) == ("unknown", "looked at by anna")

@@ -63,13 +63,19 @@ def test_addresses_that_are_none(site: Site) -> None:
         "/c/x",
         "/c/-1",
         "/c/99999999999999999999",
+        "/changes/99999999999999999999/back",
+        "/proposals/99999999999999999999",
+        f"/c/{'9' * 5000}",
+        f"/id/{'9' * 5000}",
         "/posting/999",
         "/static/../app.py",
         "/%00",
         "/é",
     ):
         answer = anna.get(path)
-        assert answer.status_code == 404 and "<main" in answer.text, path
+        assert answer.status_code == 404 and "<main" in answer.text, path[:80]
+    ticks = {"form": "reindex", "do": "ticked", "posting": "9" * 5000}
+    assert anna.post("/c/5/records", ticks).status_code == 409
     refused = anna.get("/logout")
     assert refused.status_code == 405 and "Not like this" in text_of(refused)
     assert set(refused.headers["Allow"].split(", ")) >= {"POST"}

@@ -169,6 +169,8 @@ def test_tables(site: Site, anna: Client) -> None:
         "/schemes?format=csv",
         "/collections?format=csv",
         "/print/4?format=csv",
+        "/c/32/members.csv",
+        "/changed-since?since=2026&format=csv",
     ):
         assert rows_of(anna.get(path)), path
     violins = next(it for it in rows_of(anna.get("/tree?format=csv")) if it["number"] == "5")

@@ -3,6 +3,7 @@ from __future__ import annotations
 
 import json
 import subprocess
+import time
 from pathlib import Path
 from typing import Any
 
@@ -10,7 +11,10 @@ import pytest
 from flask import Flask
 from flask.testing import FlaskClient
 from thesaurus_desk.interfaces import Source, interfaces_of
-from thesaurus_desk.mirror import Mirror
+from thesaurus_desk.interfaces.skosmos_concepts import climb
+from thesaurus_desk.interfaces.skosmos_search import is_match
+from thesaurus_desk.mirror import Link, Mirror, Resource
+from thesaurus_desk.mirror.changes import apply
 from thesaurus_desk.mirror.exported import read_export
 from thesaurus_tools.ntriples import Triple, read_ntriples
 from thesaurus_tools.rdf_writing import write_ntriples
@@ -187,7 +191,10 @@ def test_search_below_a_concept_and_by_parts(client: FlaskClient, mirror: Mirror
     some = get(client, "/rest/v1/1/search", query="*s", lang="en", parent=parent, maxhits=2, offset=1)["results"]
     assert some == all_of_it[1:3]
     assert client.get("/rest/v1/1/search").status_code == 400
-    assert client.get("/rest/v1/1/search?query=a&maxhits=x").status_code == 400
+    for text in ("x", "9" * 5000):
+        assert client.get(f"/rest/v1/1/search?query=a&maxhits={text}").status_code == 400
+    for name in ("²", "9" * 5000):
+        assert client.get(f"/rest/v1/{name}/").status_code == 200  # (there is one vocabulary)
 
 
 def test_neighbours(client: FlaskClient, mirror: Mirror) -> None:
@@ -296,3 +303,45 @@ def test_hostile_labels_are_escaped(mirror: Mirror) -> None:
     triple = Triple(Iri("https://a.example/1"), Iri(SKOS + "prefLabel"), Literal(text, "en"))
     (found,) = parse_ntriples("".join(write_ntriples([triple], "https://a.example/")).encode(), "text")
     assert found == triple
+
+
+# --- many, and hostile ---
+
+
+@pytest.mark.parametrize(
+    ("query", "text", "is_found"),
+    [
+        ("harps", "harps", True),
+        ("harp", "harps", False),
+        ("harp*", "harps", True),
+        ("*arp*", "harps", True),
+        ("h*p*s", "harps", True),
+        ("ha*as", "has", False),
+        ("a*b*a", "aba", True),
+        ("a*b*b*a", "aba", False),
+        ("*", "", True),
+    ],
+)
+def test_queries_with_stars(query: str, text: str, is_found: bool) -> None:
+    assert is_match(query.split("*"), text) is is_found
+
+
+def test_a_query_of_many_stars_takes_no_time() -> None:
+    """A search holds the mirror, and so all pages."""
+    start = time.process_time()
+    assert not is_match((f"{'*a' * 100}*b").split("*"), "a" * 256)
+    assert time.process_time() - start < 1
+
+
+def test_a_large_hierarchy_takes_no_time() -> None:
+    """What is above or below a concept is found in a time that grows with its number alone."""
+    mirror = Mirror("https://thesaurus.example/id/")
+    apply(mirror, {"do": "scheme", "tag": "en", "text": "One"}, {"ok": 1})
+    count = 20_000
+    for it in range(2, count + 2):
+        mirror.add_resource(Resource(it, "concept", 1))
+        if it > 2:
+            mirror.add_link(Link("broader", it, it - 1 if it % 3 else 2))
+    start = time.process_time()
+    assert len(climb(mirror, 2, up=False)) == count
+    assert time.process_time() - start < 1

@@ -132,7 +132,7 @@ def test_comments(desk: Desk) -> None:
     assert [(it.user, it.text) for it in desk.proposals.comments(5)][0] == ("ines", "Is this <b>right</b>?")
     assert desk.proposals.remove_comment(first, "anna") and not desk.proposals.remove_comment(first, "anna")
     assert (
-        [it.id for it in desk.proposals.comments(5)] == [second] == [it.id for it in desk.proposals.recent_comments()]
+        [it.id for it in desk.proposals.comments(5)] == [second] == [it.id for it in desk.proposals.recent_comments(20)]
     )
 
 
@@ -235,13 +235,6 @@ def test_one_desk_at_a_time(desk: Desk, program: str) -> None:
     assert desk.perform("anna", "note", [note(5, "Bowed.")]).is_done
 
 
-def test_secret_and_logins(desk: Desk) -> None:
-    key = desk.journal.secret()
-    assert len(key) == 32 and desk.journal.secret() == key and desk.journal.secret("other") != key
-    desk.journal.note_login("anna", "in")
-    assert [tuple(it)[1:] for it in desk.journal.logins()] == [("anna", "in")]
-
-
 def test_full_disk(desk: Desk, monkeypatch: pytest.MonkeyPatch) -> None:
     """A journal that can't be written: a plan isn't sent; one that was sent is written down later."""
     limit = resource.getrlimit(resource.RLIMIT_FSIZE)
@@ -316,7 +309,17 @@ def test_journal_survives_a_kill_of_its_writer(tmp_path: Path) -> None:
         os.waitpid(child, 0)
     else:
         journal = Journal(path)
-        journal.note_login("anna", "in")
+        journal.begin(Draft("anna", "note", [Step(note(5, "Bowed."))]))
         os._exit(0)
     with closing(Journal(path)) as journal:
-        assert len(journal.logins()) == 1
+        assert [it.user for it in journal.open_plans()] == ["anna"]
+
+
+def test_a_plan_that_is_under_way_is_not_open(desk: Desk) -> None:
+    """Only one that ended without an answer is said to have none."""
+    first = desk.journal.begin(Draft("anna", "note", [Step(note(5, "Bowed."))]))
+    assert desk.journal.open_plans() == []
+    second = desk.journal.begin(Draft("ben", "note", [Step(note(5, "Plucked."))]))
+    assert [it.id for it in desk.journal.open_plans()] == [first]
+    desk.journal.finish(second, "done", [Step(note(5, "Plucked."), "done", {"done": True})])
+    assert [it.id for it in desk.journal.open_plans()] == [first] and desk.journal.under_way is None

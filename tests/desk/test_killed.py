@@ -30,9 +30,9 @@ def run_killed(store: Path, program: str, plan: list[dict[str, Any]], point: str
     """Runs a desk that is killed at a point, and waits until its program has ended, too."""
     words = [str(ROOT / "tests/desk/killed_desk.py"), str(store), program, json.dumps(plan), point, str(number)]
     paths = os.pathsep.join(str(ROOT / it) for it in ("desk", "tools"))
-    ran = subprocess.run([sys.executable, *words], env={**os.environ, "PYTHONPATH": paths}, check=False, timeout=120)
+    ran = subprocess.run([sys.executable, *words], env={**os.environ, "PYTHONPATH": paths}, check=False, timeout=300)
     assert ran.returncode == -signal.SIGKILL
-    end = time.monotonic() + 20
+    end = time.monotonic() + 120
     while is_in_use(store):
         assert time.monotonic() < end, "the program outlives its desk"
         time.sleep(0.01)
@@ -94,6 +94,9 @@ def test_killed_between_two_requests(
 
 
 def test_killed_in_an_import(store: Path, program: str, open_desk: Callable[[Path], Desk]) -> None:
+    """Only its own postings are known as the import's, also if it is the first that a journal has."""
+    before = b'{"do":"post","key":"old","record":"Old","concept":5}\n'
+    subprocess.run([program, "--db", str(store), "script"], input=before, stdout=subprocess.DEVNULL, check=True)
     desk = open_desk(store)
     rows = b"key,record,concept\n" + b"".join(b"k%d,Record %d,5\n" % (it, it) for it in range(3))
     finish = desk.journal.finish
@@ -104,10 +107,10 @@ def test_killed_in_an_import(store: Path, program: str, open_desk: Callable[[Pat
     desk.journal.close()
     again = open_desk(store)
     (settled,) = again.found.settled
-    assert settled.state == "done" and settled.steps[0].answer == {"outcomes": {}, "first": 1, "last": 3}
+    assert settled.state == "done" and settled.steps[0].answer == {"outcomes": {}, "first": 2, "last": 4}
     assert again.found.changed == ()
     assert again.perform_take_back("ben", again.take_back(settled)).is_done
-    assert again.mirror.postings.count_at(5) == 0
+    assert [it.key for it in again.mirror.postings.page_at(5)] == ["old"]
 
 
 def test_changes_by_other_means(store: Path, program: str, open_desk: Callable[[Path], Desk]) -> None:

@@ -183,14 +183,14 @@ def test_pages_while_an_import_runs(desk: Desk, monkeypatch: pytest.MonkeyPatch)
 
     def slow(rows: bytes) -> tuple[int, bytes]:
         is_sent.set()
-        assert may_end.wait(30)
+        assert may_end.wait(300)
         return send(rows)
 
     monkeypatch.setattr(desk.program, "send_postings", slow)
     monkeypatch.setattr("thesaurus_desk.performing.PATIENCE", 0.1)
     bringing = threading.Thread(target=desk.bring_in, args=("anna", b"key,record,concept\nk1,r1,5\n", "rows.csv"))
     bringing.start()
-    assert is_sent.wait(30)
+    assert is_sent.wait(300)
     assert view(desk, 5).postings == 0 and desk.mirror.search("violins") and desk.seen.mark(5)
     outcome = desk.perform("ben", "test", [label("addLabel", 5, "alt", "Fiddles of old")])
     assert (outcome.state, outcome.answer, outcome.at) == ("fault", {"fault": "Busy"}, 1)

@@ -76,6 +76,18 @@ def test_new_collections_and_schemes(reader: Reader, desk: Desk) -> None:
     assert view(desk, number_of(desk, "Paris")).scheme == scheme
 
 
+@pytest.mark.parametrize("what", ["collection", "scheme"])
+def test_a_form_for_a_new_one_sent_twice(reader: Reader, desk: Desk, what: str) -> None:
+    """A second one of the same name is made only if it is meant."""
+    form = reader.get(f"/new/{what}").form("new")
+    before = len(desk.mirror.numbers(what))
+    for status, count in ((200, 1), (409, 1)):
+        page = reader.send(form, text="Places")
+        assert page.status == status and len(desk.mirror.numbers(what)) == before + count
+    assert "There is one of this name already" in page.text
+    assert reader.send(page.form("new"), sure="1").status == 200 and len(desk.mirror.numbers(what)) == before + 2
+
+
 def test_a_concept_of_another_thesaurus_is_only_a_match(reader: Reader, desk: Desk) -> None:
     reader.send(reader.get("/new/scheme").form("new"), text="Places")
     scheme = str(number_of(desk, "Places"))
@@ -160,6 +172,8 @@ def test_a_merge_shows_what_will_happen_and_does_it(reader: Reader, desk: Desk) 
     assert "1 record moves to Violins." in page.text and "“Fiedeln” (de) becomes an alternative term" in page.text
     assert "broader term (generic) Bowed instruments is there already" in page.text
     assert "related term Violins is dropped: it is the link between the two" in page.text
+    other = compare(reader, VIOLINS, "Fiddles").text
+    assert "collection Instruments of the string quartet moves" in other and "member Instruments" not in other
     form = page.form("merge")
     assert reader.send(form).status == 409
     page = reader.send(form, sure="1", note=["0"])

@@ -137,3 +137,35 @@ def test_two_who_accept_at_once(site: Site, rita: Client, monkeypatch: pytest.Mo
         both = [pool.submit(site.client(it).post, f"/proposals/{made}/accept") for it in ("anna", "ben")]
         assert [it.result().status_code for it in both] == [303, 303]
     assert len(site.desk.history.recent()) == 1
+
+
+def test_texts_that_are_too_long_are_not_cut(site: Site, rita: Client) -> None:
+    long = "x" * 2001
+    answer = rita.post("/propose", {"form": "propose", "kind": "words", "reason": long})
+    assert answer.status_code == 409 and "has 2,001 characters, and 2,000 is the limit" in text_of(answer)
+    assert long in answer.text
+    made = propose(rita, kind="words")
+    for what in ("accept", "decline"):
+        answer = site.client("ben").post(f"/proposals/{made}/{what}", {"form": what, "word": long})
+        assert answer.status_code == 409 and "2,000 is the limit" in text_of(answer)
+    assert rita.post("/c/5/comments", {"text": long}).status_code == 413
+    assert site.desk.proposals.comments(5) == []
+
+
+def test_proposals_in_pages(site: Site, rita: Client) -> None:
+    for it in range(52):
+        site.desk.proposals.propose("rita", "proposals.kind.words", [], f"Reason {it:02}.")
+    page = rita.get("/proposals")
+    assert "Reason 51." in page.text and "Reason 02." in page.text and "Reason 01." not in page.text
+    assert 'href="/proposals?state=open&amp;before=3"' in page.text
+    assert "Reason 01." in rita.get("/proposals?state=open&before=3").text
+
+
+def test_editors_see_what_waits(site: Site, rita: Client) -> None:
+    """Proposals are named on the first page, and comments after the proposals."""
+    propose(rita, kind="words")
+    rita.post("/c/5/comments", {"text": "Is this right?"})
+    assert "1 proposal waits for an answer." in text_of(site.client("ben").get("/"))
+    assert "waits for an answer" not in text_of(rita.get("/"))
+    page = site.client("ben").get("/proposals")
+    assert "Is this right?" in page.text and 'href="/c/5#comments"' in page.text

@@ -66,6 +66,11 @@ def test_records_in_pages_with_those_below(reader: Reader, desk: Desk) -> None:
     page = reader.get(f"/c/{BOWED}?with=below&page=1")
     assert "Violin 0100" in page.text and "Violin 0099" not in page.text and f"/c/{VIOLINS}" in page.links()
     assert f"/c/{BOWED}?with=below&amp;page=2#records" in page.links()
+    for path, count in ((f"/c/{VIOLINS}/records.csv", 250), (f"/c/{BOWED}/records.csv?with=below", 250)):
+        heading, *rows = reader.get(path).html.splitlines()
+        assert heading == "\ufeffKey,record,number,term" and len(rows) == count
+        assert rows[0] == f"k-0,Violin 0000,{VIOLINS},Violins"
+    assert reader.get("/c/1/records.csv").status == 404
 
 
 def test_a_record_has_its_page(reader: Reader, desk: Desk) -> None:

@@ -23,7 +23,8 @@ ROLES = {
     " proposals.withdraw",
     "indexer": "bring_in.bring_postings records.add_concept records.add_record records.reindex records.withdraw"
     " records.withdraw_record reindex.reindex_many",
-    "editor": "bring_in.perform_table bring_in.preview_table changes.take_back edit.add_link edit.add_term"
+    "editor": "bring_in.perform_table bring_in.preview_table changes.close changes.take_back edit.add_link"
+    " edit.add_term"
     " edit.change_term edit.prefer_term edit.remove_link edit.remove_term edit.retype_link move.move"
     " new.new_collection new.new_concept new.new_scheme proposals.accept proposals.decline",
     "head": "bring_in.perform_skos bring_in.preview_skos edit.deprecate merge.merge people.change_users split.split",

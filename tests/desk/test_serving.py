@@ -145,8 +145,8 @@ def test_the_program_ends_with_the_desk(program: str, store: Path, how: signal.S
         started = children_of(desk.process)
         assert started and all(map(is_running, started))
         desk.process.send_signal(how)
-        assert desk.process.wait(60) == (-how if how == signal.SIGKILL else 0)
-        end = time.monotonic() + 30
+        assert desk.process.wait(300) == (-how if how == signal.SIGKILL else 0)
+        end = time.monotonic() + 120
         while any(map(is_running, started)):
             assert time.monotonic() < end
             time.sleep(0.05)

@@ -123,6 +123,6 @@ def test_15_work_with_others_and_check(kind: str, driver: WebDriver, guide_desk:
     hand.sees("Violins: alternative term “Fine violins” (en) added")
     hand.press("As a table (CSV)")
     guide_desk.process.terminate()
-    guide_desk.process.wait(60)
+    guide_desk.process.wait(300)
     checked = run_desk("check", "--db", tmp_path / "museum.db")
     assert checked.returncode == 0, checked.stdout + checked.stderr

@@ -9,6 +9,7 @@ import pytest
 import thesaurus_desk
 from markupsafe import Markup
 from thesaurus_desk.words import FOLDER, LANGUAGES, PLURAL, Words, best_language, texts_of
+from thesaurus_tools.sentences import ROWS
 
 PACKAGE = Path(thesaurus_desk.__file__).parent
 # A key as the whole first argument of the call: those that are put together are tried by the pages' own tests.
@@ -64,6 +65,13 @@ def test_texts_are_whole(language: str) -> None:
 def test_one_word_for_one_thing(language: str, others: str) -> None:
     found = [(key, it) for key, text in texts_of(language).items() for it in forms_of(text).values()]
     assert [(key, it) for key, it in found if re.search(others, it, re.IGNORECASE)] == []
+
+
+def test_why_a_row_of_a_table_cant_be_done() -> None:
+    """The tools have the same reasons as the desk, with the same values."""
+    its = {key.removeprefix("rows."): str(text) for key, text in texts_of("en").items() if key.startswith("rows.")}
+    assert its.keys() == ROWS.keys()
+    assert {key: placeholders(it) for key, it in its.items()} == {key: placeholders(it) for key, it in ROWS.items()}
 
 
 def files() -> list[Path]:

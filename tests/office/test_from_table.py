@@ -220,6 +220,21 @@ def test_a_table_of_concepts_comes_back_unchanged(store: Path, tmp_path: Path, w
     ]
 
 
+def test_a_term_that_a_cell_cant_name(store: Path, tmp_path: Path) -> None:
+    """A broader term with the sign between values, or like a number, is named by its number."""
+    for text in ("Strings | bowed", "#7", "urn:x"):
+        assert perform(store, [{"do": "relabel", "owner": 2, "tag": "en", "text": text, "keep": False}])
+        path = tmp_path / "list.csv"
+        assert tool("to-table", "--db", store, "--columns", "number,broader", "--below", "2", "-o", path).status == 0
+        assert "3,2" in path.read_text(encoding="utf-8").split()
+        assert script_of(from_table(path, store)) == []
+
+
+def test_a_cell_that_is_guarded_from_formulas(store: Path, tmp_path: Path) -> None:
+    path = table(tmp_path, ("number", "alt@fr"), ("3", "'-violon"), ("4", "'a"))
+    assert [it["text"] for it in script_of(from_table(path, store))] == ["-violon", "'a"]
+
+
 def test_columns_that_there_are_not(store: Path) -> None:
     ended = tool("to-table", "--db", store, "--columns", "number,colour")
     assert ended.status == 2 and b"no column is called colour" in ended.err
@@ -319,6 +334,25 @@ def archive(path: Path, parts: dict[str, bytes]) -> Path:
     return path
 
 
+def ods(cells: str) -> bytes:
+    """Returns the content of an OpenDocument file with a row of cells."""
+    names = "urn:oasis:names:tc:opendocument:xmlns"
+    spaces = " ".join(f'xmlns:{it}="{names}:{it}:1.0"' for it in ("office", "table", "text"))
+    sheet = f'<table:table table:name="A"><table:table-row>{cells}</table:table-row></table:table>'
+    body = f"<office:body><office:spreadsheet>{sheet}</office:spreadsheet></office:body>"
+    return f"<office:document-content {spaces}>{body}</office:document-content>".encode()
+
+
+SHEET = "application/vnd.oasis.opendocument.spreadsheet"
+ENTRY = '<m:file-entry m:full-path="{}" m:media-type="{}"/>'
+MANIFEST = {
+    "mimetype": SHEET.encode(),
+    "META-INF/manifest.xml": (
+        '<m:manifest xmlns:m="urn:oasis:names:tc:opendocument:xmlns:manifest:1.0">'
+        f'{ENTRY.format("/", SHEET)}{ENTRY.format("content.xml", "text/xml")}</m:manifest>'
+    ).encode(),
+}
+CELL = '<table:table-cell table:number-columns-repeated="{}"><text:p>x</text:p></table:table-cell>'
 BOMB = b'<?xml version="1.0"?><!DOCTYPE a [<!ENTITY b "x"><!ENTITY c "&b;&b;">]><a>&c;</a>'
 
 
@@ -331,8 +365,13 @@ BOMB = b'<?xml version="1.0"?><!DOCTYPE a [<!ENTITY b "x"><!ENTITY c "&b;&b;">]>
         ({"xl/workbook.xml": b"<a/>"}, "damaged XLSX"),
         ({"content.xml": b"<a/>"}, "damaged ODS"),
         ({"other": b""}, "neither ODS nor XLSX"),
+        ({"content.xml": BOMB.replace(b"?>", b"?>" + b"<!--x-->" * 20000)}, "declares a document type"),
+        ({"content.xml": BOMB.decode().replace("?>", ' encoding="utf-16"?>').encode("utf-16")}, "declares a document"),
+        ({"content.xml": ods(CELL.format(10**12)), **MANIFEST}, "more than 200000 rows or 1000 columns"),
+        ({"content.xml": ods(CELL.format("many")), **MANIFEST}, "damaged ODS"),
     ],
-    ids=["xlsx entities", "ods entities", "zip bomb", "no workbook", "no document", "another archive"],
+    ids=["xlsx entities", "ods entities", "zip bomb", "no workbook", "no document", "another archive"]
+    + ["entities after comments", "entities in UTF-16", "a cell a billion times", "a cell many times"],
 )
 def test_hostile_archives(store: Path, tmp_path: Path, parts: dict[str, bytes], says: str) -> None:
     ended = from_table(archive(tmp_path / "table.xlsx", parts), store)

@@ -7,7 +7,7 @@ import io
 import zipfile
 from collections.abc import Iterable, Iterator
 from pathlib import Path
-from typing import NamedTuple
+from typing import Any, NamedTuple
 
 from thesaurus_tools.command_line import REFUSED, USAGE, ToolError
 from thesaurus_tools.files import read_file
@@ -16,6 +16,8 @@ from thesaurus_tools.files import read_file
 MOST_BYTES, MOST_UNPACKED, MOST_ROWS, MOST_COLUMNS = 64 << 20, 256 << 20, 200_000, 1_000
 BYTE_ORDER_MARKS = ((codecs.BOM_UTF8, "utf-8-sig"), (codecs.BOM_UTF16_LE, "utf-16"), (codecs.BOM_UTF16_BE, "utf-16"))
 SEPARATORS = ",;\t"
+# What a formula begins with.
+FORMULAS = "=+-@"
 
 
 class Row(NamedTuple):
@@ -61,10 +63,15 @@ def read_text(path: Path, data: bytes, encoding: str) -> Iterator[tuple[int, lis
     line = 1
     try:
         for cells in reader:
-            yield line, [it.strip() for it in cells]
+            yield line, [without_guard(it.strip()) for it in cells]
             line = reader.line_num + 1
     except csv.Error as error:
         raise ToolError(f"{path}:{reader.line_num}: {error}", REFUSED) from None
+
+
+def without_guard(text: str) -> str:
+    """Returns a cell without the apostrophe that keeps a spreadsheet from taking it for a formula."""
+    return text[1:] if text[:1] == "'" and text[1:2] and text[1] in FORMULAS else text
 
 
 def decode(path: Path, data: bytes, encoding: str) -> str:
@@ -103,7 +110,8 @@ def check_entry(path: Path, archive: zipfile.ZipFile, entry: zipfile.ZipInfo) ->
     """Refuses a part of an archive with entities of its own, which could grow without end."""
     if entry.filename.endswith((".xml", ".rels")):
         with archive.open(entry) as part:
-            if b"<!DOCTYPE" in part.read(4096) or b"<!ENTITY" in part.read(1 << 16):
+            # (in UTF-16 there are zeros between; and it may come after any number of comments)
+            if b"<!DOCTYPE" in part.read().replace(b"\0", b""):
                 raise ToolError(f"{path}: {entry.filename} declares a document type: refused", REFUSED)
 
 
@@ -142,14 +150,22 @@ def read_ods(path: Path, data: bytes, sheet: str) -> Iterator[tuple[int, list[st
         cells: list[str] = []
         for cell in row.getElementsByType(table.TableCell):
             text = " ".join(teletype.extractText(it) for it in cell.childNodes if it.qname[1] == "p").strip()
-            times = int(cell.getAttribute("numbercolumnsrepeated") or 1)
-            cells += [text] * (times if text else min(times, MOST_COLUMNS - len(cells) % MOST_COLUMNS))
+            room = MOST_COLUMNS + bool(text) - len(cells)
+            cells += [text] * min(repeats(path, cell, "numbercolumnsrepeated"), max(0, room))
         while cells and not cells[-1]:
             cells.pop()
-        times = int(row.getAttribute("numberrowsrepeated") or 1)
+        times = repeats(path, row, "numberrowsrepeated")
         for at in range(times if cells else 0):
             yield line + at, list(cells)
         line += times
+
+
+def repeats(path: Path, element: Any, name: str) -> int:
+    """Returns how often a cell or a row of an OpenDocument file stands there."""
+    text = element.getAttribute(name) or "1"
+    if not (text.isascii() and text.isdigit() and len(text) < 16):
+        raise ToolError(f"{path}: a damaged ODS file: {name} is {text!r}", REFUSED)
+    return int(text)
 
 
 def choose_sheet(path: Path, sheet: str, names: list[str]) -> str:

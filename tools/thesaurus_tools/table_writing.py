@@ -9,6 +9,7 @@ from collections.abc import Iterable, Iterator
 from thesaurus_tools.command_line import USAGE, ToolError
 from thesaurus_tools.headings import TAG
 from thesaurus_tools.kinds import BROADER, LABEL_KINDS, MAPPINGS
+from thesaurus_tools.link_rules import IRI_FORM
 from thesaurus_tools.store import End, Resource, Store
 
 NUMBERED = ("number", "iri", "records")
@@ -29,6 +30,12 @@ def read_column_names(text: str) -> list[str]:
     return names
 
 
+def is_plain(text: str) -> bool:
+    """Whether a cell with a term is read as that term: not as a number or an IRI, and not as several."""
+    is_number = text.removeprefix("#").isdigit()
+    return not (is_number or JOINT in text or text[:1] in "<'" or text[-1:] == ">" or IRI_FORM.fullmatch(text))
+
+
 class TableWriter:
     """Writes rows of concepts. `lost` counts texts that a cell with several can't hold."""
 
@@ -41,7 +48,7 @@ class TableWriter:
         self.unique = {
             it.owner: it.text
             for it in store.labels
-            if it.kind == "pref" and it.tag == lang and terms[it.tag, it.text] == 1 and not it.text.isdigit()
+            if it.kind == "pref" and it.tag == lang and terms[it.tag, it.text] == 1 and is_plain(it.text)
         }
 
     def rows(self, concepts: Iterable[Resource]) -> Iterator[list[str]]:

@@ -5,6 +5,7 @@ from collections.abc import Callable, Iterable
 from typing import TypeVar, cast
 
 from flask import Flask, Request, current_app, g
+from werkzeug.routing import IntegerConverter
 
 from thesaurus_desk.entry.roles import VISITOR, Role, role_named
 
@@ -50,10 +51,20 @@ class DeskRequest(Request):
         return largest if g.get("person", VISITOR).role > Role.VISITOR else min(largest, MOST_OF_FORM)
 
 
+class Number(IntegerConverter):
+    """A number in a path. One that nothing has, as long as it is, leads to no page."""
+
+    regex = "[0-9]{1,10}"
+
+
 class DeskApp(Flask):
     """An application whose routes can't change anything before they have a lowest role."""
 
     request_class = DeskRequest
+
+    def __init__(self, name: str) -> None:
+        super().__init__(name)
+        self.url_map.converters["int"] = Number
 
     def add_url_rule(
         self,

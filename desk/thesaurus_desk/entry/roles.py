@@ -19,6 +19,7 @@ class Role(IntEnum):
         """The role's name in the users' file and on the command line."""
         return self.name.lower()
 
+
 # The requests that a head alone may make, in whatever form they are asked for.
 OF_HEADS = frozenset({"merge", "split", "deprecate"})
 

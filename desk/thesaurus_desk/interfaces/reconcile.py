@@ -208,6 +208,21 @@ def add_reconciliation(blueprint: Blueprint, source: Source) -> None:
             return {"error": str(error)}, 400
         return reconciler.manifest(request.host_url.rstrip("/"))
 
+    @blueprint.get("/reconcile/preview")
+    @interface
+    def preview() -> AnyResponse | tuple[Json, int]:
+        number = source.number_of(request.args.get("id", ""))
+        if number is None:
+            return {"error": "no such concept"}, 404
+        response = Response(Reconciler(source).preview(number), content_type="text/html; charset=utf-8")
+        # (OpenRefine shows it in a frame)
+        response.headers["Content-Security-Policy"] = "default-src 'none'; frame-ancestors *"
+        return response
+
+
+def add_suggestions(blueprint: Blueprint, source: Source) -> None:
+    """Adds what OpenRefine asks while one types, and the properties that there are, to the routes."""
+
     @blueprint.get("/reconcile/suggest/entity")
     @interface
     def suggest() -> Json:
@@ -228,14 +243,3 @@ def add_reconciliation(blueprint: Blueprint, source: Source) -> None:
     @interface
     def properties() -> Json:
         return {"properties": [{"id": it, "name": name} for it, name in PROPERTIES.items()]}
-
-    @blueprint.get("/reconcile/preview")
-    @interface
-    def preview() -> AnyResponse | tuple[Json, int]:
-        number = source.number_of(request.args.get("id", ""))
-        if number is None:
-            return {"error": "no such concept"}, 404
-        response = Response(Reconciler(source).preview(number), content_type="text/html; charset=utf-8")
-        # (OpenRefine shows it in a frame)
-        response.headers["Content-Security-Policy"] = "default-src 'none'; frame-ancestors *"
-        return response

@@ -160,7 +160,7 @@ ANSWERS: dict[str, Callable[[Vocabulary], Json]] = {
 
 
 def add_skosmos(blueprint: Blueprint, source: Source) -> None:
-    """Adds /rest/v1 to the routes."""
+    """Adds /rest/v1, which is about all vocabularies, to the routes."""
 
     @blueprint.get("/rest/v1/vocabularies")
     @interface
@@ -186,6 +186,10 @@ def add_skosmos(blueprint: Blueprint, source: Source) -> None:
         if not schemes:
             abort(404, "no vocabulary")
         return search_answer(Vocabulary(source, name or str(schemes[0])))
+
+
+def add_vocabulary(blueprint: Blueprint, source: Source) -> None:
+    """Adds /rest/v1/NAME, which is about one vocabulary, to the routes."""
 
     @blueprint.get("/rest/v1/<name>/data")
     @interface

@@ -9,11 +9,12 @@ from thesaurus_desk.mirror import Mirror
 
 def climb(mirror: Mirror, start: int, up: bool) -> list[int]:
     """Returns a concept and what is above or below it, the nearest first."""
-    found = [start]
+    found, seen = [start], {start}
     for number in found:
         it = mirror.get(number)
-        others = (it.broader if up else it.narrower) if it else {}
-        found += sorted(others.keys() - set(found))
+        news = sorted(((it.broader if up else it.narrower) if it else {}).keys() - seen)
+        found += news
+        seen.update(news)
     return found
 
 

@@ -1,22 +1,37 @@
 """Searches as Skosmos does: a whole label, but for what * stands for."""
 from __future__ import annotations
 
-import re
-
 from flask import abort, request
 from thesaurus_desk.interfaces.skosmos_vocabulary import CONTEXT, MOST, PREF, USUAL, Json, Vocabulary, integer
 from thesaurus_desk.mirror import Hit
 from thesaurus_tools.texts import fold
 
+# The most characters of a query that count.
+LONGEST = 300
 
-def pattern_of(query: str) -> re.Pattern[str]:
-    """Returns the expression for a query, in which * stands for any text."""
-    return re.compile(".*".join(re.escape(fold(it)) for it in query.split("*")), re.DOTALL)
+
+def is_match(parts: list[str], text: str) -> bool:
+    """Whether a text has the parts of a query in their order, with any texts between them.
+
+    Each part is taken where it is first, so this takes no longer for many parts."""
+    first, *inner = parts
+    last = inner.pop() if inner else ""
+    if len(parts) == 1:
+        return text == first
+    at, end = len(first), len(text) - len(last)
+    if at > end or not text.startswith(first) or not text.endswith(last):
+        return False
+    for it in inner:
+        at = text.find(it, at, end)
+        if at < 0:
+            return False
+        at += len(it)
+    return True
 
 
 def search_hits(vocabulary: Vocabulary, query: str, most: int) -> list[Hit]:
     """Returns the concepts with a label that a query matches: a whole label, but for what * stands for."""
-    wanted, mirror = pattern_of(query), vocabulary.mirror
+    wanted, mirror = [fold(it) for it in query[:LONGEST].split("*")], vocabulary.mirror
     letters = query.strip("* ")
     below = vocabulary.source.number_of(request.args.get("parent", ""))
     within = mirror.below(below) if below is not None else None
@@ -35,7 +50,7 @@ def search_hits(vocabulary: Vocabulary, query: str, most: int) -> list[Hit]:
         for entry in labels:
             number = entry[1]
             if (
-                wanted.fullmatch(entry[0])
+                is_match(wanted, entry[0])
                 and accepts(entry)
                 and (within is None or number in within and number != below)
             ):

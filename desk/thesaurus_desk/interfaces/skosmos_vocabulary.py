@@ -29,11 +29,11 @@ class Vocabulary:
     def __init__(self, source: Source, name: str) -> None:
         self.mirror: Mirror = source.mirror()
         self.source, self.name = source, name
-        schemes = self.mirror.numbers("scheme")
+        schemes, named = self.mirror.numbers("scheme"), source.number_of(name)
         # (a client may call the only vocabulary by any name that its settings have for it)
-        if not (name.isdigit() and int(name) in schemes) and len(schemes) != 1:
+        if named not in schemes and len(schemes) != 1:
             abort(404, "no such vocabulary")
-        self.scheme = int(name) if name.isdigit() and int(name) in schemes else schemes[0]
+        self.scheme: int = named if named is not None and named in schemes else schemes[0]
         self.languages = self.mirror.languages() or ["en"]
         self.lang = (request.args.get("lang") or "").lower()
 
@@ -65,6 +65,6 @@ class Vocabulary:
 def integer(name: str, default: int, most: int) -> int:
     """Returns a number from 0 to a bound that a parameter gives. Raises 400 for another text."""
     text = request.args.get(name, "")
-    if text and not (text.isascii() and text.isdigit()):
+    if text and not (text.isascii() and text.isdigit() and len(text) < 11):
         abort(400, f"{name} is no number")
     return min(int(text), most) if text else default

@@ -12,6 +12,8 @@ from thesaurus_desk.journal.tables import Database, now
 Request = dict[str, Any]
 Answer = dict[str, Any]
 PARTS_OF_STEP = ("answer", "foreseen", "kept", "facts")
+# What the note of a plan begins with, of which nobody knows what came of it, once somebody has looked.
+LOOKED_AT = "looked at by"
 # The members of a request that name a resource.
 NAMED = ("owner", "a", "b", "concept", "source", "target")
 
@@ -100,6 +102,8 @@ class Journal(Database):
     # The number of the last plan that has ended, once it is known: a page that is made while another one is under way
     # shows nothing of that.
     last: int | None = None
+    # The number of the plan that is under way; its answer is on its way.
+    under_way: int | None = None
 
     # --- writing ---
 
@@ -121,6 +125,7 @@ class Journal(Database):
                 ],
             )
             self.concern(rows, plan, numbers, set())
+        self.under_way = plan
         return plan
 
     @staticmethod
@@ -154,6 +159,7 @@ class Journal(Database):
             rows.executemany("INSERT OR REPLACE INTO seal VALUES (?, ?)", list((seals or {}).items()))
             rows.executemany("INSERT OR REPLACE INTO count VALUES (?, ?)", list((counts or {}).items()))
         self.last = max(plan, self.last_plan())
+        self.under_way = None if self.under_way == plan else self.under_way
 
     def note_stop(self, digest: str) -> None:
         """Notes that the desk ends, and the digest of the store."""
@@ -188,9 +194,16 @@ class Journal(Database):
         return self.plans(f"SELECT plan.* FROM plan JOIN concern ON plan = id WHERE {which}", number, plan)
 
     def open_plans(self) -> list[Plan]:
-        """Returns the plans of which it isn't known whether they were performed, and that nobody has taken back."""
+        """Returns the plans of which it isn't known whether they were performed, and that nobody has taken back, or
+        looked at and closed. One that is under way isn't among them."""
         back = "SELECT takes_back FROM plan WHERE state = 'done' AND takes_back IS NOT NULL"
-        return self.plans(f"SELECT * FROM plan WHERE state IN ('sent', 'unknown') AND id NOT IN ({back}) ORDER BY id")
+        is_open = f"state IN ('sent', 'unknown') AND id NOT IN ({back}) AND coalesce(note, '') NOT LIKE '{LOOKED_AT}%'"
+        return self.plans(f"SELECT * FROM plan WHERE {is_open} AND id <> ? ORDER BY id", self.under_way or 0)
+
+    def close_plan(self, plan: int, user: str) -> None:
+        """Notes that somebody has looked at what came of a plan of which nobody knows that."""
+        with self.writing() as rows:
+            rows.execute("UPDATE plan SET note = ? WHERE id = ? AND state = 'unknown'", (f"{LOOKED_AT} {user}", plan))
 
     def plans(self, query: str, *values: Any) -> list[Plan]:
         """Returns the plans that a query finds, with their steps, all as they are at one moment."""

@@ -4,11 +4,13 @@ from __future__ import annotations
 import csv
 import io
 import json
+import re
 from collections.abc import Iterator
 from dataclasses import dataclass
 
 from thesaurus_desk.journal.entries import Journal, Plan, Step
 
+NEEDS_GUARD = re.compile(r"'?[=+\-@\t\r]")
 COLUMNS = ("plan", "step", "time", "user", "proposed by", "action", "state", "request", "answer", "takes back")
 
 
@@ -96,8 +98,8 @@ class History:
 
 
 def to_csv(cells: tuple[object, ...]) -> str:
-    """Returns a line of CSV. A cell that a spreadsheet would take for a formula begins with an apostrophe."""
+    """Returns a line of CSV. A cell that a spreadsheet would take for a formula begins with an apostrophe, which goes
+    when the table is brought in."""
     out = io.StringIO()
-    safe = [f"'{it}" if isinstance(it, str) and it[:1] in "=+-@\t\r" and it else it for it in cells]
-    csv.writer(out).writerow(safe)
+    csv.writer(out).writerow([f"'{it}" if isinstance(it, str) and NEEDS_GUARD.match(it) else it for it in cells])
     return out.getvalue()

@@ -77,11 +77,11 @@ class Proposals:
         return proposal_of(row) if row else None
 
     def find(
-        self, *, state: str | None = None, concept: int | None = None, user: str | None = None, most: int = 200
+        self, *, state: str | None = None, concept: int | None = None, before: int | None = None, most: int = 200
     ) -> list[Proposal]:
-        """Returns proposals, the last first: in a state, about a concept, by a user."""
-        tests = {"state": state, "concept": concept, "user": user}
-        where = [f"{name} = ?" for name, value in tests.items() if value is not None]
+        """Returns proposals, the last first: in a state, about a concept, before another one."""
+        tests = {"state = ?": state, "concept = ?": concept, "id < ?": before}
+        where = [test for test, value in tests.items() if value is not None]
         values = [value for value in tests.values() if value is not None]
         condition = f"WHERE {' AND '.join(where)}" if where else ""
         rows = self.journal.all(f"SELECT * FROM proposal {condition} ORDER BY id DESC LIMIT ?", *values, most)
@@ -116,7 +116,7 @@ class Proposals:
         rows = self.journal.all("SELECT * FROM comment WHERE number = ? AND removed_at IS NULL ORDER BY id", number)
         return [Comment(**dict(it)) for it in rows]
 
-    def recent_comments(self, most: int = 50) -> list[Comment]:
+    def recent_comments(self, most: int) -> list[Comment]:
         """Returns the last comments, the last first."""
         rows = self.journal.all("SELECT * FROM comment WHERE removed_at IS NULL ORDER BY id DESC LIMIT ?", most)
         return [Comment(**dict(it)) for it in rows]

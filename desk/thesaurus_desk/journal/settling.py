@@ -74,8 +74,8 @@ def settle(journal: Journal, mirror: Mirror) -> list[Plan]:
 
 
 def look_up_import(journal: Journal, mirror: Mirror, step: Step) -> None:
-    """Settles how far an import got: its postings are those that there are more than after the last plan."""
-    before, now = journal.counts().get("postings", 0), len(mirror.postings.all)
+    """Settles how far an import got: its postings are those that there are more than when it began."""
+    before, now = (step.kept or {}).get("before", journal.counts().get("postings", 0)), len(mirror.postings.all)
     places = {it.place for it in mirror.postings.all[before:]}
     step.answer = {"outcomes": {}, **({"first": before + 1, "last": now} if now > before else {})}
     step.kept = {"places": sorted(places)}

@@ -4,7 +4,6 @@ from __future__ import annotations
 import contextlib
 import fcntl
 import os
-import secrets
 import sqlite3
 import threading
 from collections.abc import Iterator
@@ -41,8 +40,6 @@ CREATE TABLE proposal (
 CREATE TABLE comment (
   id INTEGER PRIMARY KEY, at TEXT NOT NULL, user TEXT NOT NULL, number INTEGER NOT NULL, text TEXT NOT NULL,
   removed_by TEXT, removed_at TEXT) STRICT;
-CREATE TABLE login (at TEXT NOT NULL, user TEXT NOT NULL, what TEXT NOT NULL) STRICT;
-CREATE TABLE setting (name TEXT PRIMARY KEY, value BLOB NOT NULL) STRICT, WITHOUT ROWID;
 CREATE INDEX plan_user ON plan (user, id);
 CREATE INDEX plan_open ON plan (state) WHERE state IN ('sent', 'unknown');
 CREATE INDEX plan_takes_back ON plan (takes_back) WHERE takes_back IS NOT NULL;
@@ -161,18 +158,3 @@ class Database:
         with self.reading:
             found: sqlite3.Row | None = self.reader.execute(query, values).fetchone()
             return found
-
-    def secret(self, name: str = "key") -> bytes:
-        """Returns a secret of this journal, made at its first use: the key of the desk's cookies."""
-        with self.writing() as rows:
-            rows.execute("INSERT OR IGNORE INTO setting VALUES (?, ?)", (name, secrets.token_bytes(32)))
-            return bytes(rows.execute("SELECT value FROM setting WHERE name = ?", (name,)).fetchone()[0])
-
-    def note_login(self, user: str, what: str) -> None:
-        """Notes that someone came in, failed to, or left."""
-        with self.writing() as rows:
-            rows.execute("INSERT INTO login VALUES (?, ?, ?)", (now(), user, what))
-
-    def logins(self, most: int = 200) -> list[sqlite3.Row]:
-        """Returns who came in lately, the last first: `at`, `user`, `what`."""
-        return self.all("SELECT at, user, what FROM login ORDER BY rowid DESC LIMIT ?", most)

@@ -16,7 +16,7 @@ from thesaurus_desk.refusals import explain, explain_state
 from thesaurus_desk.sentences import sentence_of
 from thesaurus_desk.shelf import Shelf
 from thesaurus_desk.tables import Bringer, TableRun, plan_rows, read_sent_table, run_table
-from thesaurus_desk.vocabularies import SkosOptions, SkosRun, perform_script, read_skos
+from thesaurus_desk.vocabularies import SkosOptions, SkosRun, StoreBusy, perform_script, read_skos
 from thesaurus_tools.command_line import ToolError
 from thesaurus_tools.table_plans import KINDS, TableOptions
 
@@ -195,6 +195,8 @@ def preview_skos() -> Any:
     )
     try:
         run = read_skos(the_desk(), name, data, options)
+    except StoreBusy:
+        return refused("skos", say("refusals.Busy.text"), "")
     except ToolError as error:
         return refused("skos", str(error))
     return render_template("bring_in/skos.html", run=run, name=keep(run))

@@ -16,6 +16,7 @@ from thesaurus_desk.journal import Plan
 from thesaurus_desk.journal.takeback import Remark, TakeBack
 from thesaurus_desk.pages.telling import LINKS, tell_outcome, tell_plan, tell_plans
 from thesaurus_desk.sentences import sentence_of
+from thesaurus_desk.sheets import sheet
 
 pages = Blueprint("changes", __name__)
 PAGE = 50
@@ -73,8 +74,18 @@ def changed_since() -> Any:
     since = request.args.get("since", "")
     found = the_desk().history.changed_since(since) if TIME.fullmatch(since) else []
     known = [(it, at) for it, at in found if the_mirror().kind(it)]
+    if request.args.get("format") == "csv":
+        return sheet("changed", [it for it, _ in known])
     more = len(known) - MOST_CHANGED
     return render_template("changes/since.html", since=since, found=known[:MOST_CHANGED], more=more)
+
+
+@pages.post("/changes/<int:number>/close")
+@role("editor")
+def close(number: int) -> Any:
+    """Closes a plan of which nobody knows what came of it: somebody has looked at the pages concerned."""
+    the_desk().journal.close_plan(plan_or_404(number).id, person().name)
+    return go("/changes")
 
 
 # --- taking back ---
@@ -88,7 +99,7 @@ def may_take_back(plan: Plan) -> bool:
 
 
 def plan_or_404(number: int) -> Plan:
-    """Returns a plan of the journal that the reader may take back."""
+    """Returns a plan of the journal."""
     plan = the_desk().journal.plan(number)
     if plan is None:
         abort(404)

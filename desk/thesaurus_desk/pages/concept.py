@@ -6,7 +6,7 @@ from dataclasses import dataclass
 from itertools import chain
 from typing import Any
 
-from flask import Blueprint, abort, render_template, request
+from flask import Blueprint, Response, abort, render_template, request
 
 from thesaurus_desk.context import page_number, person, say, tags, the_desk, the_mirror
 from thesaurus_desk.entry.guard import public
@@ -16,6 +16,7 @@ from thesaurus_desk.pages.history import history_of
 from thesaurus_desk.pages.proposals import the_proposals
 from thesaurus_desk.pages.posting_keys import new_key
 from thesaurus_desk.seeing import PARTS
+from thesaurus_desk.sheets import rows_of_postings, sheet, sheet_of_rows
 from thesaurus_tools.kinds import LABEL_KINDS, MAPPINGS
 
 pages = Blueprint("concept", __name__)
@@ -199,3 +200,24 @@ def numbers_below(number: int) -> list[int]:
         return sorted(chain.from_iterable(each))
 
     return the_mirror().once(("numbers below", number), find)
+
+
+@pages.get("/c/<int:number>/records.csv")
+def records_csv(number: int) -> Response:
+    """Returns the records of a concept as a table, alone or with those of the concepts below it."""
+    if the_mirror().kind(number) != "concept":
+        abort(404)
+    postings = the_mirror().postings
+    numbers = numbers_below(number) if request.args.get("with") == "below" else postings.numbers_at(number)
+    found = (it for it in map(postings.get, numbers) if it is not None and not it.is_withdrawn)
+    return sheet_of_rows("records", rows_of_postings(found))
+
+
+@pages.get("/c/<int:number>/members.csv")
+@public
+def members_csv(number: int) -> Response:
+    """Returns the members of a collection as a table."""
+    view = the_mirror().view(number)
+    if view is None or view.kind != "collection":
+        abort(404)
+    return sheet("members", the_mirror().ordered(view.members, tags()))

@@ -40,6 +40,7 @@ def home() -> str:
         totals=mirror.postings.totals(),
         recent=tell_plans(the_desk().history.recent(most=MOST_RECENT)) if person().name else [],
         warnings=warnings(),
+        proposed=the_desk().proposals.count_open() if person().may("editor") else 0,
     )
 
 

@@ -109,6 +109,8 @@ def told_links(plan: Merge) -> list[tuple[str, int, str]]:
 
 def seen_from(number: int, link: Link) -> tuple[str, int]:
     """Returns the kind of a link as seen from one of its ends, and the other end."""
+    if link.kind == "member":
+        return "collection", link.a
     if link.a == number:
         return link.kind, link.b
     kind = link.kind.replace("broader", "narrower") if link.kind in BROADER else TURNED.get(link.kind, link.kind)

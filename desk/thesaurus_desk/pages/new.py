@@ -1,16 +1,17 @@
 """Makes concepts with their first terms and their place, collections and schemes."""
 from __future__ import annotations
 
+from collections.abc import Sequence
 from functools import partial
 from typing import Any
 
 from flask import Blueprint, render_template, request
 
-from thesaurus_desk.context import person, say, tags, the_mirror
+from thesaurus_desk.context import say, tags, the_mirror
 from thesaurus_desk.entry.guard import role
 from thesaurus_desk.forms import FormState, Problem
 from thesaurus_desk.mirror.search import fold
-from thesaurus_desk.pages.choosing import choose, is_number, undecided
+from thesaurus_desk.pages.choosing import choose, is_number, scheme_of, undecided
 from thesaurus_desk.pages.edit import given, given_tag, given_text
 from thesaurus_desk.pages.submitting import submit
 from thesaurus_desk.journal.entries import Request
@@ -140,16 +141,34 @@ def new_collection() -> Any:
         return scheme_page(FormState(), 200)
     if request.method == "GET":
         return collection_page(FormState(), 200)
+    same = of_same_name("collection", scheme)
+    if same:
+        return collection_page(FormState(FORM, request.form, [Problem("text", say("new.same_name"))]), 409, same)
     made = {"do": "collection", "scheme": scheme, "tag": given_tag(), "text": given_text()}
     return submit("new_collection", [made], then=page_of_made, show=collection_page)
 
 
-def collection_page(state: FormState, status: int) -> Any:
+def of_same_name(kind: str, scheme: int | None = None) -> list[int]:
+    """Returns what has the name that a form gives to a new one, unless its author is sure: a form may be sent twice."""
+    if "sure" in request.form:
+        return []
+    hits = the_mirror().named(given_text(), (kind,))
+    found = {it.number for it in hits if it.kind == "pref" and it.tag == given_tag()}
+    return sorted(it for it in found if scheme is None or scheme_of(it) == scheme)
+
+
+def collection_page(state: FormState, status: int, same: Sequence[int] = ()) -> Any:
     """Returns the form of a new collection."""
     schemes = the_mirror().ordered(the_mirror().numbers("scheme"), tags())
     return (
         render_template(
-            "new/other.html", form=FORM, state=state, what="collection", schemes=schemes, scheme=scheme_of_form()
+            "new/other.html",
+            form=FORM,
+            state=state,
+            what="collection",
+            schemes=schemes,
+            scheme=scheme_of_form(),
+            same=same,
         ),
         status,
     )
@@ -161,18 +180,17 @@ def new_scheme() -> Any:
     """Makes a scheme: a thesaurus of its own in this store."""
     if request.method == "GET":
         return scheme_page(FormState(), 200)
+    same = of_same_name("scheme")
+    if same:
+        return scheme_page(FormState(FORM, request.form, [Problem("text", say("new.same_name"))]), 409, same)
     made = {"do": "scheme", "tag": given_tag(), "text": given_text()}
     return submit("new_scheme", [made], then=page_of_made, show=scheme_page)
 
 
-def scheme_page(state: FormState, status: int) -> Any:
+def scheme_page(state: FormState, status: int, same: Sequence[int] = ()) -> Any:
     """Returns the form of a new scheme."""
-    return (
-        render_template(
-            "new/other.html", form=FORM, state=state, what="scheme", schemes=[], scheme=None, name=person().name
-        ),
-        status,
-    )
+    page = render_template("new/other.html", form=FORM, state=state, what="scheme", schemes=[], scheme=None, same=same)
+    return page, status
 
 
 def page_of_made(outcome: Outcome) -> str:

@@ -39,7 +39,9 @@ def users_page(state: FormState, status: int = 200) -> Any:
     done, name = request.args.get("was", ""), request.args.get("name", "")
     account = accounts_here().find(name)
     role_word = say(f"people.role.{account.role}") if account else ""
-    what_was_done = say(f"people.{DONE[done]}", name=name, role=role_word) if done in DONE else ""
+    # (whatever an address says: it is so, or isn't said)
+    is_so = done in DONE and (account is None) == (done == "remove")
+    what_was_done = say(f"people.{DONE[done]}", name=name, role=role_word) if is_so else ""
     return (
         render_template(
             "users.html",

@@ -13,11 +13,16 @@ from thesaurus_desk.forms import FormState, Problem
 from thesaurus_desk.journal.entries import Request
 from thesaurus_desk.journal.proposals import LONGEST_TEXT, Proposal, Proposals
 from thesaurus_desk.pages.choosing import choose, undecided
+from thesaurus_desk.pages.find import number_of
 from thesaurus_desk.pages.telling import LINKS, tell_outcome
 from thesaurus_desk.sentences import sentence_of
 
 pages = Blueprint("proposals", __name__)
 FORM = "propose"
+# How many proposals a page shows.
+PAGE = 50
+# How many comments are shown after the proposals.
+MOST_COMMENTS = 20
 STATES = ("open", "accepted", "declined", "withdrawn")
 # What can be proposed: a term for a concept, a new concept below one, a link, or a change in words alone.
 KINDS = ("alt", "pref", "scope", "concept", "broader", "related", "words")
@@ -36,9 +41,12 @@ def proposals() -> Any:
     """Shows proposals in a state, the last first."""
     state = request.args.get("state", "open")
     chosen = state if state in STATES else "open"
-    found = the_proposals().find(state=chosen)
-    told = [(it, tell_proposal(it)) for it in found]
-    return render_template("proposals/list.html", state=chosen, states=STATES, proposals=told)
+    before = number_of("before")
+    found = the_proposals().find(state=chosen, before=before, most=PAGE + 1)
+    further = f"/proposals?state={chosen}&before={found[PAGE - 1].id}" if len(found) > PAGE else ""
+    told = [(it, tell_proposal(it)) for it in found[:PAGE]]
+    page = {"state": chosen, "states": STATES, "proposals": told, "further": further}
+    return render_template("proposals/list.html", **page, comments=the_proposals().recent_comments(MOST_COMMENTS))
 
 
 def tell_proposal(proposal: Proposal) -> list[Any]:
@@ -105,6 +113,8 @@ def propose() -> Any:
         abort(400)
     if not reason:
         return again("reason", say("proposals.no_reason"))
+    if len(reason) > LONGEST_TEXT:
+        return again("reason", too_long(reason))
     if kind in ("broader", "related"):
         chosen = choose(request.form)
         if chosen.number is None:
@@ -148,6 +158,11 @@ def refused(page: Callable[[FormState, int], Any], field: str, text: str, form: 
     return page(FormState(form, request.form, [Problem(field, text)]), 409)
 
 
+def too_long(text: str) -> str:
+    """Returns what is said of a text that is longer than the journal keeps."""
+    return say("proposals.too_long", n=len(text), more=LONGEST_TEXT)
+
+
 # --- deciding ---
 
 
@@ -165,13 +180,15 @@ def accept_now(proposal: Proposal) -> Any:
     number = proposal.id
     if proposal.state != "open":
         return go(f"/proposals/{number}")
-    plan = None
+    plan, word = None, request.form.get("word", "").strip()
+    if len(word) > LONGEST_TEXT:
+        return refused(partial(proposal_page, number), "word", too_long(word), "accept")
     if proposal.requests:
         outcome = the_desk().perform(person().name, "accept", proposal.requests, proposer=proposal.user)
         if not outcome.is_done:
             return refused(partial(proposal_page, number), "", tell_outcome(outcome), "accept")
         plan = outcome.plan
-    the_proposals().decide(number, "accepted", person().name, request.form.get("word", ""), plan)
+    the_proposals().decide(number, "accepted", person().name, word, plan)
     return go(f"/proposals/{number}", plan)
 
 
@@ -181,8 +198,9 @@ def decline(number: int) -> Any:
     """Declines a proposal, with a word to its author."""
     proposal_or_404(number)
     word = request.form.get("word", "").strip()
-    if not word:
-        return refused(partial(proposal_page, number), "word", say("proposals.no_word"), "decline")
+    if not word or len(word) > LONGEST_TEXT:
+        problem = too_long(word) if word else say("proposals.no_word")
+        return refused(partial(proposal_page, number), "word", problem, "decline")
     with the_desk().alone():
         the_proposals().decide(number, "declined", person().name, word)
     return go(f"/proposals/{number}")
@@ -209,6 +227,8 @@ def comment(number: int) -> Any:
     if the_mirror().kind(number) is None:
         abort(404)
     text = request.form.get("text", "").strip()
+    if len(text) > LONGEST_TEXT:
+        abort(413)
     if text:
         the_proposals().comment(person().name, number, text)
     return go(f"/c/{number}#comments")

@@ -10,6 +10,7 @@ from flask import request
 from thesaurus_desk.context import the_mirror
 from thesaurus_desk.mirror import Posting
 from thesaurus_desk.mirror.search import fold
+from thesaurus_desk.pages.choosing import is_number
 
 PAGE = 100
 # The buttons of a form that show another part of the list and perform nothing.
@@ -42,7 +43,7 @@ def ticks_of(concept: int) -> TickList:
     """Returns the list of a concept's postings as the form has it, after what its buttons ask for."""
     form, numbers = request.form, the_mirror().postings.numbers_at(concept)
     here = set(numbers)
-    ticked = {int(it) for it in form.getlist("posting") if it.isascii() and it.isdigit()}
+    ticked = {int(it) for it in form.getlist("posting") if is_number(it)}
     ticked = (ticked | numbers_of(form.get("kept", "")) - numbers_of(form.get("shown", ""))) & here
     text = form.get("filter", "").strip()
     matching = filtered(numbers, text)

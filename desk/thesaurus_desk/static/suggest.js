@@ -93,6 +93,8 @@
 
     input.addEventListener("input", () => {
       if (into) into.value = "";
+      // (what is suggested for an earlier text isn't taken by Enter for this one)
+      mark(-1);
       clearTimeout(timer);
       timer = setTimeout(ask, WAIT);
     });
