@@ -1,7 +1,11 @@
 """A store as a large museum has it: 20,000 concepts with 70,000 terms in three languages, and 100,000 postings, half of
 them at one concept. SQLite fills the tables of a store that the program has made."""
+from __future__ import annotations
+
+import pathlib
 import random
 import subprocess
+from collections.abc import Iterator
 from contextlib import closing
 
 from measure import line
@@ -20,14 +24,14 @@ ENDS = {
 PREF, ALT = 1, 2
 
 
-def term(number, tag, chance):
+def term(number: int, tag: str, chance: random.Random) -> str:
     """A term of two made words, of which the first is the concept's own."""
     own = "".join(STARTS[number // 34**place % 34] for place in range(3))
     second = "".join(chance.choice(STARTS) for _ in range(2)) + chance.choice(ENDS[tag])
     return f"{own.capitalize()}{chance.choice(ENDS[tag])} {second}"
 
 
-def labels(chance):
+def labels(chance: random.Random) -> Iterator[tuple[int, int, str, str]]:
     """The rows of labels: three preferred terms for each concept, and further ones until there are enough."""
     yield 1, PREF, "en", "Collections"
     left = TERMS - 1
@@ -39,13 +43,13 @@ def labels(chance):
         yield 2 + place, ALT, chance.choice(("en", "de", "fr")), f"{term(place, 'en', chance)} {place}"
 
 
-def links(chance):
+def links(chance: random.Random) -> Iterator[tuple[int, int, int]]:
     """The rows of broader links, a tree, and of related ones, between neighbours."""
     for place in range(1, CONCEPTS):
         yield 2 + place, 2 + (place - 1) // BRANCHES, chance.choice((0, 0, 1, 2))
 
 
-def make(path):
+def make(path: pathlib.Path) -> None:
     """Makes the store."""
     first = line(do="scheme", tag="en", text="First").encode()
     subprocess.run([built(), "--db", path, "script"], input=first, stdout=subprocess.DEVNULL, check=True)

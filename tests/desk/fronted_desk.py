@@ -2,13 +2,10 @@
 from __future__ import annotations
 
 import contextlib
-import socket
-import subprocess
-import time
 from collections.abc import Iterator
 from pathlib import Path
 
-from fronting import HOST, Site, make_secrets, temporary
+from fronting import HOST, Site, make_secrets, nginx_of, temporary
 from ports import free_port
 
 ROOT = Path(__file__).resolve().parents[2]
@@ -44,19 +41,8 @@ def fronted_desk(room: Path, upstream: int, asks: bool = False) -> Iterator[Site
     make_secrets(room)
     (room / "desk-secret.conf").write_text(f"proxy_set_header X-Desk-Proxy {SECRET};\n", encoding="utf-8")
     site = Site(room, upstream, HOST)
-    (room / "nginx.conf").write_text(configuration(site, asks), encoding="utf-8")
-    words = ["nginx", "-e", f"{room}/error.log", "-p", str(room), "-c", f"{room}/nginx.conf"]
-    tested = subprocess.run([*words, "-t"], capture_output=True, text=True, check=False)
-    assert tested.returncode == 0, tested.stderr
-    with subprocess.Popen(words, stderr=subprocess.DEVNULL) as nginx:
-        try:
-            end = time.monotonic() + 180
-            while socket.socket().connect_ex(("127.0.0.1", site.tls)):
-                assert time.monotonic() < end, (room / "error.log").read_text(encoding="utf-8")
-                time.sleep(0.1)
-            yield site
-        finally:
-            nginx.terminate()
+    with nginx_of(site, configuration(site, asks)):
+        yield site
 
 
 def secret_file(room: Path) -> Path:

@@ -139,16 +139,24 @@ def fronted(room: Path, upstream: int, host: str = HOST) -> Iterator[Site]:
     """Runs nginx in front of a port, as the server of a host."""
     make_secrets(room)
     site = Site(room, upstream, host)
-    (room / "nginx.conf").write_text(configuration(site), encoding="utf-8")
+    with nginx_of(site, configuration(site)):
+        yield site
+
+
+@contextlib.contextmanager
+def nginx_of(site: Site, text: str) -> Iterator[None]:
+    """Runs the nginx of a site with a configuration, from when it listens to the end of the block."""
+    room = site.room
+    (room / "nginx.conf").write_text(text, encoding="utf-8")
     words = ["nginx", "-e", str(room / "error.log"), "-p", str(room), "-c", str(room / "nginx.conf")]
     tested = subprocess.run([*words, "-t"], capture_output=True, text=True, check=False)
     assert tested.returncode == 0, tested.stderr
     with subprocess.Popen(words, stderr=subprocess.DEVNULL) as nginx:
         try:
-            end = time.monotonic() + 60
+            end = time.monotonic() + 180
             while socket.socket().connect_ex(("127.0.0.1", site.tls)):
                 assert time.monotonic() < end, (room / "error.log").read_text(encoding="utf-8")
                 time.sleep(0.1)
-            yield site
+            yield
         finally:
             nginx.terminate()

@@ -2,6 +2,7 @@
 from __future__ import annotations
 
 import os
+from collections.abc import Callable
 from pathlib import Path
 
 import pytest
@@ -15,7 +16,7 @@ def synchronized(monkeypatch: pytest.MonkeyPatch) -> list[str]:
     """The paths of what the disk was asked to confirm, in this order."""
     found: list[str] = []
 
-    def note(call):
+    def note(call: Callable[[int], None]) -> Callable[[int], None]:
         def noting(file: int) -> None:
             found.append(os.readlink(f"/proc/self/fd/{file}"))
             call(file)

@@ -291,5 +291,6 @@ def test_another_label_may_be_given(states: dict[str, Plain], room: Path) -> Non
     ended = unmerge(room, states["taken"], states["before"], 4, True, "--tag", "fr", "--text", "Vièles")
     after, names, refused = perform(states["taken"], ended.out.decode())
     assert not refused
-    assert after.preferred(names.get("back"), "fr")[3] == "Vièles"
+    label = after.preferred(names.get("back"), "fr")
+    assert label and label[3] == "Vièles"
     assert after.standing_at(names.get("back")) == [2, 3, 4, 5]

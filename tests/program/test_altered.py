@@ -23,7 +23,7 @@ from kept import Request
 from office import export_of
 from plain import BASE, Plain
 from plain_display import PlainDisplay
-from plain_store import COLUMNS, LIMITS, judge, read_rows, rows_of
+from plain_store import COLUMNS, DECLARED, LIMITS, judge, read_rows, rows_of
 from program import MEMORY, Ended, fault, lines_of, over, values_of
 
 START: list[Request] = [
@@ -70,23 +70,6 @@ LISTED: list[tuple[list[Request], dict[str, str]]] = [
         {"INSERT INTO hier VALUES (3, 2, 0)": "BadStore hier", "INSERT INTO link VALUES (1, 3, 2)": "BadStore link"},
     ),
 ]
-# What a store declares of each table.
-DECLARED = {
-    "meta": "one INTEGER PRIMARY KEY, version INTEGER NOT NULL, base TEXT NOT NULL",
-    "resource": (
-        "num INTEGER PRIMARY KEY, kind INTEGER NOT NULL, scheme INTEGER, live INTEGER NOT NULL, replaced INTEGER"
-    ),
-    "outside": "num INTEGER PRIMARY KEY, iri TEXT NOT NULL UNIQUE",
-    "label": (
-        "owner INTEGER NOT NULL, kind INTEGER NOT NULL, tag TEXT NOT NULL, text TEXT NOT NULL, PRIMARY "
-        "KEY (owner, kind, tag, text)"
-    ),
-    "link": "kind INTEGER NOT NULL, a INTEGER NOT NULL, b INTEGER NOT NULL, PRIMARY KEY (kind, a, b)",
-    "hier": "a INTEGER NOT NULL, b INTEGER NOT NULL, typ INTEGER NOT NULL, PRIMARY KEY (a, b, typ)",
-    "posting": "num INTEGER PRIMARY KEY, pkey TEXT NOT NULL UNIQUE, record TEXT NOT NULL, first_at INTEGER NOT NULL, "
-    "at INTEGER NOT NULL, withdrawn INTEGER NOT NULL",
-    "move": "num INTEGER PRIMARY KEY, posting INTEGER NOT NULL, source INTEGER NOT NULL, target INTEGER NOT NULL",
-}
 # Parts of a declaration, and what stands there in another one, under which SQLite takes the same rows.
 REDECLARED = [
     ("meta", "base TEXT NOT NULL", "base TEXT"),

@@ -19,27 +19,12 @@ from typing import Any, NamedTuple
 import additions
 import pytest
 from kept import Request
+from plain_store import DECLARED
 from program import Ended, built, fault, lines_of, over, run
 
-TABLES = {
-    "meta": "one INTEGER PRIMARY KEY, version INTEGER NOT NULL, base TEXT NOT NULL",
-    "resource": (
-        "num INTEGER PRIMARY KEY, kind INTEGER NOT NULL, scheme INTEGER, live INTEGER NOT NULL, replaced INTEGER"
-    ),
-    "outside": "num INTEGER PRIMARY KEY, iri TEXT NOT NULL UNIQUE",
-    "label": (
-        "owner INTEGER NOT NULL, kind INTEGER NOT NULL, tag TEXT NOT NULL, text TEXT NOT NULL, PRIMARY "
-        "KEY (owner, kind, tag, text)"
-    ),
-    "link": "kind INTEGER NOT NULL, a INTEGER NOT NULL, b INTEGER NOT NULL, PRIMARY KEY (kind, a, b)",
-    "posting": "num INTEGER PRIMARY KEY, pkey TEXT NOT NULL UNIQUE, record TEXT NOT NULL, first_at INTEGER NOT "
-    "NULL, at INTEGER NOT NULL, "
-    "withdrawn INTEGER NOT NULL",
-    "move": "num INTEGER PRIMARY KEY, posting INTEGER NOT NULL, source INTEGER NOT NULL, target INTEGER NOT NULL",
-}
-HIER = (
-    "CREATE TABLE hier (a INTEGER NOT NULL, b INTEGER NOT NULL, typ INTEGER NOT NULL, PRIMARY KEY (a, b, typ)) STRICT"
-)
+# What a store of version 1 declares of each table, and what one of version 2 has besides.
+TABLES = {name: it for name, it in DECLARED.items() if name != "hier"}
+HIER = f"CREATE TABLE hier ({DECLARED['hier']}) STRICT"
 INDEXES = "CREATE INDEX posting_at ON posting (at); CREATE INDEX move_posting ON move (posting)"
 DONE = Ended(0, b"version 2\n", b"")
 NO_SIZES = b"ok resources=0 labels=0 links=0 accepted=0 withdrawn=0 moves=0\n"

@@ -1,9 +1,15 @@
 """Additions that a user may make to a store besides its tables, and what a store must do with them as without them: it
 answers each kind of request, accepted and refused, and an import, and gets the same rows; and the additions stay as
 they were."""
+from __future__ import annotations
+
 import contextlib
 import sqlite3
-from plain import Plain
+from collections.abc import Iterable, Iterator
+from pathlib import Path
+from typing import Any
+
+from plain import Plain, Request
 from plain_postings import import_file
 from plain_requests import MEMBERS
 from plain_store import COLUMNS, LIMITS, judge, read_rows, rows_of
@@ -24,20 +30,20 @@ COLUMN = "ALTER TABLE {0} ADD COLUMN note TEXT; UPDATE {0} SET note = 'mine'"
 INDEX = "CREATE INDEX more_{0} ON {0} ({1})"
 
 
-def word(does, text, **members):
+def word(does: str, text: str, **members: Any) -> Request:
     return {"do": does, "tag": "en", "text": text, **members}
 
 
-def link(kind, a, b, does="link"):
+def link(kind: str, a: int, b: int, does: str = "link") -> Request:
     return {"do": does, "kind": kind, "a": a, "b": b}
 
 
-def post(key, record, concept):
+def post(key: str, record: str, concept: int) -> Request:
     return {"do": "post", "key": key, "record": record, "concept": concept}
 
 
 # Requests after which each table has rows.
-START = [
+START: list[Request] = [
     word("scheme", "Animals"),
     *(word("concept", text, scheme=1) for text in ("Cats", "Mammals", "Pets", "Dogs", "Tigers")),
     word("collection", "House animals", scheme=1),
@@ -51,7 +57,7 @@ START = [
     {"do": "merge", "source": 6, "target": 2},
 ]
 # Requests of each kind, one that is accepted before one that is refused; a second scheme is one resource too many.
-REQUESTS = [
+REQUESTS: list[Request] = [
     word("scheme", "Things"),
     word("concept", "Lions", scheme=1),
     word("concept", "Cats", scheme=1),
@@ -91,7 +97,7 @@ REQUESTS = [
 ]
 MOST = {"resources": 15}
 # Additions that refuse a request: its answer is Store.
-REFUSING = {
+REFUSING: dict[str, Request] = {
     (
         "CREATE TABLE shelf (a, b, typ, FOREIGN KEY (a, b, typ) REFERENCES hier (a, b, typ)); INSERT "
         "INTO shelf VALUES (2, 3, 0)"
@@ -106,7 +112,7 @@ EVERY = {(word, is_refused) for word in (*MEMBERS["do"], *MEMBERS["get"]) for is
 }
 
 
-def additions(tables=COLUMNS):
+def additions(tables: Iterable[str] = COLUMNS) -> list[str]:
     """Additions to a store with these tables, one by one, and all of them together."""
     columns = [COLUMN.format(it) for it in tables]
     indexes = [INDEX.format(it, ", ".join(reversed(COLUMNS[it]))) for it in tables]
@@ -114,7 +120,7 @@ def additions(tables=COLUMNS):
     return [*each, "; ".join(each)]
 
 
-def performed(plain, requests):
+def performed(plain: Plain, requests: Iterable[Request]) -> tuple[Plain, list[Request]]:
     """The state after requests, and their answers."""
     answers = []
     for request in requests:
@@ -123,7 +129,7 @@ def performed(plain, requests):
     return plain, answers
 
 
-def unmet():
+def unmet() -> Iterator[str]:
     """Yields the kinds of requests of which none is accepted, or none refused, and the tables without rows at first."""
     plain, _ = performed(Plain({**LIMITS, **MOST}), START)
     answers = performed(plain, REQUESTS)[1]
@@ -134,7 +140,7 @@ def unmet():
     yield from (f"no rows of {table}" for table, rows in rows_of(plain).items() if not rows)
 
 
-def own_parts(path):
+def own_parts(path: Path) -> Any:
     """What a store has besides its rows: its schema, the rows of other tables, the notes at numbered rows, and what
     SQLite says of it."""
     with contextlib.closing(sqlite3.connect(path)) as base:
@@ -147,13 +153,13 @@ def own_parts(path):
         return schema, rows, base.execute("PRAGMA integrity_check").fetchall()
 
 
-def other_rows(path, plain):
+def other_rows(path: Path, plain: Plain) -> list[str]:
     """The tables of which a file has other rows than those of a state."""
     found, wanted = read_rows(path), rows_of(plain)
     return [f"{table}: {found[table]}, and not {wanted[table]}" for table in wanted if found[table] != wanted[table]]
 
 
-def differences(path, what):
+def differences(path: Path, what: str) -> Iterator[str]:
     """Yields where a store answers otherwise than the plain program, or gets other rows, and additions that don't stay.
     The store in the file has the rows after START, and perhaps additions."""
     plain, parts = performed(Plain(LIMITS), START)[0], own_parts(path)
@@ -164,13 +170,13 @@ def differences(path, what):
     ended = over(path, "script", lines_of(REQUESTS), *options)
     if (ended.status, values_of(ended.out), ended.err) != (1, answers, b""):
         told = next((it for it in zip(REQUESTS, values_of(ended.out), answers) if it[1] != it[2]), "")
-        yield f"{what}: the script: status {ended.status}, {ended.err}, {told}"
+        yield f"{what}: the script: status {ended.status}, {ended.err!r}, {told}"
     yield from (f"{what}: after the script {it}" for it in other_rows(path, plain))
     file = path.with_suffix(".csv")
     file.write_text(ROWS, encoding="ascii")
     plain, report = import_file(plain, file.read_bytes())
     if (ended := over(path, "import", b"", *options, after=[file])) != (1, report, b""):
-        yield f"{what}: the import: {ended}, and not {report}"
+        yield f"{what}: the import: {ended}, and not {report!r}"
     yield from (f"{what}: after the import {it}" for it in other_rows(path, plain))
     if (ended := over(path, "check")) != (0, f"{judge(rows_of(plain))[0]}\n".encode(), b""):
         yield f"{what}: the check: {ended}"

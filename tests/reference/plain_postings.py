@@ -1,5 +1,10 @@
 """Reads a posting file and performs it, as the rules say in words."""
+from __future__ import annotations
+
 import re
+from collections.abc import Callable
+
+from plain import Plain, Request
 from plain_forms import is_key, is_number, is_record
 
 HEADER = [b"key", b"record", b"concept"]
@@ -7,9 +12,9 @@ NUMERAL = re.compile(r"[1-9][0-9]*")
 QUOTE, COMMA, ENDS = b'"', b",", (b"\r", b"\n")
 
 
-def fields_of(data, place):
+def fields_of(data: bytes, place: int) -> tuple[list[bytes], int]:
     """The fields of the record that begins at a place, and the place after it."""
-    fields, field, is_open, is_quoted = [], b"", True, False
+    fields, field, is_open, is_quoted = list[bytes](), b"", True, False
     while place < len(data):
         byte = data[place : place + 1]
         if is_quoted:
@@ -33,7 +38,7 @@ def fields_of(data, place):
     return [*fields, field], place
 
 
-def records_of(data):
+def records_of(data: bytes) -> list[list[bytes]]:
     """The records of a file. A line without a byte is none."""
     data, place, records = data.removeprefix(b"\xef\xbb\xbf"), 0, []
     while place < len(data):
@@ -45,7 +50,7 @@ def records_of(data):
     return records
 
 
-def request_of(fields):
+def request_of(fields: list[bytes]) -> tuple[Request | None, str | None]:
     """The request of a record, or its fault."""
     if len(fields) != 3:
         return None, "BadShape"
@@ -56,20 +61,20 @@ def request_of(fields):
     return {"do": "post", "key": key, "record": record, "concept": int(concept)}, None
 
 
-def is_numeral(text):
+def is_numeral(text: str) -> bool:
     return bool(NUMERAL.fullmatch(text)) and is_number(int(text))
 
 
-def is_text_of(field, is_form):
+def is_text_of(field: bytes, is_form: Callable[[str], bool]) -> bool:
     try:
         return is_form(field.decode())
     except UnicodeDecodeError:
         return False
 
 
-def import_file(plain, data):
+def import_file(plain: Plain, data: bytes) -> tuple[Plain, bytes | None]:
     """The state after an import, and its report, or None if the file has no header."""
-    header, *rows = records_of(data) or [None]
+    header, *rows = records_of(data) or [[]]
     if header != HEADER:
         return plain, None
     report = ["row,outcome,number"]

@@ -1,9 +1,14 @@
 """Reads a line as a request, as the rules say in words: the request, with its tag in lower case, or its fault."""
+from __future__ import annotations
+
 import json
-from plain import BROADER, LABEL_KINDS, MAPPINGS
+from collections.abc import Callable
+from typing import Any
+
+from plain import BROADER, LABEL_KINDS, MAPPINGS, Plain, Request
 from plain_forms import is_iri, is_key, is_note, is_number, is_record, is_tag, is_text
 
-MEMBERS = {
+MEMBERS: dict[str, dict[str, tuple[str, ...]]] = {
     "do": {
         "scheme": ("tag", "text"),
         "concept": ("scheme", "tag", "text"),
@@ -23,7 +28,7 @@ MEMBERS = {
     "get": {"totals": (), "concept": ("number",), "postings": ("concept",), "posting": ("number",)},
 }
 LINK_KINDS = (*BROADER, "related", "member", *MAPPINGS)
-TEXTS = {
+TEXTS: dict[str, tuple[Callable[[str], bool], str]] = {
     "tag": (is_tag, "BadTag"),
     "text": (is_text, "BadText"),
     "iri": (is_iri, "BadIri"),
@@ -36,18 +41,18 @@ class Bad(Exception):
     """The fault of a line that is no request."""
 
 
-def read_float(text):
+def read_float(text: str) -> float:
     """A number that is not whole: one that no float is near is none."""
     if float(text) in (float("inf"), float("-inf")):
         raise ValueError(text)
     return float(text)
 
 
-def refuse_constant(text):
+def refuse_constant(text: str) -> None:
     raise ValueError(text)
 
 
-def read_json(line):
+def read_json(line: bytes) -> Any:
     """The value of a JSON text. Of two members with one name the last stays."""
     try:
         value = json.loads(line.decode(), parse_float=read_float, parse_constant=refuse_constant)
@@ -58,11 +63,11 @@ def read_json(line):
         raise Bad("NotJson") from error
 
 
-def is_count(value):
+def is_count(value: Any) -> bool:
     return isinstance(value, (int, float)) and not isinstance(value, bool)
 
 
-def has_shape(request, word, name):
+def has_shape(request: Request, word: str, name: str) -> bool:
     """Whether the value of a member is of the kind of JSON that the member wants."""
     value = request[name]
     if name == "kind":
@@ -74,7 +79,7 @@ def has_shape(request, word, name):
     return isinstance(value, str) if name in TEXTS else is_count(value)
 
 
-def fault_of(request, name):
+def fault_of(request: Request, name: str) -> str | None:
     """The fault of a member whose value has its shape, or None."""
     value = request[name]
     if name == "text" and request.get("kind") == "scope":
@@ -86,7 +91,7 @@ def fault_of(request, name):
     return None if all(map(is_number, numbers)) else "BadNumber"
 
 
-def members_of(request):
+def members_of(request: Any) -> tuple[str, ...]:
     """The word of a request and the members that it wants, or a fault of its shape."""
     verbs = [it for it in MEMBERS if isinstance(request, dict) and it in request]
     word = request[verbs[0]] if len(verbs) == 1 else None
@@ -98,9 +103,9 @@ def members_of(request):
     return names
 
 
-def read_request(line):
+def read_request(line: bytes) -> Request:
     """The request of a line; raises its fault."""
-    request = read_json(line)
+    request: Request = read_json(line)
     faults = [fault_of(request, name) for name in members_of(request)]
     for fault in filter(None, faults):
         raise Bad(fault)
@@ -109,14 +114,14 @@ def read_request(line):
     return request
 
 
-def lines_in(script):
+def lines_in(script: bytes) -> list[bytes]:
     """The lines of a script that are answered."""
     lines = script.split(b"\n")
     cut = [it.removesuffix(b"\r") for it in lines[:-1]] + lines[-1:]
     return [it for it in cut if it.strip(b" \t")]
 
 
-def perform(plain, line):
+def perform(plain: Plain, line: bytes) -> tuple[Plain, Request]:
     """Performs a line, and returns the next state and the answer."""
     try:
         request = read_request(line)

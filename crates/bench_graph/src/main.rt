@@ -3,8 +3,8 @@
 //! Arguments: `ladder` or `tree`, the number of nodes and the width, or `layers`, the number of
 //! nodes and of links from each, each followed by `made` to check nothing; or `levels`, the number
 //! of nodes, the number of links to check, and `merges` to check merges in place of related links.
-//! For `tests/builds/count-requests`: `requests`, the number of further nodes, and `judged` to
-//! check a link.
+//! For `tests/builds/test_count_requests.py`: `requests`, the number of further nodes, and
+//! `judged` to check a link.
 #![tactic(auto)]
 
 mod layers;

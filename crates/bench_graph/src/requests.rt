@@ -1,5 +1,5 @@
-//! Counts the allocations that are granted after a check, from which `tests/builds/count-requests` derives how many the
-//! check has made.
+//! Counts the allocations that are granted after a check, from which
+//! `tests/builds/test_count_requests.py` derives how many the check has made.
 use std::alloc::{AllocError, Global};
 use thes_base::data::{Link, LinkKind};
 use thes_base::fault::Refusal;

@@ -1,7 +1,8 @@
 //! Examples that must be answered correctly if an allocation, a reader or a writer fails, each in a new store.
 //!
-//! `tests/builds/refuse-memory` has a late allocation fail, and as many made before the example as an argument says. If
-//! that is 0, no allocation should fail, and the readers and writers of imports, exports and displays fail instead.
+//! `tests/builds/test_refuse_memory.py` has a late allocation fail, and as many made before the example as an argument
+//! says. If that is 0, no allocation should fail, and the readers and writers of imports, exports and displays fail
+//! instead.
 
 mod check;
 mod connections;
