@@ -8,6 +8,7 @@ mod found;
 pub mod keeper;
 pub mod laws;
 mod migrating;
+mod page_cache;
 pub mod reopening;
 mod row_output;
 mod rows;
