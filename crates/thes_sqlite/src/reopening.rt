@@ -14,11 +14,12 @@ ghost use Rattle.thes_sqlite.specs.Reopening.{IsKeeperStillUp, rows_still, stora
 ghost use Rattle.thes_sqlite.specs.Reopening.{FindsOfFirst, IsStillOpen, KeepsOnFault, LeavesFirst, ReturnsFirst};
 ghost use Rattle.thes_sqlite.specs.KeeperView.{ServesTables};
 
+use crate::cause::Cause;
 use crate::faults::{count_fault, fault_of};
 use crate::finding::{find_posting, find_row, find_with_moves};
 use crate::keeper::SqlKeeper;
 use crate::row_output::{collect_numbers, yield_postings, yield_table_rows};
-use sqlite::{Alter, Connection, Error};
+use sqlite::{Alter, Connection};
 use std::alloc::Global;
 use std::marker::Model;
 use thes_base::fault::Fault;
@@ -40,7 +41,7 @@ pub trait Reopen<C> {
 
     /// Closes a connection that a failure has shut, if there is one, and opens the database again.
     /// The database then has the rows that are on the disk.
-    fn reopen(&mut self, lost: Option<C>) -> Result<C, Error>;
+    fn reopen(&mut self, lost: Option<C>) -> Result<C, Cause>;
 }
 
 /// What the files of a database held before they were opened, which only contracts use.
