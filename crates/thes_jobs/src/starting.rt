@@ -35,7 +35,9 @@ use thes_command_line::opening::{
 use thes_command_line::printing::OpenFailure;
 use thes_command_line::start_failure::StartFailure;
 use thes_command_line::trouble::{StoreTrouble, name_trouble};
+use thes_sqlite::cause::Cause;
 use thes_sqlite::reopening::HeldTables;
+use thes_sqlite::unread::unread_object;
 
 /// A job whose store, and whose file or socket if it has one, are open.
 pub enum OpenJob<'r, S: Alter, O> {
@@ -47,6 +49,14 @@ pub enum OpenJob<'r, S: Alter, O> {
     Migration(String, Connection<S>),
     /// The migration of a new store in memory, which already has version 2.
     Version,
+}
+
+// Prints the name of what keeps the schema of a database from being read, if it is found.
+fn report_unread(rt: &HostRuntime, file: &str) {
+    if let Some(name) = unread_object(rt, file) {
+        // A line that can't be printed is dropped.
+        let _ = eprintln!(rt; "thesaurus: {name} can't be read; it can be dropped with sqlite3");
+    }
 }
 
 // Opens the database in a file, which it marks first if a store is to be made in it. An error is
@@ -68,6 +78,9 @@ fn open_database<S: Alter + Drop, O: HeldTables, L, D: Databases<Connection<S>, 
     match databases.open(file) {
         Ok(conn) => Ok(conn),
         Err(cause) => {
+            if cause == Cause::UnknownSchema {
+                report_unread(rt, file);
+            }
             let trouble = trouble_of(cause, StoreTrouble::Unwritable);
             if is_mark_void(trouble, file_state(&fs::metadata(rt, file))) {
                 mark.remove();

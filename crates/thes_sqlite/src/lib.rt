@@ -14,3 +14,4 @@ mod page_cache;
 pub mod reopening;
 mod row_output;
 mod rows;
+pub mod unread;
