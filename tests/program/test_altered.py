@@ -294,7 +294,7 @@ def test_value_of_a_kind_that_its_column_excludes(table: str, column: str, value
     with contextlib.closing(sqlite3.connect(path)) as base:
         last = base.execute(f"SELECT typeof({column}), quote({column}) FROM {table} ORDER BY rowid DESC").fetchone()
         assert last == base.execute(f"SELECT typeof({value}), quote({value})").fetchone()
-    assert_ends(path, fault(path, "Store", "not a database"), "check", "script")
+    assert_ends(path, fault(path, "Store", "damaged"), "check", "script")
 
 
 # --- generated stores ---

@@ -15,6 +15,8 @@ from program import ROOT, Ended, fault, over
 
 PAGE = ROOT / "docs" / "OPERATING.md"
 HEADING = "### What SQLite allows and the program doesn't read"
+# The reasons that the page's table has after Store, as the program prints them.
+REASONS = {"": "", "damaged": "damaged", "schema": "something in its schema can't be read"}
 # What a view may have that the program can't read.
 UNREAD = (
     "SELECT count(*) OVER w FROM label WINDOW w AS (ORDER BY text)",
@@ -67,6 +69,19 @@ def dump(path: Path) -> str:
         return "\n".join(database.iterdump())
 
 
+def ended(path: Path, row: Row) -> Ended:
+    """How the program ends over the altered store. What keeps the schema from being read is named before the fault, and
+    is what is dropped first."""
+    name, _, reason = row.fault.partition(", ")
+    wanted = fault(path, name, REASONS[reason])
+    if reason != "schema":
+        return wanted
+    found = row.undone.split(";")[0].split()[-1]
+    return wanted._replace(
+        err=f"thesaurus: {found} can't be read; it can be dropped with sqlite3\n".encode() + wanted.err
+    )
+
+
 def has_module(statements: str) -> bool:
     """Whether SQLite here has the module of a virtual table."""
     module = re.search(r"USING (\w+)", statements)
@@ -74,7 +89,7 @@ def has_module(statements: str) -> bool:
 
 
 ROWS = [it for it in rows() if has_module(it.done)]
-VIEWS = [Row(f"CREATE VIEW best AS {it}", "Store", "DROP VIEW best") for it in UNREAD]
+VIEWS = [Row(f"CREATE VIEW best AS {it}", "Store, schema", "DROP VIEW best") for it in UNREAD]
 
 
 @pytest.fixture(scope="module")
@@ -99,9 +114,8 @@ def test_row_of_the_page(row: Row, store: tuple[Path, Ended], tmp_path: Path) ->
         shutil.copyfile(store[0], path)
         perform(path, row.done)
     before = path.read_bytes()
-    reasons = ("damaged", "not a database") if row.fault == "Store" else ("",)
     for command, given in (("check", b""), ("script", b'{"do":"post","key":"new","record":"New","concept":2}\n')):
-        assert over(path, command, given) in [fault(path, row.fault, it) for it in reasons]
+        assert over(path, command, given) == ended(path, row)
     assert path.read_bytes() == before
     if row.undone == ".dump":
         copied = dump(path)

@@ -30,18 +30,34 @@ def test_empty_file_becomes_a_store(tmp_path: Path) -> None:
 @pytest.mark.parametrize("command", ["script", "check"])
 @pytest.mark.parametrize(
     ("name", "data"),
-    [("text.db", b"no database\n" * 1000), ("byte.db", b"\n"), ("folder", None), ("missing/museum.db", None)],
-    ids=["a text", "a byte", "a folder", "in no folder"],
+    [
+        ("text.db", b"no database\n" * 1000),
+        ("notes.txt", b"Some notes\n"),
+        ("copy.db", b"SQLite format 4\0" * 300),
+        ("byte.db", b"\n"),
+        ("folder", None),
+        ("missing/museum.db", None),
+    ],
+    ids=["a text", "a short text", "another format", "a byte", "a folder", "in no folder"],
 )
 def test_file_that_is_no_store_is_left_as_it_is(command: str, name: str, data: bytes | None, tmp_path: Path) -> None:
+    """Nothing is made beside it, either."""
     path = tmp_path / name
     if data:
         path.write_bytes(data)
     elif name == "folder":
         path.mkdir()
-    is_there = path.exists()
-    assert over(path, command, START) == fault(path, "Store", "not a database" if is_there else "no such file")
-    assert path.exists() == is_there and (not data or path.read_bytes() == data)
+    before = [*tmp_path.iterdir()]
+    assert over(path, command, START) == fault(path, "Store", "not a database" if before else "no such file")
+    assert [*tmp_path.iterdir()] == before and (not data or path.read_bytes() == data)
+
+
+@pytest.mark.parametrize("command", ["script", "check"])
+def test_pipe_is_refused_and_not_waited_for(command: str, tmp_path: Path) -> None:
+    path = tmp_path / "pipe.db"
+    os.mkfifo(path)
+    assert over(path, command, START, timeout=60) == fault(path, "Store", "not a database")
+    assert [*tmp_path.iterdir()] == [path]
 
 
 def test_journal_that_sqlite_left(tmp_path: Path) -> None:
@@ -57,8 +73,8 @@ def test_journal_that_sqlite_left(tmp_path: Path) -> None:
             shutil.copyfile(f"{path}{end}", f"{cut}{end}")
     before = cut.read_bytes()
     for command in ("script", "check"):
-        assert over(cut, command, START) == fault(cut, "Store", "can't be written")
-    assert cut.read_bytes() == before
+        assert over(cut, command, START) == fault(cut, "Store", "SQLite was cut short, and left a journal")
+    assert cut.read_bytes() == before and not [*tmp_path.glob("cut.db-wal")]
     with contextlib.closing(sqlite3.connect(cut)) as base:
         base.execute("PRAGMA quick_check").fetchall()
     assert over(cut, "check") == whole

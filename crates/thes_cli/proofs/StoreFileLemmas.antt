@@ -163,6 +163,7 @@ module _ {S : Type 0} (g : Ghosts S) where
         leaving = left;
         works = works;
         closes = closes;
+        certain = λ kept. closes.is_in_doubt ∙ works.certain (sym closes.is_reopened ∙ kept);
         leaves = leaves;
         leads = λ kept. if_some_weaker closed.files _ _ (λ files leaves clean t was_held.
             to_leads job old new status works.keeper t (holds files) works.works.0 (leaves clean t was_held)) (leaves kept);

@@ -121,6 +121,7 @@ module _ {F R W E : Type 0} (given : F → Option (List ℕ)) (remaining : R →
       -- The first connection is returned, unless a failure has closed it.
       pub back_is : IfSome keeper.first (λ k. (left.conn ≡ Some k.conn) × (left.is_reopened ≡ false))
       pub returns : left.is_reopened ≡ false → ReturnsFirst store held keeper left.conn
+      pub certain : left.is_reopened ≡ false → left.is_in_doubt ≡ false
 
     -- The work was done on the tables of the database, and the database was closed. If no failure has shut it, the files
     -- held a store and the closed files are clean, they hold the store after the work, and so after a run of the machine.
@@ -130,6 +131,8 @@ module _ {F R W E : Type 0} (given : F → Option (List ℕ)) (remaining : R →
       pub leaving : Leaving S
       pub works : WorksInDatabase held job old status leaving new
       pub closes : ClosesLeft store is_clean holds leaving closed
+      -- A request is in doubt only if a failure has shut the database.
+      pub certain : closed.is_reopened ≡ false → closed.is_in_doubt ≡ false
       pub leaves : closed.is_reopened ≡ false → IfSome closed.files (λ files. is_clean files → (t : Tables) → held t
           → LeavesInFiles store works.works.0 job.limits t works.keeper (holds files))
       pub leads : LeadsIfClosed err held is_clean holds old.errors new.errors status closed

@@ -6,7 +6,6 @@ use Rattle.std.specs.Fs.{IsFile, file_type, metadata_len}
 use Rattle.std.specs.IoError.{error_kind}
 use Rattle.std.specs.declared.fs.attrs.Metadata.{Metadata}
 use Rattle.std.specs.declared.io.Error.{Error}
-use Rattle.std.specs.declared.io.ErrorKind.{ErrorKind}
 use Rattle.std.specs.declared.io.ErrorKind.TheVariants.{NotFound}
 use Rattle.thes_base.specs.Types.{Bytes}
 use Rattle.thes_base.specs.declared.fault.Fault.{Fault}
@@ -78,16 +77,6 @@ is_mark_void _ found.Absent = true
 is_mark_void _ (found.Bytes n) = n == 0
 is_mark_void _ found.Other = false
 
--- The reason why a file couldn't be opened as a store: a second name of the file, or else what follows from the error of
--- opening the file or, for a new store, of reading its folder.
-abbrev pub trouble_of_access : Opening → FileState → Bool → Option ErrorKind → StoreTrouble
-trouble_of_access opening found true error = troubles.Linked
-trouble_of_access opening found false (Some NotFound) = troubles.NoFile
-trouble_of_access New found false _ = troubles.Unwritable
-trouble_of_access Existing found false (Some kind) = troubles.Unreadable
-trouble_of_access Existing found.Other false None = troubles.NotDatabase
-trouble_of_access Existing _ false None = troubles.Unwritable
-
 -- The trouble and the fault of a file for which the names next to it are too long, or couldn't be checked.
 abbrev pub name_trouble : Result Bool Fault → Option (StoreTrouble × Fault)
 name_trouble (Ok true) = Some (troubles.LongName, Store)
@@ -110,3 +99,5 @@ words_of troubles.Unreadable = codes "can't be read"
 words_of troubles.Unwritable = codes "can't be written"
 words_of troubles.NoRoom = codes "no room"
 words_of troubles.Damaged = codes "damaged"
+words_of troubles.Journal = codes "SQLite was cut short, and left a journal"
+words_of troubles.UnknownSchema = codes "something in its schema can't be read"

@@ -56,16 +56,6 @@ pub fn file_state(found: &io::Result<Metadata>) -> FileState
     }
 }
 
-/// Returns the folder of a file: its path before the last slash, `/` if that is empty, or `.` if
-/// there is no slash.
-pub fn folder_of(file: &str) -> &str {
-    match file.rsplit_once('/') {
-        Some(("", _)) => "/",
-        Some((folder, _)) => folder,
-        None => ".",
-    }
-}
-
 // Returns `New`, except for a check, which makes no store and fails with this trouble.
 fn new_store(task: &Task, trouble: StoreTrouble) -> Result<Opening, StoreTrouble>
     ensures { result ≡ choices.new_store task.now trouble }

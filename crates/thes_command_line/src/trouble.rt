@@ -1,10 +1,8 @@
 //! The reasons why a store can't be used, as far as the system reports them.
 ghost use Rattle.std.specs.Prelude.{◌≡◌};
 ghost use Rattle.thes_command_line.specs.Opening as choices;
-ghost use Rattle.thes_command_line.specs.Opening.{trouble_of_access, words_of};
+ghost use Rattle.thes_command_line.specs.Opening.{words_of};
 
-use crate::opening::{FileState, Opening};
-use std::io::ErrorKind;
 use thes_base::fault::Fault;
 
 /// The reason for a Store fault of the store in a file.
@@ -28,6 +26,10 @@ pub enum StoreTrouble {
     NoRoom,
     /// The database in the file is damaged.
     Damaged,
+    /// SQLite was cut short, and left a journal.
+    Journal,
+    /// The schema of the database lists something that can't be read.
+    UnknownSchema,
 }
 
 impl StoreTrouble {
@@ -45,29 +47,9 @@ impl StoreTrouble {
             StoreTrouble::Unwritable => "can't be written",
             StoreTrouble::NoRoom => "no room",
             StoreTrouble::Damaged => "damaged",
+            StoreTrouble::Journal => "SQLite was cut short, and left a journal",
+            StoreTrouble::UnknownSchema => "something in its schema can't be read",
         }
-    }
-}
-
-/// Returns the reason why a file couldn't be opened as a store. `error` is that of opening the file
-/// for reading or, if the store is to be made, of reading its folder.
-pub fn refused_access(
-    opening: Opening,
-    found: FileState,
-    is_linked: bool,
-    error: Option<ErrorKind>,
-) -> StoreTrouble
-    ensures { result ≡ trouble_of_access opening found is_linked error }
-{
-    if is_linked {
-        return StoreTrouble::Linked;
-    }
-    match (opening, found, error) {
-        (_, _, Some(ErrorKind::NotFound)) => StoreTrouble::NoFile,
-        (Opening::New, _, _) => StoreTrouble::Unwritable,
-        (Opening::Existing, _, Some(_)) => StoreTrouble::Unreadable,
-        (Opening::Existing, FileState::Other, None) => StoreTrouble::NotDatabase,
-        (Opening::Existing, _, None) => StoreTrouble::Unwritable,
     }
 }
 

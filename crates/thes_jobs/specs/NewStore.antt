@@ -9,6 +9,7 @@ use Rattle.thes_tables.specs.Tables.{empty_tables}
 use Rattle.thes_sql.specs.TransactionEffects.{IsEmpty}
 use Rattle.thes_sql.specs.Schema.{empty_schema}
 use Rattle.thes_sql.specs.StoredRows.{Keeps}
+use Rattle.thes_sqlite.specs.Causes.{error_cause}
 use Rattle.thes_sqlite.specs.Faults.{error_fault}
 use Rattle.thes_sqlite.specs.KeeperView.{IsUp}
 use Rattle.thes_sqlite.specs.MigrationEffects.{IsUnwritten}
@@ -24,7 +25,7 @@ module _ {S : Type 0} (store : Ghosts S) where
   -- The tables couldn't be made: the fault and its reason are those of an error, and a database that is up is unchanged.
   pub record IsUnmade (old : Held S) (trouble : StoreTrouble) (fault : Fault) (new : Held S) : Type 0 where
     pub error : Error
-    pub trouble_is : trouble ≡ trouble_of error Unwritable
+    pub trouble_is : trouble ≡ trouble_of (error_cause error) Unwritable
     pub fault_is : fault ≡ error_fault error
     pub leaves : IsUp (state store new) → IsUnwritten (state store old) (state store new)
 

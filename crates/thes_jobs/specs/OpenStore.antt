@@ -1,16 +1,15 @@
 -- The database of the store in a file, opened for a task, and the reasons why it isn't.
-use Rattle.std.specs.Prelude.{◌≡◌, ◌⊎◌, Bool, false, Option, Some, Result, Ok, Err}
-use Rattle.std.specs.declared.io.ErrorKind.{ErrorKind}
-use Rattle.sqlite.specs.declared.error.Error.{Error}
+use Rattle.std.specs.Prelude.{◌≡◌, ◌⊎◌, Bool, false, Some, Result, Ok, Err}
 use Rattle.thes_base.specs.declared.fault.Fault.{Fault}
 use Rattle.thes_base.specs.declared.fault.Fault.TheVariants.{OutOfMemory, Store}
-use Rattle.thes_sqlite.specs.Faults.{error_fault}
-use Rattle.thes_command_line.specs.Opening.{name_trouble, opening_of, trouble_of_access}
+use Rattle.thes_sqlite.specs.Causes.{fault_of_cause}
+use Rattle.thes_sqlite.specs.declared.cause.Cause.{Cause}
+use Rattle.thes_command_line.specs.Opening.{name_trouble, opening_of}
 use Rattle.thes_command_line.specs.declared.arguments.Task.{Task}
 use Rattle.thes_command_line.specs.declared.opening.FileState.{FileState}
 use Rattle.thes_command_line.specs.declared.opening.Opening.{Opening}
 use Rattle.thes_command_line.specs.declared.trouble.StoreTrouble.{StoreTrouble}
-use Rattle.thes_command_line.specs.declared.trouble.StoreTrouble.TheVariants.{Unreadable}
+use Rattle.thes_command_line.specs.declared.trouble.StoreTrouble.TheVariants.{Unreadable, Unwritable}
 use Rattle.thes_jobs.specs.Trouble.{trouble_of}
 use Rattle.thes_jobs.specs.declared.starting.StoreDatabase.{StoreDatabase}
 
@@ -22,17 +21,11 @@ ChoosesOpening task found (Err reported) =
     ((names : Result Bool Fault) × (name_trouble names ≡ Some reported))
     ⊎ ((is_marked : Bool) × (opening_of task found is_marked ≡ Err reported.0) × (reported.1 ≡ Store))
 
--- The reason for an error of opening a database is the one that it names, or else what access to the file shows.
-pub record IsTroubleOf (opening : Opening) (found : FileState) (error : Error) (trouble : StoreTrouble) : Type 0 where
-  pub is_linked : Bool
-  pub access : Option ErrorKind
-  pub trouble_is : trouble ≡ trouble_of error (trouble_of_access opening found is_linked access)
-
--- An error kept a database from being opened: its reason and its fault are reported.
-pub record IsUnopenedDatabase (opening : Opening) (found : FileState) (reported : StoreTrouble × Fault) : Type 0 where
-  pub error : Error
-  pub trouble : IsTroubleOf opening found error reported.0
-  pub fault : reported.1 ≡ error_fault error
+-- A cause kept a database from being opened: its reason and its fault are reported.
+pub record IsUnopenedDatabase (reported : StoreTrouble × Fault) : Type 0 where
+  pub cause : Cause
+  pub trouble : reported.0 ≡ trouble_of cause Unwritable
+  pub fault : reported.1 ≡ fault_of_cause cause
 
 -- The trouble and the fault of a store whose database wasn't opened for a task: memory for the name of its mark ran out,
 -- no way to open it was chosen, or the database couldn't be opened in the chosen way.
@@ -40,7 +33,7 @@ pub data IsUnopenedStore (task : Task) (reported : StoreTrouble × Fault) : Type
   no_memory : reported ≡ (Unreadable, OutOfMemory) → IsUnopenedStore task reported
   unchosen : (found : FileState) → ChoosesOpening task found (Err reported) → IsUnopenedStore task reported
   unopened : (found : FileState) → (opening : Opening) → ChoosesOpening task found (Ok opening)
-      → IsUnopenedDatabase opening found reported → IsUnopenedStore task reported
+      → IsUnopenedDatabase reported → IsUnopenedStore task reported
 
 -- The database of a store was opened in the way for the state of its file, and is in no transaction.
 pub record IsOpenedFor {S : Type 0} (task : Task) (store : StoreDatabase S) : Type 0 where

@@ -3,10 +3,11 @@ ghost use Rattle.std.specs.Prelude.{IfOk};
 ghost use Rattle.thes_tables.specs.Tables.{Tables};
 
 use crate::store_files::{Contents, StoreFiles, close_database_files, open_database_files};
-use sqlite::{Connection, Error, FileFrom, FileStore, Start};
+use sqlite::{Connection, FileFrom, FileStore, Start};
 use sqlite_disk::{Disk, Files};
 use std::marker::PhantomData;
 use thes_base::fault::Fault;
+use thes_sqlite::cause::Cause;
 
 /// A way to open the databases of stores by the names of their files, with connections of the type
 /// `C`, and to close them. A value of the type `O` opens a database again, and one of the type `L`
@@ -29,7 +30,7 @@ pub trait Databases<C, O, L> {
     ghost holds: { L → Tables → Type 0 };
 
     /// Opens the database in a file; if there is no such file, makes it.
-    fn open(&self, file: &str) -> Result<C, Error>
+    fn open(&self, file: &str) -> Result<C, Cause>
         ensures { IfOk result Self.opens };
 
     /// Returns what opens the database in a file again. The file must be open.
@@ -79,7 +80,7 @@ impl<'r, S: Start + Contents> Databases<
 
     ghost holds = { HoldTables ⟦<FileFrom<S> as Disk>⟧ };
 
-    fn open(&self, file: &str) -> Result<Connection<FileStore<FileFrom<S>>>, Error> {
+    fn open(&self, file: &str) -> Result<Connection<FileStore<FileFrom<S>>>, Cause> {
         open_database_files(self.rt, file)
     }
 

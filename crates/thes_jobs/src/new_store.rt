@@ -11,6 +11,7 @@ use thes_base::fault::Fault;
 use thes_base::text::Base;
 use thes_command_line::trouble::StoreTrouble;
 use thes_sql::create::create_tables;
+use thes_sqlite::cause::cause_of;
 use thes_sqlite::faults::fault_of;
 
 /// Returns whether a database has no tables, and nothing else that its schema lists.
@@ -36,7 +37,7 @@ pub fn make_store<S: Alter>(
     match create_tables(conn, base) {
         Ok(_) => Ok(()),
         Err(error) => Err((
-            trouble_of(&error, StoreTrouble::Unwritable),
+            trouble_of(cause_of(error), StoreTrouble::Unwritable),
             fault_of(error),
         )),
     }

@@ -6,7 +6,7 @@ ghost use Rattle.thes_sql.specs.Schema.{empty_schema};
 ghost use Rattle.thes_sqlite.specs.KeeperView.{ServesTables};
 ghost use Rattle.thes_jobs.specs.Databases.{IsReadyConnection, KeepsTables, OpensStores};
 ghost use Rattle.thes_jobs.specs.NewStore.{MakesStore, PreparesStore};
-ghost use Rattle.thes_jobs.specs.OpenStore.{ChoosesOpening, IsOpenedFor, IsTroubleOf, IsUnopenedDatabase, OpensStore};
+ghost use Rattle.thes_jobs.specs.OpenStore.{ChoosesOpening, IsOpenedFor, IsUnopenedDatabase, OpensStore};
 ghost use Rattle.thes_jobs.specs.PlannedWork as work;
 ghost use Rattle.thes_jobs.specs.PlannedWork.{IsSocketFailure, OpensPlanned};
 ghost use Rattle.thes_jobs.specs.Starting.{IsReadyJob, ListensTo, OpensJob, OpensPlan, job_in_file, job_in_memory};
@@ -15,28 +15,29 @@ use crate::databases::Databases;
 use crate::making::MakingMark;
 use crate::new_store::{is_blank, make_store};
 use crate::screen::Screen;
-use crate::store_files::{has_long_name, is_linked};
+use crate::store_files::has_long_name;
 use crate::trouble::trouble_of;
 use crate::work::{
     DatabaseWork, MemoryWork, PlannedWork, Work, import_work, planned_work, serve_work,
 };
-use sqlite::{Alter, Connection, Error};
+use sqlite::{Alter, Connection};
 use std::fs;
 use std::fs::File;
-use std::io::{ErrorKind, IsTerminal};
+use std::io::IsTerminal;
 use std::net::{Ipv4Addr, TcpListener};
 use thes_base::fault::Fault;
 use thes_base::text::Base;
 use thes_command_line::arguments::{EarlyExit, Job, StoreSetting, Task};
 use thes_command_line::opening::{
-    FileState, Opening, Preparation, file_state, folder_of, is_check, is_import, is_mark_void,
-    opening_of, preparation_of,
+    FileState, Opening, Preparation, file_state, is_check, is_import, is_mark_void, opening_of,
+    preparation_of,
 };
 use thes_command_line::printing::OpenFailure;
 use thes_command_line::start_failure::StartFailure;
-use thes_command_line::trouble::{StoreTrouble, name_trouble, refused_access};
-use thes_sqlite::faults::fault_of;
+use thes_command_line::trouble::{StoreTrouble, name_trouble};
+use thes_sqlite::cause::Cause;
 use thes_sqlite::reopening::HeldTables;
+use thes_sqlite::unread::unread_object;
 
 /// A job whose store, and whose file or socket if it has one, are open.
 pub enum OpenJob<'r, S: Alter, O> {
@@ -50,35 +51,12 @@ pub enum OpenJob<'r, S: Alter, O> {
     Version,
 }
 
-// Returns the error of opening a file for reading or, if a store is to be made in it, of reading
-// its folder; None if there is no error.
-fn access_error(rt: &HostRuntime, opening: Opening, file: &str) -> Option<ErrorKind> {
-    let error = match opening {
-        Opening::Existing => File::open(rt, file).err(),
-        Opening::New => fs::metadata(rt, folder_of(file)).err(),
-    };
-    match error {
-        Some(error) => Some(error.kind()),
-        None => None,
+// Prints the name of what keeps the schema of a database from being read, if it is found.
+fn report_unread(rt: &HostRuntime, file: &str) {
+    if let Some(name) = unread_object(rt, file) {
+        // A line that can't be printed is dropped.
+        let _ = eprintln!(rt; "thesaurus: {name} can't be read; it can be dropped with sqlite3");
     }
-}
-
-// Returns the reason why the database in a file couldn't be opened. If the error names no reason,
-// it is a second name of the file, or else what access to the file shows.
-fn open_trouble(
-    rt: &HostRuntime,
-    opening: Opening,
-    found: FileState,
-    file: &str,
-    error: &Error,
-) -> StoreTrouble
-    ensures { IsTroubleOf opening found error.now result }
-{
-    let access = access_error(rt, opening, file);
-    trouble_of(
-        error,
-        refused_access(opening, found, is_linked(rt, file), access),
-    )
 }
 
 // Opens the database in a file, which it marks first if a store is to be made in it. An error is
@@ -87,25 +65,27 @@ fn open_database<S: Alter + Drop, O: HeldTables, L, D: Databases<Connection<S>, 
     rt: &HostRuntime,
     databases: &D,
     opening: Opening,
-    found: FileState,
     mark: &MakingMark<'_>,
     file: &str,
 ) -> Result<Connection<S>, (StoreTrouble, Fault)>
     requires { OpensStores S.Store O.held D.opens }
     ensures ready { IfOk result (IsReadyConnection S.Store O.held) }
-    ensures err { IfErr result (IsUnopenedDatabase opening found) }
+    ensures err { IfErr result IsUnopenedDatabase }
 {
     if opening == Opening::New {
         mark.make();
     }
     match databases.open(file) {
         Ok(conn) => Ok(conn),
-        Err(error) => {
-            let trouble = open_trouble(rt, opening, found, file, &error);
+        Err(cause) => {
+            if cause == Cause::UnknownSchema {
+                report_unread(rt, file);
+            }
+            let trouble = trouble_of(cause, StoreTrouble::Unwritable);
             if is_mark_void(trouble, file_state(&fs::metadata(rt, file))) {
                 mark.remove();
             }
-            Err((trouble, fault_of(error)))
+            Err((trouble, cause.fault()))
         }
     }
 }
@@ -154,7 +134,7 @@ fn open_store<'r, S: Alter + Drop, O: HeldTables, L, D: Databases<Connection<S>,
     };
     let found = file_state(&fs::metadata(rt, file));
     let opening = opening_for(rt, task, found, &mark, file)?;
-    let conn = open_database(rt, databases, opening, found, &mark, file)?;
+    let conn = open_database(rt, databases, opening, &mark, file)?;
     Ok(StoreDatabase {
         conn,
         mark,

@@ -6,23 +6,24 @@ ghost use Rattle.thes_sqlite.specs.DatabaseFiles.{HoldsStore};
 ghost use Rattle.thes_sqlite.specs.KeeperView.{ServesTables};
 ghost use Rattle.thes_jobs.specs.Databases.{AreCleanFiles, ClosesStore, HoldTables};
 
-use sqlite::{Connection, Error, ErrorCode, FileFrom, FileStore, Start, Unknown};
+use sqlite::{Connection, FileFrom, FileStore, Start, Unknown};
 use sqlite_disk::{Disk, Files};
 use std::fs;
 use std::io::ErrorKind;
 use std::marker::PhantomData;
 use std::os::unix::fs::MetadataExt;
 use thes_base::fault::Fault;
+use thes_sqlite::cause::Cause;
 use thes_sqlite::files::{close_files, open_files};
 use thes_sqlite::reopening::{HeldTables, Reopen};
 
-// Returns what was opened, or the error without what came with it.
-fn without_rest<T, L: Drop>(opened: Result<T, (Error, L)>) -> Result<T, Error>
+// Returns what was opened, or the cause of the failure without what came with it.
+fn without_rest<T, L: Drop>(opened: Result<T, (Cause, L)>) -> Result<T, Cause>
     ensures { IfOk result (λ conn. opened ≡ Ok conn) }
 {
     match opened {
         Ok(conn) => Ok(conn),
-        Err((error, _)) => Err(error),
+        Err((cause, _)) => Err(cause),
     }
 }
 
@@ -44,7 +45,7 @@ fn open_from<S: Start>(
     rt: &HostRuntime,
     file: &str,
     start: S,
-) -> Result<Connection<FileStore<FileFrom<S>>>, Error>
+) -> Result<Connection<FileStore<FileFrom<S>>>, Cause>
     ensures idle { IfOk result (λ conn. conn.in_transaction ≡ false) }
     ensures serves { IfOk result (λ conn. ServesTables (λ t. HoldsStore (image_at S.Start) t)
         (file_state conn)) }
@@ -57,7 +58,7 @@ fn open_from<S: Start>(
 pub fn open_database_files<S: Start + Contents>(
     rt: &HostRuntime,
     file: &str,
-) -> Result<Connection<FileStore<FileFrom<S>>>, Error>
+) -> Result<Connection<FileStore<FileFrom<S>>>, Cause>
     ensures idle { IfOk result (λ conn. conn.in_transaction ≡ false) }
     ensures serves { IfOk result (λ conn. ServesTables (λ t. HoldsStore (image_at S.Start) t)
         (file_state conn)) }
@@ -86,14 +87,6 @@ fn identity_of(rt: &HostRuntime, path: &str) -> Option<(u64, u64)> {
     match fs::metadata(rt, path) {
         Ok(found) => Some((found.dev(), found.ino())),
         Err(_) => None,
-    }
-}
-
-/// Returns whether a file has another name, a hard link.
-pub fn is_linked(rt: &HostRuntime, file: &str) -> bool {
-    match fs::metadata(rt, file) {
-        Ok(found) => found.is_file() && found.nlink() > 1,
-        Err(_) => false,
     }
 }
 
@@ -159,12 +152,12 @@ impl<S: Start + Contents> Reopen<Connection<FileStore<FileFrom<S>>>> for StoreFi
     fn reopen(
         &mut self,
         lost: Option<Connection<FileStore<FileFrom<S>>>>,
-    ) -> Result<Connection<FileStore<FileFrom<S>>>, Error> {
+    ) -> Result<Connection<FileStore<FileFrom<S>>>, Cause> {
         if let Some(conn) = lost {
             drop(close_database_files(conn));
         }
         if !self.is_in_place() {
-            return Err(Error::SqliteFailure(ErrorCode::CannotOpen));
+            return Err(Cause::Missing);
         }
         open_database_files(self.rt, self.file.as_str())
     }

@@ -4,23 +4,29 @@ ghost use Rattle.thes_base.specs.Pipe.{IsFresh};
 ghost use Rattle.thes_command_line.specs.Printing.{Prints, fault_lines};
 ghost use Rattle.thes_jobs.specs.Trouble as trouble;
 
-use sqlite::{Error, ErrorCode};
 use std::io::Write;
 use thes_base::fault::{Fault, PipeFault};
 use thes_base::pipe::Pipe;
 use thes_command_line::printing::{report_fault, report_in_file};
 use thes_command_line::trouble::StoreTrouble;
+use thes_sqlite::cause::Cause;
 
-/// Returns the reason that an error of the database names, or `other` if it names none.
-pub fn trouble_of(error: &Error, other: StoreTrouble) -> StoreTrouble
-    ensures { result ≡ trouble.trouble_of error.now other }
+/// Returns the reason that a cause gives, or `other` if it gives none.
+pub fn trouble_of(cause: Cause, other: StoreTrouble) -> StoreTrouble
+    ensures { result ≡ trouble.trouble_of cause other }
 {
-    match error {
-        Error::SqliteFailure(ErrorCode::DatabaseBusy) => StoreTrouble::InUse,
-        Error::SqliteFailure(ErrorCode::NotADatabase) => StoreTrouble::NotDatabase,
-        Error::SqliteFailure(ErrorCode::DatabaseCorrupt) => StoreTrouble::Damaged,
-        Error::SqliteFailure(ErrorCode::DiskFull) => StoreTrouble::NoRoom,
-        _ => other,
+    match cause {
+        Cause::Locked => StoreTrouble::InUse,
+        Cause::Missing => StoreTrouble::NoFile,
+        Cause::NotAFile | Cause::NotADatabase => StoreTrouble::NotDatabase,
+        Cause::Linked => StoreTrouble::Linked,
+        Cause::Unreadable => StoreTrouble::Unreadable,
+        Cause::Unwritable => StoreTrouble::Unwritable,
+        Cause::Journal => StoreTrouble::Journal,
+        Cause::UnknownSchema => StoreTrouble::UnknownSchema,
+        Cause::Damaged => StoreTrouble::Damaged,
+        Cause::Full => StoreTrouble::NoRoom,
+        Cause::NoMemory | Cause::Other => other,
     }
 }
 

@@ -9,7 +9,8 @@ use Rattle.sqlite.specs.Command.{Command}
 use Rattle.sqlite.specs.Command.TheVariants.{Select}
 use Rattle.sqlite_schema.specs.declared.program.Program.{Program}
 use Rattle.sqlite_resolve.specs.declared.error.CompileError.{CompileError}
-use Rattle.sqlite.specs.declared.error.Error.TheVariants.{SqlInputError}
+use Rattle.sqlite.specs.declared.error.Error.TheVariants.{SqlInputError, SqliteFailure}
+use Rattle.sqlite.specs.declared.error.ErrorCode.TheVariants.{Closed}
 use Rattle.sqlite_trees.specs.declared.error.StoreError.{StoreError}
 use Rattle.sqlite.specs.Listing.{understood, reads_listing, IsSourceOf}
 use Rattle.sqlite.specs.Outline.{Outline}
@@ -123,6 +124,10 @@ module _ (sql : List ℕ) (params : Row) (is : IsQuery sql) where
 -- The error of a store that failed is never that of a query that finds nothing.
 pub cause_finds : (e : Error) (cause : StoreError) → e ≡ store_error cause → finds_nothing e ≡ false
 cause_finds e cause is = grind (arith, common_steps)
+
+-- Only a database that an earlier failure had shut answers that it is shut.
+pub shut_before : (sql : List ℕ) (old new : State) → FailsToFind sql old new (SqliteFailure Closed) → old.is_open ≡ false
+shut_before sql old new fails = grind (arith, common_steps)
 
 module _ (sql : List ℕ) (old new : State) (is : IsWholeQuery sql) where
   finds_shown : (out : List Row) → Shown sql [] old new out → Finds sql old.now (Some out)

@@ -1,4 +1,7 @@
 //! Checks whether a commit that failed has taken effect.
+ghost use Rattle.std.specs.Prelude.{◌≡◌, false, IsTrue};
+ghost use Rattle.sqlite.specs.Held.{state};
+ghost use Rattle.sqlite.specs.State.{HasCleanDisk};
 ghost use Rattle.thes_sql.specs.Reads.{LeavesTables};
 
 use crate::values::{hier_values, label_values, link_values};
@@ -9,8 +12,11 @@ use thes_tables::change::Change;
 
 /// Queries the database to check whether a failure has shut the connection; false after any other
 /// error.
+#[tactic(auto, using(crate::proofs::ReadFrameLemmas::shut_before))]
 pub fn is_shut<S: Alter>(conn: &mut Connection<S>) -> bool
-    ensures { LeavesTables S.Store conn.old conn.new }
+    ensures leaves { LeavesTables S.Store conn.old conn.new }
+    ensures shut { IsTrue result → HasCleanDisk (state S.Store conn.new)
+        → (state S.Store conn.old).is_open ≡ false }
 {
     match version_rows(conn) {
         Err(Error::SqliteFailure(ErrorCode::Closed)) => true,

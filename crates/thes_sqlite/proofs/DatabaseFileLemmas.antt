@@ -2,7 +2,6 @@
 use Rattle.std.proofs.lemmas.Grind.{common_steps}
 use Rattle.std.proofs.Common.{arith, ◌≡◌, ◌∙◌, sym, subst}
 use Rattle.std.proofs.Math.Logic.{∥∥₁_elim}
-use Rattle.std.specs.Prelude.{Result, Ok, Err, IfOk}
 use Rattle.sqlite_disk.specs.declared.Disk as disk
 use Rattle.sqlite_disk.specs.declared.Files.{Files}
 use Rattle.sqlite_wal.specs.Recovery.{Image}
@@ -15,10 +14,10 @@ use Rattle.sqlite_schema.specs.declared.schema.Schema.{Schema}
 use Rattle.sqlite_store.specs.declared.store.FileStore.{FileStore}
 use Rattle.sqlite.specs.Closing.{HoldsAlone, IsCopied}
 use Rattle.sqlite.specs.Effect.{Database, IsDatabase}
-use Rattle.sqlite.specs.Files.{file_state, image_of, IsOpened}
+use Rattle.sqlite.specs.Files.{file_state, image_of}
 use Rattle.sqlite.specs.Held.{Held}
 use Rattle.sqlite.specs.Start.{FindsIn}
-use Rattle.sqlite.specs.State.{State, HasCleanDisk, IsLive, Opens}
+use Rattle.sqlite.specs.State.{State, IsLive, Opens}
 use Rattle.thes_tables.specs.Tables.{Tables}
 use Rattle.thes_sql.specs.StoredRows.{Keeps}
 use Rattle.thes_sqlite.specs.DatabaseFiles.{ClosesFiles, HoldsStore, OpensFiles}
@@ -44,14 +43,6 @@ opens_files image s found opened live = record {
       (sym (opened.clean ∙ same_database s.committed store.database (live opened.is_open).1 store.sound trees))
       store.keeps;
 }
-
-pub opened_files : {D E : Type 0} {g : disk.Ghosts D} (image : Image) (r : Result (Held (FileStore D g)) E)
-    → IfOk r (λ c. HasCleanDisk (file_state c) → IsOpened c)
-    → IfOk r (λ c. HasCleanDisk (file_state c) → FindsIn image (file_state c))
-    → IfOk r (λ c. HasCleanDisk (file_state c) → OpensFiles image (file_state c))
-opened_files image (Ok c) opened found = λ clean.
-    opens_files image (file_state c) (found clean) (opened clean).0 (opened clean).1
-opened_files image (Err e) opened found = tt
 
 -- Closing leaves the committed store in the files.
 pub closes_files : {D : Type 0} {g : disk.Ghosts D} (c : Held (FileStore D g)) (files : Files D) → IsLive (file_state c)

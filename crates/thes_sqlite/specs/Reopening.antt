@@ -1,8 +1,9 @@
 -- The state of storage in a database that is opened again after a failure.
-use Rattle.std.specs.Prelude.{◌≡◌, ℕ, Option, None, Some, Result, OnErr, refl}
+use Rattle.std.specs.Prelude.{◌≡◌, ℕ, Bool, false, Option, None, Some, Result, OnErr, refl}
 use Rattle.std.specs.Coded.{Coded, code_by, coded×, coded_ℕ, coded_option}
 use Rattle.sqlite.specs.Effect.{Database}
 use Rattle.sqlite.specs.Held.{Held, state}
+use Rattle.sqlite.specs.State.{HasCleanDisk}
 use Rattle.sqlite_trees.specs.declared.store.Store.{Ghosts}
 use Rattle.thes_base.specs.declared.fault.Fault.{Fault}
 use Rattle.thes_tables.specs.Cells.{Raw}
@@ -91,6 +92,17 @@ FindsStill g v raw = IsStillOpen g v × FindsOfFirst g v raw
 abbrev pub IsOfFiles : {S : Type 0} → Ghosts S → (Tables → Type 0) → Option (KeeperView S) → Type 0
 IsOfFiles g held None = Unit {0}
 IsOfFiles g held (Some k) = ServesTables held (state g k.first)
+
+-- No request is in doubt while there is a first connection.
+abbrev pub IsCertain : {S : Type 0} → Option (KeeperView S) → Bool → Type 0
+IsCertain None is_in_doubt = Unit {0}
+IsCertain (Some k) is_in_doubt = is_in_doubt ≡ false
+
+-- The connection of a storage is the one that was lost, and an earlier failure had shut it, unless the disk has failed
+-- silently.
+abbrev pub IsLostShut : {S : Type 0} → Ghosts S → KeeperView S → Option (Held S) → Type 0
+IsLostShut g k None = ⊥
+IsLostShut g k (Some conn) = HasCleanDisk (state g conn) → (state g k.conn).is_open ≡ false
 
 -- The first connection is returned, which no failure is known to have shut. At the start it served the tables that its
 -- files held, and it has kept the invariant of storage since then.

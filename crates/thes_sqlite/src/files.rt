@@ -1,27 +1,141 @@
 //! The two files of a database, from opening to closing.
-ghost use Rattle.std.specs.Prelude.{◌≡◌, false, IfOk};
+ghost use Rattle.std.specs.Prelude.{◌≡◌, true, false, IfOk, IsTrue};
 ghost use Rattle.sqlite.specs.Files.{file_state};
 ghost use Rattle.sqlite.specs.State.{HasCleanDisk};
+ghost use Rattle.sqlite_std_file.specs.File.{file_is_usable, IsFresh};
 ghost use Rattle.sqlite_wal.specs.Files.{image_at};
 ghost use Rattle.sqlite_wal.specs.Reads.{AreClean};
 ghost use Rattle.thes_sqlite.specs.DatabaseFiles.{ClosesFiles, OpensFiles};
 
-use sqlite::{Connection, Error, FileFrom, FileStore, Leftover};
+use crate::cause::{Cause, cause_of_files, cause_of_opening};
+use crate::head::{HEAD_SIZE, begins_as_database};
+use crate::page_cache::{page_count, stated_page_size};
+use sqlite::{Connection, Error, FileFrom, FileStore, Leftover, Options};
 use sqlite_disk::{Disk, Files, Start};
+use std::fs;
+use std::fs::File;
+use std::hash::{BuildHasher, RandomState};
+use std::io::{ErrorKind, Read};
+use std::os::unix::fs::MetadataExt;
+
+// What a file has before it is opened as a database.
+#[derive(Clone, Copy)]
+pub(crate) struct FoundFile {
+    size: u64,
+    // The first bytes; zeros where it has none.
+    pub(crate) head: [u8; HEAD_SIZE],
+}
+
+// Reads the first bytes of a file.
+fn read_head(rt: &HostRuntime, path: &str, size: u64) -> Result<FoundFile, Cause> {
+    let mut head = [0; HEAD_SIZE];
+    let Ok(mut file) = File::open(rt, path) else {
+        return Err(Cause::Unreadable);
+    };
+    match file.read(&mut head) {
+        Ok(_) => Ok(FoundFile { size, head }),
+        Err(_) => Err(Cause::Unreadable),
+    }
+}
+
+/// Looks at the file of a database before it is opened. It must be absent, or a file with one name.
+pub(crate) fn find_file(rt: &HostRuntime, path: &str) -> Result<FoundFile, Cause> {
+    match fs::metadata(rt, path) {
+        Ok(found) if !found.is_file() => Err(Cause::NotAFile),
+        Ok(found) if found.nlink() > 1 => Err(Cause::Linked),
+        Ok(found) if found.len() > 0 => read_head(rt, path, found.len()),
+        Ok(_) => Ok(FoundFile {
+            size: 0,
+            head: [0; HEAD_SIZE],
+        }),
+        Err(error) if error.kind() == ErrorKind::NotFound => Ok(FoundFile {
+            size: 0,
+            head: [0; HEAD_SIZE],
+        }),
+        Err(_) => Err(Cause::Unreadable),
+    }
+}
+
+// Returns whether the log of the database in a file is there; it lies where links lead.
+fn has_log(rt: &HostRuntime, path: &str) -> Result<bool, Cause> {
+    let Ok(real) = fs::canonicalize(rt, path) else {
+        return Ok(false);
+    };
+    match format!(in rt.alloc(); "{}-wal", real.as_str()) {
+        Ok(log) => Ok(fs::symlink_metadata(rt, log.as_str()).is_ok()),
+        Err(_) => Err(Cause::NoMemory),
+    }
+}
+
+// Checks that a file may be a database, so that no log is made beside another. What a file that was
+// cut short is shows its log.
+fn check_head(rt: &HostRuntime, path: &str, head: &[u8]) -> Result<(), Cause> {
+    if begins_as_database(head) || has_log(rt, path)? {
+        Ok(())
+    } else {
+        Err(Cause::NotADatabase)
+    }
+}
+
+/// Returns options with random salts, for a database with this file.
+pub(crate) fn options_for(rt: &HostRuntime, found: &FoundFile) -> Result<Options, Cause> {
+    let Ok(state) = RandomState::new(rt) else {
+        return Err(Cause::Other);
+    };
+    let mut options = Options::new(state.hash_one(&0u8));
+    options.cache_pages = page_count(found.size, stated_page_size(&found.head)) as usize;
+    Ok(options)
+}
+
+// Looks at the file of a database, and returns the options to open it with.
+fn options_at(rt: &HostRuntime, path: &str) -> Result<Options, Cause> {
+    if path == ":memory:" || path.starts_with("file:") {
+        return Err(Cause::Unwritable);
+    }
+    let found = find_file(rt, path)?;
+    check_head(rt, path, &found.head)?;
+    options_for(rt, &found)
+}
+
+// Opens the two files at a path, which no other program has open, and makes those that are missing.
+fn open_pair<S: Start>(rt: &HostRuntime, path: &str, start: S) -> Result<Files<FileFrom<S>>, Cause>
+    ensures log { IfOk result (λ files. IsTrue (file_is_usable S.Start files.log)) }
+    ensures db { IfOk result (λ files. IsTrue (file_is_usable S.Start files.db)) }
+    ensures fresh { IfOk result (λ files. IsFresh true files.log × IsFresh false files.db) }
+{
+    match sqlite_std_file::open(rt, path, start) {
+        Ok(files) => Ok(files),
+        Err(error) => Err(cause_of_files(&error)),
+    }
+}
 
 /// Opens the database in the files at a path; if they hold a store, it is this store. `start`
-/// represents their contents, which may be anything. Returns an error with what is left of the
-/// files, if they were opened.
+/// represents their contents, which may be anything. Returns the cause of a failure with what is
+/// left of the files, if they were opened.
 pub fn open_files<S: Start>(
     rt: &HostRuntime,
     path: &str,
     start: S,
-) -> Result<Connection<FileStore<FileFrom<S>>>, (Error, Option<Leftover<FileFrom<S>>>)>
+) -> Result<Connection<FileStore<FileFrom<S>>>, (Cause, Option<Leftover<FileFrom<S>>>)>
     ensures opens { IfOk result (λ conn. HasCleanDisk (file_state conn)
         → OpensFiles (image_at S.Start) (file_state conn)) }
     ensures idle { IfOk result (λ conn. conn.in_transaction ≡ false) }
 {
-    Connection::open_from(rt, path, false, start)
+    let options = match options_at(rt, path) {
+        Ok(options) => options,
+        Err(cause) => return Err((cause, None)),
+    };
+    let files = match open_pair(rt, path, start) {
+        Ok(files) => files,
+        Err(cause) => return Err((cause, None)),
+    };
+    match Connection::open_files_with(rt.alloc(), files, options, false) {
+        Ok(mut conn) => {
+            conn.set_clock(rt);
+            Ok(conn)
+        }
+        Err((error, left)) => Err((cause_of_opening(error, &left), Some(left))),
+    }
 }
 
 /// Closes a database and returns its files, which hold its store. A crash leaves it in them.

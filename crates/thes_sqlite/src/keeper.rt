@@ -1,5 +1,5 @@
 //! Storage of the tables in a database.
-ghost use Rattle.std.specs.Prelude.{◌≡◌, ◌⊎◌, false, OnOk, IfOk, IfErr};
+ghost use Rattle.std.specs.Prelude.{◌≡◌, ◌⊎◌, false, IsTrue, OnOk, IfOk, IfErr};
 ghost use Rattle.thes_base.specs.Resources.{entry_at};
 ghost use Rattle.thes_tables.specs.Tables.{Tables};
 ghost use Rattle.thes_tables.specs.Cells.{cells_of_tables};
@@ -17,6 +17,7 @@ ghost use Rattle.thes_sqlite.specs.Commits.{KeeperCommitFrame, IsCrashSafe};
 ghost use Rattle.thes_sqlite.specs.FoundRows.{IsKeeperOpen, FindsInKeeper, PassesTable, PassesNamed};
 ghost use Rattle.thes_sql.specs.Reads.{LeavesTables};
 ghost use Rattle.sqlite.specs.Held.{state};
+ghost use Rattle.sqlite.specs.State.{HasCleanDisk};
 
 use crate::faults::{count_fault, count_if_store, fault_of};
 use crate::finding::{find_posting, find_row, find_with_moves};
@@ -137,6 +138,8 @@ impl<S: Alter> SqlKeeper<S> {
             (storage_view S.Store self.new) }
         ensures first { self.new.first ≡ self.old.first }
         ensures leaves { LeavesUnwritten S.Store self.old.conn self.new.conn }
+        ensures shut { IsTrue result → HasCleanDisk (state S.Store self.new.conn)
+            → (state S.Store self.old.conn).is_open ≡ false }
     {
         let settled = self.conn.is_autocommit();
         prove!(settled);

@@ -11,14 +11,16 @@ ghost use Rattle.thes_store.specs.Reading.{IsPostingOfKey, IsPostingOfNumber, as
 ghost use Rattle.thes_sqlite.specs.Faults.{IsKeeperFault};
 ghost use Rattle.thes_store.specs.Storage.{DeltaFitsStorage, KeepsStorage, RawAfterChanges};
 ghost use Rattle.thes_sqlite.specs.Reopening.{IsKeeperStillUp, rows_still, storage_still, keeper_of_connection};
-ghost use Rattle.thes_sqlite.specs.Reopening.{FindsOfFirst, IsStillOpen, KeepsOnFault, LeavesFirst, ReturnsFirst};
+ghost use Rattle.thes_sqlite.specs.Reopening.{FindsOfFirst, IsLostShut, IsStillOpen, KeepsOnFault, LeavesFirst};
+ghost use Rattle.thes_sqlite.specs.Reopening.{ReturnsFirst};
 ghost use Rattle.thes_sqlite.specs.KeeperView.{ServesTables};
 
+use crate::cause::Cause;
 use crate::faults::{count_fault, fault_of};
 use crate::finding::{find_posting, find_row, find_with_moves};
 use crate::keeper::SqlKeeper;
 use crate::row_output::{collect_numbers, yield_postings, yield_table_rows};
-use sqlite::{Alter, Connection, Error};
+use sqlite::{Alter, Connection};
 use std::alloc::Global;
 use std::marker::Model;
 use thes_base::fault::Fault;
@@ -40,7 +42,7 @@ pub trait Reopen<C> {
 
     /// Closes a connection that a failure has shut, if there is one, and opens the database again.
     /// The database then has the rows that are on the disk.
-    fn reopen(&mut self, lost: Option<C>) -> Result<C, Error>;
+    fn reopen(&mut self, lost: Option<C>) -> Result<C, Cause>;
 }
 
 /// What the files of a database held before they were opened, which only contracts use.
@@ -64,7 +66,7 @@ pub struct ReopeningKeeper<S: Alter, O: Reopen<Connection<S>> + HeldTables> {
 }
 
 impl<S: Alter, O: Reopen<Connection<S>> + HeldTables> Model for ReopeningKeeper<S, O> {
-    ghost use Rattle.thes_sqlite.specs.Reopening.{IsOfFiles, ReopeningView, reopening_view_code};
+    ghost use Rattle.thes_sqlite.specs.Reopening.{IsCertain, IsOfFiles, ReopeningView, reopening_view_code};
 
     ghost Value = { ReopeningView S };
 
@@ -72,7 +74,7 @@ impl<S: Alter, O: Reopen<Connection<S>> + HeldTables> Model for ReopeningKeeper<
 
     ghost view = { λ k. record { first = k.first; failures = k.failures } };
 
-    ghost invariant = { λ k. IsOfFiles S.Store O.held k.first };
+    ghost invariant = { λ k. IsOfFiles S.Store O.held k.first × IsCertain k.first k.is_in_doubt };
 }
 
 /// What a `ReopeningKeeper` leaves at its end: its connection, and whether a request is in doubt.
@@ -83,19 +85,6 @@ pub struct Leaving<S: Alter> {
     pub is_in_doubt: bool,
     /// Whether a failure has shut the first connection.
     pub is_reopened: bool,
-}
-
-impl<S: Alter> Leaving<S> {
-    /// Creates the result of a run that ends with this connection and without requests in doubt.
-    pub fn with_connection(conn: Connection<S>) -> Leaving<S>
-        ensures { result.conn ≡ Some conn }
-    {
-        Leaving {
-            conn: Some(conn),
-            is_in_doubt: false,
-            is_reopened: false,
-        }
-    }
 }
 
 // Passes all rows of a reopened database to a sink, with no promise about them.
@@ -212,6 +201,7 @@ impl<S: Alter + Drop, O: Reopen<Connection<S>> + HeldTables> ReopeningKeeper<S, 
             × (result.is_reopened ≡ false)) }
         ensures returns { result.is_reopened ≡ false
             → ReturnsFirst S.Store O.held self result.conn }
+        ensures certain { result.is_reopened ≡ false → result.is_in_doubt ≡ false }
     {
         let ReopeningKeeper {
             first,
@@ -249,6 +239,7 @@ impl<S: Alter + Drop, O: Reopen<Connection<S>> + HeldTables> ReopeningKeeper<S, 
             (storage_still S.Store self.new) }
         ensures leaves { LeavesFirst S.Store self.old self.new }
         ensures gone { IsTrue result.0 → self.new.first ≡ None }
+        ensures shut { IsTrue result.0 → IfSome self.old.first (λ k. IsLostShut S.Store k result.1) }
     {
         if let Some(keeper) = &mut self.first {
             if !keeper.is_shut() {

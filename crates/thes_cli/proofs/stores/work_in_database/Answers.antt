@@ -14,4 +14,5 @@ returns g c = record {
       c.work_with_progress-status.new.streams) c.new-keeper.ensures c.work_with_progress-status.ensures;
   back_is = c.leave.ensures.first;
   returns = c.leave.ensures.returns;
+  certain = c.leave.ensures.certain;
 }

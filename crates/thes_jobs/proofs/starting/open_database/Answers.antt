@@ -5,7 +5,7 @@ returns-in-Ok-clause-ready g c = c.requires c.in-Ok.conn c.in-Ok.ensures
 
 pub returns-after-is_mark_void-clause-err : goal.returns-after-is_mark_void-clause-err
 returns-after-is_mark_void-clause-err g c = record {
-  error = c.in-Err.error;
-  trouble = c.open_trouble-trouble.ensures;
-  fault = c.fault_of.ensures.is;
+  cause = c.in-Err.cause;
+  trouble = c.trouble_of-trouble.ensures;
+  fault = c.fault.ensures;
 }

@@ -9,10 +9,10 @@ returns-clause-returns g c =
     let is = ap (λ (v : ReopeningView _). v.first) c.self.view_is in
     elim c.match-first.branch [
       | in-Some+in-Some-1 w ↦ λ stays. returns_first g.S.Store g.O.HeldTables.held c.args.self c.self.inside.first
-          w.in-Some.keeper w.into_connection.result c.match-first.conn is w.in-Some.is c.self.invariant
+          w.in-Some.keeper w.into_connection.result c.match-first.conn is w.in-Some.is c.self.invariant.0
           w.into_connection.ensures.is w.into_connection.ensures.kept w.conn-is
       | in-Some+in-None-1 w ↦ λ stays. returns_first g.S.Store g.O.HeldTables.held c.args.self c.self.inside.first
-          w.in-Some.keeper w.into_connection.result c.match-first.conn is w.in-Some.is c.self.invariant
+          w.in-Some.keeper w.into_connection.result c.match-first.conn is w.in-Some.is c.self.invariant.0
           w.into_connection.ensures.is w.into_connection.ensures.kept w.conn-is
       | in-None w ↦ λ stays. absurd (reports_reopened _ c.match-first.conn w.conn-is stays)
     ]

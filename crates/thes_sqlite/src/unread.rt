@@ -1,0 +1,133 @@
+//! Names an object of a schema that the library can't read. It is found for a message alone, and
+//! nothing is promised of it.
+use crate::files::{FoundFile, find_file, options_for};
+use crate::page_cache::stated_page_size;
+use sqlite::Unknown;
+use sqlite_catalog::load::{read, read_table, with_code};
+use sqlite_pager::Pager;
+use sqlite_store::Unopened;
+use sqlite_trees::sound::bytes_of;
+use sqlite_trees::store::Shape;
+use sqlite_value::row::Row;
+use sqlite_wal::PageSize;
+use std::alloc::{AllocError, Global};
+
+// The columns of a row of the schema: its kind, its name, the name of its table, and its text.
+const KIND: usize = 1;
+
+const NAME: usize = 2;
+
+const TABLE: usize = 3;
+
+const TEXT: usize = 5;
+
+// Returns a row of the schema without its root page, as the library reads it.
+fn without_root(alloc: Global, row: &Row) -> Result<Row, AllocError> {
+    let mut unrooted = Row::new(alloc);
+    unrooted.push(row.get(0))?;
+    unrooted.push(row.get(KIND))?;
+    unrooted.push(row.get(NAME))?;
+    unrooted.push(row.get(TABLE))?;
+    unrooted.push(row.get(TEXT))?;
+    Ok(unrooted)
+}
+
+// Returns whether a view can't be read by itself.
+fn is_unread_view(alloc: Global, row: &Row) -> Result<bool, AllocError> {
+    let unrooted = without_root(alloc, row)?;
+    let mut rows = Vec::new(alloc);
+    rows.push(with_code(alloc, &unrooted, Shape::Pageless)?)?;
+    Ok(read(alloc, rows.as_slice())?.is_none())
+}
+
+// Returns whether a row of the schema is that of an object of this kind.
+fn is_of_kind(row: &Row, kind: &str) -> bool {
+    bytes_of(row.get(KIND)) == kind.as_bytes()
+}
+
+// Returns whether a row of the schema is that of a view with this name.
+fn is_view_named(row: &Row, name: &[u8]) -> bool {
+    is_of_kind(row, "view") && bytes_of(row.get(NAME)) == name
+}
+
+// Returns whether a row is that of a view that can't be read, of a trigger on a view, or of a
+// virtual table.
+fn is_unread(alloc: Global, rows: &[Row], row: &Row) -> Result<bool, AllocError> {
+    if is_of_kind(row, "view") {
+        return is_unread_view(alloc, row);
+    }
+    if is_of_kind(row, "trigger") {
+        let table = bytes_of(row.get(TABLE));
+        return Ok(rows.iter().any(|other| is_view_named(other, table)));
+    }
+    Ok(is_of_kind(row, "table") && bytes_of(row.get(TEXT)).starts_with(b"CREATE VIRTUAL TABLE"))
+}
+
+// Returns whether a row is that of a table that can't be read.
+fn is_unread_table(alloc: Global, row: &Row) -> Result<bool, AllocError> {
+    if !is_of_kind(row, "table") {
+        return Ok(false);
+    }
+    let unrooted = without_root(alloc, row)?;
+    Ok(read_table(alloc, &unrooted)?.is_none())
+}
+
+// Returns the name of a row's object, or None if it has characters that aren't printed.
+fn name_of(alloc: Global, row: &Row) -> Result<Option<String>, AllocError> {
+    match std::str::from_utf8(bytes_of(row.get(NAME))) {
+        Ok(name) if name.bytes().all(|byte| byte >= b' ' && byte != 0x7f) => {
+            Ok(Some(String::from_str(alloc, name)?))
+        }
+        _ => Ok(None),
+    }
+}
+
+// Returns the name of the first object that can't be read, tables last: some of these are only
+// left alone.
+fn first_unread(alloc: Global, rows: &[Row]) -> Result<Option<String>, AllocError> {
+    for row in rows {
+        if is_unread(alloc, rows, row)? {
+            return name_of(alloc, row);
+        }
+    }
+    for row in rows {
+        if is_unread_table(alloc, row)? {
+            return name_of(alloc, row);
+        }
+    }
+    Ok(None)
+}
+
+// Reads the rows of the schema of the database in a file.
+fn read_catalog(rt: &HostRuntime, path: &str, found: &FoundFile) -> Option<Vec<Row>> {
+    let size = PageSize::new(stated_page_size(&found.head) as usize)?;
+    let Ok(options) = options_for(rt, found) else {
+        return None;
+    };
+    let Ok(files) = sqlite_std_file::open(rt, path, Unknown) else {
+        return None;
+    };
+    let Ok(pager) = Pager::new(rt.alloc(), files, size, options) else {
+        return None;
+    };
+    let Ok(mut unopened) = Unopened::new(rt.alloc(), pager, &[]) else {
+        return None;
+    };
+    match unopened.read_catalog() {
+        Ok(rows) => Some(rows),
+        Err(_) => None,
+    }
+}
+
+/// Returns the name of an object that keeps the schema of the database in a file from being read,
+/// if it is found.
+pub fn unread_object(rt: &HostRuntime, path: &str) -> Option<String> {
+    let Ok(found) = find_file(rt, path) else {
+        return None;
+    };
+    let rows = read_catalog(rt, path, &found)?;
+    match first_unread(rt.alloc(), rows.as_slice()) {
+        Ok(name) => name,
+        Err(_) => None,
+    }
+}
