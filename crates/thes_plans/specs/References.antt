@@ -1,5 +1,5 @@
 -- References of the requests of a plan to earlier requests: which are good is determined by the requests alone.
-use Rattle.std.specs.Prelude.{◌≡◌, ◌-◌, ℕ, List, Option, None, Some, All, take}
+use Rattle.std.specs.Prelude.{◌≡◌, ◌+◌, ℕ, List, Option, None, Some, All, slice_get, take}
 use Rattle.thes_base.specs.Types.{Number}
 use Rattle.thes_base.specs.Resources.{entry_at}
 use Rattle.thes_base.specs.declared.request.Command.{Command}
@@ -40,15 +40,17 @@ pub record HasGoodReferences (earlier : List PlanRequest) (asked : PlanRequest) 
 
 -- The references of each request are to requests before it that make what is asked for.
 abbrev pub AreGoodReferences : List PlanRequest → Type 0
-AreGoodReferences plan = (place : Number) (asked : PlanRequest) → entry_at plan place ≡ Some asked
-    → HasGoodReferences (take (place - 1) plan) asked
+AreGoodReferences plan = (index : ℕ) (asked : PlanRequest) → slice_get plan index ≡ Some asked
+    → HasGoodReferences (take index plan) asked
 
 -- The place is that of the first request with a reference that isn't good.
 pub record IsFirstBadReference (plan : List PlanRequest) (place : Number) : Type 0 where
+  pub index : ℕ
+  pub place_is : place ≡ index + 1
   pub asked : PlanRequest
-  pub at : entry_at plan place ≡ Some asked
-  pub good_before : AreGoodReferences (take (place - 1) plan)
-  pub bad : ¬ HasGoodReferences (take (place - 1) plan) asked
+  pub at : slice_get plan index ≡ Some asked
+  pub good_before : AreGoodReferences (take index plan)
+  pub bad : ¬ HasGoodReferences (take index plan) asked
 
 -- The place of the first request with a reference that isn't good; None if all are.
 abbrev pub FirstBadReference : List PlanRequest → Option ℕ → Type 0

@@ -1,5 +1,5 @@
 -- References are replaced by the numbers in the answers to earlier requests.
-use Rattle.std.specs.Prelude.{ℕ, zero, suc, List, [], ◌∷◌, ◌++◌, Option, None, Some}
+use Rattle.std.specs.Prelude.{ℕ, zero, suc, List, [], ◌∷◌, ◌++◌, Option, None, Some, slice_get}
 use Rattle.thes_base.specs.Types.{Number}
 use Rattle.thes_base.specs.Resources.{entry_at}
 use Rattle.thes_base.specs.declared.request.Answer.{Answer}
@@ -29,6 +29,10 @@ number_made_at answers own place =
 abbrev pub resolved_number : List Answer → Option ℕ → Number → Number
 resolved_number answers None own = own
 resolved_number answers (Some place) own = number_made_at answers own place
+
+-- The reference at an index; None beyond the references.
+abbrev pub reference_of : List (Option ℕ) → ℕ → Option ℕ
+reference_of references index = elim (slice_get references index) [ None ↦ None | Some reference ↦ reference ]
 
 -- The numbers for which the references stand; a number beyond the references stays.
 abbrev pub resolved_numbers : List Answer → List (Option ℕ) → List Number → List Number

@@ -86,12 +86,13 @@ fn has_good_references(earlier: &[PlanRequest], asked: &PlanRequest) -> bool
 
 /// Returns the place of the first request with a reference to no earlier request that makes what is asked for; `None`
 /// if all references are good. It looks at the requests alone.
+#[tactic(auto, using(crate::proofs::ReferenceLemmas::good_empty))]
 pub fn first_bad_reference(plan: &[PlanRequest]) -> Option<usize>
     ensures { FirstBadReference plan.now result }
 {
-    for place in 0..plan.len() {
-        if !has_good_references(&plan[..place], &plan[place]) {
-            return Some(place + 1);
+    for index in 0..plan.len() {
+        if !has_good_references(&plan[..index], &plan[index]) {
+            return Some(index + 1);
         }
     }
     None

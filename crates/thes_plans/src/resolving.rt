@@ -1,7 +1,7 @@
 //! Replaces the references of a request by the numbers in the answers to earlier requests.
 ghost use Rattle.std.specs.Prelude.{◌≡◌, IfOk};
 ghost use Rattle.thes_base.specs.Resources.{entry_at};
-ghost use Rattle.thes_plans.specs.Resolving.{number_made, resolved_command, resolved_number, resolved_numbers};
+ghost use Rattle.thes_plans.specs.Resolving.{number_made, reference_of, resolved_command, resolved_number, resolved_numbers};
 
 use crate::plan::PlanRequest;
 use std::alloc::{AllocError, Global};
@@ -41,7 +41,18 @@ fn number_for<S>(answers: &[Answer], reference: Option<u32>, own: Number<S>) -> 
     }
 }
 
+// Returns the reference at an index; `None` beyond the references.
+fn reference_at(references: &[Option<u32>], index: usize) -> Option<u32>
+    ensures { result ≡ reference_of references.now index }
+{
+    match references.get(index) {
+        Some(reference) => *reference,
+        None => None,
+    }
+}
+
 // Returns the numbers of the postings that a request lists, with each reference replaced.
+#[tactic(auto, using(crate::proofs::ResolvingLemmas::replaced_more, crate::proofs::ResolvingLemmas::replaced_all))]
 fn postings_for(
     alloc: Global,
     answers: &[Answer],
@@ -51,15 +62,9 @@ fn postings_for(
     ensures { IfOk result (λ numbers. numbers ≡ resolved_numbers answers.now references.now own.now) }
 {
     let mut numbers = PostNos::new(alloc);
-    let mut left = references;
-    for number in own.as_slice() {
-        match left {
-            [] => numbers.push(*number)?,
-            [reference, rest @ ..] => {
-                numbers.push(number_for(answers, *reference, *number))?;
-                left = rest;
-            }
-        }
+    for (index, number) in own.as_slice().iter().enumerate() {
+        let reference = reference_at(references, index);
+        numbers.push(number_for(answers, reference, *number))?;
     }
     Ok(numbers)
 }
