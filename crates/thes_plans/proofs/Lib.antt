@@ -1,2 +1,3 @@
 pub mod ReferenceLemmas
 pub mod ResolvingLemmas
+pub mod PlanLemmas
