@@ -10,15 +10,15 @@ ghost use Rattle.thes_office.specs.PlanDecisions.{DecidesCommand, DecidesRequest
 ghost use Rattle.thes_office.specs.PlanDecisions.{MayDecidePlan, refusal_in};
 ghost use Rattle.thes_office.specs.Plans.{TablesAfterPlan};
 
-use crate::group::{commit_changes, decide_with_facts, Decided};
+use crate::group::{Decided, commit_changes, decide_with_facts};
 use crate::plan_facts::facts_in_plan;
 use std::alloc::Global;
 use thes_base::fault::{Fault, Refusal};
 use thes_base::request::{Answer, Command};
 use thes_core::Core;
+use thes_plan_postings::plan_postings::PlanPostings;
 use thes_plans::plan::{PlanOutcome, PlanRequest};
 use thes_plans::resolving::resolve;
-use thes_plan_postings::plan_postings::PlanPostings;
 use thes_store::keeper::Keeper;
 use thes_tables::change::Change;
 use thes_tables::delta::Delta;
@@ -201,7 +201,10 @@ fn decide_plan<K: Keeper>(
             Err(fault) => return Err(fault),
         }
     }
-    let PlanProgress { decided, postings: _ } = progress;
+    let PlanProgress {
+        decided,
+        postings: _,
+    } = progress;
     let Decided { answers, delta } = decided;
     Ok(PlanDecision::Accepted(answers, delta))
 }

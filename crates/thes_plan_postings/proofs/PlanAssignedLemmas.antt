@@ -154,13 +154,16 @@ module _ (olds rows : List PostingRow) (p : PlanPostings) (are : ArePlanRows old
     placed : (n : ℕ) (x : Placement) → placement_of p n ≡ Some x → (by_tables n || by_placement n) ≡ true → IsAssigned n
     unfolding by_tables by_placement
     placed n x some e =
-        let at = are.placed n x some in
-        (row_placed (Some x) at.row, at.now, elim (either (by_tables n) (by_placement n) e) [
-          | inl here ↦ ap (is_assigned_by concept true) (sym some)
-              ∙ (both (has_number standing n) (is_assigned_by concept true (placement_of p n)) here).1
-          | inr there ↦ ap (is_assigned_by concept false) (sym some)
-              ∙ (both (has_number (tree.keys p.placements) n) (is_assigned_by concept false (placement_of p n)) there).1
-        ])
+        let at = are.placed n x some in (
+          row_placed (Some x) at.row,
+          at.now,
+          elim (either (by_tables n) (by_placement n) e) [
+            | inl here ↦ ap (is_assigned_by concept true) (sym some)
+                ∙ (both (has_number standing n) (is_assigned_by concept true (placement_of p n)) here).1
+            | inr there ↦ ap (is_assigned_by concept false) (sym some)
+                ∙ (both (has_number (tree.keys p.placements) n) (is_assigned_by concept false (placement_of p n)) there).1
+          ],
+        )
 
     sound : (n : ℕ) → (by_tables n || by_placement n) ≡ true → IsAssigned n
     sound n e = go (placement_of p n) refl

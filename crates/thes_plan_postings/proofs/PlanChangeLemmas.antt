@@ -335,9 +335,12 @@ module _ (olds rows : List PostingRow) (old new : PlanPostings) (source target :
   unfolding moved
   all_hit n hit =
       let r = assigned_has rows are.numbered source n (subst (λ (ns : List ℕ). Contains ns n) is
-      (number_found numbers n hit)) in
-      (r.0, r.1, numbered_map (row_after_move_all source target) rows n
-          ∙ ap (option_map (row_after_move_all source target)) r.1 ∙ ap (λ (y : PostingRow). Some y) (row_hit r.0 r.2))
+      (number_found numbers n hit)) in (
+        r.0,
+        r.1,
+        numbered_map (row_after_move_all source target) rows n
+            ∙ ap (option_map (row_after_move_all source target)) r.1 ∙ ap (λ (y : PostingRow). Some y) (row_hit r.0 r.2),
+      )
 
   all_miss : (n : ℕ) → has_number numbers n ≡ false → entry_at moved n ≡ entry_at rows n
   unfolding moved
