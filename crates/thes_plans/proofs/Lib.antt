@@ -1,3 +1,4 @@
 pub mod ReferenceLemmas
 pub mod ResolvingLemmas
 pub mod PlanLemmas
+pub mod PlanLawLemmas
