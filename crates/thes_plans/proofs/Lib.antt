@@ -2,3 +2,4 @@ pub mod ReferenceLemmas
 pub mod ResolvingLemmas
 pub mod PlanLemmas
 pub mod PlanLawLemmas
+pub mod PlanOutcomeLemmas

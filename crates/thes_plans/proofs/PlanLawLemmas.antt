@@ -130,7 +130,7 @@ single_plan_is_request setting s t asked (Refused place r) none = (
 )
 
 -- Other numbers leave the texts of a command as they are.
-forms_stay : (f g : ℕ → ℕ) (h : List ℕ → List ℕ) (c : Command) → CommandHasForms c
+pub forms_stay : (f g : ℕ → ℕ) (h : List ℕ → List ℕ) (c : Command) → CommandHasForms c
     → CommandHasForms (with_numbers f g h c)
 forms_stay f g h (request.Scheme tag text) forms = forms
 forms_stay f g h (request.Concept scheme tag text) forms = forms
@@ -147,7 +147,7 @@ forms_stay f g h (request.Split source tag text postings) forms = forms
 forms_stay f g h (request.Post key rec concept) forms = forms
 forms_stay f g h (request.Withdraw posting) forms = forms
 
-run_legal : (setting : Setting) → IsSetting setting → (before : List Answer) (plan : List PlanRequest)
+pub run_legal : (setting : Setting) → IsSetting setting → (before : List Answer) (plan : List PlanRequest)
     (answers : List Answer) (s t : State) → PlanHasForms plan → IsLegalState setting.base s
     → Run setting s (resolved_commands before plan answers) answers t → IsLegalState setting.base t
 run_legal setting fit before [] [] s t forms legal run = subst (IsLegalState setting.base) (sym run) legal
