@@ -1,11 +1,10 @@
 -- Proves that the requests of a plan, decided one after another, are the plan, and what a commit of their changes or a
 -- refusal makes of the tables.
 use Rattle.std.proofs.lemmas.Grind.{common_steps}
-use Rattle.std.proofs.Common.{◌≡◌, ◌<◌, ◌≤◌, ◌+◌, ◌++◌, ◌∷◌, [], ◌∙◌, ℕ, zero, suc, List, Bool, true, false, refl, sym, ap}
-use Rattle.std.proofs.Common.{subst, take, drop, length, length-append, arith, map, inl}
-use Rattle.std.specs.Prelude.{Option, None, Some, Result, slice_get}
+use Rattle.std.proofs.Common.{◌≡◌, ◌<◌, ◌≤◌, ◌+◌, ◌++◌, ◌∷◌, [], ◌∙◌, ℕ, suc, List, Bool, false, refl, sym, ap}
+use Rattle.std.proofs.Common.{subst, take, drop, length, length-append, arith, inl}
+use Rattle.std.specs.Prelude.{None, Some, slice_get}
 use Rattle.std.specs.List.{AllByRecursion}
-use Rattle.std.proofs.lemmas.Option.{slice_get_within}
 use Rattle.thes_base.specs.declared.data.Limits.{Limits}
 use Rattle.thes_base.specs.declared.fault.Refusal.{Refusal}
 use Rattle.thes_base.specs.declared.request.Answer.{Answer}
@@ -20,7 +19,7 @@ use Rattle.thes_base.proofs.MachineLemmas.{legal_is_consistent}
 use Rattle.thes_plans.specs.declared.plan.PlanOutcome.{PlanOutcome}
 use Rattle.thes_plans.specs.declared.plan.PlanOutcome.TheVariants.{Done, Refused}
 use Rattle.thes_plans.specs.declared.plan.PlanRequest.{PlanRequest}
-use Rattle.thes_plans.specs.Plans.{HasEachAnswer, IsNoRefusal, PlanAccepted, PlanRefused}
+use Rattle.thes_plans.specs.Plans.{IsNoRefusal, PlanAccepted}
 use Rattle.thes_plans.specs.Resolving.{resolved_command, resolved_commands}
 use Rattle.thes_plans.proofs.PlanLemmas.{all_push, refused_stays, resolved_push}
 use Rattle.thes_tables.specs.declared.change.Change.{Change}
@@ -28,14 +27,12 @@ use Rattle.thes_tables.specs.declared.rows.PostingRow.{PostingRow}
 use Rattle.thes_tables.specs.Cells.{Raw, cells_of_tables}
 use Rattle.thes_tables.specs.ChangeLaw.{AreChangesBetween}
 use Rattle.thes_tables.specs.Rows.{tables_after_delta}
-use Rattle.thes_tables.specs.Tables.{IsRowsOf, Tables, posting_row}
+use Rattle.thes_tables.specs.Tables.{IsRowsOf, Tables}
 use Rattle.thes_tables.proofs.DeltaAppendLemmas.{all_append}
 use Rattle.thes_store.specs.Storage.{StorageView}
-use Rattle.thes_core.specs.CoreView.{CoreView, IsViewOf}
-use Rattle.thes_plan_postings.specs.declared.plan_postings.PlanPostings.{PlanPostings}
+use Rattle.thes_core.specs.CoreView.{CoreView}
 use Rattle.thes_plan_postings.specs.PlanPostings.{AreNumbered, ArePlanRows}
 use Rattle.thes_office.specs.declared.plan.PlanProgress.{PlanProgress}
-use Rattle.thes_office.specs.Groups.{IsDecided}
 use Rattle.thes_office.specs.Office.{ChangesNothing, IsConsistent, IsCopy}
 use Rattle.thes_office.specs.PlanDecisions.{DecidesRequest, IsDecidedInPlan, PlanDecided, PlanDecidedSoFar}
 use Rattle.thes_office.specs.PlanDecisions.{PlanIsRefused, refusal_in}

@@ -1,7 +1,7 @@
 -- Proves that the facts collected in a plan are those of the histories of the state after its requests so far.
 use Rattle.std.proofs.Common.{◌≡◌, ◌++◌, ◌∷◌, [], ◌∙◌, ℕ, List, refl, sym, ap, map}
 use Rattle.std.proofs.lemmas.List.{map-append}
-use Rattle.std.specs.Prelude.{Option, Result, Ok, Some}
+use Rattle.std.specs.Prelude.{Option, Result, Ok}
 use Rattle.thes_base.specs.declared.data.History.{History}
 use Rattle.thes_base.specs.declared.fault.Fault.{Fault}
 use Rattle.thes_base.specs.Legal.{IsLegalState}

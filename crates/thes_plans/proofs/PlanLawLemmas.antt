@@ -1,8 +1,7 @@
 -- Proves the laws of plans.
-use Rattle.std.proofs.Common.{◌≡◌, ◌≤◌, ◌+◌, ◌++◌, ◌∷◌, [], ◌∙◌, ℕ, zero, suc, List, length, take, refl, sym, ap, subst}
+use Rattle.std.proofs.Common.{◌≡◌, ◌++◌, ◌∷◌, [], ◌∙◌, ℕ, List, length, take, refl, sym, ap, subst}
 use Rattle.std.proofs.Common.{arith}
-use Rattle.std.specs.Prelude.{Option, None, Some}
-use Rattle.std.specs.List.{AllByRecursion}
+use Rattle.std.specs.Prelude.{None, Some}
 use Rattle.std.proofs.lemmas.Option.{same_Some}
 use Rattle.thes_base.specs.declared.fault.Refusal.{Refusal}
 use Rattle.thes_base.specs.declared.request.Answer.{Answer}
@@ -17,11 +16,10 @@ use Rattle.thes_base.specs.State.{State}
 use Rattle.thes_base.specs.Texts.{CommandHasForms}
 use Rattle.thes_base.proofs.MachineLemmas.{legal_is_consistent, step_legal}
 use Rattle.thes_base.proofs.NumberedLemmas.{numbered_bound}
-use Rattle.thes_plans.specs.declared.plan.PlanOutcome.{PlanOutcome}
 use Rattle.thes_plans.specs.declared.plan.PlanOutcome.TheVariants.{Done, Refused}
 use Rattle.thes_plans.specs.declared.plan.PlanRequest.{PlanRequest}
-use Rattle.thes_plans.specs.Laws.{HasNoReferences, IsOutcomeOfAnswer, PlanHasForms, PlanKeepsLegal, SinglePlanIsRequest}
-use Rattle.thes_plans.specs.Plans.{IsNoRefusal, IsPlanOutcome, PlanAccepted, PlanRefused}
+use Rattle.thes_plans.specs.Laws.{HasNoReferences, PlanHasForms, PlanKeepsLegal, SinglePlanIsRequest}
+use Rattle.thes_plans.specs.Plans.{IsNoRefusal, PlanAccepted, PlanRefused}
 use Rattle.thes_plans.specs.Resolving.{resolved_command, resolved_commands, resolved_number, resolved_numbers, with_numbers}
 use Rattle.thes_plans.proofs.PlanLemmas.{refused_stays}
 

@@ -1,7 +1,7 @@
 -- Proves that a plan has one outcome.
 use Rattle.std.proofs.Common.{◌≡◌, ◌⊎◌, ◌<◌, ◌≤◌, ◌+◌, ◌++◌, ◌∷◌, [], ◌∙◌, ℕ, zero, suc, List, length, take, refl, sym, ap}
 use Rattle.std.proofs.Common.{subst, arith, inl, inr, append_assoc, append-nil}
-use Rattle.std.specs.Prelude.{Option, None, Some, slice_get}
+use Rattle.std.specs.Prelude.{Some, slice_get}
 use Rattle.std.specs.List.{AllByRecursion}
 use Rattle.std.proofs.lemmas.Option.{same_Some, slice_get_within}
 use Rattle.thes_base.specs.declared.fault.Refusal.{Refusal}
@@ -15,13 +15,11 @@ use Rattle.thes_base.specs.Resources.{entry_at}
 use Rattle.thes_base.specs.State.{State}
 use Rattle.thes_base.specs.Texts.{CommandHasForms}
 use Rattle.thes_base.proofs.MachineLemmas.{step_legal}
-use Rattle.thes_base.proofs.NumberedLemmas.{numbered_bound}
 use Rattle.thes_base.proofs.OutcomeLemmas.{one_outcome, some_outcome}
-use Rattle.thes_plans.specs.declared.plan.PlanOutcome.{PlanOutcome}
 use Rattle.thes_plans.specs.declared.plan.PlanOutcome.TheVariants.{Done, Refused}
 use Rattle.thes_plans.specs.declared.plan.PlanRequest.{PlanRequest}
-use Rattle.thes_plans.specs.Laws.{IsSameOutcome, OnePlanOutcome, PlanHasForms, SomePlanOutcome}
-use Rattle.thes_plans.specs.Plans.{IsNoRefusal, IsPlanOutcome, PlanAccepted, PlanRefused}
+use Rattle.thes_plans.specs.Laws.{OnePlanOutcome, PlanHasForms, SomePlanOutcome}
+use Rattle.thes_plans.specs.Plans.{IsNoRefusal, PlanAccepted, PlanRefused}
 use Rattle.thes_plans.specs.Resolving.{resolved_command, resolved_commands, resolved_number, resolved_numbers}
 use Rattle.thes_plans.proofs.PlanLawLemmas.{forms_stay, run_legal}
 use Rattle.thes_plans.proofs.PlanLemmas.{refused_stays}
@@ -205,8 +203,17 @@ some_from setting before (p ∷ plan) s none =
     at later a mid step (inl (r, is)) =
         let refused = subst (λ (b : Answer). Step setting s (resolved_command before p) b mid) is step in
         let stays = refused_stays setting s mid (resolved_command before p) r refused in
-        none (inr ([], p, s, r, refl, refl, tt, subst (λ (q : State × List Answer). Step setting s
-        (resolved_command q.1 p) (reply.No r) q.0) (λ i. (stays i, sym (append-nil before) i)) refused))
+        none (inr (
+          [],
+          p,
+          s,
+          r,
+          refl,
+          refl,
+          tt,
+          subst (λ (q : State × List Answer). Step setting s
+              (resolved_command q.1 p) (reply.No r) q.0) (λ i. (stays i, sym (append-nil before) i)) refused,
+        ))
     at later a mid step (inr fine) = later a mid (λ rest. elim rest [
       | inl done ↦ none (inl (a ∷ done.0, done.1, ap suc done.2, (mid, step, done.3), (fine, done.4)))
       | inr no_more ↦ none (inr (
@@ -225,20 +232,24 @@ some_from setting before (p ∷ plan) s none =
 pub some_plan_outcome : SomePlanOutcome
 some_plan_outcome setting s plan none = some_from setting [] plan s (λ either. elim either [
   | inl done ↦ none (inl (done.0, done.1, record { each = done.2; run = done.3; accepted = done.4 }))
-  | inr refused ↦ none (inr (length refused.0 + 1, refused.3, (let within = slice_get_within plan (length refused.0)
-      refused.1 refused.4 in record {
-    asked = refused.1;
-    at = subst (λ k. entry_at plan k ≡ Some refused.1) (let e : suc (length refused.0) ≡ length refused.0 + 1 =
-        omega arith in e) refused.4;
-    answers = refused.0;
-    place_is = refl;
-    state_before = refused.2;
-    before = record {
-      each = front_count plan (length refused.0) (omega (arith, within));
-      run = subst (λ (cs : List Command). Run setting s cs refused.0 refused.2)
-          (sym (resolved_front [] plan refused.0)) refused.5;
-      accepted = refused.6;
-    };
-    refused = refused.7;
-  })))
+  | inr refused ↦ none (inr (
+    length refused.0 + 1,
+    refused.3,
+    (let within = slice_get_within plan (length refused.0)
+        refused.1 refused.4 in record {
+          asked = refused.1;
+          at = subst (λ k. entry_at plan k ≡ Some refused.1) (let e : suc (length refused.0) ≡ length refused.0 + 1 =
+              omega arith in e) refused.4;
+          answers = refused.0;
+          place_is = refl;
+          state_before = refused.2;
+          before = record {
+            each = front_count plan (length refused.0) (omega (arith, within));
+            run = subst (λ (cs : List Command). Run setting s cs refused.0 refused.2)
+                (sym (resolved_front [] plan refused.0)) refused.5;
+            accepted = refused.6;
+          };
+          refused = refused.7;
+        }),
+  ))
 ])

@@ -1,4 +1,4 @@
-use Rattle.std.proofs.Common.{◌≡◌, ap, arith, inl, inr, rules, subst, sym, ◌∙◌, take, List, ⊎_elim}
+use Rattle.std.proofs.Common.{◌≡◌, ap, arith, inl, inr, rules, subst, sym, ◌∙◌}
 use Rattle.std.proofs.lemmas.List.{take_all}
 use Rattle.thes_tables.specs.declared.rows.PostingRow.{PostingRow}
 use Rattle.thes_tables.specs.Tables.{IsIn}
