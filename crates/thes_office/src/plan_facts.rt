@@ -46,7 +46,7 @@ pub fn facts_in_plan<K: Keeper>(
             Ok(named_facts(alloc, named_postings))
         }
         Command::Merge(source, _) => {
-            let standing = postings.assigned(keeper, *source)?;
+            let standing = postings.assigned_numbers(keeper, *source)?;
             Ok(Facts {
                 known: None,
                 named_postings: Vec::new(alloc),

@@ -36,7 +36,7 @@ use Rattle.thes_tables.proofs.DeltaAppendLemmas.{all_append}
 use Rattle.thes_store.specs.Reading.{assigned_row_numbers}
 use Rattle.thes_plan_postings.specs.declared.plan_postings.Placement.{Placement}
 use Rattle.thes_plan_postings.specs.declared.plan_postings.PlanPostings.{PlanPostings}
-use Rattle.thes_plan_postings.specs.PlanPostings.{AddsPosting, AreAssigned, AreNumbered, ArePlanRows, IsPlaced, PlacesAll}
+use Rattle.thes_plan_postings.specs.PlanPostings.{AddsPosting, AreAssigned, AreNumbered, ArePlanRows, HasPlacement, PlacesAll}
 use Rattle.thes_plan_postings.specs.PlanPostings.{has_number, is_assigned_by, is_assigned_candidate, placement_of, row_placed}
 use Rattle.thes_plan_postings.proofs.PlanAssignedLemmas.{assigned_has, assigned_of, number_found, number_has}
 use Rattle.thes_plan_postings.proofs.PlanPostingLemmas.{base_of_row, entry_left, entry_other, length_set_entry}
@@ -78,11 +78,11 @@ module _ (olds rows rows' : List PostingRow) (old new : PlanPostings) (numbers :
       go true hit = absurd (let e : Some x ≡ None = sym (placement_hit n hit) ∙ none in cc)
       go false miss = placed_rows.miss n miss ∙ are.others n (sym (placement_miss n miss) ∙ none)
 
-  placed_after : (n : ℕ) (y : Placement) → placement_of new n ≡ Some y → IsPlaced (olds ++ new.added.items) rows' n y
-  placed_after n y some = subst (λ (bs : List PostingRow). IsPlaced bs rows' n y) (sym bases_same)
+  placed_after : (n : ℕ) (y : Placement) → placement_of new n ≡ Some y → HasPlacement (olds ++ new.added.items) rows' n y
+  placed_after n y some = subst (λ (bs : List PostingRow). HasPlacement bs rows' n y) (sym bases_same)
       (go (has_number numbers n) refl)
     where
-      go : (b : Bool) → has_number numbers n ≡ b → IsPlaced (olds ++ old.added.items) rows' n y
+      go : (b : Bool) → has_number numbers n ≡ b → HasPlacement (olds ++ old.added.items) rows' n y
       go true hit =
           let h = placed_rows.hit n hit in
           let b = base_of_row olds rows old are n h.0 h.1 in
@@ -396,12 +396,12 @@ module _ (olds rows : List PostingRow) (old new : PlanPostings) (row : PostingRo
           ∙ are.others n (sym (own_miss n miss) ∙ none)
 
   placed_then : (n : ℕ) (y : Placement) → placement_of new n ≡ Some y
-      → IsPlaced (olds ++ new.added.items) (rows ++ row ∷ []) n y
-  placed_then n y some = subst (λ (bs : List PostingRow). IsPlaced bs (rows ++ row ∷ []) n y) (sym bases_more)
+      → HasPlacement (olds ++ new.added.items) (rows ++ row ∷ []) n y
+  placed_then n y some = subst (λ (bs : List PostingRow). HasPlacement bs (rows ++ row ∷ []) n y) (sym bases_more)
       (go (has_number (row.number ∷ []) n) refl)
     where
       go : (b : Bool) → has_number (row.number ∷ []) n ≡ b
-          → IsPlaced ((olds ++ old.added.items) ++ row ∷ []) (rows ++ row ∷ []) n y
+          → HasPlacement ((olds ++ old.added.items) ++ row ∷ []) (rows ++ row ∷ []) n y
       go true hit =
           let n_is : n ≡ length rows + 1 = one_number row.number n hit ∙ next in
           let b_is : n ≡ length (olds ++ old.added.items) + 1 = n_is ∙ ap (λ k. k + 1) are.count in

@@ -23,7 +23,7 @@ row_placed None row = row
 row_placed (Some x) row = record row { place = x.place; withdrawn = x.withdrawn }
 
 -- The posting has this placement: its row is that of the tables or the added one, with the placement.
-pub record IsPlaced (bases rows : List PostingRow) (n : Number) (x : Placement) : Type 0 where
+pub record HasPlacement (bases rows : List PostingRow) (n : Number) (x : Placement) : Type 0 where
   pub row : PostingRow
   pub base : entry_at bases n ≡ Some row
   pub now : entry_at rows n ≡ Some (row_placed (Some x) row)
@@ -35,7 +35,7 @@ pub record ArePlanRows (olds rows : List PostingRow) (postings : PlanPostings) :
   pub numbered : (n : Number) (row : PostingRow) → entry_at rows n ≡ Some row → row.number ≡ n
   pub others : (n : Number) → placement_of postings n ≡ None → entry_at rows n ≡ entry_at olds n
   pub placed : (n : Number) (x : Placement) → placement_of postings n ≡ Some x
-      → IsPlaced (olds ++ postings.added.items) rows n x
+      → HasPlacement (olds ++ postings.added.items) rows n x
 
 -- Each row has the number of its place.
 abbrev pub AreNumbered : List PostingRow → Type 0

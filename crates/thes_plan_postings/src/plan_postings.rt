@@ -188,7 +188,11 @@ impl PlanPostings {
 
     /// Looks up the numbers of the postings that the plan has left assigned to the concept, in
     /// increasing order.
-    pub fn assigned<K: Keeper>(&self, keeper: &mut K, concept: ResNo) -> Result<Vec<PostNo>, Fault>
+    pub fn assigned_numbers<K: Keeper>(
+        &self,
+        keeper: &mut K,
+        concept: ResNo,
+    ) -> Result<Vec<PostNo>, Fault>
         ensures in_plan { IfOk result (λ numbers. (K.view keeper.new).is_up
             → InPlanRows (K.view keeper.old).rows self.now
             (λ rows. numbers.items ≡ assigned_row_numbers concept rows)) }

@@ -95,7 +95,7 @@ impl PlanPostings {
             (tables_after_change (change.MoveAll source target) now).posting self.new) }
         ensures asks { QueryFrame (K.view keeper.old) (K.view keeper.new) result }
     {
-        match self.assigned(keeper, source) {
+        match self.assigned_numbers(keeper, source) {
             Ok(numbers) => Ok(self.place_all(numbers.as_slice(), target, false)?),
             Err(fault) => Err(fault),
         }

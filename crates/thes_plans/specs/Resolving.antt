@@ -9,11 +9,11 @@ use Rattle.thes_base.specs.declared.request.Command.TheVariants as request
 use Rattle.thes_plans.specs.declared.plan.PlanRequest.{PlanRequest}
 
 -- The number that a request made or found: of the new resource, or of the posting. 0 if its answer has none.
-abbrev pub number_made : Answer → ℕ
-number_made (reply.Number n) = n
-number_made (reply.Again n) = n
-number_made (reply.Parted n count) = n
-number_made _ = zero
+abbrev pub answer_number : Answer → ℕ
+answer_number (reply.Number n) = n
+answer_number (reply.Again n) = n
+answer_number (reply.Parted n count) = n
+answer_number _ = zero
 
 -- The number, or `own` in place of 0.
 abbrev pub number_or : Number → ℕ → Number
@@ -21,14 +21,14 @@ number_or own zero = own
 number_or own (suc n) = suc n
 
 -- The number that the request at this place made or found; `own` if there is no answer to it, or none with a number.
-abbrev pub number_made_at : List Answer → Number → ℕ → Number
-number_made_at answers own place =
-    elim (entry_at answers place) [ None ↦ own | Some answer ↦ number_or own (number_made answer) ]
+abbrev pub answer_number_at : List Answer → Number → ℕ → Number
+answer_number_at answers own place =
+    elim (entry_at answers place) [ None ↦ own | Some answer ↦ number_or own (answer_number answer) ]
 
 -- The number for which the reference stands; `own` if there is no reference.
 abbrev pub resolved_number : List Answer → Option ℕ → Number → Number
 resolved_number answers None own = own
-resolved_number answers (Some place) own = number_made_at answers own place
+resolved_number answers (Some place) own = answer_number_at answers own place
 
 -- The reference at an index; None beyond the references.
 abbrev pub reference_of : List (Option ℕ) → ℕ → Option ℕ

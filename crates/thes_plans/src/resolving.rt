@@ -1,7 +1,7 @@
 //! Replaces the references of a request by the numbers in the answers to earlier requests.
 ghost use Rattle.std.specs.Prelude.{◌≡◌, IfOk};
 ghost use Rattle.thes_base.specs.Resources.{entry_at};
-ghost use Rattle.thes_plans.specs.Resolving.{number_made, reference_of, resolved_command, resolved_number, resolved_numbers};
+ghost use Rattle.thes_plans.specs.Resolving.{answer_number, reference_of, resolved_command, resolved_number, resolved_numbers};
 
 use crate::plan::PlanRequest;
 use std::alloc::{AllocError, Global};
@@ -10,7 +10,7 @@ use thes_base::request::{Answer, Command, PostNos};
 
 // Returns the number that a request made or found; 0 if its answer has none.
 fn number_of_answer(answer: &Answer) -> u32
-    ensures { result ≡ number_made answer.now }
+    ensures { result ≡ answer_number answer.now }
 {
     match answer {
         Answer::Number(number) | Answer::Again(number) | Answer::Parted(number, _) => *number,

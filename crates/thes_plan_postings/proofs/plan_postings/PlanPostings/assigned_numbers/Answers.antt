@@ -1,6 +1,6 @@
 use Rattle.std.proofs.Common.{◌∙◌}
 use Rattle.thes_plan_postings.proofs.PlanAssignedLemmas.{assigned_is}
-use Rattle.thes_plan_postings.proofs.plan_postings.PlanPostings.assigned.Goals as goal
+use Rattle.thes_plan_postings.proofs.plan_postings.PlanPostings.assigned_numbers.Goals as goal
 
 pub returns-in_ok-assigned_from-in-Ok-clause-in_plan : goal.returns-in_ok-assigned_from-in-Ok-clause-in_plan
 returns-in_ok-assigned_from-in-Ok-clause-in_plan g c up t rows is are =
