@@ -30,7 +30,7 @@ LENGTHS: dict[tuple[str, ...], int] = {
     ("docs/HTTP.md",): 1200,
     ("SECURITY.md",): 800,
     ("docs/OPERATING.md",): 3500,
-    ("docs/PROOFS.md",): 6300,
+    ("docs/PROOFS.md",): 6320,
     ("docs/ARCHITECTURE.md",): 5500,
     ("CONTRIBUTING.md",): 2900,
     ("docs/DECISIONS.md",): 5000,
