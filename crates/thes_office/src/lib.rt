@@ -8,6 +8,9 @@ mod keeper_load;
 pub mod laws;
 mod loader;
 mod office;
+mod office_plan;
+mod plan;
+mod plan_facts;
 mod reading;
 
 pub use loader::Loader;

@@ -40,6 +40,10 @@ pub use thes_store::keeper::{Keeper, Posting};
 pub use thes_store::mem::MemKeeper;
 pub use thes_store::sink::{PostingSink, RowSink};
 
+// Plans: several requests as one.
+pub use thes_plans::plan::{PlanOutcome, PlanRequest, REQUEST_LIMIT};
+pub use thes_plans::references::first_bad_reference;
+
 // Requests, answers and views as JSON, scripts, posting files and exports.
 pub use thes_exchange::concept::concept_view;
 pub use thes_exchange::view::{ConceptView, PostingRows, View};
