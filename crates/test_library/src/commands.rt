@@ -24,7 +24,8 @@ fn scheme(alloc: Global, text: &str) -> Result<Command, ReadStop> {
     Ok(Command::Scheme(tag, text))
 }
 
-fn concept(alloc: Global, text: &str) -> Result<Command, ReadStop> {
+/// Returns the command that makes a concept of scheme 1.
+pub fn concept(alloc: Global, text: &str) -> Result<Command, ReadStop> {
     let (tag, text) = both(english(alloc), Text::read(alloc, text))?;
     Ok(Command::Concept(ResNo::new(1), tag, text))
 }
@@ -35,7 +36,8 @@ fn alternative(alloc: Global, owner: ResNo, text: &str) -> Result<Command, ReadS
     Ok(Command::AddLabel(owner, Label { tag, value }))
 }
 
-fn post(alloc: Global, key: &str, name: &str, concept: ResNo) -> Result<Command, ReadStop> {
+/// Returns the command that posts a record.
+pub fn post(alloc: Global, key: &str, name: &str, concept: ResNo) -> Result<Command, ReadStop> {
     let (key, name) = both(Key::read(alloc, key), RecordName::read(alloc, name))?;
     Ok(Command::Post(key, name, concept))
 }

@@ -1,13 +1,14 @@
 //! Uses the library as a program would, and prints what its calls return.
 //!
-//! The examples are a core alone, an office over storage in memory whose rows are loaded back, and
-//! a script over storage that fails once.
+//! The examples are a core alone, an office over storage in memory whose rows are loaded back, a
+//! plan of several requests as one, and a script over storage that fails once.
 #![tactic(auto)]
 
 mod commands;
 mod core_example;
 mod failure;
 mod office_example;
+mod plan_example;
 mod report;
 mod row_list;
 mod script_example;
@@ -20,6 +21,7 @@ use std::io;
 fn run_all(alloc: Global, report: &mut String) -> Result<(), Failure> {
     core_example::run(alloc, report)?;
     office_example::run(alloc, report)?;
+    plan_example::run(alloc, report)?;
     script_example::run(alloc, report)
 }
 

@@ -1,0 +1,71 @@
+//! A plan over an office: four requests as one, done once, and refused when it is sent again.
+use crate::commands::{concept, post};
+use crate::failure::Failure;
+use crate::office_example::{keeper_after, open};
+use std::alloc::{AllocError, Global};
+use std::fmt::Write;
+use thesaurus::{
+    Command, Fault, Keeper, LinkKind, Office, PlanOutcome, PlanRequest, PostNo, ReadStop, ResNo,
+};
+
+// The number of commands that are performed before the plan.
+const BEFORE: usize = 6;
+
+// Returns the command at a place of the plan, and the place of the request that makes its first
+// number: a concept, its place below the mammals, a record of it, and the withdrawal of that.
+fn command_at(alloc: Global, place: usize) -> Result<(Command, Option<u32>), ReadStop> {
+    let (any, mammals) = (ResNo::new(1), ResNo::new(3));
+    match place {
+        1 => Ok((concept(alloc, "Dogs")?, None)),
+        2 => Ok((Command::Link(LinkKind::Broader, any, mammals), Some(1))),
+        3 => Ok((post(alloc, "k2", "r2", any)?, Some(1))),
+        _ => Ok((Command::Withdraw(PostNo::new(1)), Some(3))),
+    }
+}
+
+// Returns the request at a place of the plan.
+fn request_at(alloc: Global, place: usize) -> Result<PlanRequest, ReadStop> {
+    let (command, first) = command_at(alloc, place)?;
+    Ok(PlanRequest {
+        command,
+        first,
+        second: None,
+        postings: Vec::new(alloc),
+    })
+}
+
+// Appends a request to a plan.
+fn push_request(plan: &mut Vec<PlanRequest>, request: PlanRequest) -> Result<(), AllocError> {
+    plan.push(request)?;
+    Ok(())
+}
+
+// Returns the plan.
+fn plan(alloc: Global) -> Result<Vec<PlanRequest>, Failure> {
+    let mut plan = Vec::new(alloc);
+    for place in 1..5 {
+        let request = request_at(alloc, place)?;
+        push_request(&mut plan, request)?;
+    }
+    Ok(plan)
+}
+
+// Performs a plan in an office.
+fn perform<K: Keeper>(office: &mut Office<K>, plan: &[PlanRequest]) -> Result<PlanOutcome, Fault> {
+    office.run_plan(plan)
+}
+
+// Appends what became of a plan.
+fn write_outcome(outcome: Result<PlanOutcome, Fault>, report: &mut String) -> Result<(), Failure> {
+    let outcome = outcome?;
+    Ok(writeln!(report, "{outcome:?}")?)
+}
+
+/// Performs the first commands, and a plan twice, and appends the answers and outcomes: the second
+/// time the name of its concept is taken.
+pub fn run(alloc: Global, report: &mut String) -> Result<(), Failure> {
+    let mut office = open(alloc, keeper_after(alloc, BEFORE, report)?)?;
+    let plan = plan(alloc)?;
+    write_outcome(perform(&mut office, &plan), report)?;
+    write_outcome(perform(&mut office, &plan), report)
+}
