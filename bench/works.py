@@ -19,7 +19,7 @@ IN_NO_ORDER = "with keys in no order"
 class Call(NamedTuple):
     """A run: the words of a command, what it reads, and the store of which it gets a copy, if it has one."""
 
-    words: list[str]
+    words: tuple[str, ...]
     given: bytes = b""
     store: pathlib.Path | None = None
 
@@ -36,7 +36,7 @@ class Work(NamedTuple):
 
 
 def script(*parts, store=None):
-    return Call(["script"], "".join(it for part in parts for it in part).encode(), store)
+    return Call(("script",), "".join(it for part in parts for it in part).encode(), store)
 
 
 # --- in memory ---
@@ -114,9 +114,9 @@ def store_of_texts(room, concepts):
 
 def over_stores(size, room):
     """The works with files that are counted and timed: refused rows, texts of an open store, and opening one."""
-    concepts, check = size(10_000), Call(["check"])
+    concepts, check = size(10_000), Call(("check",))
     rows = [posting_file(room / f"rows{it}.csv", it, concepts) for it in (size(100_000), 0)]
-    imports = (Call(["import", it]) for it in rows)
+    imports = (Call(("import", it)) for it in rows)
     yield Work(f"{size(100_000):,} refused rows of an import in memory", *imports, 1.5)
     texts = store_of_texts(room, concepts)
     for name, words in (
@@ -124,7 +124,7 @@ def over_stores(size, room):
         (f"the hierarchical display of {concepts:,} concepts", "hierarchical --scheme 1 --lang en"),
         (f"the export of {concepts:,} concepts", "export"),
     ):
-        yield Work(name, Call(words.split(), store=texts), check._replace(store=texts), 1.5)
+        yield Work(name, Call(tuple(words.split()), store=texts), check._replace(store=texts), 1.5)
     posted = room / f"posted{concepts}.db"
     copy_store(store_of_concepts(room, concepts), posted)
     with closing(opened(posted)) as base:
@@ -139,7 +139,7 @@ def over_stores(size, room):
 
 def with_commits(size, room):
     """The works over a store that are only timed, since the system has its part in them."""
-    concepts, check = size(10_000), Call(["check"])
+    concepts, check = size(10_000), Call(("check",))
     store = store_of_concepts(room, concepts)
     rows = posting_file(room / f"rows{size(100_000)}.csv", size(100_000), concepts)
     yield Work(
@@ -149,7 +149,7 @@ def with_commits(size, room):
     )
     yield Work(
         f"a first import of {size(100_000):,} rows",
-        Call(["import", rows], store=store),
+        Call(("import", rows), store=store),
         check._replace(store=store),
         0.8,
     )
@@ -161,5 +161,5 @@ def of_large_store(size, room):
     path = room / "large.db"
     scattered.make(path, concepts, scattered.LABELS, postings)
     many = f"{concepts:,} concepts, {len(scattered.LABELS) * concepts:,} labels and {postings:,} postings"
-    check, empty = Call(["check"], store=path), Call(["check"], store=store_of_concepts(room, 0))
+    check, empty = Call(("check",), store=path), Call(("check",), store=store_of_concepts(room, 0))
     return Work(f"opening {many}, {IN_NO_ORDER}", check, empty, most_seconds=LARGE_SECONDS)
