@@ -5,7 +5,7 @@ import secrets
 import threading
 from collections import OrderedDict
 from dataclasses import dataclass, field
-from typing import TypeVar, cast
+from typing import TypeVar
 
 T = TypeVar("T")
 # How many things are kept: the oldest goes first.
@@ -28,11 +28,11 @@ class Shelf:
                 self.things.popitem(last=False)
         return name
 
-    def find(self, user: str, name: str, kind: type[T] | tuple[type[T], ...]) -> T | None:
+    def find(self, user: str, name: str, kind: type[T]) -> T | None:
         """Returns what a user has under a name, if it is of a kind."""
         with self.lock:
             owner, thing = self.things.get(name, ("", None))
-        return cast(T, thing) if owner == user and isinstance(thing, kind) else None
+        return thing if owner == user and isinstance(thing, kind) else None
 
     def take(self, user: str, name: str, kind: type[T]) -> T | None:
         """Returns what a user has under a name, once: whoever asks a second time gets nothing."""

@@ -46,7 +46,7 @@ class TableRun:
     def made(self) -> dict[str, str]:
         """The terms and addresses of what rows make, by the references to it."""
         requests = [it for plan in self.plans for it in plan.requests if "as" in it]
-        return {f"${it['as']}": it.get("text") or it.get("iri", "") for it in requests}
+        return {f"${it['as']}": str(it.get("text") or it.get("iri", "")) for it in requests}
 
 
 def read_sent_table(name: str, data: bytes, columns: str, options: TableOptions) -> TableRun:

@@ -21,10 +21,10 @@ def copied(mirror: Mirror) -> Plain:
             {"kind": it.kind, "scheme": scheme, "live": it.is_live, "replaced": replaced, "iri": it.iri}
         )
         plain.labels += [(it.number, *label) for label in sorted(it.labels)]
-        plain.links += [tuple(link) for link in sorted(it.links()) if link.a == it.number]
+        plain.links += [(link.kind, link.a, link.b) for link in sorted(it.links()) if link.a == it.number]
     for posting in mirror.postings.all:
         row: dict[str, Any] = {"key": posting.key, "record": posting.record, "first": posting.first}
         plain.postings.append({**row, "withdrawn": posting.is_withdrawn})
-    moves = {move: (it.number, *ends) for it in mirror.postings.all for move, *ends in it.moves}
+    moves = {move: (it.number, source, target) for it in mirror.postings.all for move, source, target in it.moves}
     plain.moves = [moves[it] for it in sorted(moves)]
     return plain

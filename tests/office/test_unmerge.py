@@ -60,7 +60,7 @@ REMARKS = [
     b"the concept gets a new number; 4 stays dead, and forwards postings to 3 still\n",
 ]
 # Labels, links, and the places of postings.
-Parts = tuple[set[tuple[Any, ...]], set[tuple[Any, ...]], list[int]]
+Parts = tuple[set[tuple[Any, ...]], set[tuple[str, int, int]], list[int]]
 as_copy_or_export = pytest.mark.parametrize("is_copy", [True, False], ids=["a copy", "an export"])
 
 

@@ -103,6 +103,7 @@ def whole(dice: Requests, plain: Plain) -> tuple[bytes, Answer, Plain]:
     if drawn == 1:
         rows = b"key,record,concept\nk%d,r1,%d\n" % (dice.below(1000), dice.between(1, 30))
         after, told = import_file(plain, rows)
+        assert told is not None
         return post("/import", rows), (200, told), after
     if "get" in request:
         shown = plain.show(request)
@@ -139,8 +140,8 @@ def state_after(plain: Plain, sent: bytes, answer: bytes) -> Plain:
             raise Wrong(f"{wanted!r} is wanted")
         return after
     if status != 200:
-        told = json.loads(body)
-        if told.get("bad") not in BAD.get(status, ()) and not (status == 404 and "no" in told):
+        said = json.loads(body)
+        if said.get("bad") not in BAD.get(status, ()) and not (status == 404 and "no" in said):
             raise Wrong("no answer of the table")
     return plain
 

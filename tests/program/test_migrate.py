@@ -96,7 +96,7 @@ UNJUDGED = {
 LINKS = 30_000
 KILLS = 20
 FULL = 12
-MADE = {"start": START, "richer": RICHER, "empty": []}
+MADE: dict[str, list[dict[str, Any]]] = {"start": START, "richer": RICHER, "empty": []}
 # The rows of each table.
 Rows = dict[str, list[Any]]
 

@@ -100,7 +100,8 @@ def why_refused(row: Row) -> Any:
 @role("indexer")
 def failed_rows(name: str) -> Response:
     """Returns the rows that were refused as a table again, with a column of reasons."""
-    what: Brought | TableRun | None = the_shelf().find(person().name, name, (Brought, TableRun))
+    shelf, user = the_shelf(), person().name
+    what = shelf.find(user, name, Brought) or shelf.find(user, name, TableRun)
     if what is None:
         abort(404)
     if isinstance(what, Brought):
