@@ -763,7 +763,7 @@ static bool is_called(struct text text, const char *name) {
 }
 
 static char *skip_spaces(char *from) {
-    while (*from == ' ' || *from == '\t' || *from == '\r')
+    while (*from == ' ' || *from == '\t' || *from == '\r' || *from == '\n')
         from++;
     return from;
 }
