@@ -96,7 +96,7 @@ def store(tmp_path_factory: pytest.TempPathFactory) -> Path:
 def unchanged(store: Path) -> Iterator[Served]:
     """A service that is sent only what changes nothing; at its end the rows are those of the start."""
     rows = rows_beside(store)
-    with serving(store, len(UNCHANGING), "--plans") as served:
+    with serving(store, len(UNCHANGING), after=["--plans"]) as served:
         yield served
         assert served.end() == (0, b"", b"")
     assert rows_beside(store) == rows == rows_of(STATES[-1])
@@ -136,7 +136,7 @@ def test_plan_that_is_done(it: Case, store: Path, tmp_path: Path) -> None:
     assert answer == it.answer
     path = tmp_path / "served.db"
     path.write_bytes(store.read_bytes())
-    with serving(path, 1, "--plans") as served:
+    with serving(path, 1, after=["--plans"]) as served:
         assert answer_over_http(served, it.text) == (200, text_of(it.answer) + b"\n")
         assert served.end() == (0, b"", b"")
     assert rows_beside(path) == rows_of(after)
@@ -201,7 +201,7 @@ def test_without_the_option_there_are_no_plans(store: Path) -> None:
 
 def test_each_path_takes_its_own(store: Path) -> None:
     """POST /requests takes no array and POST /plans no object, and a GET of it is refused."""
-    with serving(store, 5, "--plans") as served:
+    with serving(store, 5, after=["--plans"]) as served:
         assert answer_over_http(served, text_of([concept("C")]), "/requests") == (400, b'{"bad":"BadShape"}\n')
         assert answer_over_http(served, text_of(concept("C"))) == (400, b'{"bad":"BadShape"}\n')
         for method in (b"GET", b"PUT"):
@@ -216,7 +216,7 @@ def test_other_lines_and_paths_are_as_before(store: Path) -> None:
     given = script(*lines)
     assert plans(given) == run(["script"], given, built())
     asked = b"GET /totals HTTP/1.1\r\n\r\n"
-    with serving(store, 1, "--plans") as one, serving(_copy(store), 1) as other:
+    with serving(store, 1, after=["--plans"]) as one, serving(_copy(store), 1) as other:
         assert one.answer(asked) == other.answer(asked)
 
 
@@ -242,7 +242,7 @@ def test_length_of_a_plan_over_http(name: str, store: Path, tmp_path: Path) -> N
     length, fits = BLANKS[name]
     path = tmp_path / "long.db"
     path.write_bytes(store.read_bytes())
-    with serving(path, 1, "--plans") as served:
+    with serving(path, 1, after=["--plans"]) as served:
         wanted = (200, b'{"done":[{"ok":14}]}\n') if fits else (413, b'{"bad":"TooLong"}\n')
         assert answer_over_http(served, text_of([concept("C")]).ljust(length)) == wanted
 
