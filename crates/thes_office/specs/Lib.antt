@@ -5,6 +5,7 @@ pub mod Office
 pub mod FoundStates
 pub mod Opening
 pub mod Groups
+pub mod Plans
 pub mod LoaderView
 pub mod LoadedCore
 pub mod LoaderFeed
