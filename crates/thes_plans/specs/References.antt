@@ -1,0 +1,58 @@
+-- References of the requests of a plan to earlier requests: which are good is determined by the requests alone.
+use Rattle.std.specs.Prelude.{◌≡◌, ◌+◌, ℕ, List, Option, None, Some, All, slice_get, take}
+use Rattle.thes_base.specs.Types.{Number}
+use Rattle.thes_base.specs.Resources.{entry_at}
+use Rattle.thes_base.specs.declared.request.Command.{Command}
+use Rattle.thes_base.specs.declared.request.Command.TheVariants as request
+use Rattle.thes_plans.specs.declared.plan.PlanRequest.{PlanRequest}
+
+-- The request creates a resource, if it is accepted.
+abbrev pub MakesResource : Command → Type 0
+MakesResource (request.Scheme tag text) = Unit {0}
+MakesResource (request.Concept scheme tag text) = Unit {0}
+MakesResource (request.Collection scheme tag text) = Unit {0}
+MakesResource (request.Outside iri) = Unit {0}
+MakesResource (request.Split source tag text postings) = Unit {0}
+MakesResource _ = ⊥
+
+-- The request makes a posting or finds it by its key, if it isn't refused.
+abbrev pub MakesPosting : Command → Type 0
+MakesPosting (request.Post key rec concept) = Unit {0}
+MakesPosting _ = ⊥
+
+-- What the request that `first` refers to must make: the first number of a Withdraw is a posting's, that of any other
+-- command a resource's.
+abbrev pub MakesFirst : Command → Command → Type 0
+MakesFirst (request.Withdraw posting) = MakesPosting
+MakesFirst _ = MakesResource
+
+-- There is no reference, or it is to an earlier request, and this makes what is asked for.
+abbrev pub IsGoodReference : (Command → Type 0) → List PlanRequest → Option ℕ → Type 0
+IsGoodReference Makes earlier None = Unit {0}
+IsGoodReference Makes earlier (Some place) =
+    (made : PlanRequest) × (entry_at earlier place ≡ Some made) × Makes made.command
+
+-- Each reference of the request is to one of the earlier requests, and that makes what is asked for.
+pub record HasGoodReferences (earlier : List PlanRequest) (asked : PlanRequest) : Type 0 where
+  pub first : IsGoodReference (MakesFirst asked.command) earlier asked.first
+  pub second : IsGoodReference MakesResource earlier asked.second
+  pub postings : All (IsGoodReference MakesPosting earlier) asked.postings.items
+
+-- The references of each request are to requests before it that make what is asked for.
+abbrev pub AreGoodReferences : List PlanRequest → Type 0
+AreGoodReferences plan = (index : ℕ) (asked : PlanRequest) → slice_get plan index ≡ Some asked
+    → HasGoodReferences (take index plan) asked
+
+-- The place is that of the first request with a reference that isn't good.
+pub record IsFirstBadReference (plan : List PlanRequest) (place : Number) : Type 0 where
+  pub index : ℕ
+  pub place_is : place ≡ index + 1
+  pub asked : PlanRequest
+  pub at : slice_get plan index ≡ Some asked
+  pub good_before : AreGoodReferences (take index plan)
+  pub bad : ¬ HasGoodReferences (take index plan) asked
+
+-- The place of the first request with a reference that isn't good; None if all are.
+abbrev pub FirstBadReference : List PlanRequest → Option ℕ → Type 0
+FirstBadReference plan None = AreGoodReferences plan
+FirstBadReference plan (Some place) = IsFirstBadReference plan place
