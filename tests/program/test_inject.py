@@ -86,7 +86,7 @@ Sent = Request | list[Request]
 
 def tracing(path: Path, *how: str) -> list[Word]:
     """Words that run a program so that strace sees the calls about the files of a store."""
-    files = [path, f"{path}-wal", f"{path}-making"]
+    files: list[Word] = [path, f"{path}-wal", f"{path}-making"]
     named: list[Word] = [it for file in files for it in ("-P", file)]
     return ["strace", "-f", "-qq", "-o", f"{path}.trace", *named, "-e", f"trace={','.join(CALLS)}", *how]
 
@@ -239,7 +239,7 @@ def asked(port: int, request: Sent) -> tuple[bytes, Request]:
 class Service(Work):
     """A service answers 503 to the request or plan that failed, and performs the later ones."""
 
-    sent = FIFTEEN
+    sent: Sequence[Sent] = FIFTEEN
 
     def run(self, path: Path, *how: str) -> Served:
         port, told = free_port(), []
