@@ -1,10 +1,12 @@
-"""Performs the requests of a table row by row: a row is done whole, or what was done of it is taken back."""
+"""Performs the requests of a table row by row: a row is done whole, as one plan; or, by a program without plans, what
+was done of it is taken back."""
 from __future__ import annotations
 
 from collections.abc import Iterator
 from typing import NamedTuple
 
 from thesaurus_tools.finding import RowError
+from thesaurus_tools.one_plan import MOST_REQUESTS, OnePlan, resolved
 from thesaurus_tools.program import Performer
 from thesaurus_tools.sentences import reason_of
 
@@ -30,24 +32,24 @@ class RowRunner:
         self.performer = performer
         self.numbers: dict[str, int] = {}
 
-    def resolved(self, request: dict) -> dict:
-        """Returns a request with numbers in place of names. Raises KeyError for one that no row made."""
-        return {
-            name: self.numbers[it[1:]]
-            if isinstance(it, str) and it.startswith("$") and name not in ("text", "record", "key")
-            else it
-            for name, it in request.items()
-            if name != "as"
-        }
-
     def run(self, plan: RowPlan) -> str:
         """Performs the requests of a row. Returns why the row is refused, or nothing."""
+        if 1 < len(plan.requests) <= MOST_REQUESTS and self.performer.takes_plans():
+            try:
+                place, answer = OnePlan(self.performer, plan.requests, self.numbers).perform()
+            except KeyError as error:
+                return lacking(error)
+            return reason_of(answer) if place else ""
+        return self.run_singly(plan)
+
+    def run_singly(self, plan: RowPlan) -> str:
+        """Performs the requests of a row one after another, and takes them back after a refusal."""
         done: list[dict] = []
         for request in plan.requests:
             try:
-                sent = self.resolved(request)
+                sent = resolved(request, self.numbers)
             except KeyError as error:
-                return self.take_back(done, f"it needs {error.args[0]}, which was refused")
+                return self.take_back(done, lacking(error))
             answer = self.performer.ask(sent)
             known: int = answer["number"] if answer.get("no") == "OutsideKnown" else 0
             if not known and not any(it in answer for it in ACCEPTED):
@@ -65,6 +67,11 @@ class RowRunner:
             if not inverse["do"] or "done" not in self.performer.ask(inverse):
                 stays += 1
         return f"{reason}; {stays} of its {len(done)} changes stay" if stays else reason
+
+
+def lacking(error: KeyError) -> str:
+    """Returns why a row is refused that needs what another row would have made."""
+    return f"it needs {error.args[0]}, which was refused"
 
 
 def run_rows(runner: RowRunner, plans: list[RowPlan], keep_going: bool) -> Iterator[RowPlan]:

@@ -2,7 +2,7 @@ use Rattle.std.proofs.Common.{◌∙◌, ℕ, List, inl, inr, refl, subst}
 use Rattle.std.specs.Io.KnownBytes.{Appends}
 use Rattle.thes_base.specs.Pipe.{written_bytes}
 use Rattle.thes_command_line.specs.Printing.{PrintsPrefix}
-use Rattle.thes_cli.proofs.serving.serve_store.Goals as goal
+use Rattle.thes_cli.proofs.serving.serve_printed.Goals as goal
 
 pub returns-then-print : goal.returns-then-print
 returns-then-print g c =
