@@ -52,7 +52,7 @@ fn report_served<E: Write>(
 }
 
 // Serves `count` connections, one after another, and returns the exit status.
-fn serve_all<N: Net + Clock, K: Keeper, M: PlanMode, E: Write>(
+fn serve_all<N: Net + Clock, K: Keeper, M: PlanMode + Copy, E: Write>(
     alloc: Global,
     clock: &N,
     listener: &N::Listener,
@@ -71,7 +71,7 @@ fn serve_all<N: Net + Clock, K: Keeper, M: PlanMode, E: Write>(
 
 // Prints the address, serves the connections, and returns the exit status. If the address can't be
 // printed, it serves none.
-fn serve_printed<N: Net + Clock, K: Keeper, M: PlanMode, W: Write, E: Write>(
+fn serve_printed<N: Net + Clock, K: Keeper, M: PlanMode + Copy, W: Write, E: Write>(
     alloc: Global,
     clock: &N,
     listening: &Listening<N::Listener>,
@@ -100,7 +100,7 @@ fn serve_printed<N: Net + Clock, K: Keeper, M: PlanMode, W: Write, E: Write>(
 }
 
 // Serves an office in this mode, and returns the exit status with the office.
-fn serve_in_mode<N: Net + Clock, K: Keeper, M: PlanMode, W: Write, E: Write>(
+fn serve_in_mode<N: Net + Clock, K: Keeper, M: PlanMode + Copy, W: Write, E: Write>(
     alloc: Global,
     clock: &N,
     listening: &Listening<N::Listener>,
