@@ -37,7 +37,13 @@ pub record IsDecidedInPlan (setting : Setting) (t now : Tables) (s : State) (com
   pub decided : IsDecided setting s command answer before after copy
   pub postings_are : ArePlanRows t.posting (tables_after_delta decided.changes now).posting postings
 
--- One more request of a plan is decided in the state of the core.
+-- One more command of a plan is decided in the state of the core.
+abbrev pub DecidesCommand : Raw → PlanProgress → PlanProgress → CoreView → CoreView → Command → Answer → Type 0
+DecidesCommand raw old new before after command answer = (t now : Tables) (s : State) → raw ≡ cells_of_tables t
+    → IsRowsOf before.setting.base s now → IsViewOf before s → ArePlanRows t.posting now.posting old.postings
+    → IsDecided before.setting s command answer old.decided.delta new.decided.delta after
+
+-- One more request of a plan is decided in the state of the core, and the postings that it changes are recorded.
 abbrev pub DecidesRequest : Raw → PlanProgress → PlanProgress → CoreView → CoreView → Command → Answer → Type 0
 DecidesRequest raw old new before after command answer = (t now : Tables) (s : State) → raw ≡ cells_of_tables t
     → IsRowsOf before.setting.base s now → IsViewOf before s → ArePlanRows t.posting now.posting old.postings

@@ -120,6 +120,7 @@ pub fn decide_with_facts(
         × ((s : State) → IsViewOf core.old s → AreFacts command.now s.histories facts.now
         → IsDecided core.old.setting s command.now
         answer decided.old.delta decided.new.delta core.new)) }
+    ensures grows { OnOk result (length decided.old.delta ≤ length decided.new.delta) }
     ensures usable { OnOk result ((core.new.spent ≡ false)
         × (core.new.setting ≡ core.old.setting)) }
     ensures err { IfErr result (λ fault. fault ≡ Fault.OutOfMemory) }

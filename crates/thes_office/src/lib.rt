@@ -8,6 +8,7 @@ mod keeper_load;
 pub mod laws;
 mod loader;
 mod office;
+mod office_plan;
 mod plan;
 mod plan_facts;
 mod reading;

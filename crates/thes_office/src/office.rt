@@ -5,8 +5,6 @@ ghost use Rattle.thes_base.specs.State.{State};
 ghost use Rattle.thes_office.specs.Office.{FaultBehaviour, OfficeQueryFrame, PerformResult, RunResult};
 ghost use Rattle.thes_office.specs.FoundStates.{FindsLegalState, IsFaultOfFound};
 ghost use Rattle.thes_office.specs.Groups.{GroupResult, IsGroup};
-ghost use Rattle.thes_plans.specs.Plans.{HasEachAnswer};
-ghost use Rattle.thes_office.specs.Plans.{RunPlanResult};
 ghost use Rattle.thes_office.specs.Opening.{IsOpened, IsUnopened};
 ghost use Rattle.thes_office.specs.QueryFrames.{FactsInTables};
 ghost use Rattle.thes_office.specs.TablesOfState.{TablesOfState};
@@ -14,14 +12,12 @@ ghost use Rattle.thes_office.specs.TablesOfState.{TablesOfState};
 use crate::facts::facts_of;
 use crate::group::{group_length, perform_group};
 use crate::keeper_load::load;
-use crate::plan::perform_plan;
 use std::alloc::Global;
 use std::marker::Model;
 use thes_base::data::Limits;
 use thes_base::fault::Fault;
 use thes_base::request::{Answer, Command};
 use thes_core::{Core, Facts, Verdict};
-use thes_plans::plan::{PlanOutcome, PlanRequest};
 use thes_store::keeper::Keeper;
 
 /// The storage of the tables, with a copy of their vocabulary, links and counts in memory.
@@ -238,29 +234,6 @@ impl<K: Keeper> Office<K> {
             rest = later;
         }
         Ok(())
-    }
-
-    /// Performs the requests of a plan in order, with each reference replaced by the number that an
-    /// earlier request made. If each is accepted or repeats a known key, all changes are committed
-    /// in one transaction; else the outcome is the first refusal, and nothing is changed. On a fault
-    /// the tables are unchanged. It may be called with any list; a reference to nothing leaves the
-    /// number for which it stands.
-    pub fn run_plan(&mut self, plan: &[PlanRequest]) -> Result<PlanOutcome, Fault>
-        ensures fault_behaviour { FaultBehaviour K.view self.old self.new result }
-        ensures performed { RunPlanResult K.view self.old plan.now result self.new }
-        ensures each { IfOk result (λ outcome. HasEachAnswer plan.now outcome) }
-    {
-        self.refresh()?;
-        match perform_plan(self.alloc, &mut self.keeper, &mut self.core, plan) {
-            Ok(outcome) => {
-                self.stale = self.core.is_spent();
-                Ok(outcome)
-            }
-            Err(fault) => {
-                self.stale = true;
-                Err(fault)
-            }
-        }
     }
 
     /// Returns the copy of the tables, reloaded first if it was stale.

@@ -1,26 +1,26 @@
 //! Plans: each request is decided on the state that those before it make, and the changes of all are
 //! committed in one transaction.
-ghost use Rattle.std.specs.Prelude.{◌≡◌, ◌++◌, ◌∷◌, [], List, false, true, IfErr, IfOk, OnOk, OnErr};
-ghost use Rattle.thes_base.specs.declared.fault.Fault.{Fault};
+ghost use Rattle.std.specs.Prelude.{◌≡◌, ◌≤◌, ◌++◌, ◌∷◌, [], List, drop, length, false, true, IfOk, OnOk, OnErr};
 ghost use Rattle.thes_base.specs.declared.request.Answer.{Answer};
 ghost use Rattle.thes_plans.specs.Plans.{HasEachAnswer};
 ghost use Rattle.thes_plans.specs.Resolving.{resolved_command};
 ghost use Rattle.thes_store.specs.Storage.{CommitFrame, QueryFrame};
 ghost use Rattle.thes_office.specs.Office.{IsCopy};
-ghost use Rattle.thes_office.specs.PlanDecisions.{DecidesRequest, HasEachDecision, IsPlanDecision, MayDecidePlan};
-ghost use Rattle.thes_office.specs.PlanDecisions.{refusal_in};
+ghost use Rattle.thes_office.specs.PlanDecisions.{DecidesCommand, DecidesRequest, HasEachDecision, IsPlanDecision};
+ghost use Rattle.thes_office.specs.PlanDecisions.{MayDecidePlan, refusal_in};
 ghost use Rattle.thes_office.specs.Plans.{TablesAfterPlan};
 
-use crate::group::{commit_changes, decide_with_facts, Decided};
+use crate::group::{Decided, commit_changes, decide_with_facts};
 use crate::plan_facts::facts_in_plan;
 use std::alloc::Global;
 use thes_base::fault::{Fault, Refusal};
 use thes_base::request::{Answer, Command};
 use thes_core::Core;
+use thes_plan_postings::plan_postings::PlanPostings;
 use thes_plans::plan::{PlanOutcome, PlanRequest};
 use thes_plans::resolving::resolve;
-use thes_plan_postings::plan_postings::PlanPostings;
 use thes_store::keeper::Keeper;
+use thes_tables::change::Change;
 use thes_tables::delta::Delta;
 
 /// The decisions on the requests of a plan so far.
@@ -53,9 +53,68 @@ fn last_refusal(answers: &[Answer]) -> Option<Refusal>
     }
 }
 
+// Returns the number of changes.
+fn change_count(delta: &Delta) -> usize
+    ensures { result ≡ length delta.now }
+{
+    delta.as_slice().len()
+}
+
+// Returns the changes from an index on.
+fn changes_from(delta: &Delta, index: usize) -> &[Change]
+    requires { index ≤ length delta.now }
+    ensures { result.now ≡ drop index delta.now }
+{
+    &delta.as_slice()[index..]
+}
+
+// Checks whether there are changes.
+fn has_changes(delta: &Delta) -> bool
+    ensures { result ≡ false → delta.now ≡ [] }
+{
+    !delta.as_slice().is_empty()
+}
+
+// Marks the core as unusable if a refused plan has changed it.
+fn mark_if_changed(core: &mut Core, changed: bool)
+    ensures { core.new.spent ≡ false → (changed ≡ false) × (core.new ≡ core.old) }
+{
+    if changed {
+        core.mark_spent();
+    }
+}
+
 // Decides one more command of a plan, and applies it to the core, which holds the state after those
 // before it. On a fault the core may be ahead of the tables.
 fn decide_command<K: Keeper>(
+    alloc: Global,
+    keeper: &mut K,
+    core: &mut Core,
+    command: &Command,
+    progress: &mut PlanProgress,
+) -> Result<(), Fault>
+    requires { core.old.spent ≡ false }
+    ensures decides { OnOk result ((answer : Answer) × (progress.new.decided.answers.items
+        ≡ progress.old.decided.answers.items ++ answer ∷ []) × ((K.view keeper.new).is_up
+        → DecidesCommand (K.view keeper.old).rows progress.old progress.new core.old core.new
+        command.now answer)) }
+    ensures grows { OnOk result (length progress.old.decided.delta
+        ≤ length progress.new.decided.delta) }
+    ensures kept { OnOk result (progress.new.postings ≡ progress.old.postings) }
+    ensures usable { OnOk result ((core.new.spent ≡ false)
+        × (core.new.setting ≡ core.old.setting)) }
+    ensures asks { QueryFrame (K.view keeper.old) (K.view keeper.new) result }
+{
+    let facts = match facts_in_plan(alloc, keeper, &progress.postings, command) {
+        Ok(facts) => facts,
+        Err(fault) => return Err(fault),
+    };
+    decide_with_facts(core, command, &facts, &mut progress.decided)?;
+    Ok(())
+}
+
+// Decides one more command of a plan, and records the postings that it changes.
+fn decide_and_record<K: Keeper>(
     alloc: Global,
     keeper: &mut K,
     core: &mut Core,
@@ -71,14 +130,16 @@ fn decide_command<K: Keeper>(
         × (core.new.setting ≡ core.old.setting)) }
     ensures asks { QueryFrame (K.view keeper.old) (K.view keeper.new) result }
 {
-    let facts = match facts_in_plan(alloc, keeper, &progress.postings, command) {
-        Ok(facts) => facts,
+    let before = change_count(&progress.decided.delta);
+    match decide_command(alloc, keeper, core, command, progress) {
+        Ok(()) => {}
         Err(fault) => return Err(fault),
-    };
-    let before = progress.decided.delta.as_slice().len();
-    decide_with_facts(core, command, &facts, &mut progress.decided)?;
-    let changes = &progress.decided.delta.as_slice()[before..];
-    progress.postings.record_changes(keeper, changes)
+    }
+    let changes = changes_from(&progress.decided.delta, before);
+    match progress.postings.record_changes(keeper, changes) {
+        Ok(()) => Ok(()),
+        Err(fault) => Err(fault),
+    }
 }
 
 // Decides one more request of a plan, and returns its refusal, if it is refused.
@@ -100,7 +161,7 @@ fn decide_request<K: Keeper>(
     ensures asks { QueryFrame (K.view keeper.old) (K.view keeper.new) result }
 {
     let command = resolve(alloc, progress.decided.answers.as_slice(), asked)?;
-    match decide_command(alloc, keeper, core, &command, progress) {
+    match decide_and_record(alloc, keeper, core, &command, progress) {
         Ok(()) => Ok(last_refusal(progress.decided.answers.as_slice())),
         Err(fault) => Err(fault),
     }
@@ -134,13 +195,16 @@ fn decide_plan<K: Keeper>(
             Ok(None) => {}
             Ok(Some(refusal)) => {
                 let place = progress.decided.answers.len();
-                let changed = !progress.decided.delta.as_slice().is_empty();
+                let changed = has_changes(&progress.decided.delta);
                 return Ok(PlanDecision::Refused(place, refusal, changed));
             }
             Err(fault) => return Err(fault),
         }
     }
-    let PlanProgress { decided, postings: _ } = progress;
+    let PlanProgress {
+        decided,
+        postings: _,
+    } = progress;
     let Decided { answers, delta } = decided;
     Ok(PlanDecision::Accepted(answers, delta))
 }
@@ -175,9 +239,7 @@ pub fn perform_plan<K: Keeper>(
             Ok(PlanOutcome::Done(answers))
         }
         Ok(PlanDecision::Refused(place, refusal, changed)) => {
-            if changed {
-                core.mark_spent();
-            }
+            mark_if_changed(core, changed);
             Ok(PlanOutcome::Refused(place, refusal))
         }
         Err(fault) => {

@@ -1,8 +1,7 @@
 -- Proves which numbers are those of the postings that a plan has left assigned to a concept.
-use Rattle.std.proofs.lemmas.Grind.{common_steps}
-use Rattle.std.proofs.Common.{◌≡◌, ◌≢◌, ◌⊎◌, ◌<◌, ◌≤◌, ◌+◌, ◌++◌, ◌∷◌, [], ◌∙◌, ◌&&◌, ◌||◌, ℕ, zero, suc, List}
-use Rattle.std.proofs.Common.{length, refl, sym, ap, subst, arith, inl, inr, Bool, true, false, cond, map, Contains, get_or}
-use Rattle.std.specs.Prelude.{◌↔◌, IsTrue, is_some, Option, None, Some, slice_get, filter, nat_eq}
+use Rattle.std.proofs.Common.{◌≡◌, ◌⊎◌, ◌≤◌, ◌+◌, ◌∷◌, [], ◌∙◌, ◌&&◌, ◌||◌, ℕ, zero, suc, List}
+use Rattle.std.proofs.Common.{length, refl, sym, ap, subst, arith, inl, inr, Bool, true, false, cond, map, Contains}
+use Rattle.std.specs.Prelude.{is_some, Option, None, Some, slice_get, filter}
 use Rattle.std.specs.declared.cmp.Ordering.TheVariants.{Less}
 use Rattle.std.specs.BTreeMap as tree
 use Rattle.std.specs.Cmp.{nat_cmp_is}
@@ -13,7 +12,6 @@ use Rattle.std.proofs.lemmas.Cmp.{nat_cmp_total, nat_eq_equiv}
 use Rattle.std.proofs.lemmas.Map.Lookups.{exact_unsigned}
 use Rattle.std.proofs.lemmas.Map.Views.{Contains-from_any, btree_map_contains_key_iff, exact_unsigned_eq, list_any-from_Contains}
 use Rattle.std.proofs.lemmas.Option.{slice_get_read, slice_get_within, get_or_from_slice_get}
-use Rattle.thes_base.specs.Listing.{IsListing}
 use Rattle.thes_base.specs.Resources.{entry_at}
 use Rattle.thes_base.proofs.ListMemberLemmas.{Contains-filter, Contains-from_filter, Contains-from_map, Contains-map}
 use Rattle.thes_base.proofs.UniqueListingLemmas.{one_listing}
@@ -154,13 +152,16 @@ module _ (olds rows : List PostingRow) (p : PlanPostings) (are : ArePlanRows old
     placed : (n : ℕ) (x : Placement) → placement_of p n ≡ Some x → (by_tables n || by_placement n) ≡ true → IsAssigned n
     unfolding by_tables by_placement
     placed n x some e =
-        let at = are.placed n x some in
-        (row_placed (Some x) at.row, at.now, elim (either (by_tables n) (by_placement n) e) [
-          | inl here ↦ ap (is_assigned_by concept true) (sym some)
-              ∙ (both (has_number standing n) (is_assigned_by concept true (placement_of p n)) here).1
-          | inr there ↦ ap (is_assigned_by concept false) (sym some)
-              ∙ (both (has_number (tree.keys p.placements) n) (is_assigned_by concept false (placement_of p n)) there).1
-        ])
+        let at = are.placed n x some in (
+          row_placed (Some x) at.row,
+          at.now,
+          elim (either (by_tables n) (by_placement n) e) [
+            | inl here ↦ ap (is_assigned_by concept true) (sym some)
+                ∙ (both (has_number standing n) (is_assigned_by concept true (placement_of p n)) here).1
+            | inr there ↦ ap (is_assigned_by concept false) (sym some)
+                ∙ (both (has_number (tree.keys p.placements) n) (is_assigned_by concept false (placement_of p n)) there).1
+          ],
+        )
 
     sound : (n : ℕ) → (by_tables n || by_placement n) ≡ true → IsAssigned n
     sound n e = go (placement_of p n) refl

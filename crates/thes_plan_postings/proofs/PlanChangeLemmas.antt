@@ -25,7 +25,7 @@ use Rattle.std.proofs.lemmas.Bool.Decides.{eqb_tells}
 use Rattle.std.proofs.lemmas.List.{take_more, take_all}
 use Rattle.std.proofs.lemmas.Option.{same_Some, slice_get_read}
 use Rattle.thes_base.specs.Resources.{entry_at, set_entry_at}
-use Rattle.thes_base.proofs.NumberedLemmas.{numbered_bound, push_cases, push_new, push_old, set_same}
+use Rattle.thes_base.proofs.NumberedLemmas.{numbered_bound, push_cases, push_new, set_same}
 use Rattle.thes_tables.specs.declared.change.Change.{Change}
 use Rattle.thes_tables.specs.declared.change.Change.TheVariants as change
 use Rattle.thes_tables.specs.declared.rows.PostingRow.{PostingRow}
@@ -39,7 +39,7 @@ use Rattle.thes_plan_postings.specs.declared.plan_postings.PlanPostings.{PlanPos
 use Rattle.thes_plan_postings.specs.PlanPostings.{AddsPosting, AreAssigned, AreNumbered, ArePlanRows, IsPlaced, PlacesAll}
 use Rattle.thes_plan_postings.specs.PlanPostings.{has_number, is_assigned_by, is_assigned_candidate, placement_of, row_placed}
 use Rattle.thes_plan_postings.proofs.PlanAssignedLemmas.{assigned_has, assigned_of, number_found, number_has}
-use Rattle.thes_plan_postings.proofs.PlanPostingLemmas.{base_of_row, entry_left, entry_other, length_set_entry, number_placed}
+use Rattle.thes_plan_postings.proofs.PlanPostingLemmas.{base_of_row, entry_left, entry_other, length_set_entry}
 use Rattle.thes_plan_postings.proofs.PlanPostingLemmas.{in_at, in_both, numbered_map, placed_again, push_other}
 
 -- What the placements of a list of postings have to make of the rows.
@@ -335,9 +335,12 @@ module _ (olds rows : List PostingRow) (old new : PlanPostings) (source target :
   unfolding moved
   all_hit n hit =
       let r = assigned_has rows are.numbered source n (subst (λ (ns : List ℕ). Contains ns n) is
-      (number_found numbers n hit)) in
-      (r.0, r.1, numbered_map (row_after_move_all source target) rows n
-          ∙ ap (option_map (row_after_move_all source target)) r.1 ∙ ap (λ (y : PostingRow). Some y) (row_hit r.0 r.2))
+      (number_found numbers n hit)) in (
+        r.0,
+        r.1,
+        numbered_map (row_after_move_all source target) rows n
+            ∙ ap (option_map (row_after_move_all source target)) r.1 ∙ ap (λ (y : PostingRow). Some y) (row_hit r.0 r.2),
+      )
 
   all_miss : (n : ℕ) → has_number numbers n ≡ false → entry_at moved n ≡ entry_at rows n
   unfolding moved

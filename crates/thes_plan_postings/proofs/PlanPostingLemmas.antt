@@ -1,20 +1,16 @@
 -- Proves that the postings that a plan has changed, and the rows of the tables, give the rows after the plan so far.
-use Rattle.std.proofs.lemmas.Grind.{common_steps}
-use Rattle.std.proofs.Common.{◌≡◌, ◌≢◌, ◌⊎◌, ◌<◌, ◌≤◌, ◌+◌, ◌-◌, ◌++◌, ◌∷◌, [], ◌∙◌, ◌&&◌, ◌||◌, ℕ, zero, suc, List}
-use Rattle.std.proofs.Common.{length, refl, sym, ap, subst, arith, inl, inr, Bool, true, false, cond, not, map, append_assoc}
-use Rattle.std.proofs.Common.{length-append, append-nil, Contains}
-use Rattle.std.specs.Prelude.{Option, None, Some, slice_get, slice_set, filter, nat_eq, option_map}
-use Rattle.std.proofs.lemmas.Bool.{both_ways, cases_eq}
-use Rattle.std.proofs.lemmas.Option.{same_Some, slice_get_within}
+use Rattle.std.proofs.Common.{◌≡◌, ◌≢◌, ◌⊎◌, ◌<◌, ◌≤◌, ◌+◌, ◌-◌, ◌++◌, ◌∷◌, [], ◌∙◌, ℕ, zero, suc, List}
+use Rattle.std.proofs.Common.{length, refl, sym, ap, subst, arith, inl, inr, map}
+use Rattle.std.specs.Prelude.{Option, None, Some, slice_get, slice_set, option_map}
+use Rattle.std.proofs.lemmas.Option.{same_Some}
 use Rattle.thes_base.specs.Resources.{entry_at, set_entry_at}
-use Rattle.thes_base.proofs.NumberedLemmas.{numbered_bound, push_cases, push_new, push_old, set_same}
-use Rattle.thes_base.proofs.ListMemberLemmas.{Contains-filter, Contains-from_filter, Contains-from_map, Contains-map}
+use Rattle.thes_base.proofs.NumberedLemmas.{numbered_bound, push_cases, push_old}
 use Rattle.thes_tables.specs.declared.rows.PostingRow.{PostingRow}
-use Rattle.thes_tables.specs.Tables.{IsIn, is_assigned_row}
-use Rattle.thes_store.specs.Reading.{IsPostingOfKey, assigned_row_numbers, row_number}
+use Rattle.thes_tables.specs.Tables.{IsIn}
+use Rattle.thes_store.specs.Reading.{IsPostingOfKey}
 use Rattle.thes_plan_postings.specs.declared.plan_postings.Placement.{Placement}
 use Rattle.thes_plan_postings.specs.declared.plan_postings.PlanPostings.{PlanPostings}
-use Rattle.thes_plan_postings.specs.PlanPostings.{ArePlanRows, IsPlaced, IsRowOfNumber, placement_of, row_placed}
+use Rattle.thes_plan_postings.specs.PlanPostings.{ArePlanRows, IsRowOfNumber, placement_of, row_placed}
 
 module _ {A : Type 0} where
   index_of : (x : A) (xs : List A) → IsIn x xs → (i : ℕ) × (slice_get xs i ≡ Some x)

@@ -1,6 +1,6 @@
 -- The postings that the requests of a plan have changed so far, over the tables, in which nothing is changed yet.
 use Rattle.std.specs.Prelude.{◌≡◌, ◌≢◌, ◌||◌, ◌&&◌, ◌==◌, ℕ, List, Bool, true, false, not, Option, None, Some, length}
-use Rattle.std.specs.Prelude.{◌++◌, ◌∷◌, [], ◌↔◌, Contains, cond, map, nat_eq}
+use Rattle.std.specs.Prelude.{◌++◌, ◌∷◌, [], ◌↔◌, Contains, cond, nat_eq}
 use Rattle.std.specs.List.{list_any}
 use Rattle.std.specs.List.Sorted.{IsStrictlySortedBy}
 use Rattle.std.specs.BTreeMap.{get, keys}

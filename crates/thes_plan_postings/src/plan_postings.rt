@@ -116,11 +116,7 @@ impl PlanPostings {
     }
 
     /// Looks up the row of the posting with the key, as the plan has changed it.
-    pub fn find<K: Keeper>(
-        &self,
-        keeper: &mut K,
-        key: &Key,
-    ) -> Result<Option<PostingRow>, Fault>
+    pub fn find<K: Keeper>(&self, keeper: &mut K, key: &Key) -> Result<Option<PostingRow>, Fault>
         ensures in_plan { IfOk result (λ found. (K.view keeper.new).is_up
             → InPlanRows (K.view keeper.old).rows self.now
             (λ rows. IsPostingOfKey key.now rows found)) }
@@ -178,11 +174,7 @@ impl PlanPostings {
 
     // Returns the numbers of the postings assigned to the concept, in increasing order, if `standing`
     // are those assigned to it in the tables.
-    fn assigned_from(
-        &self,
-        concept: ResNo,
-        standing: &[PostNo],
-    ) -> Result<Vec<PostNo>, AllocError>
+    fn assigned_from(&self, concept: ResNo, standing: &[PostNo]) -> Result<Vec<PostNo>, AllocError>
         ensures { IfOk result (λ numbers.
             AreAssigned self.now concept standing.now numbers.items) }
     {
@@ -196,11 +188,7 @@ impl PlanPostings {
 
     /// Looks up the numbers of the postings that the plan has left assigned to the concept, in
     /// increasing order.
-    pub fn assigned<K: Keeper>(
-        &self,
-        keeper: &mut K,
-        concept: ResNo,
-    ) -> Result<Vec<PostNo>, Fault>
+    pub fn assigned<K: Keeper>(&self, keeper: &mut K, concept: ResNo) -> Result<Vec<PostNo>, Fault>
         ensures in_plan { IfOk result (λ numbers. (K.view keeper.new).is_up
             → InPlanRows (K.view keeper.old).rows self.now
             (λ rows. numbers.items ≡ assigned_row_numbers concept rows)) }

@@ -1,16 +1,16 @@
 -- Proves what the check of references finds: of one reference, of a request, and of the requests up to an index.
 use Rattle.std.proofs.Common.{◌≡◌, ◌++◌, ◌∷◌, [], ◌<◌, ◌≤◌, ◌+◌, ◌∙◌, ℕ, suc, List, refl, sym, ap, subst, take, length}
-use Rattle.std.proofs.Common.{arith, inl, inr, get_or}
+use Rattle.std.proofs.Common.{arith, inl, inr}
 use Rattle.std.proofs.lemmas.List.{take_more, take_all, take-append-le}
-use Rattle.std.proofs.lemmas.Option.{slice_get_within, slice_get_read, get_or_from_slice_get}
-use Rattle.std.specs.Prelude.{◌↔◌, Bool, IsTrue, Option, None, Some, slice_get}
+use Rattle.std.proofs.lemmas.Option.{slice_get_within, get_or_from_slice_get}
+use Rattle.std.specs.Prelude.{◌↔◌, Bool, IsTrue, Option, Some, slice_get}
 use Rattle.thes_base.specs.Resources.{entry_at}
 use Rattle.thes_base.specs.declared.request.Command.{Command}
 use Rattle.thes_base.specs.declared.request.Command.TheVariants as request
 use Rattle.thes_base.proofs.NumberedLemmas.{push_cases}
 use Rattle.thes_plans.specs.declared.plan.PlanRequest.{PlanRequest}
 use Rattle.thes_plans.specs.References.{AreGoodReferences, HasGoodReferences, IsGoodReference, IsFirstBadReference}
-use Rattle.thes_plans.specs.References.{MakesFirst, MakesPosting, MakesResource}
+use Rattle.thes_plans.specs.References.{MakesFirst, MakesResource}
 
 -- A reference to a request is good exactly when that makes what is asked for.
 pub reference_at : (Makes : Command → Type 0) (earlier : List PlanRequest) (reference : Option ℕ) (place : ℕ)

@@ -2,7 +2,7 @@
 use Rattle.std.proofs.Common.{◌≡◌, ◌++◌, ◌∷◌, [], ◌<◌, ◌≤◌, ◌+◌, ◌∙◌, ℕ, zero, suc, List, refl, sym, ap, take, length}
 use Rattle.std.proofs.Common.{arith, add-one, get_or}
 use Rattle.std.proofs.lemmas.List.{take_all}
-use Rattle.std.specs.Prelude.{Option, None, Some, slice_get}
+use Rattle.std.specs.Prelude.{Option}
 use Rattle.thes_base.specs.declared.request.Answer.{Answer}
 use Rattle.thes_plans.specs.Resolving.{reference_of, resolved_number, resolved_numbers}
 

@@ -1,4 +1,4 @@
-use Rattle.std.proofs.Common.{◌≡◌, ap, arith, inl, inr, rules, subst, sym, ◌∙◌, take, List, ⊎_elim}
+use Rattle.std.proofs.Common.{◌≡◌, ap, arith, inl, inr, rules, subst, sym, ◌∙◌}
 use Rattle.std.proofs.lemmas.List.{take_all}
 use Rattle.thes_tables.specs.declared.rows.PostingRow.{PostingRow}
 use Rattle.thes_tables.specs.Tables.{IsIn}
@@ -17,9 +17,9 @@ returns-then-eq c =
 pub loop-row-preserved : goal.loop-row-preserved
 loop-row-preserved c row has same = elim (in_take_more c.args.rows.now c.loop-row.row-index c.row-item.result row
     (omega arith) c.row-item.is has) [
-  | inl before ↦ c.loop-row.invariant row before same
-  | inr here ↦ let it : c.row-item.result.key ≡ c.args.key.now = ap (λ (r : PostingRow). r.key) (sym here) ∙ same in search rules
-]
+      | inl before ↦ c.loop-row.invariant row before same
+      | inr here ↦ let it : c.row-item.result.key ≡ c.args.key.now = ap (λ (r : PostingRow). r.key) (sym here) ∙ same in search rules
+    ]
 
 pub returns : goal.returns
 returns c row has = c.loop-row.invariant row

@@ -1,4 +1,4 @@
-use Rattle.std.proofs.Common.{arith, sym, ap, ◌∙◌, ℕ, Bool}
+use Rattle.std.proofs.Common.{arith, sym, ap, ◌∙◌, ℕ}
 use Rattle.std.specs.BTreeSet.{BTreeSet, contains}
 use Rattle.std.specs.Ordering.{nat_cmp}
 use Rattle.thes_plan_postings.proofs.PlanChangeLemmas.{candidate_inserted, candidate_left}
