@@ -93,7 +93,7 @@ all_or_first (x ∷ b) d a (r ∷ p) f n h = all_or_first b d a p f n h.1
 
 not_malformed : (ds : List Data) (p : List PlanRequest) (place : ℕ) (f : FormFault) → AreRequests ds p
     → IsFirstMalformed ds place f → ⊥
-not_malformed ds p place f h m = all_or_first m.before m.d m.after p f m.malformed
+not_malformed ds p place f h m = all_or_first m.before m.d m.rest p f m.bad
     (subst (λ (es : List Data). AreRequests es p) m.all h)
 
 -- The references of the same plan are good, or have the same first bad one.
@@ -194,20 +194,20 @@ same_values d ds es x y = same_items ds es (let a = x.is_array in let b = y.is_a
 
 same_requests : (d : Data) (p q : List PlanRequest) → IsPlanOfRequests d p → IsPlanOfRequests d q → SamePlans p q
 same_requests d p q x y =
-    let same = same_values d x.values y.values x.listed y.listed in
+    let same = same_values d x.values y.values x.is_array y.is_array in
     same_plans x.values p q x.requests
     (subst (λ (es : List Data). AreRequests es q) (sym same) y.requests)
 
 not_malformed_plan : (d : Data) (p : List PlanRequest) (ds : List Data) (place : ℕ) (f : FormFault)
     → IsPlanOfRequests d p → IsPlanArray d ds → IsFirstMalformed ds place f → ⊥
 not_malformed_plan d p ds place f x a m = not_malformed ds p place f
-    (subst (λ (es : List Data). AreRequests es p) (same_values d x.values ds x.listed a) x.requests) m
+    (subst (λ (es : List Data). AreRequests es p) (same_values d x.values ds x.is_array a) x.requests) m
 
 same_malformed : (ds : List Data) (k n : ℕ) (f g : FormFault) → IsFirstMalformed ds k f → IsFirstMalformed ds n g
     → Request k f ≡ Request n g
 same_malformed ds k n f g x y =
-    let one = same_first x.before x.d x.after x.plan f y.before y.d y.after y.plan g x.requests x.malformed y.requests
-    y.malformed (sym x.all ∙ y.all) in
+    let one = same_first x.before x.d x.rest x.plan f y.before y.d y.rest y.plan g x.requests x.bad y.requests
+    y.bad (sym x.all ∙ y.all) in
     let first = x.place_is in
     let other = y.place_is in
     let at : k ≡ n = omega (arith, one.0, first, other) in
@@ -216,14 +216,14 @@ same_malformed ds k n f g x y =
 same_value_reading : (d : Data) (x y : Result (List PlanRequest) PlanFault) → PlanValueReadsAs d x
     → PlanValueReadsAs d y → SameReading x y
 same_value_reading d (Ok p) (Ok q) h k = same_requests d p q h.0 k.0
-same_value_reading d (Ok p) (Err (Whole g)) h k = absurd (k.1 h.0.values h.0.listed)
+same_value_reading d (Ok p) (Err (Whole g)) h k = absurd (k.1 h.0.values h.0.is_array)
 same_value_reading d (Ok p) (Err (Request n g)) h k = not_malformed_plan d p k.0 n g h.0 k.1 k.2
 same_value_reading d (Ok p) (Err (Reference n)) h k =
     k.2.bad (good_plans p k.0 (same_requests d p k.0 h.0 k.1) h.1 k.2.index k.2.asked k.2.at)
-same_value_reading d (Err (Whole f)) (Ok q) h k = absurd (h.1 k.0.values k.0.listed)
+same_value_reading d (Err (Whole f)) (Ok q) h k = absurd (h.1 k.0.values k.0.is_array)
 same_value_reading d (Err (Whole f)) (Err (Whole g)) h k = ap Whole (h.0 ∙ sym k.0)
 same_value_reading d (Err (Whole f)) (Err (Request n g)) h k = absurd (h.1 k.0 k.1)
-same_value_reading d (Err (Whole f)) (Err (Reference n)) h k = absurd (h.1 k.1.values k.1.listed)
+same_value_reading d (Err (Whole f)) (Err (Reference n)) h k = absurd (h.1 k.1.values k.1.is_array)
 same_value_reading d (Err (Request m f)) (Ok q) h k = not_malformed_plan d q h.0 m f k.0 h.1 h.2
 same_value_reading d (Err (Request m f)) (Err (Whole g)) h k = absurd (k.1 h.0 h.1)
 same_value_reading d (Err (Request m f)) (Err (Request n g)) h k =
@@ -233,7 +233,7 @@ same_value_reading d (Err (Request m f)) (Err (Reference n)) h k =
     absurd (not_malformed_plan d k.0 h.0 m f k.1 h.1 h.2)
 same_value_reading d (Err (Reference m)) (Ok q) h k =
     h.2.bad (good_plans q h.0 (same_requests d q h.0 k.0 h.1) k.1 h.2.index h.2.asked h.2.at)
-same_value_reading d (Err (Reference m)) (Err (Whole g)) h k = absurd (k.1 h.1.values h.1.listed)
+same_value_reading d (Err (Reference m)) (Err (Whole g)) h k = absurd (k.1 h.1.values h.1.is_array)
 same_value_reading d (Err (Reference m)) (Err (Request n g)) h k =
     absurd (not_malformed_plan d h.0 k.0 n g h.1 k.1 k.2)
 same_value_reading d (Err (Reference m)) (Err (Reference n)) h k =
