@@ -2,7 +2,7 @@
 use Rattle.std.proofs.lemmas.Grind.{common_steps}
 use Rattle.std.proofs.Common.{arith, ◌≡◌, ◌⊎◌, ◌∙◌, ◌++◌, ap, sym, subst, refl, inl, ℕ, zero, suc, Bool, true, false, cond, List}
 use Rattle.std.proofs.Common.{[], ◌∷◌, length, drop, Option, None, Some, true≢false}
-use Rattle.std.specs.Prelude.{is_some, option_map, find, fold, slice_get, encode_utf8}
+use Rattle.std.specs.Prelude.{if◌then◌else◌, is_some, option_map, find, fold, slice_get, encode_utf8}
 use Rattle.std.specs.Option.{option_map_or}
 use Rattle.std.specs.Str.{bytes_eq, chars}
 use Rattle.std.proofs.lemmas.Slice.Eq.{bytes_eq-Decides}
@@ -11,7 +11,7 @@ use Rattle.clap.specs.Facts.{parser_of_value, unwrap_or_range}
 use Rattle.clap.specs.Values.{read_as}
 use Rattle.clap.specs.ValueTests.{accepts}
 use Rattle.clap.specs.Walk.{Held, Names, Outcome, Row, Rule, Step, Text, Waiting, Walk, action_of, after_flag}
-use Rattle.clap.specs.Walk.{default_rows, has_row}
+use Rattle.clap.specs.Walk.{attached_value, default_rows, has_row, takes_values}
 use Rattle.clap.specs.Walk.{after_step, arg_by_id, arg_by_long, arg_by_short, at_row, bundle_met, bundle_step, done}
 use Rattle.clap.specs.Walk.{first_of, flag_met, long_met, long_or_other, more_values, most_values, nothing_held, one_of}
 use Rattle.clap.specs.Walk.{option_met, plain, plain_word, reacted, reading_by, rows_after, settled, settled_rows}
@@ -159,7 +159,8 @@ module _ (Q : Text → Reading → Text → Type 0) where
     flag_fit : (a : Rule) (v : Option Text) (h : Held) → TakesRight a → cond (is_some v) (TooManyValues ∷ [])
         (react_fault c again a [] h) ≡ []
         → AllFit h.rows → AllFit (flag_met c a v h).0.rows
-    flag_fit a v h right none fit = grind (arith, common_steps, reacted_fit)
+    flag_fit a (Some v) h right none fit = fit
+    flag_fit a None h right none fit = reacted_fit a [] h right none fit
 
     long_fit : (o : Option Rule) (v : Option Text) (h : Held) → ((a : Rule) → o ≡ Some a → TakesRight a)
         → long_fault c again o v h ≡ [] → AllFit h.rows
@@ -172,7 +173,17 @@ module _ (Q : Text → Reading → Text → Type 0) where
         → ((g : Held) → fault g ≡ [] → AllFit g.rows → AllFit (step g).0.rows) → short_fault c again o rest h fault
         ≡ [] → AllFit h.rows
         → AllFit (short_met c o rest h step).0.rows
-    short_fit o rest h step fault right each none fit = grind (arith, common_steps, option_fit, both_none, reacted_fit)
+    short_fit None rest h step fault right each none fit = fit
+    short_fit (Some a) rest h step fault right each none fit = by (takes_values a) none
+      where
+        by : (b : Bool)
+            → (if b then option_fault c again a (attached_value rest) h
+            else or_else (react_fault c again a [] h) (fault (reacted c a [] h))) ≡ []
+            → AllFit (if b then option_met c a (attached_value rest) h else step (reacted c a [] h)).0.rows
+        by true e = option_fit a (attached_value rest) h (right a refl) e fit
+        by false e =
+            let both = both_none (react_fault c again a [] h) _ e in
+            each (reacted c a [] h) both.1 (reacted_fit a [] h (right a refl) both.0 fit)
 
     bundle_fit : (k : ℕ) (flags : Text) (skip : ℕ) (so_far : Outcome) (h : Held) → flags_fault c again k flags skip h
         ≡ [] → AllFit h.rows
