@@ -67,7 +67,7 @@ group_grows commands n command at group new =
     subst IsGroup (sym (take_got commands n command at)) (group_push (take n commands) command group new)
 
 -- The changes to a state, and those from it to another, lead to the other.
-changes_then : (base : List ℕ) (s t u : State) (xs ys : List Change) → AreChangesBetween base xs s t
+pub changes_then : (base : List ℕ) (s t u : State) (xs ys : List Change) → AreChangesBetween base xs s t
     → AreChangesBetween base ys t u → AreChangesBetween base (xs ++ ys) s u
 changes_then base s t u xs ys a b = grind (arith, common_steps, all_append, fit_append)
 

@@ -9,3 +9,5 @@ pub mod LoadLemmas
 pub mod LoadedCoreLemmas
 pub mod TableFeedLemmas
 pub mod StoreFeedLemmas
+pub mod PlanFactLemmas
+pub mod PlanDecisionLemmas

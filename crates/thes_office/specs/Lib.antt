@@ -5,6 +5,8 @@ pub mod Office
 pub mod FoundStates
 pub mod Opening
 pub mod Groups
+pub mod PlanFacts
+pub mod PlanDecisions
 pub mod Plans
 pub mod LoaderView
 pub mod LoadedCore

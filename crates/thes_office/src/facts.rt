@@ -49,8 +49,8 @@ pub fn facts_of<K: Keeper>(alloc: Global, keeper: &mut K, command: &Command) -> 
     }
 }
 
-// Returns facts that consist of the rows of the named postings alone.
-fn named_facts(alloc: Global, named_postings: Vec<Option<PostingRow>>) -> Facts
+/// Returns facts that consist of the rows of the named postings alone.
+pub fn named_facts(alloc: Global, named_postings: Vec<Option<PostingRow>>) -> Facts
     ensures known { result.known ≡ None }
     ensures named_postings { result.named_postings.items ≡ named_postings.items }
     ensures standing { result.standing.items ≡ [] }

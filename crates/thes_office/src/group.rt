@@ -22,11 +22,12 @@ use thes_tables::delta::Delta;
 // The greatest number of posts in a group.
 const GROUP_LIMIT: usize = 128;
 
-// The answers to the requests of a group that are decided so far, and their changes of rows.
+/// The answers to the requests of a group or a plan that are decided so far, and their changes of
+/// rows.
 #[derive(Drop)]
-struct Decided {
-    answers: Vec<Answer>,
-    delta: Delta,
+pub struct Decided {
+    pub answers: Vec<Answer>,
+    pub delta: Delta,
 }
 
 impl Decided {
@@ -105,10 +106,9 @@ fn append_changes(delta: &mut Delta, more: Delta) -> Result<(), AllocError>
     Ok(())
 }
 
-// Decides one more request of a group on the facts that it needs, and applies it to the core, which
-// holds the state after the requests before it. If memory runs out, the core may be ahead of the
-// tables.
-fn decide_with_facts(
+/// Decides one more request on the facts that it needs, and applies it to the core, which holds the
+/// state after the requests before it. If memory runs out, the core may be ahead of the tables.
+pub fn decide_with_facts(
     core: &mut Core,
     command: &Command,
     facts: &Facts,
@@ -120,6 +120,7 @@ fn decide_with_facts(
         × ((s : State) → IsViewOf core.old s → AreFacts command.now s.histories facts.now
         → IsDecided core.old.setting s command.now
         answer decided.old.delta decided.new.delta core.new)) }
+    ensures grows { OnOk result (length decided.old.delta ≤ length decided.new.delta) }
     ensures usable { OnOk result ((core.new.spent ≡ false)
         × (core.new.setting ≡ core.old.setting)) }
     ensures err { IfErr result (λ fault. fault ≡ Fault.OutOfMemory) }
@@ -193,8 +194,8 @@ fn decide_group<K: Keeper>(
     Ok(decided)
 }
 
-// Commits changes, if there are any.
-fn commit_changes<K: Keeper>(keeper: &mut K, delta: Delta) -> Result<(), Fault>
+/// Commits changes, if there are any.
+pub fn commit_changes<K: Keeper>(keeper: &mut K, delta: Delta) -> Result<(), Fault>
     requires { DeltaFitsStorage delta (K.view keeper.old) }
     ensures ok { OnOk result ((K.view keeper.new).is_up
         → RawAfterChanges delta (K.view keeper.old).rows (K.view keeper.new).rows) }

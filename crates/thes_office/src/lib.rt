@@ -8,6 +8,8 @@ mod keeper_load;
 pub mod laws;
 mod loader;
 mod office;
+mod plan;
+mod plan_facts;
 mod reading;
 
 pub use loader::Loader;

@@ -14,6 +14,7 @@ ghost use Rattle.thes_office.specs.TablesOfState.{TablesOfState};
 use crate::facts::facts_of;
 use crate::group::{group_length, perform_group};
 use crate::keeper_load::load;
+use crate::plan::perform_plan;
 use std::alloc::Global;
 use std::marker::Model;
 use thes_base::data::Limits;
@@ -249,8 +250,17 @@ impl<K: Keeper> Office<K> {
         ensures performed { RunPlanResult K.view self.old plan.now result self.new }
         ensures each { IfOk result (λ outcome. HasEachAnswer plan.now outcome) }
     {
-        let _count = plan.len();
-        Err(Fault::OutOfMemory)
+        self.refresh()?;
+        match perform_plan(self.alloc, &mut self.keeper, &mut self.core, plan) {
+            Ok(outcome) => {
+                self.stale = self.core.is_spent();
+                Ok(outcome)
+            }
+            Err(fault) => {
+                self.stale = true;
+                Err(fault)
+            }
+        }
     }
 
     /// Returns the copy of the tables, reloaded first if it was stale.

@@ -1,2 +1,5 @@
 pub mod ReferenceLemmas
 pub mod ResolvingLemmas
+pub mod PlanLemmas
+pub mod PlanLawLemmas
+pub mod PlanOutcomeLemmas

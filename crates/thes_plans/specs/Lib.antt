@@ -1,3 +1,4 @@
 pub mod References
 pub mod Resolving
 pub mod Plans
+pub mod Laws

@@ -4,6 +4,7 @@
 //! is proved of this definition.
 #![tactic(auto)]
 
+pub mod laws;
 pub mod plan;
 pub mod references;
 pub mod resolving;

@@ -126,7 +126,11 @@ fn with_resolved(
 
 /// Returns the command of a request, with each reference replaced by the number that the answers to the requests before
 /// it have. A number stays, if the answers have none for its reference.
-pub fn resolve(alloc: Global, answers: &[Answer], asked: &PlanRequest) -> Result<Command, AllocError>
+pub fn resolve(
+    alloc: Global,
+    answers: &[Answer],
+    asked: &PlanRequest,
+) -> Result<Command, AllocError>
     ensures { IfOk result (λ command. command ≡ resolved_command answers.now asked.now) }
 {
     with_resolved(alloc, answers, asked, asked.command.try_clone(alloc)?)

@@ -14,7 +14,7 @@ pub loop-index-preserved : goal.loop-index-preserved
 loop-index-preserved c =
     let at = slice_get_read c.args.plan.now (length c.args.plan.now) c.loop-index.index c.index-plan-index.result refl
     (omega arith) c.index-plan-index.is in
-    good_more c.args.plan.now c.loop-index.index c.index-plan-index.result at 
+    good_more c.args.plan.now c.loop-index.index c.index-plan-index.result at
     (c.has_good_references.ensures.0 c.if-not-has_good_references.false)
     c.loop-index.invariant
 

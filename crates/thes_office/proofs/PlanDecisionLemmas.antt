@@ -1,0 +1,279 @@
+-- Proves that the requests of a plan, decided one after another, are the plan, and what a commit of their changes or a
+-- refusal makes of the tables.
+use Rattle.std.proofs.lemmas.Grind.{common_steps}
+use Rattle.std.proofs.Common.{◌≡◌, ◌<◌, ◌≤◌, ◌+◌, ◌++◌, ◌∷◌, [], ◌∙◌, ℕ, zero, suc, List, Bool, true, false, refl, sym, ap}
+use Rattle.std.proofs.Common.{subst, take, drop, length, length-append, arith, map, inl}
+use Rattle.std.specs.Prelude.{Option, None, Some, Result, slice_get}
+use Rattle.std.specs.List.{AllByRecursion}
+use Rattle.std.proofs.lemmas.Option.{slice_get_within}
+use Rattle.thes_base.specs.declared.data.Limits.{Limits}
+use Rattle.thes_base.specs.declared.fault.Refusal.{Refusal}
+use Rattle.thes_base.specs.declared.request.Answer.{Answer}
+use Rattle.thes_base.specs.declared.request.Answer.TheVariants as reply
+use Rattle.thes_base.specs.declared.request.Command.{Command}
+use Rattle.thes_base.specs.Legal.{IsLegalState}
+use Rattle.thes_base.specs.Machine.{Run, Step}
+use Rattle.thes_base.specs.Refusals.{AreLimits, Setting}
+use Rattle.thes_base.specs.Resources.{entry_at}
+use Rattle.thes_base.specs.State.{State}
+use Rattle.thes_base.proofs.MachineLemmas.{legal_is_consistent}
+use Rattle.thes_plans.specs.declared.plan.PlanOutcome.{PlanOutcome}
+use Rattle.thes_plans.specs.declared.plan.PlanOutcome.TheVariants.{Done, Refused}
+use Rattle.thes_plans.specs.declared.plan.PlanRequest.{PlanRequest}
+use Rattle.thes_plans.specs.Plans.{HasEachAnswer, IsNoRefusal, PlanAccepted, PlanRefused}
+use Rattle.thes_plans.specs.Resolving.{resolved_command, resolved_commands}
+use Rattle.thes_plans.proofs.PlanLemmas.{all_push, refused_stays, resolved_push}
+use Rattle.thes_tables.specs.declared.change.Change.{Change}
+use Rattle.thes_tables.specs.declared.rows.PostingRow.{PostingRow}
+use Rattle.thes_tables.specs.Cells.{Raw, cells_of_tables}
+use Rattle.thes_tables.specs.ChangeLaw.{AreChangesBetween}
+use Rattle.thes_tables.specs.Rows.{tables_after_delta}
+use Rattle.thes_tables.specs.Tables.{IsRowsOf, Tables, posting_row}
+use Rattle.thes_tables.proofs.DeltaAppendLemmas.{all_append}
+use Rattle.thes_store.specs.Storage.{StorageView}
+use Rattle.thes_core.specs.CoreView.{CoreView, IsViewOf}
+use Rattle.thes_plan_postings.specs.declared.plan_postings.PlanPostings.{PlanPostings}
+use Rattle.thes_plan_postings.specs.PlanPostings.{AreNumbered, ArePlanRows}
+use Rattle.thes_office.specs.declared.plan.PlanProgress.{PlanProgress}
+use Rattle.thes_office.specs.Groups.{IsDecided}
+use Rattle.thes_office.specs.Office.{ChangesNothing, IsConsistent, IsCopy}
+use Rattle.thes_office.specs.PlanDecisions.{DecidesRequest, IsDecidedInPlan, PlanDecided, PlanDecidedSoFar}
+use Rattle.thes_office.specs.PlanDecisions.{PlanIsRefused, refusal_in}
+use Rattle.thes_office.specs.Plans.{TablesAfterPlan}
+use Rattle.thes_office.specs.TablesOfState.{TablesOfState}
+use Rattle.thes_office.proofs.GroupLemmas.{changes_then, no_changes}
+use Rattle.thes_office.proofs.OfficeViewLemmas.{all_parts, run_push}
+use Rattle.thes_office.proofs.PlanFactLemmas.{rows_numbered}
+use Rattle.thes_office.proofs.StateTableLemmas.{same_tables_same_state, state_after_changes}
+
+-- What is behind the front of a list.
+pub drop_front : {A : Type 0} (xs ys zs : List A) (n : ℕ) → zs ≡ xs ++ ys → n ≡ length xs → drop n zs ≡ ys
+drop_front {A} xs ys zs n is count = ap (λ (l : List A). drop n l) is ∙ ap (λ k. drop k (xs ++ ys)) count ∙ go xs
+  where
+    go : (l : List A) → drop (length l) (l ++ ys) ≡ ys
+    go [] = refl
+    go (x ∷ l) = go l
+
+-- An answer without a refusal is none.
+pub no_refusal : (answer : Answer) → refusal_in answer ≡ None → IsNoRefusal answer
+no_refusal answer e = grind (arith, common_steps)
+
+pub is_refusal : (answer : Answer) (r : Refusal) → refusal_in answer ≡ Some r → answer ≡ reply.No r
+is_refusal answer r e = grind (arith, common_steps)
+
+-- Before its first request, a plan is decided on the state of the tables.
+pub plan_starts : (raw : Raw) (limits : Limits) (copy : CoreView) (done : List PlanRequest) (progress : PlanProgress)
+    → IsCopy raw limits copy → done ≡ [] → progress.decided.answers.items ≡ [] → progress.decided.delta ≡ []
+    → ((rows : List PostingRow) → AreNumbered rows → ArePlanRows rows rows progress.postings)
+    → PlanDecidedSoFar raw copy.setting done progress copy
+plan_starts raw limits copy done progress is none unanswered unchanged unposted = record {
+  decided = record {
+    state_before = is.state;
+    state_after = is.state;
+    shows = is.shows;
+    holds = is.holds;
+    accepted = subst (λ (p : List PlanRequest × List Answer). PlanAccepted copy.setting is.state p.0 p.1 is.state)
+        (λ i. (sym none i, sym unanswered i)) empty;
+    leads = subst (λ (l : List Change). AreChangesBetween copy.setting.base l is.state is.state) (sym unchanged)
+        (no_changes copy.setting.base is.state);
+    same = λ all. unchanged;
+  };
+  postings_are = subst (λ (l : List Change). ArePlanRows is.shows.tables.posting
+      (tables_after_delta l is.shows.tables).posting progress.postings) (sym unchanged)
+      (unposted is.shows.tables.posting (subst AreNumbered (sym is.shows.holds.posting)
+      (rows_numbered copy.setting.base is.state is.shows.legal)));
+}
+  where
+    empty : PlanAccepted copy.setting is.state [] [] is.state
+    empty = record { each = refl; run = refl; accepted = tt }
+
+-- The next request of a plan is decided in the state after those before it.
+pub plan_decides : (raw mid : Raw) (setting : Setting) (done : List PlanRequest) (progress next : PlanProgress)
+    (command : Command) (answer : Answer) (copy copy' : CoreView)
+    → (g : PlanDecidedSoFar raw setting done progress copy) → copy.setting ≡ setting → mid ≡ raw
+    → DecidesRequest mid progress next copy copy' command answer
+    → IsDecidedInPlan setting g.decided.shows.tables
+    (tables_after_delta progress.decided.delta g.decided.shows.tables) g.decided.state_after command answer
+    progress.decided.delta next.decided.delta next.postings copy'
+plan_decides raw mid setting done progress next command answer copy copy' g set same decides =
+    let t = g.decided.shows.tables in
+    let now = tables_after_delta progress.decided.delta t in
+    subst (λ (q : Setting). IsDecidedInPlan q t now g.decided.state_after command answer progress.decided.delta
+    next.decided.delta next.postings copy') set
+    (decides t now g.decided.state_after (same ∙ g.decided.shows.rows)
+    (subst (λ (q : Setting). IsRowsOf q.base g.decided.state_after now) (sym set)
+    (g.decided.leads.rows t g.decided.shows.holds)) g.decided.holds g.postings_are)
+
+-- One more accepted request of a plan.
+module _ (raw : Raw) (setting : Setting) (done : List PlanRequest) (asked : PlanRequest) (progress next : PlanProgress)
+    (answer : Answer) (copy copy' : CoreView) (g : PlanDecidedSoFar raw setting done progress copy)
+    (d : IsDecidedInPlan setting g.decided.shows.tables
+    (tables_after_delta progress.decided.delta g.decided.shows.tables) g.decided.state_after
+    (resolved_command progress.decided.answers.items asked) answer progress.decided.delta next.decided.delta
+    next.postings copy')
+    (pushed : next.decided.answers.items ≡ progress.decided.answers.items ++ answer ∷ []) where
+  abbrev answers : List Answer
+  answers = progress.decided.answers.items
+
+  accepted_more : IsNoRefusal answer → PlanAccepted setting g.decided.state_before (done ++ asked ∷ [])
+      (answers ++ answer ∷ []) d.decided.state_after
+  accepted_more fine = record {
+    each = length-append answers (answer ∷ []) ∙ ap (λ n. n + 1) g.decided.accepted.each
+        ∙ sym (length-append done (asked ∷ []));
+    run = subst (λ (cs : List Command). Run setting g.decided.state_before cs (answers ++ answer ∷ [])
+        d.decided.state_after) (sym (resolved_push [] done answers asked answer g.decided.accepted.each))
+        (run_push setting (resolved_commands [] done answers) answers g.decided.state_before g.decided.state_after
+        d.decided.state_after (resolved_command answers asked) answer g.decided.accepted.run d.decided.step);
+    accepted = all_push IsNoRefusal answers answer g.decided.accepted.accepted fine;
+  }
+
+  leads_more : AreChangesBetween setting.base next.decided.delta g.decided.state_before d.decided.state_after
+  leads_more = subst (λ (l : List Change). AreChangesBetween setting.base l g.decided.state_before
+      d.decided.state_after) (sym d.decided.more)
+      (changes_then setting.base g.decided.state_before g.decided.state_after d.decided.state_after
+      progress.decided.delta d.decided.changes g.decided.leads d.decided.leads)
+
+  pub plan_continues : (more : List PlanRequest) → more ≡ done ++ asked ∷ [] → refusal_in answer ≡ None
+      → PlanDecidedSoFar raw setting more next copy'
+  plan_continues more grown fine = record {
+    decided = record {
+      state_before = g.decided.state_before;
+      state_after = d.decided.state_after;
+      shows = g.decided.shows;
+      holds = d.decided.holds;
+      accepted = subst (λ (p : List PlanRequest × List Answer). PlanAccepted setting g.decided.state_before p.0 p.1
+          d.decided.state_after) (λ i. (sym grown i, sym pushed i)) (accepted_more (no_refusal answer fine));
+      leads = leads_more;
+      same = λ all.
+          let parts = all_parts ChangesNothing answers (answer ∷ []) (subst (AllByRecursion ChangesNothing) pushed
+          all) in
+          d.decided.more ∙ (λ i. g.decided.same parts.0 i ++ d.decided.same parts.1.0 i);
+    };
+    postings_are = subst (λ (t : Tables). ArePlanRows g.decided.shows.tables.posting t.posting next.postings)
+        (sym (ap (λ (l : List Change). tables_after_delta l g.decided.shows.tables) d.decided.more
+        ∙ all_append progress.decided.delta d.decided.changes g.decided.shows.tables)) d.postings_are;
+  }
+
+  -- A request of a plan is refused.
+  pub plan_refuses : (plan : List PlanRequest) (i place : ℕ) (refusal : Refusal) (changed : Bool)
+      → done ≡ take i plan → i ≡ length answers → slice_get plan i ≡ Some asked → place ≡ length next.decided.answers.items
+      → refusal_in answer ≡ Some refusal → (changed ≡ false → next.decided.delta ≡ []) → copy'.setting ≡ setting
+      → PlanIsRefused raw setting plan place refusal changed copy'
+  plan_refuses plan i place refusal changed is count at placed refuses unchanged set =
+      let number : place ≡ length answers + 1 = placed ∙ ap (λ (l : List Answer). length l) pushed
+      ∙ length-append answers (answer ∷ []) in
+      let step : Step setting g.decided.state_after (resolved_command answers asked) (reply.No refusal)
+      d.decided.state_after = subst (λ (a : Answer). Step setting g.decided.state_after
+      (resolved_command answers asked) a d.decided.state_after) (is_refusal answer refusal refuses) d.decided.step in
+      record {
+        state_before = g.decided.state_before;
+        state_after = d.decided.state_after;
+        shows = g.decided.shows;
+        refused = record {
+          asked = asked;
+          at = subst (λ k. entry_at plan k ≡ Some asked)
+              (let e : suc i ≡ place = omega (arith, number, count) in e) at;
+          answers = answers;
+          place_is = number;
+          state_before = g.decided.state_after;
+          before = subst (λ (l : List PlanRequest). PlanAccepted setting g.decided.state_before l answers
+              g.decided.state_after) (is ∙ ap (λ k. take k plan) count) g.decided.accepted;
+          refused = subst (λ (t : State). Step setting g.decided.state_after (resolved_command answers asked)
+              (reply.No refusal) t) (refused_stays setting g.decided.state_after d.decided.state_after
+              (resolved_command answers asked) refusal step) step;
+        };
+        holds = d.decided.holds;
+        unchanged = λ same.
+            let none : AreChangesBetween setting.base [] g.decided.state_before d.decided.state_after =
+            subst (λ (l : List Change). AreChangesBetween setting.base l g.decided.state_before
+            d.decided.state_after) (unchanged same) leads_more in
+            record {
+              tables = g.decided.shows.tables;
+              rows = g.decided.shows.rows;
+              holds = none.rows g.decided.shows.tables g.decided.shows.holds;
+              legal = subst (λ (q : Setting). IsLegalState q.base d.decided.state_after) set d.decided.holds.legal;
+            };
+      }
+
+-- The outcome has these answers.
+abbrev pub PlanAnswers : PlanOutcome → List Answer → Type 0
+PlanAnswers (Done given) expected = given.items ≡ expected
+PlanAnswers (Refused place refusal) expected = ⊥
+
+-- An accepted plan whose changes are committed.
+module _ (old new : Raw) (setting : Setting) (plan : List PlanRequest) (answers : List Answer) (changes : List Change)
+    (copy : CoreView) (g : PlanDecided old setting plan answers changes copy) (is : copy.setting ≡ setting)
+    (made : (t : Tables) → old ≡ cells_of_tables t → new ≡ cells_of_tables (tables_after_delta changes t)) where
+  shows_after : TablesOfState new setting.base g.state_after
+  shows_after = state_after_changes old new setting.base g.state_before g.state_after changes g.shows g.leads
+      (subst (λ (q : Setting). IsLegalState q.base g.state_after) is g.holds.legal) made
+
+  pub plan_is_done : (outcome : PlanOutcome) → (all : PlanAnswers outcome answers)
+      → TablesAfterPlan setting.limits old plan outcome new
+  plan_is_done (Done given) all = record {
+    base = setting.base;
+    state_before = g.state_before;
+    state_after = g.state_after;
+    tables_before = g.shows;
+    performs = subst (λ (xs : List Answer). PlanAccepted setting g.state_before plan xs g.state_after) (sym all)
+        g.accepted;
+    shows = shows_after;
+    in_order = legal_is_consistent setting.base g.state_after shows_after.legal;
+    same = λ none. made g.shows.tables g.shows.rows
+        ∙ ap (λ (l : List Change). cells_of_tables (tables_after_delta l g.shows.tables))
+        (g.same (subst (AllByRecursion ChangesNothing) all none))
+        ∙ sym g.shows.rows;
+  }
+  plan_is_done (Refused place refusal) all = absurd all
+
+  pub copy_after_plan : IsCopy new setting.limits copy
+  copy_after_plan = record {
+    limits_are = ap (λ (q : Setting). q.limits) is;
+    state = g.state_after;
+    holds = g.holds;
+    shows = subst (λ (q : Setting). TablesOfState new q.base g.state_after) (sym is) shows_after;
+  }
+
+-- A plan that is refused.
+module _ (old new : Raw) (setting : Setting) (plan : List PlanRequest) (place : ℕ) (refusal : Refusal) (changed : Bool)
+    (copy : CoreView) (g : PlanIsRefused old setting plan place refusal changed copy) (same : new ≡ old) where
+  pub plan_is_refused : TablesAfterPlan setting.limits old plan (Refused place refusal) new
+  plan_is_refused = record {
+    base = setting.base;
+    state_before = g.state_before;
+    state_after = g.state_before;
+    tables_before = g.shows;
+    performs = (g.refused, refl);
+    shows = same_tables_same_state old new setting.base g.state_before same g.shows;
+    in_order = legal_is_consistent setting.base g.state_before g.shows.legal;
+    same = λ none. same;
+  }
+
+  pub copy_after_refusal : copy.setting ≡ setting → changed ≡ false → IsCopy new setting.limits copy
+  copy_after_refusal is unchanged = record {
+    limits_are = ap (λ (q : Setting). q.limits) is;
+    state = g.state_after;
+    holds = g.holds;
+    shows = subst (λ (q : Setting). TablesOfState new q.base g.state_after) (sym is)
+        (same_tables_same_state old new setting.base g.state_after same (g.unchanged unchanged));
+  }
+
+-- A plan's answers are counted.
+pub place_counts : (place n i : ℕ) → place ≡ n + 1 → n ≡ i → (plan : List PlanRequest) → i < length plan
+    → (0 < place) × (place ≤ length plan)
+place_counts place n i is count plan within = (omega arith, omega arith)
+
+module _ {K : Type 0} (view : K → StorageView) where
+  -- After a plan the office is consistent: its copy is stale exactly if the core is unusable.
+  pub consistent_after_plan : (old new : K) (copy : CoreView) (limits own : Limits) (plan : List PlanRequest)
+      (outcome : PlanOutcome) → AreLimits limits
+      → ((view new).is_up → TablesAfterPlan own (view old).rows plan outcome (view new).rows)
+      → (copy.spent ≡ false → (view new).is_up → IsCopy (view new).rows limits copy)
+      → IsConsistent view new copy limits copy.spent
+  consistent_after_plan old new copy limits own plan outcome few performs copies = record {
+    few = few;
+    shows = λ up. let p = performs up in (p.base, p.state_after, p.shows);
+    unspent = λ fresh. fresh;
+    copies = copies;
+    why = λ spent. inl spent;
+  }

@@ -1,0 +1,250 @@
+//! Plans: each request is decided on the state that those before it make, and the changes of all are
+//! committed in one transaction.
+ghost use Rattle.std.specs.Prelude.{◌≡◌, ◌≤◌, ◌++◌, ◌∷◌, [], List, drop, length, false, true, IfOk, OnOk, OnErr};
+ghost use Rattle.thes_base.specs.declared.request.Answer.{Answer};
+ghost use Rattle.thes_plans.specs.Plans.{HasEachAnswer};
+ghost use Rattle.thes_plans.specs.Resolving.{resolved_command};
+ghost use Rattle.thes_store.specs.Storage.{CommitFrame, QueryFrame};
+ghost use Rattle.thes_office.specs.Office.{IsCopy};
+ghost use Rattle.thes_office.specs.PlanDecisions.{DecidesCommand, DecidesRequest, HasEachDecision, IsPlanDecision};
+ghost use Rattle.thes_office.specs.PlanDecisions.{MayDecidePlan, refusal_in};
+ghost use Rattle.thes_office.specs.Plans.{TablesAfterPlan};
+
+use crate::group::{Decided, commit_changes, decide_with_facts};
+use crate::plan_facts::facts_in_plan;
+use std::alloc::Global;
+use thes_base::fault::{Fault, Refusal};
+use thes_base::request::{Answer, Command};
+use thes_core::Core;
+use thes_plan_postings::plan_postings::PlanPostings;
+use thes_plans::plan::{PlanOutcome, PlanRequest};
+use thes_plans::resolving::resolve;
+use thes_store::keeper::Keeper;
+use thes_tables::change::Change;
+use thes_tables::delta::Delta;
+
+/// The decisions on the requests of a plan so far.
+#[derive(Drop)]
+pub struct PlanProgress {
+    // Their answers, and their changes of rows.
+    decided: Decided,
+    // The postings that they have changed.
+    postings: PlanPostings,
+}
+
+/// The decision on a plan, before anything is committed.
+#[derive(Drop)]
+pub enum PlanDecision {
+    /// The answers to all requests, and their changes of rows.
+    Accepted(Vec<Answer>, Delta),
+    /// The place of the first refused request, its refusal, and whether requests before it have
+    /// changed the core.
+    Refused(usize, Refusal, bool),
+}
+
+// Returns the refusal that the last answer has, if it is one.
+fn last_refusal(answers: &[Answer]) -> Option<Refusal>
+    ensures { (before : List Answer) (last : Answer) → answers.now ≡ before ++ last ∷ []
+        → result ≡ refusal_in last }
+{
+    match answers.last() {
+        Some(Answer::No(refusal)) => Some(*refusal),
+        _ => None,
+    }
+}
+
+// Returns the number of changes.
+fn change_count(delta: &Delta) -> usize
+    ensures { result ≡ length delta.now }
+{
+    delta.as_slice().len()
+}
+
+// Returns the changes from an index on.
+fn changes_from(delta: &Delta, index: usize) -> &[Change]
+    requires { index ≤ length delta.now }
+    ensures { result.now ≡ drop index delta.now }
+{
+    &delta.as_slice()[index..]
+}
+
+// Checks whether there are changes.
+fn has_changes(delta: &Delta) -> bool
+    ensures { result ≡ false → delta.now ≡ [] }
+{
+    !delta.as_slice().is_empty()
+}
+
+// Marks the core as unusable if a refused plan has changed it.
+fn mark_if_changed(core: &mut Core, changed: bool)
+    ensures { core.new.spent ≡ false → (changed ≡ false) × (core.new ≡ core.old) }
+{
+    if changed {
+        core.mark_spent();
+    }
+}
+
+// Decides one more command of a plan, and applies it to the core, which holds the state after those
+// before it. On a fault the core may be ahead of the tables.
+fn decide_command<K: Keeper>(
+    alloc: Global,
+    keeper: &mut K,
+    core: &mut Core,
+    command: &Command,
+    progress: &mut PlanProgress,
+) -> Result<(), Fault>
+    requires { core.old.spent ≡ false }
+    ensures decides { OnOk result ((answer : Answer) × (progress.new.decided.answers.items
+        ≡ progress.old.decided.answers.items ++ answer ∷ []) × ((K.view keeper.new).is_up
+        → DecidesCommand (K.view keeper.old).rows progress.old progress.new core.old core.new
+        command.now answer)) }
+    ensures grows { OnOk result (length progress.old.decided.delta
+        ≤ length progress.new.decided.delta) }
+    ensures kept { OnOk result (progress.new.postings ≡ progress.old.postings) }
+    ensures usable { OnOk result ((core.new.spent ≡ false)
+        × (core.new.setting ≡ core.old.setting)) }
+    ensures asks { QueryFrame (K.view keeper.old) (K.view keeper.new) result }
+{
+    let facts = match facts_in_plan(alloc, keeper, &progress.postings, command) {
+        Ok(facts) => facts,
+        Err(fault) => return Err(fault),
+    };
+    decide_with_facts(core, command, &facts, &mut progress.decided)?;
+    Ok(())
+}
+
+// Decides one more command of a plan, and records the postings that it changes.
+fn decide_and_record<K: Keeper>(
+    alloc: Global,
+    keeper: &mut K,
+    core: &mut Core,
+    command: &Command,
+    progress: &mut PlanProgress,
+) -> Result<(), Fault>
+    requires { core.old.spent ≡ false }
+    ensures decides { OnOk result ((answer : Answer) × (progress.new.decided.answers.items
+        ≡ progress.old.decided.answers.items ++ answer ∷ []) × ((K.view keeper.new).is_up
+        → DecidesRequest (K.view keeper.old).rows progress.old progress.new core.old core.new
+        command.now answer)) }
+    ensures usable { OnOk result ((core.new.spent ≡ false)
+        × (core.new.setting ≡ core.old.setting)) }
+    ensures asks { QueryFrame (K.view keeper.old) (K.view keeper.new) result }
+{
+    let before = change_count(&progress.decided.delta);
+    match decide_command(alloc, keeper, core, command, progress) {
+        Ok(()) => {}
+        Err(fault) => return Err(fault),
+    }
+    let changes = changes_from(&progress.decided.delta, before);
+    match progress.postings.record_changes(keeper, changes) {
+        Ok(()) => Ok(()),
+        Err(fault) => Err(fault),
+    }
+}
+
+// Decides one more request of a plan, and returns its refusal, if it is refused.
+fn decide_request<K: Keeper>(
+    alloc: Global,
+    keeper: &mut K,
+    core: &mut Core,
+    asked: &PlanRequest,
+    progress: &mut PlanProgress,
+) -> Result<Option<Refusal>, Fault>
+    requires { core.old.spent ≡ false }
+    ensures decides { IfOk result (λ refusal. (answer : Answer) × (refusal ≡ refusal_in answer)
+        × (progress.new.decided.answers.items
+        ≡ progress.old.decided.answers.items ++ answer ∷ []) × ((K.view keeper.new).is_up
+        → DecidesRequest (K.view keeper.old).rows progress.old progress.new core.old core.new
+        (resolved_command progress.old.decided.answers.items asked.now) answer)) }
+    ensures usable { OnOk result ((core.new.spent ≡ false)
+        × (core.new.setting ≡ core.old.setting)) }
+    ensures asks { QueryFrame (K.view keeper.old) (K.view keeper.new) result }
+{
+    let command = resolve(alloc, progress.decided.answers.as_slice(), asked)?;
+    match decide_and_record(alloc, keeper, core, &command, progress) {
+        Ok(()) => Ok(last_refusal(progress.decided.answers.as_slice())),
+        Err(fault) => Err(fault),
+    }
+}
+
+// Decides the requests of a plan in order, up to the first that is refused, and applies those before
+// it to the core.
+fn decide_plan<K: Keeper>(
+    alloc: Global,
+    keeper: &mut K,
+    core: &mut Core,
+    plan: &[PlanRequest],
+) -> Result<PlanDecision, Fault>
+    requires { MayDecidePlan (K.view keeper.old) core.old }
+    ensures decides { IfOk result (λ decision. (K.view keeper.new).is_up
+        → IsPlanDecision (K.view keeper.old).rows core.old.setting plan.now decision core.new) }
+    ensures each { IfOk result (HasEachDecision plan.now) }
+    ensures usable { OnOk result ((core.new.spent ≡ false)
+        × (core.new.setting ≡ core.old.setting)) }
+    ensures asks { QueryFrame (K.view keeper.old) (K.view keeper.new) result }
+{
+    let mut progress = PlanProgress {
+        decided: Decided {
+            answers: Vec::new(alloc),
+            delta: Delta::new(alloc),
+        },
+        postings: PlanPostings::new(alloc),
+    };
+    for asked in plan {
+        match decide_request(alloc, keeper, core, asked, &mut progress) {
+            Ok(None) => {}
+            Ok(Some(refusal)) => {
+                let place = progress.decided.answers.len();
+                let changed = has_changes(&progress.decided.delta);
+                return Ok(PlanDecision::Refused(place, refusal, changed));
+            }
+            Err(fault) => return Err(fault),
+        }
+    }
+    let PlanProgress {
+        decided,
+        postings: _,
+    } = progress;
+    let Decided { answers, delta } = decided;
+    Ok(PlanDecision::Accepted(answers, delta))
+}
+
+/// Performs the requests of a plan in order: each is decided in the state that the core holds after
+/// those before it. If all are accepted, their changes are committed in one transaction. If one is
+/// refused, or on a fault, the tables are unchanged, and the core is unusable until reloaded,
+/// unless a refused plan has changed nothing in it.
+pub fn perform_plan<K: Keeper>(
+    alloc: Global,
+    keeper: &mut K,
+    core: &mut Core,
+    plan: &[PlanRequest],
+) -> Result<PlanOutcome, Fault>
+    requires { MayDecidePlan (K.view keeper.old) core.old }
+    ensures ok { let limits = core.old.setting.limits in
+        IfOk result (λ outcome. (K.view keeper.new).is_up
+        → TablesAfterPlan limits (K.view keeper.old).rows plan.now outcome
+        (K.view keeper.new).rows) }
+    ensures copies { OnOk result (core.new.spent ≡ false → (K.view keeper.new).is_up
+        → IsCopy (K.view keeper.new).rows core.old.setting.limits core.new) }
+    ensures each { IfOk result (HasEachAnswer plan.now) }
+    ensures spent { OnErr result (core.new.spent ≡ true) }
+    ensures keeps { CommitFrame (K.view keeper.old) (K.view keeper.new) result }
+{
+    match decide_plan(alloc, keeper, core, plan) {
+        Ok(PlanDecision::Accepted(answers, delta)) => {
+            if let Err(fault) = commit_changes(keeper, delta) {
+                core.mark_spent();
+                return Err(fault);
+            }
+            Ok(PlanOutcome::Done(answers))
+        }
+        Ok(PlanDecision::Refused(place, refusal, changed)) => {
+            mark_if_changed(core, changed);
+            Ok(PlanOutcome::Refused(place, refusal))
+        }
+        Err(fault) => {
+            core.mark_spent();
+            Err(fault)
+        }
+    }
+}

@@ -1,0 +1,3 @@
+pub mod PlanPostingLemmas
+pub mod PlanAssignedLemmas
+pub mod PlanChangeLemmas

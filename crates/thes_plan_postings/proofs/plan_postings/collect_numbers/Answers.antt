@@ -1,0 +1,9 @@
+use Rattle.std.proofs.Common.{rules}
+use Rattle.std.proofs.lemmas.Iterator.Adapters.{items_from_extend}
+use Rattle.std.proofs.lemmas.Iterator.Consumers.{YieldsList-from_copied, YieldsList-from_rest}
+use Rattle.thes_plan_postings.proofs.plan_postings.collect_numbers.Goals as goal
+
+pub returns-clause-numbers : goal.returns-clause-numbers
+returns-clause-numbers c =
+    let h = items_from_extend c.extend.result c.extend.ensures.ran
+    (YieldsList-from_copied (YieldsList-from_rest c.args.set.now.keys cc)) in search rules

@@ -1,0 +1,91 @@
+-- The postings that the requests of a plan have changed so far, over the tables, in which nothing is changed yet.
+use Rattle.std.specs.Prelude.{◌≡◌, ◌≢◌, ◌||◌, ◌&&◌, ◌==◌, ℕ, List, Bool, true, false, not, Option, None, Some, length}
+use Rattle.std.specs.Prelude.{◌++◌, ◌∷◌, [], ◌↔◌, Contains, cond, map, nat_eq}
+use Rattle.std.specs.List.{list_any}
+use Rattle.std.specs.List.Sorted.{IsStrictlySortedBy}
+use Rattle.std.specs.BTreeMap.{get, keys}
+use Rattle.std.specs.Ordering.{nat_cmp}
+use Rattle.thes_base.specs.Types.{Number}
+use Rattle.thes_base.specs.Resources.{entry_at}
+use Rattle.thes_tables.specs.declared.rows.PostingRow.{PostingRow}
+use Rattle.thes_tables.specs.Cells.{Raw, cells_of_tables}
+use Rattle.thes_tables.specs.Tables.{IsIn, Tables}
+use Rattle.thes_plan_postings.specs.declared.plan_postings.Placement.{Placement}
+use Rattle.thes_plan_postings.specs.declared.plan_postings.PlanPostings.{PlanPostings}
+
+-- The placement of the posting with the number, if the plan has added, moved or withdrawn it.
+abbrev pub placement_of : PlanPostings → Number → Option Placement
+placement_of postings n = get nat_cmp postings.placements n
+
+-- The row with the placement in place of its own, if there is one.
+abbrev pub row_placed : Option Placement → PostingRow → PostingRow
+row_placed None row = row
+row_placed (Some x) row = record row { place = x.place; withdrawn = x.withdrawn }
+
+-- The posting has this placement: its row is that of the tables or the added one, with the placement.
+pub record IsPlaced (bases rows : List PostingRow) (n : Number) (x : Placement) : Type 0 where
+  pub row : PostingRow
+  pub base : entry_at bases n ≡ Some row
+  pub now : entry_at rows n ≡ Some (row_placed (Some x) row)
+
+-- With the changes of the plan so far, the posting rows of the tables, `olds`, become `rows`. Those that the plan has
+-- neither added nor changed are as the tables have them; the others have their placements.
+pub record ArePlanRows (olds rows : List PostingRow) (postings : PlanPostings) : Type 0 where
+  pub count : length rows ≡ length (olds ++ postings.added.items)
+  pub numbered : (n : Number) (row : PostingRow) → entry_at rows n ≡ Some row → row.number ≡ n
+  pub others : (n : Number) → placement_of postings n ≡ None → entry_at rows n ≡ entry_at olds n
+  pub placed : (n : Number) (x : Placement) → placement_of postings n ≡ Some x
+      → IsPlaced (olds ++ postings.added.items) rows n x
+
+-- Each row has the number of its place.
+abbrev pub AreNumbered : List PostingRow → Type 0
+AreNumbered rows = (n : Number) (row : PostingRow) → entry_at rows n ≡ Some row → row.number ≡ n
+
+-- The property holds of the rows into which the changes of the plan turn those of the tables.
+abbrev pub InPlanRows : Raw → PlanPostings → (List PostingRow → Type 0) → Type 0
+InPlanRows raw postings P = (t : Tables) (rows : List PostingRow) → raw ≡ cells_of_tables t
+    → ArePlanRows t.posting rows postings → P rows
+
+-- The property holds of the rows of the tables and the added ones, without placements.
+abbrev pub InBaseRows : Raw → PlanPostings → (List PostingRow → Type 0) → Type 0
+InBaseRows raw postings P = (t : Tables) (rows : List PostingRow) → raw ≡ cells_of_tables t
+    → ArePlanRows t.posting rows postings → P (t.posting ++ postings.added.items)
+
+-- The result is a row with the number, or None if no row has it.
+abbrev pub IsRowOfNumber : Number → List PostingRow → Option PostingRow → Type 0
+IsRowOfNumber n rows (Some row) = IsIn row rows × (row.number ≡ n)
+IsRowOfNumber n rows None = (row : PostingRow) → IsIn row rows → row.number ≢ n
+
+-- Whether a posting is assigned to the concept: by its placement, or, if it has none, as the tables have it.
+abbrev pub is_assigned_by : Number → Bool → Option Placement → Bool
+is_assigned_by concept by_tables None = by_tables
+is_assigned_by concept by_tables (Some x) = not x.withdrawn && x.place == concept
+
+-- The list has the number.
+abbrev pub has_number : List ℕ → ℕ → Bool
+has_number numbers n = list_any (nat_eq n) numbers
+
+-- The candidates have the number, and its posting is assigned to the concept.
+abbrev pub is_assigned_candidate : PlanPostings → List ℕ → Number → Bool → ℕ → Bool
+is_assigned_candidate postings candidates concept by_tables n =
+    has_number candidates n && is_assigned_by concept by_tables (placement_of postings n)
+
+-- The numbers are those of the postings assigned to the concept, in increasing order, if `standing` are those assigned
+-- to it in the tables.
+pub record AreAssigned (postings : PlanPostings) (concept : Number) (standing numbers : List ℕ) : Type 0 where
+  pub rises : IsStrictlySortedBy nat_cmp numbers
+  pub has : (n : ℕ) → Contains numbers n ↔ ((is_assigned_candidate postings standing concept true n
+      || is_assigned_candidate postings (keys postings.placements) concept false n) ≡ true)
+
+-- The listed postings get this placement, and others keep theirs.
+pub record PlacesAll (old new : PlanPostings) (numbers : List ℕ) (x : Placement) : Type 0 where
+  pub placements : (n : Number) → placement_of new n
+      ≡ cond (has_number numbers n) (Some x) (placement_of old n)
+  pub added : new.added.items ≡ old.added.items
+
+-- A posting is added, with its placement.
+pub record AddsPosting (old new : PlanPostings) (row : PostingRow) : Type 0 where
+  pub placements : (n : Number) → placement_of new n
+      ≡ cond (has_number (row.number ∷ []) n) (Some (record { place = row.place; withdrawn = row.withdrawn }))
+      (placement_of old n)
+  pub added : new.added.items ≡ old.added.items ++ row ∷ []

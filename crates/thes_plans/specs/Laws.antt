@@ -1,0 +1,68 @@
+-- Laws of plans. Each is the contract of a public function of src/laws.rt.
+use Rattle.std.specs.Prelude.{◌≡◌, ◌↔◌, ◌⊎◌, List, [], ◌∷◌, None}
+use Rattle.std.specs.List.{AllByRecursion}
+use Rattle.thes_base.specs.Types.{Number}
+use Rattle.thes_base.specs.declared.fault.Refusal.{Refusal}
+use Rattle.thes_base.specs.declared.request.Answer.{Answer}
+use Rattle.thes_base.specs.declared.request.Answer.TheVariants as reply
+use Rattle.thes_base.specs.Headline.{IsConsistentState}
+use Rattle.thes_base.specs.Legal.{IsLegalState}
+use Rattle.thes_base.specs.Machine.{Step}
+use Rattle.thes_base.specs.Refusals.{IsSetting, Setting}
+use Rattle.thes_base.specs.State.{State}
+use Rattle.thes_base.specs.Texts.{CommandHasForms}
+use Rattle.thes_plans.specs.declared.plan.PlanOutcome.{PlanOutcome}
+use Rattle.thes_plans.specs.declared.plan.PlanOutcome.TheVariants.{Done, Refused}
+use Rattle.thes_plans.specs.declared.plan.PlanRequest.{PlanRequest}
+use Rattle.thes_plans.specs.Plans.{IsNoRefusal, IsPlanOutcome, PlanAccepted, PlanRefused}
+
+-- The request has no references.
+pub record HasNoReferences (asked : PlanRequest) : Type 0 where
+  pub first : asked.first ≡ None
+  pub second : asked.second ≡ None
+  pub postings : asked.postings.items ≡ []
+
+-- The outcome of a plan of one request that gets this answer.
+abbrev pub IsOutcomeOfAnswer : PlanOutcome → Answer → Type 0
+IsOutcomeOfAnswer (Done answers) answer = (answers.items ≡ answer ∷ []) × IsNoRefusal answer
+IsOutcomeOfAnswer (Refused place refusal) answer = (place ≡ 1) × (answer ≡ reply.No refusal)
+
+-- A plan of one request without references is that request.
+abbrev pub SinglePlanIsRequest : Type 0
+SinglePlanIsRequest =
+    (setting : Setting) (s t : State) (asked : PlanRequest) (outcome : PlanOutcome) → HasNoReferences asked
+    → IsPlanOutcome setting s (asked ∷ []) outcome t
+    ↔ ((answer : Answer) × Step setting s asked.command answer t × IsOutcomeOfAnswer outcome answer)
+
+-- Each text of the requests has its form.
+abbrev pub PlanHasForms : List PlanRequest → Type 0
+PlanHasForms plan = AllByRecursion (λ asked. CommandHasForms asked.command) plan
+
+-- A plan whose texts have their forms leaves a legal state legal and consistent.
+abbrev pub PlanKeepsLegal : Type 0
+PlanKeepsLegal =
+    (setting : Setting) → IsSetting setting → (s t : State) (plan : List PlanRequest) (outcome : PlanOutcome)
+    → PlanHasForms plan → IsLegalState setting.base s → IsPlanOutcome setting s plan outcome t
+    → IsLegalState setting.base t × IsConsistentState setting.base t
+
+-- Both outcomes are the same: the same answers, or the same refusal at the same place.
+abbrev pub IsSameOutcome : PlanOutcome → PlanOutcome → Type 0
+IsSameOutcome (Done xs) (Done ys) = xs.items ≡ ys.items
+IsSameOutcome (Refused place refusal) (Refused other_place other) = (place ≡ other_place) × (refusal ≡ other)
+IsSameOutcome (Done xs) (Refused place refusal) = ⊥
+IsSameOutcome (Refused place refusal) (Done ys) = ⊥
+
+-- A plan whose texts have their forms, performed from a legal state, has at most one outcome and at most one state
+-- after it.
+abbrev pub OnePlanOutcome : Type 0
+OnePlanOutcome =
+    (setting : Setting) → IsSetting setting → (s t u : State) (plan : List PlanRequest) (one other : PlanOutcome)
+    → PlanHasForms plan → IsLegalState setting.base s → IsPlanOutcome setting s plan one t
+    → IsPlanOutcome setting s plan other u → IsSameOutcome one other × (t ≡ u)
+
+-- Every plan is accepted or refused in every state: that it is neither is contradictory.
+abbrev pub SomePlanOutcome : Type 0
+SomePlanOutcome =
+    (setting : Setting) (s : State) (plan : List PlanRequest)
+    → ¬ (¬ (((answers : List Answer) × (t : State) × PlanAccepted setting s plan answers t)
+    ⊎ ((place : Number) × (refusal : Refusal) × PlanRefused setting s plan place refusal)))
