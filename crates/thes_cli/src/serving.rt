@@ -145,11 +145,25 @@ pub fn serve_store<N: Net + Clock, K: Keeper, W: Write, E: Write>(
 {
     if listening.plans {
         serve_in_mode::<N, K, WithPlans, W, E>(
-            alloc, clock, listening, office, WithPlans, output, errors, connections,
+            alloc,
+            clock,
+            listening,
+            office,
+            WithPlans,
+            output,
+            errors,
+            connections,
         )
     } else {
         serve_in_mode::<N, K, NoPlans, W, E>(
-            alloc, clock, listening, office, NoPlans, output, errors, connections,
+            alloc,
+            clock,
+            listening,
+            office,
+            NoPlans,
+            output,
+            errors,
+            connections,
         )
     }
 }
