@@ -7,7 +7,7 @@
   vocabulary, link_rules, converting   what a converter makes of a vocabulary, and the rules that it may break
   script_writer                        the script that loads a vocabulary
   named_scripts, journal, loader,      such a script, and how it is loaded
-  one_plan, recovery
+  one_plan, recovery, progress
   backups, holding                     a folder of backups, and a program that waits while its store is copied
   store, opening, table_store,         a thesaurus as objects, and where it comes from
   export_store, served_store

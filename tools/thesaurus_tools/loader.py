@@ -4,9 +4,7 @@ from __future__ import annotations
 import argparse
 import itertools
 import json
-import math
 import sys
-import time
 from collections import Counter, deque
 
 from thesaurus_tools.command_line import DONE, FAULT, REFUSED, ToolError
@@ -14,6 +12,7 @@ from thesaurus_tools.journal import Journal, match
 from thesaurus_tools.named_scripts import Block, Line
 from thesaurus_tools.one_plan import MOST_BYTES, MOST_REQUESTS, encode_plan
 from thesaurus_tools.program import Performer, count_resources
+from thesaurus_tools.progress import Progress
 from thesaurus_tools.recovery import CLASSES, recover
 from thesaurus_tools.requests import parse_json
 from thesaurus_tools.shapes import shape_fault
@@ -36,25 +35,6 @@ AGAIN = {
 CAUTION, MOST_CAUTION = 8, 4096
 # The parts of a plan under way, each with the number of its first entry in the journal.
 Sent = list[tuple[Line | Block, int]]
-
-
-class Progress:
-    """A line on a terminal that says how many requests were sent; nothing elsewhere."""
-
-    def __init__(self, count: int):
-        self.count, self.is_shown, self.next = count, False, time.monotonic() + 1 if sys.stderr.isatty() else math.inf
-
-    def show(self, left: int) -> None:
-        """Writes the line anew, at most once a second."""
-        if time.monotonic() >= self.next:
-            self.is_shown, self.next = True, time.monotonic() + 1
-            print(f"\r\033[Kload: {self.count - left} of {self.count} requests", end="", file=sys.stderr, flush=True)
-
-    def end(self) -> None:
-        """Clears the line."""
-        if self.is_shown:
-            self.is_shown = False
-            print("\r\033[K", end="", file=sys.stderr, flush=True)
 
 
 class Loader:

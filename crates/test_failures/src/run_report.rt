@@ -137,7 +137,10 @@ fn run<K: Keeper>(
 }
 
 /// Opens an `Office` over a storage, or returns the fault with the storage.
-pub fn open<K: Keeper>(alloc: Global, keeper: K) -> Result<OfficeHandler<K, WithPlans>, (Fault, K)> {
+pub fn open<K: Keeper>(
+    alloc: Global,
+    keeper: K,
+) -> Result<OfficeHandler<K, WithPlans>, (Fault, K)> {
     match Office::start(alloc, keeper, Limits::default()) {
         Ok(office) => Ok(OfficeHandler::new(office, WithPlans)),
         Err(back) => Err(back),

@@ -30,7 +30,10 @@ fn serve<K: Keeper, R: Read, W: Write>(
 }
 
 // Runs the lines, and returns the answers.
-fn answers<K: Keeper>(alloc: Global, handler: &mut OfficeHandler<K, WithPlans>) -> Result<Vec<u8>, PipeFault> {
+fn answers<K: Keeper>(
+    alloc: Global,
+    handler: &mut OfficeHandler<K, WithPlans>,
+) -> Result<Vec<u8>, PipeFault> {
     let mut reader = Pipe::new(LINES.as_bytes());
     let mut writer = Pipe::new(Vec::new(alloc));
     let ended = serve(alloc, &mut reader, &mut writer, handler);

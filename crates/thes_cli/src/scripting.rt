@@ -13,7 +13,7 @@ use thes_service::{OfficeHandler, office_script};
 use thes_store::keeper::Keeper;
 
 // Answers a script by an office in this mode, and returns the exit status with the office.
-fn answer_in_mode<K: Keeper, M: PlanMode, R: Read, W: Write, E: Write>(
+fn answer_in_mode<K: Keeper, M: PlanMode + Copy, R: Read, W: Write, E: Write>(
     alloc: Global,
     office: Office<K>,
     mode: M,

@@ -52,7 +52,7 @@ fn report_served<E: Write>(
 }
 
 // Serves `count` connections, one after another, and returns the exit status.
-fn serve_all<N: Net + Clock, K: Keeper, M: PlanMode, E: Write>(
+fn serve_all<N: Net + Clock, K: Keeper, M: PlanMode + Copy, E: Write>(
     alloc: Global,
     clock: &N,
     listener: &N::Listener,
@@ -71,7 +71,7 @@ fn serve_all<N: Net + Clock, K: Keeper, M: PlanMode, E: Write>(
 
 // Prints the address, serves the connections, and returns the exit status. If the address can't be
 // printed, it serves none.
-fn serve_printed<N: Net + Clock, K: Keeper, M: PlanMode, W: Write, E: Write>(
+fn serve_printed<N: Net + Clock, K: Keeper, M: PlanMode + Copy, W: Write, E: Write>(
     alloc: Global,
     clock: &N,
     listening: &Listening<N::Listener>,
@@ -100,7 +100,7 @@ fn serve_printed<N: Net + Clock, K: Keeper, M: PlanMode, W: Write, E: Write>(
 }
 
 // Serves an office in this mode, and returns the exit status with the office.
-fn serve_in_mode<N: Net + Clock, K: Keeper, M: PlanMode, W: Write, E: Write>(
+fn serve_in_mode<N: Net + Clock, K: Keeper, M: PlanMode + Copy, W: Write, E: Write>(
     alloc: Global,
     clock: &N,
     listening: &Listening<N::Listener>,
@@ -145,11 +145,25 @@ pub fn serve_store<N: Net + Clock, K: Keeper, W: Write, E: Write>(
 {
     if listening.plans {
         serve_in_mode::<N, K, WithPlans, W, E>(
-            alloc, clock, listening, office, WithPlans, output, errors, connections,
+            alloc,
+            clock,
+            listening,
+            office,
+            WithPlans,
+            output,
+            errors,
+            connections,
         )
     } else {
         serve_in_mode::<N, K, NoPlans, W, E>(
-            alloc, clock, listening, office, NoPlans, output, errors, connections,
+            alloc,
+            clock,
+            listening,
+            office,
+            NoPlans,
+            output,
+            errors,
+            connections,
         )
     }
 }

@@ -90,19 +90,24 @@ pub fn work_over_keeper<N: Net + Clock, K: Keeper, F: Read + Drop, R: Read, W: W
             );
         }
     };
-    let (status, office) = match work {
-        Work::Script(options) => answer_script::<K, R, W, E>(alloc, office, options, streams),
-        Work::Output(work) => do_output_work::<N, K, F, W, E>(
-            alloc,
-            clock,
-            work,
-            office,
-            &mut streams.output,
-            &mut streams.errors,
-            &mut streams.connections,
-        ),
-    };
-    (status, office.into_keeper())
+    match work {
+        Work::Script(options) => {
+            let (status, office) = answer_script::<K, R, W, E>(alloc, office, options, streams);
+            (status, office.into_keeper())
+        }
+        Work::Output(work) => {
+            let (status, office) = do_output_work::<N, K, F, W, E>(
+                alloc,
+                clock,
+                work,
+                office,
+                &mut streams.output,
+                &mut streams.errors,
+                &mut streams.connections,
+            );
+            (status, office.into_keeper())
+        }
+    }
 }
 
 /// Works over a storage as `work_over_keeper` does, and reports its progress to a listener. It is

@@ -109,7 +109,7 @@ module _ {S : Type 0} (d : ServiceBehaviour S) where
     same_place : (p : Endpoint) (number query body : List ℕ) → EndpointEffect d old r x p number query body
         → EndpointEffect d old q y p number query body → AnswerOneCall d old r x q y
     same_place endpoint.Requests number query body a b = same_command body a b
-    same_place endpoint.Plans number query body a b = plan_answers (json_in body) a.0 b.0 a.1 b.1 a.2 b.2
+    same_place endpoint.Plans number query body a b = plan_answers body a.0 b.0 a.1 b.1 a.2 b.2
     same_place endpoint.Import number query body a b = import_answers body a.0 b.0 a.1 b.1 a.2 b.2
     same_place endpoint.Totals number query body a b = same_query asks.Totals a b
     same_place endpoint.Concept number query body a b = same_number_query asks.Concept number a b
@@ -165,8 +165,8 @@ module _ {S : Type 0} (d : ServiceBehaviour S) where
   unfolding Determined
   same_call old x y r q one (command_answers command a b p p' e e') = same_results command_response
       (λ c. d.requests.performs old command c) x y r q (λ f. refl) (λ a' b'. one.performs command a' b' x y) a b p p' e e'
-  same_call old x y r q one (plan_answers value a b p p' e e') = same_results plan_response
-      (λ c. ServesPlan d.requests old value c) x y r q (λ f. refl) (λ a' b'. one.plans value a' b' x y) a b p p' e e'
+  same_call old x y r q one (plan_answers body a b p p' e e') = same_results plan_response
+      (λ c. ServesPlan d.requests old (json_in body) c) x y r q (λ f. refl) (λ a' b'. one.plans body a' b' x y) a b p p' e e'
   same_call old x y r q one (query_answers query a b p p' e e') = same_results query_response
       (λ c. d.requests.shows old query c) x y r q (λ f. refl) (λ a' b'. one.shows query a' b' x y) a b p p' e e'
   same_call old x y r q one (import_answers file a b p p' e e') = same_results import_response

@@ -66,6 +66,11 @@ pub head_outcome_front : (takes_plans : Bool) (bytes front : List ℕ) (len : �
 head_outcome_front takes_plans bytes front len outcome e l a = head_outcome_all takes_plans bytes len outcome l
     (subst (λ (t : List ℕ). HeadOutcome takes_plans t (drop len t) outcome) e a)
 
+-- The outcome of a head depends only on whether plans are taken.
+pub outcome_taken : {a b : Bool} {bytes rest : List ℕ} {outcome : Result HeadRequest Problem} → a ≡ b
+    → HeadOutcome a bytes rest outcome → HeadOutcome b bytes rest outcome
+outcome_taken {a} {b} {bytes} {rest} {outcome} e h = subst (λ (t : Bool). HeadOutcome t bytes rest outcome) e h
+
 pub front_short : (bytes front : List ℕ) → front ≡ take head_limit bytes → length front ≤ head_limit
 front_short bytes front e = let len = ap length e ∙ length-take head_limit bytes in omega (arith, len)
 

@@ -1,6 +1,5 @@
 -- Laws of the answers to connections.
-use Rattle.std.specs.Prelude.{ℕ, ◌≡◌, ◌⊎◌, ◌++◌, List, Option, Result, Ok}
-use Rattle.serde_json.specs.Data.{Data}
+use Rattle.std.specs.Prelude.{ℕ, ◌≡◌, ◌⊎◌, ◌++◌, List, Result, Ok}
 use Rattle.thes_base.specs.declared.fault.Fault.{Fault}
 use Rattle.thes_base.specs.declared.fault.Fault.TheVariants.{OutOfMemory}
 use Rattle.thes_base.specs.declared.request.Command.{Command}
@@ -8,6 +7,7 @@ use Rattle.thes_base.specs.declared.request.Answer.{Answer}
 use Rattle.thes_requests.specs.declared.handler.QueryAnswer.{QueryAnswer}
 use Rattle.thes_requests.specs.declared.request.Query.{Query}
 use Rattle.thes_requests.specs.declared.plan_reply.PlanReply.{PlanReply}
+use Rattle.thes_requests.specs.Requests.{json_in}
 use Rattle.thes_requests.specs.Serving.{ServesPlan}
 use Rattle.thes_http.specs.declared.response.Response.{Response}
 use Rattle.thes_http.specs.declared.service.ImportAnswer.{ImportAnswer}
@@ -25,8 +25,8 @@ module _ {S : Type 0} (d : ServiceBehaviour S) (old : S) where
     command_answers : (command : Command) (a b : Result Answer Fault)
         → d.requests.performs old command a x → d.requests.performs old command b y
         → r ≡ command_response a → q ≡ command_response b → AnswerOneCall r x q y
-    plan_answers : (value : Option Data) (a b : Result PlanReply Fault)
-        → ServesPlan d.requests old value a x → ServesPlan d.requests old value b y
+    plan_answers : (body : List ℕ) (a b : Result PlanReply Fault)
+        → ServesPlan d.requests old (json_in body) a x → ServesPlan d.requests old (json_in body) b y
         → r ≡ plan_response a → q ≡ plan_response b → AnswerOneCall r x q y
     query_answers : (query : Query) (a b : Result QueryAnswer Fault)
         → d.requests.shows old query a x → d.requests.shows old query b y
@@ -51,8 +51,8 @@ module _ {S : Type 0} (d : ServiceBehaviour S) (old : S) where
         → d.requests.performs old command (Ok a) x → d.requests.performs old command (Ok b) y → (a ≡ b) × (x ≡ y)
     pub shows : (query : Query) (a b : QueryAnswer) (x y : S)
         → d.requests.shows old query (Ok a) x → d.requests.shows old query (Ok b) y → (a ≡ b) × (x ≡ y)
-    pub plans : (value : Option Data) (a b : PlanReply) (x y : S)
-        → ServesPlan d.requests old value (Ok a) x → ServesPlan d.requests old value (Ok b) y → (a ≡ b) × (x ≡ y)
+    pub plans : (body : List ℕ) (a b : PlanReply) (x y : S) → ServesPlan d.requests old (json_in body) (Ok a) x
+        → ServesPlan d.requests old (json_in body) (Ok b) y → (a ≡ b) × (x ≡ y)
     pub imports : (file : List ℕ) (a b : ImportAnswer) (x y : S)
         → d.imports old file (Ok a) x → d.imports old file (Ok b) y → (a ≡ b) × (x ≡ y)
     pub exports : (a b : List ℕ) (x y : S)

@@ -160,8 +160,8 @@ pub struct Paths<'r> {
 impl<'r> Paths<'r> {
     /// Returns the endpoint that a path names, if there is one; allocates nothing.
     pub fn find<'p>(self, path: &'p str) -> Option<EndpointMatch<'p>>
-        ensures { MatchOption result (endpoint_at self.takes_plans path.now ≡ None)
-            (λ f. endpoint_at self.takes_plans path.now ≡ Some
+        ensures { MatchOption result (endpoint_at self.entry.takes_plans path.now ≡ None)
+            (λ f. endpoint_at self.entry.takes_plans path.now ≡ Some
             (record { endpoint = f.endpoint; number = f.number.now })) }
     {
         match self.routes.find(path) {

@@ -35,7 +35,7 @@ pub fn read_head_request<'a>(
 ) -> Result<HeadRequest<'a>, Problem>
     requires at { IsHeadAt head.now headers.now spans }
     requires short { length head.now ≤ head_limit }
-    ensures ok { IfOk result (λ w. HeadOutcome paths.takes_plans head.now (drop spans.len head.now)
+    ensures ok { IfOk result (λ w. HeadOutcome paths.entry.takes_plans head.now (drop spans.len head.now)
         (Ok (record {
           endpoint = w.endpoint;
           number = w.number.now;
@@ -43,7 +43,7 @@ pub fn read_head_request<'a>(
           body = w.body;
         }))) }
     ensures err { (p : _) → IsErrOf result p →
-        HeadOutcome paths.takes_plans head.now (drop spans.len head.now) (Err p) }
+        HeadOutcome paths.entry.takes_plans head.now (drop spans.len head.now) (Err p) }
 {
     let Ok(target) = str::from_utf8(spans.path.of(head)) else {
         return Err(Problem::BadHead);
@@ -69,7 +69,7 @@ fn request_of_parts<'a>(
     headers: &[HeaderSpan],
 ) -> Result<HeadRequest<'a>, Problem>
     requires { All (IsHeaderWithin (length bytes.now)) headers.now }
-    ensures ok { IfOk result (λ w. head_request_of paths.takes_plans (record {
+    ensures ok { IfOk result (λ w. head_request_of paths.entry.takes_plans (record {
       method = method.now;
       target = target.now;
       fields = map (header_bytes bytes.now) headers.now;
@@ -81,7 +81,7 @@ fn request_of_parts<'a>(
           body = w.body;
         })) }
     ensures err { (p : _) → IsErrOf result p
-        → head_request_of paths.takes_plans (record {
+        → head_request_of paths.entry.takes_plans (record {
           method = method.now;
           target = target.now;
           fields = map (header_bytes bytes.now) headers.now;

@@ -107,12 +107,12 @@ AreRequests (d ∷ ds) (asked ∷ plan) = IsPlanRequest d asked × AreRequests d
 pub record IsFirstMalformed (ds : List Data) (place : ℕ) (f : FormFault) : Type 0 where
   pub before : List Data
   pub d : Data
-  pub after : List Data
-  pub all : ds ≡ before ++ d ∷ after
+  pub rest : List Data
+  pub all : ds ≡ before ++ d ∷ rest
   pub place_is : place ≡ length before + 1
   pub plan : List PlanRequest
   pub requests : AreRequests before plan
-  pub malformed : IsNoPlanRequest d f
+  pub bad : IsNoPlanRequest d f
 
 -- The value is an array of these values, of which there are 1 to 128.
 pub record IsPlanArray (d : Data) (ds : List Data) : Type 0 where
@@ -123,7 +123,7 @@ pub record IsPlanArray (d : Data) (ds : List Data) : Type 0 where
 -- The value is an array of these requests, whose references aren't checked yet.
 pub record IsPlanOfRequests (d : Data) (plan : List PlanRequest) : Type 0 where
   pub values : List Data
-  pub listed : IsPlanArray d values
+  pub is_array : IsPlanArray d values
   pub requests : AreRequests values plan
 
 -- The value, read as a plan, has this outcome: the requests, or the first fault.

@@ -1,7 +1,6 @@
 -- The lines of JSON for the replies to plans, byte for byte.
-use Rattle.std.specs.Prelude.{ℕ, ◌+◌, ◌-◌, ◌*◌, ◌≤◌, List, ◌++◌, codes, decimal, length, map, take}
+use Rattle.std.specs.Prelude.{ℕ, zero, suc, ◌+◌, ◌-◌, ◌*◌, ◌≤◌, List, [], ◌∷◌, ◌++◌, codes, decimal, length, map, take}
 use Rattle.std.specs.List.{join_with_byte}
-use Rattle.thes_base.specs.declared.fault.FormFault.{FormFault}
 use Rattle.thes_base.specs.declared.fault.Refusal.{Refusal}
 use Rattle.thes_base.specs.declared.fault.Refusal.TheVariants.{OutsideKnown}
 use Rattle.thes_base.specs.declared.request.Answer.{Answer}
@@ -33,6 +32,11 @@ plan_fault_text (Reference place) = place_text place ++ codes "\"bad\":\"" ++ co
 -- The line of an answer without its line feed.
 abbrev pub item_text : Answer → List ℕ
 item_text a = take (length (answer_text a) - 1) (answer_text a)
+
+-- The comma before each answer but the first.
+abbrev pub separator_before : ℕ → List ℕ
+separator_before zero = []
+separator_before (suc n) = 44 ∷ []
 
 -- The answers, separated by commas.
 abbrev pub items_text : List Answer → List ℕ

@@ -1,8 +1,10 @@
 -- The effect of one line of a script, and its answer.
-use Rattle.std.specs.Prelude.{◌≡◌, ◌⊎◌, ◌&&◌, ℕ, Bool, true, false, List, Option, Some, Result, Ok, Err}
-use Rattle.serde_json.specs.Data.{Data, array}
+use Rattle.std.specs.Prelude.{◌≡◌, ◌⊎◌, ◌&&◌, ℕ, Bool, true, false, List, Option, Result, Ok, Err}
+use Rattle.serde_json.specs.Data.{Data}
 use Rattle.thes_base.specs.declared.fault.Fault.{Fault}
 use Rattle.thes_base.specs.declared.fault.Fault.TheVariants.{OutOfMemory}
+use Rattle.thes_base.specs.declared.fault.ReadStop.{ReadStop}
+use Rattle.thes_base.specs.declared.fault.ReadStop.TheVariants as stop
 use Rattle.thes_base.specs.declared.fault.Refusal.{Refusal}
 use Rattle.thes_base.specs.declared.request.Command.{Command}
 use Rattle.thes_base.specs.declared.request.Answer.{Answer}
@@ -96,6 +98,11 @@ abbrev pub line_answer_text : LineAnswer → List ℕ
 line_answer_text (Reply r) = reply_text r
 line_answer_text (View text) = text
 line_answer_text (Plan reply) = plan_reply_text reply
+
+-- The answer to a line that isn't a request, or for which memory ran out.
+abbrev pub stop_answer : ReadStop → LineAnswer
+stop_answer (stop.Form f) = Reply (reply.Bad f)
+stop_answer stop.OutOfMemory = Reply (reply.Fault OutOfMemory)
 
 -- The answer to a plan with this reply.
 abbrev pub plan_answer : Result PlanReply Fault → LineAnswer

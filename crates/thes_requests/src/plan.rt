@@ -1,6 +1,6 @@
 //! Reads a plan from JSON: an array of requests, in which numbers may be references.
 ghost use Rattle.std.specs.Prelude.{◌≡◌, ◌≤◌, length, map, option_map, IfOk};
-ghost use Rattle.serde_json.specs.Data.{Data};
+ghost use Rattle.serde_json.specs.Data.{Data, array};
 ghost use Rattle.thes_requests.specs.PlanReadings as plan;
 ghost use Rattle.thes_requests.specs.PlanReadings.{GivesPlan, GivesPlanRequest, IsPlanOfRequests, PlanReadsAs, PlanValueReadsAs, RequestsReadAs};
 ghost use Rattle.thes_requests.specs.Tree.{view, items_view};
@@ -89,7 +89,7 @@ fn second_name(verb: CommandKeyword) -> Option<&'static str>
 
 // Returns the reference in the member with this name, if there is a name and a reference.
 fn reference_at(name: Option<&str>, value: &Value<'_>) -> Option<u32>
-    ensures { result ≡ plan.reference_at (option_map (λ s. s.now) name) (view value.now) }
+    ensures { result ≡ plan.reference_at (option_map (λ s. s.now) name.entry) (view value.now) }
 {
     reference_in(value.get(name?)?)
 }
@@ -109,6 +109,7 @@ fn listed_references(
 }
 
 // Returns the reference of each item, if it is one.
+#[tactic(auto, using(crate::proofs::ReferenceLemmas::references_next))]
 fn references_in(alloc: Global, items: &[Value<'_>]) -> Result<Vec<Option<u32>>, AllocError>
     ensures { IfOk result (λ v. v.items ≡ plan.item_references (items_view items.now)) }
 {
@@ -158,7 +159,7 @@ fn requests_in(alloc: Global, items: Vec<Value<'_>>) -> Result<Vec<PlanRequest>,
 
 // Returns the plan if all its references are good, or the fault of the first that isn't.
 fn with_good_references(plan: Vec<PlanRequest>) -> Result<Vec<PlanRequest>, PlanStop>
-    ensures { (d : Data) → IsPlanOfRequests d plan.entry.items
+    ensures { (d : Data) → IsPlanOfRequests d plan.items
         → GivesPlan (PlanValueReadsAs d) result }
 {
     match first_bad_reference(&plan) {
@@ -167,17 +168,25 @@ fn with_good_references(plan: Vec<PlanRequest>) -> Result<Vec<PlanRequest>, Plan
     }
 }
 
-/// Reads a plan from a JSON value.
-pub fn plan_in(alloc: Global, value: Value<'_>) -> Result<Vec<PlanRequest>, PlanStop>
-    ensures { GivesPlan (PlanValueReadsAs (view value.entry)) result }
+// Reads a plan from the items of an array.
+#[tactic(auto, using(crate::proofs::ReferenceLemmas::plan_array_length))]
+fn plan_of_items(alloc: Global, items: Vec<Value<'_>>) -> Result<Vec<PlanRequest>, PlanStop>
+    ensures { GivesPlan (PlanValueReadsAs (array (items_view items.entry.items))) result }
 {
-    let Value::Array(items) = value else {
-        return Err(PlanStop::Bad(PlanFault::Whole(FormFault::BadShape)));
-    };
     if items.is_empty() || items.len() > REQUEST_LIMIT {
         return Err(PlanStop::Bad(PlanFault::Whole(FormFault::BadShape)));
     }
     with_good_references(requests_in(alloc, items)?)
+}
+
+/// Reads a plan from a JSON value.
+pub fn plan_in(alloc: Global, value: Value<'_>) -> Result<Vec<PlanRequest>, PlanStop>
+    ensures { GivesPlan (PlanValueReadsAs (view value.entry)) result }
+{
+    match value {
+        Value::Array(items) => plan_of_items(alloc, items),
+        _ => Err(PlanStop::Bad(PlanFault::Whole(FormFault::BadShape))),
+    }
 }
 
 /// Reads a plan from the bytes of a text, or returns the first fault, or OutOfMemory.

@@ -3,7 +3,7 @@ ghost use Rattle.std.specs.Prelude.{◌≡◌, ◌≤◌, ◌+◌, ◌*◌, ◌+
 ghost use Rattle.std.specs.Io.KnownBytes.{Appends};
 ghost use Rattle.thes_base.specs.Pipe.{failed_of, written_bytes, AppendsPrefix};
 ghost use Rattle.thes_base.specs.PipeFrames.{WriteFrame};
-ghost use Rattle.thes_requests.specs.PlanTexts.{answers_text, item_text, items_text, place_text, plan_fault_text, plan_refusal_text, plan_reply_text, reply_of_outcome, IsRoomFor};
+ghost use Rattle.thes_requests.specs.PlanTexts.{answers_text, item_text, items_text, place_text, plan_fault_text, plan_refusal_text, plan_reply_text, reply_of_outcome, separator_before, IsRoomFor};
 
 use crate::answer::{Reply, reply_line};
 use crate::line::ShortLine;
@@ -152,6 +152,18 @@ fn append_answer(line: &mut Vec<u8>, answer: Answer)
     append(line, &bytes[..bytes.len().saturating_sub(1)]);
 }
 
+// Appends the comma before each answer but the first.
+fn append_separator(line: &mut Vec<u8>, index: usize)
+    requires { vec_len line.old + 1 ≤ vec_capacity line.old }
+    ensures items { line.new.items ≡ line.old.items ++ separator_before index }
+    ensures len { vec_len line.new ≤ vec_len line.old + 1 }
+    ensures capacity { vec_capacity line.new ≡ vec_capacity line.old }
+{
+    if index > 0 {
+        append(line, b",");
+    }
+}
+
 // Appends answers, with a comma before each but the first.
 fn append_answers(line: &mut Vec<u8>, answers: &[Answer])
     requires { vec_len line.old + 72 * length answers.now ≤ vec_capacity line.old }
@@ -160,9 +172,7 @@ fn append_answers(line: &mut Vec<u8>, answers: &[Answer])
     ensures capacity { vec_capacity line.new ≡ vec_capacity line.old }
 {
     for index in 0..answers.len() {
-        if index > 0 {
-            append(line, b",");
-        }
+        append_separator(line, index);
         append_answer(line, answers[index]);
     }
 }
@@ -198,7 +208,7 @@ pub fn room_for_answers(alloc: Global, count: usize) -> Result<Vec<u8>, AllocErr
 pub fn reply_in_room(room: Vec<u8>, outcome: PlanOutcome) -> PlanReply
     requires empty { room.items ≡ [] }
     requires room { IsRoomFor (vec_capacity room) outcome }
-    ensures { result ≡ reply_of_outcome outcome.entry }
+    ensures { result ≡ reply_of_outcome outcome }
 {
     match outcome {
         PlanOutcome::Done(answers) => PlanReply::Done(answers_line(room, &answers)),

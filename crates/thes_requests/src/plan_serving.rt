@@ -39,7 +39,7 @@ pub fn perform_read_plan<D: RequestHandler>(
     plan: Result<Vec<PlanRequest>, PlanStop>,
 ) -> Result<PlanReply, Fault>
     requires { D.is_open handler.old ≡ true }
-    ensures { (value : Option Data) → GivesPlan (OptionReadsAs value) plan.entry
+    ensures { (value : Option Data) → GivesPlan (OptionReadsAs value) plan
         → ServesPlan D.requests handler.old value result handler.new }
 {
     match plan {

@@ -1,5 +1,7 @@
 //! References in the requests of a plan: strings such as `"$3"` in place of numbers.
-ghost use Rattle.std.specs.Prelude.{◌≡◌, min, IfOk};
+ghost use Rattle.std.specs.Prelude.{◌≡◌, ◌+◌, ◌*◌, ◌-◌, min, true, IfOk};
+ghost use Rattle.std.specs.Char.{is_ascii_digit};
+ghost use Rattle.std.specs.List.{list_all};
 ghost use Rattle.std.specs.Str.Parse.{digits_value};
 ghost use Rattle.thes_requests.specs.References as plan;
 ghost use Rattle.thes_requests.specs.Tree.{view, items_view, members_view};
@@ -12,7 +14,14 @@ use std::alloc::{AllocError, Global};
 fn is_place(digits: &[u8]) -> bool
     ensures { result ≡ plan.is_place digits.now }
 {
-    digits.iter().all(|byte| byte.is_ascii_digit()) && begins_place(digits)
+    all_digits(digits) && begins_place(digits)
+}
+
+// Returns whether each byte is an ASCII digit.
+fn all_digits(digits: &[u8]) -> bool
+    ensures { result ≡ list_all is_ascii_digit digits.now }
+{
+    digits.iter().all(|byte| byte.is_ascii_digit())
 }
 
 // Returns whether there are bytes, of which the first is a zero only if it is the only one.
@@ -26,6 +35,15 @@ fn begins_place(digits: &[u8]) -> bool
     }
 }
 
+// Returns the value with one more decimal digit, at most `u32::MAX`.
+fn with_digit(value: u32, digit: &u8) -> u32
+    ensures { result ≡ min (value * 10 + (digit.now - 48)) plan.greatest_place }
+{
+    value
+        .saturating_mul(10)
+        .saturating_add(digit.saturating_sub(b'0') as u32)
+}
+
 // Returns the value of decimal digits, at most that of `u32::MAX`.
 fn capped_value(digits: &[u8]) -> u32
     requires { plan.is_place digits.now ≡ true }
@@ -33,9 +51,7 @@ fn capped_value(digits: &[u8]) -> u32
 {
     let mut value: u32 = 0;
     for digit in digits {
-        value = value
-            .saturating_mul(10)
-            .saturating_add((*digit - b'0') as u32);
+        value = with_digit(value, digit);
     }
     value
 }
@@ -68,6 +84,7 @@ fn without_reference(value: Value<'_>) -> Value<'_>
 }
 
 // Returns the items with 1 in place of each reference.
+#[tactic(auto, using(crate::proofs::ReferenceLemmas::items_without))]
 fn items_without_references<'a>(
     alloc: Global,
     items: Vec<Value<'a>>,
@@ -82,6 +99,16 @@ fn items_without_references<'a>(
             .map_err(AllocError::from)?;
     }
     Ok(found)
+}
+
+// Returns an array with 1 in place of each reference among its items, and any other value unchanged.
+fn list_without_references<'a>(alloc: Global, value: Value<'a>) -> Result<Value<'a>, AllocError>
+    ensures { IfOk result (λ v. view v ≡ plan.list_without_references (view value.entry)) }
+{
+    match value {
+        Value::Array(items) => Ok(Value::Array(items_without_references(alloc, items)?)),
+        other => Ok(other),
+    }
 }
 
 // Returns whether a member with this name is a number in some command.
@@ -106,12 +133,10 @@ fn member_without_references<'a>(
     if is_number_name(name) {
         return Ok(without_reference(value));
     }
-    match value {
-        Value::Array(items) if name == "postings" => {
-            Ok(Value::Array(items_without_references(alloc, items)?))
-        }
-        other => Ok(other),
+    if name == "postings" {
+        return list_without_references(alloc, value);
     }
+    Ok(value)
 }
 
 // Returns the members with 1 in place of each reference that stands for a number.

@@ -4,7 +4,7 @@ ghost use Rattle.std.specs.Io.KnownBytes.{Appends};
 ghost use Rattle.thes_base.specs.Pipe.{failed_of, written_bytes, AppendsPrefix};
 ghost use Rattle.thes_base.specs.PipeFrames.{WriteFrame};
 ghost use Rattle.thes_requests.specs.Script.{is_blank, outcome_text, StepLine};
-ghost use Rattle.thes_requests.specs.Serving.{Serves, command_answer, is_plan_line, plan_answer, query_answer};
+ghost use Rattle.thes_requests.specs.Serving.{Serves, command_answer, is_plan_line, plan_answer, query_answer, stop_answer};
 ghost use Rattle.thes_requests.specs.Requests.{json_in};
 ghost use Rattle.thes_requests.specs.Tree.{view};
 
@@ -49,6 +49,16 @@ impl LineAnswer {
             Ok(QueryAnswer::Line(line)) => LineAnswer::View(line),
             Ok(QueryAnswer::No(refusal)) => LineAnswer::Reply(Reply::Answer(Answer::No(refusal))),
             Err(fault) => LineAnswer::Reply(Reply::Fault(fault)),
+        }
+    }
+
+    // Returns the form fault of a line that isn't a request, or running out of memory, as a reply.
+    fn for_stop(stop: ReadStop) -> LineAnswer
+        ensures { result ≡ stop_answer stop }
+    {
+        match stop {
+            ReadStop::Form(fault) => LineAnswer::Reply(Reply::Bad(fault)),
+            ReadStop::OutOfMemory => LineAnswer::Reply(Reply::Fault(Fault::OutOfMemory)),
         }
     }
 
@@ -120,8 +130,7 @@ fn serve_request<D: RequestHandler>(alloc: Global, handler: &mut D, value: Value
     match request {
         Ok(Request::Do(command)) => LineAnswer::for_command(handler.perform(&command)),
         Ok(Request::Get(query)) => LineAnswer::for_query(handler.show(alloc, &query)),
-        Err(ReadStop::Form(fault)) => LineAnswer::Reply(Reply::Bad(fault)),
-        Err(ReadStop::OutOfMemory) => LineAnswer::Reply(Reply::Fault(Fault::OutOfMemory)),
+        Err(stop) => LineAnswer::for_stop(stop),
     }
 }
 
@@ -158,8 +167,7 @@ fn answer_line<D: RequestHandler>(
                 serve_request(alloc, handler, value)
             }
         }
-        Err(ReadStop::Form(fault)) => LineAnswer::Reply(Reply::Bad(fault)),
-        Err(ReadStop::OutOfMemory) => LineAnswer::Reply(Reply::Fault(Fault::OutOfMemory)),
+        Err(stop) => LineAnswer::for_stop(stop),
     }
 }
 

@@ -17,7 +17,6 @@ use Rattle.thes_tables.specs.Cells.{Raw}
 use Rattle.thes_store.specs.Storage.{StorageView}
 use Rattle.thes_office.specs.Office.{FaultBehaviour, TablesAfterRun, OfficeView, SameTables, TablesAfterStep}
 use Rattle.thes_office.specs.TablesOfState.{TablesOfState}
-use Rattle.thes_office.specs.Plans.{TablesAfterPlan}
 use Rattle.thes_office.proofs.OfficeViewLemmas.{run_of_one_more, run_of_more, empty_run}
 use Rattle.thes_requests.specs.declared.answer.Reply.TheVariants as reply
 use Rattle.thes_requests.specs.declared.serve.LineAnswer.{LineAnswer}
@@ -102,25 +101,22 @@ module _ {K : Type 0} (view : K → StorageView) where
         );
   }
 
-  -- The requests of a plan that is done are a run of the machine.
-  plan_run : (limits : Limits) (old new : Raw) (plan : List PlanRequest) (answers : Vec Answer)
-      → TablesAfterPlan limits old plan (Done answers) new
-      → TablesAfterRun limits old (resolved_commands [] plan answers.items) answers.items new
-  plan_run limits old new plan answers x = record {
-    base = x.base;
-    state_before = x.state_before;
-    state_after = x.state_after;
-    tables_before = x.tables_before;
-    run = (let performs = x.performs in performs.run);
-    shows = x.shows;
-    in_order = x.in_order;
-  }
-
   -- A plan extends the run by its requests, if it is done; else it leaves the run unchanged.
   pub led_plan : (old mid new : OfficeView K) (plan : List PlanRequest) (result : Result PlanOutcome Fault)
       → OfficePerformsPlan view mid plan result new → IsReachedByRun view old mid → IsReachedByRun view old new
-  led_plan old mid new plan (Ok (Done answers)) x reached = led_run old mid new _ _ _ reached x.fault_behaviour
-      (λ up. plan_run mid.limits (view mid.keeper).rows (view new.keeper).rows plan answers (x.performed up))
+  led_plan old mid new plan (Ok (Done answers)) x reached = led_run old mid new _
+      (resolved_commands [] plan answers.items) answers.items reached x.fault_behaviour (λ up.
+      let after = x.performed up in
+      let performs = after.performs in
+      record {
+        base = after.base;
+        state_before = after.state_before;
+        state_after = after.state_after;
+        tables_before = after.tables_before;
+        run = performs.run;
+        shows = after.shows;
+        in_order = after.in_order;
+      })
   led_plan old mid new plan (Ok (Refused place refusal)) x reached = led_same old mid new _ reached x.fault_behaviour
       (λ up. let after = x.performed up in after.same tt)
   led_plan old mid new plan (Err fault) x reached = led_same old mid new _ reached x.fault_behaviour x.performed

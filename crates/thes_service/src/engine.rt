@@ -54,7 +54,7 @@ impl<K: Keeper, M: PlanMode> Model for OfficeHandler<K, M> {
     ghost view = { λ a. a.office };
 }
 
-impl<K: Keeper, M: PlanMode> OfficeHandler<K, M> {
+impl<K: Keeper, M: PlanMode + Copy> OfficeHandler<K, M> {
     /// Wraps an office, fresh or stale.
     pub fn new(office: Office<K>, mode: M) -> OfficeHandler<K, M>
         ensures { result ≡ office }

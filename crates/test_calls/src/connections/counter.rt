@@ -9,10 +9,10 @@ use thes_base::number::ResNo;
 use thes_base::pipe::Pipe;
 use thes_base::request::{Answer, Command};
 use thes_base::text::Tag;
-use thes_plans::plan::{PlanOutcome, PlanRequest};
 use thes_http::serve::{ConnectionEnd, serve_one};
 use thes_http::service::{DisplayAnswer, ImportAnswer, Page, Service};
 use thes_http_request::endpoint::Routes;
+use thes_plans::plan::{PlanOutcome, PlanRequest};
 use thes_requests::handler::{QueryAnswer, RequestHandler, ViewLine};
 use thes_requests::request::{Display, Query};
 
