@@ -21,7 +21,7 @@ from thesaurus_desk.entry.roles import Role
 
 pytestmark = [pytest.mark.needs("nginx", "openssl"), pytest.mark.timeout(900)]
 ORIGIN = f"https://{HOST}"
-# In so many seconds nginx lets as many attempts to come in from an address, whatever came before.
+# The seconds after which nginx allows as many attempts to come in, one for each.
 REST = 5
 FORM = {"Content_Type": "application/x-www-form-urlencoded", "Origin": ORIGIN}
 
