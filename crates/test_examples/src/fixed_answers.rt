@@ -1,11 +1,12 @@
 //! A handler with fixed answers, which no store gives.
-ghost use Rattle.std.specs.Prelude.{not};
+ghost use Rattle.std.specs.Prelude.{false, not};
 
 use std::alloc::Global;
 use std::io::{Read, Write};
 use thes_base::fault::{Fault, PipeFault, Refusal, Table};
 use thes_base::pipe::Pipe;
 use thes_base::request::{Answer, Command};
+use thes_plans::plan::{PlanOutcome, PlanRequest};
 use thes_requests::handler::{QueryAnswer, RequestHandler, ViewLine};
 use thes_requests::request::Query;
 use thes_requests::script::{ScriptEnd, script};
@@ -54,7 +55,12 @@ fn answer_to(number: u32) -> Result<Answer, Fault> {
 }
 
 impl RequestHandler for FixedAnswers {
-    ghost requests = { record { performs = λ _ _ _ _. Unit {0}; shows = λ _ _ _ _. Unit {0} } };
+    ghost requests = { record {
+      performs = λ _ _ _ _. Unit {0};
+      shows = λ _ _ _ _. Unit {0};
+      takes_plans = λ _. false;
+      performs_plan = λ _ _ _ _. Unit {0};
+    } };
 
     ghost is_open = { λ handler. not handler.is_closed };
 
@@ -72,6 +78,16 @@ impl RequestHandler for FixedAnswers {
             Query::Totals => Ok(QueryAnswer::Line(ViewLine::new(Vec::from_slice(alloc, b"{}\n")?))),
             _ => Ok(QueryAnswer::No(Refusal::UnknownResource)),
         }
+    }
+
+    // (no plan reaches it)
+    fn perform_plan(&mut self, plan: &[PlanRequest]) -> Result<PlanOutcome, Fault> {
+        let _ = plan;
+        Err(Fault::OutOfMemory)
+    }
+
+    fn takes_plans(&self) -> bool {
+        false
     }
 
     fn is_open(&self) -> bool {

@@ -76,7 +76,9 @@ pub fn with_end(mut answers: String, ended: Result<ScriptEnd, PipeFault>) -> io:
 }
 
 fn is_refusal(answer: &str) -> bool {
-    answer.starts_with(r#"{"no""#) || answer.starts_with(r#"{"bad""#)
+    answer.starts_with(r#"{"no""#)
+        || answer.starts_with(r#"{"bad""#)
+        || answer.starts_with(r#"{"at""#)
 }
 
 /// Converts bytes to a text; bytes that aren't UTF-8 are an error.

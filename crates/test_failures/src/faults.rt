@@ -6,6 +6,7 @@ use crate::run_report::{RunReport, answer, close, import, new_keeper, open, show
 use crate::stop::TrialStop;
 use std::alloc::{AllocError, Global};
 use thes_service::OfficeHandler;
+use thes_service::plan_mode::WithPlans;
 use thes_store::fail_once::Next;
 use thes_store::keeper::Keeper;
 
@@ -62,7 +63,7 @@ impl Tries {
     fn answer<K: Keeper>(
         &mut self,
         alloc: Global,
-        handler: &mut OfficeHandler<K>,
+        handler: &mut OfficeHandler<K, WithPlans>,
         request: &str,
     ) -> Result<(), TrialStop> {
         for _ in 0..self.most {
@@ -81,7 +82,7 @@ impl Tries {
     fn answer_all<K: Keeper>(
         &mut self,
         alloc: Global,
-        handler: &mut OfficeHandler<K>,
+        handler: &mut OfficeHandler<K, WithPlans>,
         requests: &str,
     ) -> Result<(), TrialStop> {
         for request in requests.split_inclusive('\n') {
@@ -94,7 +95,7 @@ impl Tries {
     fn import<K: Keeper>(
         &mut self,
         alloc: Global,
-        handler: &mut OfficeHandler<K>,
+        handler: &mut OfficeHandler<K, WithPlans>,
         postings: &str,
     ) -> Result<(), TrialStop> {
         for _ in 0..self.most {
@@ -110,7 +111,7 @@ impl Tries {
     fn run<K: Keeper>(
         &mut self,
         alloc: Global,
-        handler: &mut OfficeHandler<K>,
+        handler: &mut OfficeHandler<K, WithPlans>,
         stored: &StoredExample,
     ) -> Result<(), TrialStop> {
         let example = stored.example();

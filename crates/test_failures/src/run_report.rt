@@ -13,6 +13,7 @@ use thes_import::postings::{FileImport, ImportHalt, import_postings};
 use thes_office::Office;
 use thes_requests::script::ScriptEnd;
 use thes_service::OfficeHandler;
+use thes_service::plan_mode::WithPlans;
 use thes_store::keeper::Keeper;
 use thes_store::mem::MemKeeper;
 
@@ -69,7 +70,7 @@ fn push_answers(
 /// Performs requests, and appends their answers.
 pub fn answer<K: Keeper>(
     alloc: Global,
-    handler: &mut OfficeHandler<K>,
+    handler: &mut OfficeHandler<K, WithPlans>,
     requests: &str,
     answers: &mut String,
 ) -> Result<(), TrialStop> {
@@ -112,7 +113,7 @@ fn push_report(
 /// Imports a posting file, appends its lines, and returns whether the fault Store halted it.
 pub fn import<K: Keeper>(
     alloc: Global,
-    handler: &mut OfficeHandler<K>,
+    handler: &mut OfficeHandler<K, WithPlans>,
     file: &str,
     rows: &mut String,
 ) -> Result<bool, TrialStop> {
@@ -123,7 +124,7 @@ pub fn import<K: Keeper>(
 // Performs an example in an `Office`; imports its posting file if no request failed.
 fn run<K: Keeper>(
     alloc: Global,
-    handler: &mut OfficeHandler<K>,
+    handler: &mut OfficeHandler<K, WithPlans>,
     example: Example,
     run_report: &mut RunReport,
 ) -> Result<(), TrialStop> {
@@ -136,15 +137,18 @@ fn run<K: Keeper>(
 }
 
 /// Opens an `Office` over a storage, or returns the fault with the storage.
-pub fn open<K: Keeper>(alloc: Global, keeper: K) -> Result<OfficeHandler<K>, (Fault, K)> {
+pub fn open<K: Keeper>(
+    alloc: Global,
+    keeper: K,
+) -> Result<OfficeHandler<K, WithPlans>, (Fault, K)> {
     match Office::start(alloc, keeper, Limits::default()) {
-        Ok(office) => Ok(OfficeHandler::new(office)),
+        Ok(office) => Ok(OfficeHandler::new(office, WithPlans)),
         Err(back) => Err(back),
     }
 }
 
 /// Closes an `Office`, and returns its storage.
-pub fn close<K: Keeper>(handler: OfficeHandler<K>) -> K {
+pub fn close<K: Keeper>(handler: OfficeHandler<K, WithPlans>) -> K {
     handler.into_office().into_keeper()
 }
 

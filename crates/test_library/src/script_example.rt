@@ -9,7 +9,7 @@ use std::alloc::Global;
 use std::io::{Read, Write};
 use thesaurus::{
     Ended, FailOnce, Fault, Keeper, Next, OfficeHandler, Pipe, PipeFault, Query, QueryAnswer,
-    RequestHandler, script,
+    RequestHandler, WithPlans, script,
 };
 
 // A posting, sent twice.
@@ -21,7 +21,7 @@ fn serve<K: Keeper, R: Read, W: Write>(
     alloc: Global,
     reader: &mut Pipe<R>,
     writer: &mut Pipe<W>,
-    handler: &mut OfficeHandler<K>,
+    handler: &mut OfficeHandler<K, WithPlans>,
 ) -> Result<Ended, PipeFault>
     requires reader { IsFresh reader.old }
     requires writer { IsFresh writer.old }
@@ -30,7 +30,10 @@ fn serve<K: Keeper, R: Read, W: Write>(
 }
 
 // Runs the lines, and returns the answers.
-fn answers<K: Keeper>(alloc: Global, handler: &mut OfficeHandler<K>) -> Result<Vec<u8>, PipeFault> {
+fn answers<K: Keeper>(
+    alloc: Global,
+    handler: &mut OfficeHandler<K, WithPlans>,
+) -> Result<Vec<u8>, PipeFault> {
     let mut reader = Pipe::new(LINES.as_bytes());
     let mut writer = Pipe::new(Vec::new(alloc));
     let ended = serve(alloc, &mut reader, &mut writer, handler);
@@ -40,7 +43,7 @@ fn answers<K: Keeper>(alloc: Global, handler: &mut OfficeHandler<K>) -> Result<V
 // Answers a query with the line of its view, or with a refusal.
 fn view<K: Keeper>(
     alloc: Global,
-    handler: &mut OfficeHandler<K>,
+    handler: &mut OfficeHandler<K, WithPlans>,
     query: &Query,
 ) -> Result<QueryAnswer, Fault> {
     handler.show(alloc, query)
@@ -49,7 +52,7 @@ fn view<K: Keeper>(
 // Appends the answers to the lines, and the view of the totals.
 fn write_answers<K: Keeper>(
     alloc: Global,
-    handler: &mut OfficeHandler<K>,
+    handler: &mut OfficeHandler<K, WithPlans>,
     report: &mut String,
 ) -> Result<(), Failure> {
     push(report, &answers(alloc, handler)?)?;
@@ -65,7 +68,7 @@ fn run_over<K: Keeper + Drop>(
     keeper: K,
     report: &mut String,
 ) -> Result<(), Failure> {
-    let mut handler = OfficeHandler::new(open(alloc, keeper)?);
+    let mut handler = OfficeHandler::new(open(alloc, keeper)?, WithPlans);
     write_answers(alloc, &mut handler, report)
 }
 

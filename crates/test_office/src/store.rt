@@ -13,6 +13,7 @@ use thes_requests::handler::{QueryAnswer, RequestHandler};
 use thes_requests::request::Query;
 use thes_requests::script::ScriptEnd;
 use thes_service::OfficeHandler;
+use thes_service::plan_mode::WithPlans;
 use thes_store::mem::MemKeeper;
 
 // The base IRI of each store.
@@ -24,14 +25,14 @@ const LAST: u32 = 6;
 /// A store in memory: its office, as a request handler.
 #[derive(Drop)]
 pub struct Store {
-    pub handler: OfficeHandler<MemKeeper>,
+    pub handler: OfficeHandler<MemKeeper, WithPlans>,
 }
 
 // Opens an office over the tables of a storage.
 fn open(alloc: Global, keeper: MemKeeper, limits: Limits) -> io::Result<Store> {
     match Office::start(alloc, keeper, limits) {
         Ok(office) => Ok(Store {
-            handler: OfficeHandler::new(office),
+            handler: OfficeHandler::new(office, WithPlans),
         }),
         Err(_) => Err(invalid()),
     }

@@ -20,6 +20,7 @@ use thes_requests::handler::RequestHandler;
 use thes_requests::request::Display;
 use thes_requests::script::{ScriptEnd, script};
 use thes_service::OfficeHandler;
+use thes_service::plan_mode::WithPlans;
 use thes_store::keeper::Keeper;
 
 // Serves a script by any handler: the contract of `office_script` would make the proof of this call much longer.
@@ -39,7 +40,7 @@ fn serve_pipes<H: RequestHandler, R: Read, W: Write>(
 /// Serves a script, and returns the writer and the end of the script.
 pub fn serve_in<K: Keeper, R: Read + Drop, W: Write>(
     alloc: Global,
-    handler: &mut OfficeHandler<K>,
+    handler: &mut OfficeHandler<K, WithPlans>,
     input: R,
     output: W,
 ) -> (W, Result<ScriptEnd, PipeFault>) {
@@ -51,7 +52,7 @@ pub fn serve_in<K: Keeper, R: Read + Drop, W: Write>(
 
 fn import_pipes<K: Keeper, R: Read, W: Write>(
     alloc: Global,
-    handler: &mut OfficeHandler<K>,
+    handler: &mut OfficeHandler<K, WithPlans>,
     reader: &mut Pipe<R>,
     writer: &mut Pipe<W>,
 ) -> Result<import::ImportEnd, ImportStop>
@@ -64,7 +65,7 @@ fn import_pipes<K: Keeper, R: Read, W: Write>(
 /// Imports a posting file, and returns the writer and the end of the import.
 pub fn import_in<K: Keeper, R: Read + Drop, W: Write>(
     alloc: Global,
-    handler: &mut OfficeHandler<K>,
+    handler: &mut OfficeHandler<K, WithPlans>,
     input: R,
     output: W,
 ) -> (W, Result<import::ImportEnd, ImportStop>) {
@@ -76,7 +77,7 @@ pub fn import_in<K: Keeper, R: Read + Drop, W: Write>(
 
 fn export_pipe<K: Keeper, W: Write>(
     alloc: Global,
-    handler: &mut OfficeHandler<K>,
+    handler: &mut OfficeHandler<K, WithPlans>,
     writer: &mut Pipe<W>,
 ) -> Result<(), PipeFault>
     requires { IsFresh writer.old }
@@ -88,7 +89,7 @@ fn export_pipe<K: Keeper, W: Write>(
 /// Writes an export, and returns the writer and the fault that stopped it, if any.
 pub fn export_in<K: Keeper, W: Write>(
     alloc: Global,
-    handler: &mut OfficeHandler<K>,
+    handler: &mut OfficeHandler<K, WithPlans>,
     output: W,
 ) -> (W, Result<(), PipeFault>) {
     let mut writer = Pipe::new(output);
@@ -115,7 +116,7 @@ fn display_core<W: Write>(
 
 fn display_pipe<K: Keeper, W: Write>(
     alloc: Global,
-    handler: &mut OfficeHandler<K>,
+    handler: &mut OfficeHandler<K, WithPlans>,
     display: Display,
     scheme: ResNo,
     tag: &Tag,
@@ -130,7 +131,7 @@ fn display_pipe<K: Keeper, W: Write>(
 /// Writes a display, and returns the writer and the outcome.
 pub fn display_in<K: Keeper, W: Write>(
     alloc: Global,
-    handler: &mut OfficeHandler<K>,
+    handler: &mut OfficeHandler<K, WithPlans>,
     display: Display,
     scheme: ResNo,
     tag: &Tag,
@@ -159,7 +160,7 @@ fn connect_pipes<S: Service, R: Read, W: Write>(
 /// Serves a connection, and returns the writer and the outcome of the connection.
 pub fn connect_in<K: Keeper, R: Read + Drop, W: Write>(
     alloc: Global,
-    handler: &mut OfficeHandler<K>,
+    handler: &mut OfficeHandler<K, WithPlans>,
     input: R,
     output: W,
 ) -> (W, ConnectionEnd) {

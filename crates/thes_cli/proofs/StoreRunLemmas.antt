@@ -95,6 +95,6 @@ module _ {K : Type 0} (view : K → StorageView) where
         (old new : Streams R W E) (status : ℕ)
         → DoesWork view given remaining out err work old_office old status new_office new
         → IsReachedByRun view old_office old_office → IsReachedByRun view old_office new_office
-    work_leads remaining Script old_office new_office old new status x start = x.reached
+    work_leads remaining (Script options) old_office new_office old new status x start = x.reached
     work_leads remaining (Output work) old_office new_office old new status x start =
         output_leads new.connections work old_office new_office old.output new.output old.errors new.errors status x.1 start

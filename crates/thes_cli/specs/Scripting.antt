@@ -1,5 +1,5 @@
 -- The command `script`: the answers to a script over the store.
-use Rattle.std.specs.Prelude.{◌≡◌, ℕ, List, Option, MatchOption, Result}
+use Rattle.std.specs.Prelude.{◌≡◌, ℕ, Bool, List, Option, MatchOption, Result}
 use Rattle.thes_base.specs.Pipe.{KeepsSharedCallLimit}
 use Rattle.thes_base.specs.declared.fault.PipeFault.{PipeFault}
 use Rattle.thes_base.specs.declared.pipe.Pipe.{Pipe}
@@ -22,12 +22,12 @@ ReportsScriptEnd contents old new result status =
 
 module _ {K R W E : Type 0} (view : K → StorageView)
     (remaining : R → Option (List ℕ)) (out : W → Option (List ℕ)) (err : E → Option (List ℕ)) where
-  -- The command `script`: the office answered the lines up to the end of the input or a fault, by a
-  -- run of the machine, and the end of the script determines the status.
-  pub record AnswersScript (old_office : OfficeView K) (old : Streams R W E) (status : ℕ) (new_office : OfficeView K)
-      (new : Streams R W E) : Type 0 where
+  -- The command `script`: the office, which takes plans or doesn't, answered the lines up to the end of the input or a
+  -- fault, by a run of the machine, and the end of the script determines the status.
+  pub record AnswersScript (takes : Bool) (old_office : OfficeView K) (old : Streams R W E) (status : ℕ)
+      (new_office : OfficeView K) (new : Streams R W E) : Type 0 where
     pub result : Result ScriptEnd PipeFault
-    pub script : EndsScript remaining out (OfficeServes view) is_always_open
+    pub script : EndsScript remaining out (OfficeServes view takes) is_always_open
         (session old.input old.output old_office) (session new.input new.output new_office) result
     pub reached : IsReachedByRun view old_office new_office
     pub calls : KeepsSharedCallLimit old.input new.input old.output new.output

@@ -1,5 +1,5 @@
 -- The command `serve`: HTTP connections over the store.
-use Rattle.std.specs.Prelude.{◌≡◌, ◌⊎◌, ◌++◌, ℕ, List, Option, codes, decimal}
+use Rattle.std.specs.Prelude.{◌≡◌, ◌⊎◌, ◌++◌, ℕ, Bool, List, Option, codes, decimal}
 use Rattle.std.specs.Io.KnownBytes.{Appends}
 use Rattle.thes_base.specs.Pipe.{written_bytes}
 use Rattle.thes_base.specs.declared.fault.PipeFault.TheVariants.{Write}
@@ -25,19 +25,19 @@ EndsUnserved err old new status = Prints err old new net_line × (status ≡ 3)
 
 module _ {K E : Type 0} (view : K → StorageView) (err : E → Option (List ℕ)) where
   -- Connections were served, one after another; the requests of their clients are a run of the machine. They are
-  -- exactly `count`, unless one couldn't be accepted or memory for the routes ran out.
-  pub record ServesAll (count : ℕ) (old_office : OfficeView K) (errors errors' : Pipe E) (connections status : ℕ)
-      (new_office : OfficeView K) : Type 0 where
-    pub served : LeadsBy (office_behaviour view) count old_office new_office
+  -- exactly `count`, unless one couldn't be accepted or memory for the routes ran out. Plans are taken, or aren't.
+  pub record ServesAll (takes : Bool) (count : ℕ) (old_office : OfficeView K) (errors errors' : Pipe E)
+      (connections status : ℕ) (new_office : OfficeView K) : Type 0 where
+    pub served : LeadsBy (office_behaviour view takes) count old_office new_office
     pub reached : IsReachedByRun view old_office new_office
     pub ends : EndsWell count errors errors' connections status ⊎ EndsUnserved err errors errors' status
 
   -- The command `serve`: the address is printed, and connections are served; or printing the address failed, and none
   -- are.
-  abbrev pub ServesStore : {W : Type 0} → (W → Option (List ℕ)) → ℕ → ℕ → OfficeView K → Pipe W → Pipe W → Pipe E
-      → Pipe E → ℕ → ℕ → OfficeView K → Type 0
-  ServesStore out port count old_office output output' errors errors' connections status new_office =
+  abbrev pub ServesStore : {W : Type 0} → (W → Option (List ℕ)) → Bool → ℕ → ℕ → OfficeView K → Pipe W → Pipe W
+      → Pipe E → Pipe E → ℕ → ℕ → OfficeView K → Type 0
+  ServesStore out takes port count old_office output output' errors errors' connections status new_office =
       (Appends (written_bytes out output) (written_bytes out output') (listening_line port)
-      × ServesAll count old_office errors errors' connections status new_office)
+      × ServesAll takes count old_office errors errors' connections status new_office)
       ⊎ (PrintsPrefix out output output' (listening_line port)
       × Prints err errors errors' (fault_line Write) × (new_office ≡ old_office) × (status ≡ 3))

@@ -39,8 +39,8 @@ module _ {K F W E : Type 0} (view : K → StorageView)
   DoesOutputWork (Import file prints_it) old_office output output' errors errors' status new_office =
       ImportsStore view given out err prints_it file old_office output output' errors errors' status new_office
   DoesOutputWork (Serve listening) old_office output output' errors errors' status new_office =
-      ServesStore view err out listening.port listening.count old_office output output' errors errors' connections
-      status new_office
+      ServesStore view err out listening.plans listening.port listening.count old_office output output' errors errors'
+      connections status new_office
 
 module _ {K F R W E : Type 0} (view : K → StorageView)
     (given : F → Option (List ℕ)) (remaining : R → Option (List ℕ)) (out : W → Option (List ℕ))
@@ -48,8 +48,8 @@ module _ {K F R W E : Type 0} (view : K → StorageView)
   -- The effect of work over an open store; only a script reads standard input.
   abbrev pub DoesWork : {L : Type 0} → Work F L → OfficeView K → Streams R W E → ℕ → OfficeView K → Streams R W E
       → Type 0
-  DoesWork Script old_office old status new_office new =
-      AnswersScript view remaining out err old_office old status new_office new
+  DoesWork (Script options) old_office old status new_office new =
+      AnswersScript view remaining out err options.plans old_office old status new_office new
   DoesWork (Output work) old_office old status new_office new =
       (new.input ≡ old.input)
       × DoesOutputWork view given out err new.connections work old_office old.output new.output old.errors new.errors

@@ -9,6 +9,7 @@ mod ending;
 mod exporting;
 mod importing;
 mod running;
+mod scripting;
 mod serving;
 mod stores;
 mod streams;

@@ -15,7 +15,9 @@ use thes_base::pipe::Pipe;
 use thes_command_line::printing::{print, report_fault, report_net_fault};
 use thes_http::connection_count::ConnectionCount;
 use thes_jobs::work::Listening;
+use thes_office::Office;
 use thes_requests::line::ShortLine;
+use thes_service::plan_mode::{NoPlans, PlanMode, WithPlans};
 use thes_service::{OfficeHandler, office_serve};
 use thes_store::keeper::Keeper;
 
@@ -50,40 +52,40 @@ fn report_served<E: Write>(
 }
 
 // Serves `count` connections, one after another, and returns the exit status.
-fn serve_all<N: Net + Clock, K: Keeper, E: Write>(
+fn serve_all<N: Net + Clock, K: Keeper, M: PlanMode + Copy, E: Write>(
     alloc: Global,
     clock: &N,
     listener: &N::Listener,
     count: u32,
-    handler: &mut OfficeHandler<K>,
+    handler: &mut OfficeHandler<K, M>,
     errors: &mut Pipe<E>,
     connections: &mut ConnectionCount,
 ) -> u8
     requires { IsFresh errors.old }
-    ensures { ServesAll K.view E.contents count handler.old errors.old errors.new connections.new
+    ensures { ServesAll K.view E.contents M.takes count handler.old errors.old errors.new connections.new
         result handler.new }
 {
-    let ended = office_serve::<N, K>(alloc, clock, listener, count, handler);
+    let ended = office_serve::<N, K, M>(alloc, clock, listener, count, handler);
     report_served(errors, connections, ended)
 }
 
-/// Prints the address, serves the connections, and returns the exit status. If the address can't be
-/// printed, it serves none.
-pub fn serve_store<N: Net + Clock, K: Keeper, W: Write, E: Write>(
+// Prints the address, serves the connections, and returns the exit status. If the address can't be
+// printed, it serves none.
+fn serve_printed<N: Net + Clock, K: Keeper, M: PlanMode + Copy, W: Write, E: Write>(
     alloc: Global,
     clock: &N,
     listening: &Listening<N::Listener>,
-    handler: &mut OfficeHandler<K>,
+    handler: &mut OfficeHandler<K, M>,
     output: &mut Pipe<W>,
     errors: &mut Pipe<E>,
     connections: &mut ConnectionCount,
 ) -> u8
     requires { AreFreshOutputs output.old errors.old }
-    ensures { ServesStore K.view E.contents W.contents listening.now.port listening.now.count
+    ensures { ServesStore K.view E.contents W.contents M.takes listening.now.port listening.now.count
         handler.old output.old output.new errors.old errors.new connections.new result handler.new }
 {
     if print(output, listening_line(listening.port).as_bytes()) {
-        serve_all::<N, K, E>(
+        serve_all::<N, K, M, E>(
             alloc,
             clock,
             &listening.listener,
@@ -94,5 +96,74 @@ pub fn serve_store<N: Net + Clock, K: Keeper, W: Write, E: Write>(
         )
     } else {
         report_fault(errors, PipeFault::Write)
+    }
+}
+
+// Serves an office in this mode, and returns the exit status with the office.
+fn serve_in_mode<N: Net + Clock, K: Keeper, M: PlanMode + Copy, W: Write, E: Write>(
+    alloc: Global,
+    clock: &N,
+    listening: &Listening<N::Listener>,
+    office: Office<K>,
+    mode: M,
+    output: &mut Pipe<W>,
+    errors: &mut Pipe<E>,
+    connections: &mut ConnectionCount,
+) -> (u8, Office<K>)
+    requires { AreFreshOutputs output.old errors.old }
+    ensures { ServesStore K.view E.contents W.contents M.takes listening.now.port listening.now.count
+        office output.old output.new errors.old errors.new connections.new result.0 result.1 }
+{
+    let mut handler = OfficeHandler::new(office, mode);
+    let status = serve_printed::<N, K, M, W, E>(
+        alloc,
+        clock,
+        listening,
+        &mut handler,
+        output,
+        errors,
+        connections,
+    );
+    (status, handler.into_office())
+}
+
+/// Prints the address, serves the connections, and returns the exit status with the office. If the
+/// address can't be printed, it serves none.
+pub fn serve_store<N: Net + Clock, K: Keeper, W: Write, E: Write>(
+    alloc: Global,
+    clock: &N,
+    listening: &Listening<N::Listener>,
+    office: Office<K>,
+    output: &mut Pipe<W>,
+    errors: &mut Pipe<E>,
+    connections: &mut ConnectionCount,
+) -> (u8, Office<K>)
+    requires { AreFreshOutputs output.old errors.old }
+    ensures { ServesStore K.view E.contents W.contents listening.now.plans listening.now.port
+        listening.now.count office output.old output.new errors.old errors.new connections.new
+        result.0 result.1 }
+{
+    if listening.plans {
+        serve_in_mode::<N, K, WithPlans, W, E>(
+            alloc,
+            clock,
+            listening,
+            office,
+            WithPlans,
+            output,
+            errors,
+            connections,
+        )
+    } else {
+        serve_in_mode::<N, K, NoPlans, W, E>(
+            alloc,
+            clock,
+            listening,
+            office,
+            NoPlans,
+            output,
+            errors,
+            connections,
+        )
     }
 }

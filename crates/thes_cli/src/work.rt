@@ -6,9 +6,9 @@ ghost use Rattle.thes_cli.specs.Work.{DoesOutputWork, WorksOverKeeper};
 
 use crate::checking::check_store;
 use crate::displaying::display_store;
-use crate::ending::report_script_end;
 use crate::exporting::export_store;
 use crate::importing::import_file;
+use crate::scripting::answer_script;
 use crate::serving::serve_store;
 use crate::streams::Streams;
 use std::alloc::Global;
@@ -24,22 +24,21 @@ use thes_jobs::progress::reporting_keeper::ReportingKeeper;
 use thes_jobs::trouble::report_unopened_store;
 use thes_jobs::work::{OutputWork, Work};
 use thes_office::Office;
-use thes_service::{OfficeHandler, office_script};
 use thes_store::keeper::Keeper;
 
-// Does work that reads no standard input over an office, and returns the exit status.
+// Does work that reads no standard input over an office, and returns the exit status with the office.
 fn do_output_work<N: Net + Clock, K: Keeper, F: Read + Drop, W: Write, E: Write>(
     alloc: Global,
     clock: &N,
     work: OutputWork<F, N::Listener>,
-    handler: &mut OfficeHandler<K>,
+    mut office: Office<K>,
     output: &mut Pipe<W>,
     errors: &mut Pipe<E>,
     connections: &mut ConnectionCount,
-) -> u8
+) -> (u8, Office<K>)
     requires { AreFreshOutputs output.old errors.old }
     ensures { DoesOutputWork K.view F.remaining W.contents E.contents connections.new work
-        handler.old output.old output.new errors.old errors.new result handler.new }
+        office output.old output.new errors.old errors.new result.0 result.1 }
 {
     match work {
         OutputWork::Serve(listening) => {
@@ -47,20 +46,21 @@ fn do_output_work<N: Net + Clock, K: Keeper, F: Read + Drop, W: Write, E: Write>
                 alloc,
                 clock,
                 &listening,
-                handler,
+                office,
                 output,
                 errors,
                 connections,
             )
         }
-        OutputWork::Check => check_store(alloc, &mut handler.office, output, errors),
-        OutputWork::Export => export_store(alloc, &mut handler.office, output, errors),
+        OutputWork::Check => (check_store(alloc, &mut office, output, errors), office),
+        OutputWork::Export => (export_store(alloc, &mut office, output, errors), office),
         OutputWork::Display(display, DisplayOptions { scheme, lang }) => {
-            let office = &mut handler.office;
-            display_store(alloc, office, display, scheme, &lang, output, errors)
+            let status = display_store(alloc, &mut office, display, scheme, &lang, output, errors);
+            (status, office)
         }
         OutputWork::Import(file, prints_it) => {
-            import_file(alloc, file, prints_it, &mut handler.office, output, errors)
+            let status = import_file(alloc, file, prints_it, &mut office, output, errors);
+            (status, office)
         }
     }
 }
@@ -91,23 +91,24 @@ pub fn work_over_keeper<N: Net + Clock, K: Keeper, F: Read + Drop, R: Read, W: W
             );
         }
     };
-    let mut handler = OfficeHandler::new(office);
-    let status = match work {
-        Work::Script => {
-            let ended = office_script(alloc, &mut streams.input, &mut streams.output, &mut handler);
-            report_script_end(&mut streams.errors, &ended)
+    match work {
+        Work::Script(options) => {
+            let (status, office) = answer_script::<K, R, W, E>(alloc, office, options, streams);
+            (status, office.into_keeper())
         }
-        Work::Output(work) => do_output_work::<N, K, F, W, E>(
-            alloc,
-            clock,
-            work,
-            &mut handler,
-            &mut streams.output,
-            &mut streams.errors,
-            &mut streams.connections,
-        ),
-    };
-    (status, handler.into_office().into_keeper())
+        Work::Output(work) => {
+            let (status, office) = do_output_work::<N, K, F, W, E>(
+                alloc,
+                clock,
+                work,
+                office,
+                &mut streams.output,
+                &mut streams.errors,
+                &mut streams.connections,
+            );
+            (status, office.into_keeper())
+        }
+    }
 }
 
 /// Works over a storage as `work_over_keeper` does, and reports its progress to a listener. It is

@@ -1,8 +1,8 @@
 -- Proves that each row of the matches has a value that its rule accepts, if `clap` finds no fault.
 use Rattle.std.proofs.lemmas.Grind.{common_steps}
-use Rattle.std.proofs.Common.{arith, ◌≡◌, ◌⊎◌, ◌++◌, ap, sym, refl, inl, ℕ, zero, suc, Bool, true, false, cond, List}
+use Rattle.std.proofs.Common.{arith, ◌≡◌, ◌⊎◌, ◌∙◌, ◌++◌, ap, sym, subst, refl, inl, ℕ, zero, suc, Bool, true, false, cond, List}
 use Rattle.std.proofs.Common.{[], ◌∷◌, length, drop, Option, None, Some, true≢false}
-use Rattle.std.specs.Prelude.{is_some, option_map, find, fold, slice_get, encode_utf8}
+use Rattle.std.specs.Prelude.{if◌then◌else◌, is_some, option_map, find, fold, slice_get, encode_utf8}
 use Rattle.std.specs.Option.{option_map_or}
 use Rattle.std.specs.Str.{bytes_eq, chars}
 use Rattle.std.proofs.lemmas.Slice.Eq.{bytes_eq-Decides}
@@ -11,6 +11,7 @@ use Rattle.clap.specs.Facts.{parser_of_value, unwrap_or_range}
 use Rattle.clap.specs.Values.{read_as}
 use Rattle.clap.specs.ValueTests.{accepts}
 use Rattle.clap.specs.Walk.{Held, Names, Outcome, Row, Rule, Step, Text, Waiting, Walk, action_of, after_flag}
+use Rattle.clap.specs.Walk.{attached_value, default_rows, has_row, takes_values}
 use Rattle.clap.specs.Walk.{after_step, arg_by_id, arg_by_long, arg_by_short, at_row, bundle_met, bundle_step, done}
 use Rattle.clap.specs.Walk.{first_of, flag_met, long_met, long_or_other, more_values, most_values, nothing_held, one_of}
 use Rattle.clap.specs.Walk.{option_met, plain, plain_word, reacted, reading_by, rows_after, settled, settled_rows}
@@ -28,7 +29,7 @@ use Rattle.clap.specs.declared.builder.value_parser.Reading.{Reading}
 use Rattle.clap.specs.declared.error.kind.ErrorKind.{ErrorKind}
 use Rattle.clap.specs.declared.error.kind.ErrorKind.TheVariants.{TooManyValues}
 use Rattle.clap.specs.declared.parser.matches.ValueSource.{ValueSource}
-use Rattle.clap.specs.declared.parser.matches.ValueSource.TheVariants.{CommandLine}
+use Rattle.clap.specs.declared.parser.matches.ValueSource.TheVariants.{CommandLine, DefaultValue}
 
 -- If the combination of two faults is none, both are none.
 pub both_none : (a b : Kinds) → or_else a b ≡ [] → (a ≡ []) × (b ≡ [])
@@ -36,6 +37,10 @@ both_none a b e = grind (arith, common_steps)
 
 passes : (b : Bool) (k : ErrorKind) → cond b [] (k ∷ []) ≡ [] → b ≡ true
 passes b k e = grind (arith, common_steps)
+
+values_of_flag : (least most : ℕ) (vs : List Text) → most ≡ 0 → range_kinds least most (length vs) ≡ [] → vs ≡ []
+values_of_flag least most [] none e = refl
+values_of_flag least most (v ∷ vs) none e = grind (arith, common_steps)
 
 no_value : (least most : ℕ) → least ≡ 1 → range_kinds least most 0 ≡ [] → ⊥
 no_value least most one none = grind (arith, common_steps)
@@ -50,17 +55,23 @@ module _ (Q : Text → Reading → Text → Type 0) where
   AllFit [] = Unit {0}
   AllFit (r ∷ rows) = Fits r × AllFit rows
 
-  -- The rule is of an option with one value, whose rows have the property `Q`; or of an option that asks for help or
-  -- version.
+  -- The rule is of an option with one value, whose rows have the property `Q`; of a flag, whose row has it; or of an
+  -- option that asks for help or version.
   abbrev Takes : ArgAction → Rule → Type 0
   Takes action.Set a = ((unwrap_or_range a.range).start_inclusive ≡ 1)
       × ((v : Text) → accepts a.ignore_case (parser_of_value a.parser) v ≡ true → Q a.id (reading_by a) v)
+  Takes action.SetTrue a = (most_values a ≡ 0) × (v : Text) × (a.missing ≡ v ∷ []) × Q a.id (reading_by a) v
   Takes action.Help a = Unit {0}
   Takes action.Version a = Unit {0}
   Takes _ a = ⊥
 
+  -- The rule has no default, or is of a flag, and the row of its default has the property.
+  abbrev Defaults : ArgAction → Rule → Type 0
+  Defaults action.SetTrue a = (v : Text) × (vs : List Text) × (a.defaults ≡ v ∷ vs) × Q a.id (reading_by a) v
+  Defaults _ a = a.defaults ≡ []
+
   abbrev TakesRight : Rule → Type 0
-  TakesRight a = Takes (action_of a) a × (a.defaults ≡ [])
+  TakesRight a = Takes (action_of a) a × Defaults (action_of a) a
 
   abbrev pub AllTake : List Rule → Type 0
   AllTake [] = Unit {0}
@@ -92,12 +103,12 @@ module _ (Q : Text → Reading → Text → Type 0) where
   without_fit : (id : Text) (rows : List Row) → AllFit rows → AllFit (without id rows)
   without_fit id rows all = at_fit id (λ r. []) [] rows (λ r fit. tt) tt all
 
-  with_fit : (id : Text) (how : Reading) (v : Text) (vs : List Text) (rows : List Row) → Q id how v → AllFit rows
-      → AllFit (with_values id how CommandLine (v ∷ vs) rows)
-  with_fit id how v vs rows right all =
-      at_fit id (more_values CommandLine (v ∷ vs))
-      (record { id = id; values = v ∷ vs; count = None; source = Some CommandLine; reading = how } ∷ []) rows
-      (more_fit CommandLine (v ∷ vs)) ((v, vs, refl, right), tt) all
+  with_fit : (s : ValueSource) (id : Text) (how : Reading) (v : Text) (vs : List Text) (rows : List Row) → Q id how v
+      → AllFit rows → AllFit (with_values id how s (v ∷ vs) rows)
+  with_fit s id how v vs rows right all =
+      at_fit id (more_values s (v ∷ vs))
+      (record { id = id; values = v ∷ vs; count = None; source = Some s; reading = how } ∷ []) rows
+      (more_fit s (v ∷ vs)) ((v, vs, refl, right), tt) all
 
   -- The rows still fit after one more option or flag is used.
   used_fit : (again : Bool) (a : Rule) (values : List Text) (rows : List Row) → TakesRight a
@@ -110,6 +121,11 @@ module _ (Q : Text → Reading → Text → Type 0) where
           → (range_kinds (unwrap_or_range a.range).start_inclusive (most_values a) (length vs) ≡ [])
           × (action_fault x again a (values_or_missing a vs) rows ≡ [])
           → AllFit (used_as x a.id (reading_by a) (values_or_missing a vs) rows)
+      by action.SetTrue vs takes none =
+          let missing : values_or_missing a vs ≡ takes.1 ∷ [] =
+          ap (values_or_missing a) (values_of_flag _ _ vs takes.0 none.0) ∙ takes.2 in
+          subst (λ (ws : List Text). AllFit (used_as action.SetTrue a.id (reading_by a) ws rows)) (sym missing)
+          (with_fit CommandLine a.id (reading_by a) takes.1 [] (without a.id rows) takes.3 (without_fit a.id rows all))
       by x vs takes none = grind (arith, common_steps, no_value, both_none, with_fit, without_fit)
 
   module _ (c : List Rule) (again : Bool) (all : AllTake c) where
@@ -143,7 +159,8 @@ module _ (Q : Text → Reading → Text → Type 0) where
     flag_fit : (a : Rule) (v : Option Text) (h : Held) → TakesRight a → cond (is_some v) (TooManyValues ∷ [])
         (react_fault c again a [] h) ≡ []
         → AllFit h.rows → AllFit (flag_met c a v h).0.rows
-    flag_fit a v h right none fit = grind (arith, common_steps, reacted_fit)
+    flag_fit a (Some v) h right none fit = fit
+    flag_fit a None h right none fit = reacted_fit a [] h right none fit
 
     long_fit : (o : Option Rule) (v : Option Text) (h : Held) → ((a : Rule) → o ≡ Some a → TakesRight a)
         → long_fault c again o v h ≡ [] → AllFit h.rows
@@ -156,7 +173,17 @@ module _ (Q : Text → Reading → Text → Type 0) where
         → ((g : Held) → fault g ≡ [] → AllFit g.rows → AllFit (step g).0.rows) → short_fault c again o rest h fault
         ≡ [] → AllFit h.rows
         → AllFit (short_met c o rest h step).0.rows
-    short_fit o rest h step fault right each none fit = grind (arith, common_steps, option_fit, both_none, reacted_fit)
+    short_fit None rest h step fault right each none fit = fit
+    short_fit (Some a) rest h step fault right each none fit = by (takes_values a) none
+      where
+        by : (b : Bool)
+            → (if b then option_fault c again a (attached_value rest) h
+            else or_else (react_fault c again a [] h) (fault (reacted c a [] h))) ≡ []
+            → AllFit (if b then option_met c a (attached_value rest) h else step (reacted c a [] h)).0.rows
+        by true e = option_fit a (attached_value rest) h (right a refl) e fit
+        by false e =
+            let both = both_none (react_fault c again a [] h) _ e in
+            each (reacted c a [] h) both.1 (reacted_fit a [] h (right a refl) both.0 fit)
 
     bundle_fit : (k : ℕ) (flags : Text) (skip : ℕ) (so_far : Outcome) (h : Held) → flags_fault c again k flags skip h
         ≡ [] → AllFit h.rows
@@ -237,19 +264,26 @@ module _ (Q : Text → Reading → Text → Type 0) where
     walk_fit names (word ∷ rest) w none fit =
         grind (arith, common_steps, both_none, turn_fit, walk_fit names rest (walked s.rules names w word))
 
-  no_default : (rows : List Row) (a : Rule) → a.defaults ≡ [] → with_default rows a ≡ rows
-  no_default rows a none = grind (arith, common_steps)
+  default_fit : (rows : List Row) (a : Rule) → TakesRight a → AllFit rows → AllFit (with_default rows a)
+  default_fit rows a right fit = by (action_of a) (has_row a.id rows) right.1
+    where
+      by : (x : ArgAction) (b : Bool) → Defaults x a
+          → AllFit (cond b rows (default_rows a.id (reading_by a) a.defaults rows))
+      by x true defaults = fit
+      by action.SetTrue false defaults = rw defaults.2
+          (with_fit DefaultValue a.id (reading_by a) defaults.0 defaults.1 rows defaults.3 fit)
+      by x false defaults = grind (arith, common_steps)
 
-  no_defaults : (c : List Rule) (rows : List Row) → AllTake c → fold with_default rows c ≡ rows
-  no_defaults [] rows all = refl
-  no_defaults (a ∷ c) rows all = grind (arith, common_steps, no_default, no_defaults c rows all.1)
+  defaults_fit : (c : List Rule) (rows : List Row) → AllTake c → AllFit rows → AllFit (fold with_default rows c)
+  defaults_fit [] rows all fit = fit
+  defaults_fit (a ∷ c) rows all fit = defaults_fit c (with_default rows a) all.1 (default_fit rows a all.0 fit)
 
   -- The rows of a command without faults fit its rules.
   pub finished_fit : (s : Shape) (names : Names) (arguments : List Text) → AllTake s.rules
       → walk_fault s names (walk_from nothing_held) arguments ≡ []
       → settle_fault s.rules s.args_override_self (walk s.rules names nothing_held arguments).held ≡ []
       → AllFit (rows_after s.rules names arguments)
-  finished_fit s names arguments all walks settles = grind (arith, common_steps, settled_fit, walk_fit, no_defaults)
+  finished_fit s names arguments all walks settles = grind (arith, common_steps, settled_fit, walk_fit, defaults_fit)
 
   -- The rows of a command without faults and subcommands fit its rules, and its required options are given.
   pub level_fit : (s : Shape) (arguments : List Text) → AllTake s.rules → level_fault s [] nothing_held arguments

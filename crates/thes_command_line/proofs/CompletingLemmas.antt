@@ -94,6 +94,12 @@ four_or_five n m four five e = omega arith
 other_names : codes "port" ≡ codes "count" → ⊥
 other_names e = four_or_five 4 5 refl refl (ap (λ (t : List ℕ). length t) e)
 
+plans_and_port : codes "plans" ≡ codes "port" → ⊥
+plans_and_port e = four_or_five 4 5 refl refl (sym (ap (λ (t : List ℕ). length t) e))
+
+plans_and_count : codes "plans" ≡ codes "count" → ⊥
+plans_and_count e = true≢false (ap (λ (t : List ℕ). bytes_eq t (codes "plans")) e)
+
 -- The command `serve` without faults has a port and, if one is given, a number of connections, within their bounds.
 serve_completes : IsCompleted (built Rattle.thes_command_line.specs.Commands.serve).top
 serve_completes arguments none =
@@ -119,7 +125,11 @@ serve_completes arguments none =
         ),
       ),
       refl,
-    ) (and_rest (tt, refl) tt))) none in
+    )
+    (and_rest (
+      (refl, codes "true", refl, (λ same. absurd (plans_and_port same), λ same. absurd (plans_and_count same))),
+      (codes "false", [], refl, (λ same. absurd (plans_and_port same), λ same. absurd (plans_and_count same))),
+    ) (and_rest (tt, refl) tt)))) none in
     let given = or_parts (not (is_given (codes "port") rows)) _ (wanted_given false false _ fit.1) in
     let found = found_given Numbers (codes "port") rows fit.0 (not-false _ given.0) in
     let port = found.4.0 refl in

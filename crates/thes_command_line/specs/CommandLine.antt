@@ -1,7 +1,8 @@
 -- The job that the arguments of the command line describe.
 use Rattle.std.specs.Prelude.{◌≡◌, ◌≢◌, ◌⊎◌, ◌≤◌, ℕ, List, [], Option, Some, IsSome, IfSome, IsSomeAnd, option_map}
-use Rattle.std.specs.Prelude.{unwrap_or, Result, Ok, Err, true, codes, string_bytes}
+use Rattle.std.specs.Prelude.{unwrap_or, Result, Ok, Err, Bool, true, false, codes, string_bytes}
 use Rattle.std.specs.Option.{option_map_or}
+use Rattle.std.specs.Str.{bytes_eq}
 use Rattle.std.specs.Str.Parse.{digits_value, without_leading_plus}
 use Rattle.clap.specs.Values.{IsUnsignedIn}
 use Rattle.clap.specs.Words.{Kinds, Row, Text, IsAmong, fault_of, first_of, matches_of, one_of, subcommand_of}
@@ -48,9 +49,13 @@ limits_in options = record {
   moves = number_of_option (codes "max-moves") 1000000 options;
 }
 
+-- Whether the flag is given: `clap` sets it to `true`, and any other to `false`.
+abbrev pub is_set : Text → List Row → Bool
+is_set name options = option_map_or (λ text. bytes_eq text (codes "true")) (first_of name options) false
+
 -- The name of a task's command, as it is written on the command line.
 abbrev pub command_of : Task → Text
-command_of Script = codes "script"
+command_of (Script options) = codes "script"
 command_of (Import file) = codes "import"
 command_of Export = codes "export"
 command_of (Alphabetical shown) = codes "alphabetical"
@@ -67,11 +72,13 @@ SpellsNumber text n = IsNumber n × IsNumeral text n
 abbrev pub default_count : ℕ
 default_count = 4294967295
 
--- The port and the number of connections are those of the options `--port` and `--count`.
+-- The port and the number of connections are those of the options `--port` and `--count`, and plans are taken if
+-- `--plans` is given.
 pub record IsServeOptions (arguments : List Row) (serving : ServeOptions) : Type 0 where
   pub port : option_map number_of (first_of (codes "port") arguments) ≡ Some serving.port
   pub count : number_of_option (codes "count") default_count arguments ≡ serving.count
   pub from_one : (1 ≤ serving.port) × (1 ≤ serving.count)
+  pub plans : is_set (codes "plans") arguments ≡ serving.plans
 
 -- The scheme is the number of `--scheme`, and the language is the tag of `--lang`.
 pub record IsDisplayOptions (arguments : List Row) (shown : DisplayOptions) : Type 0 where
@@ -81,7 +88,7 @@ pub record IsDisplayOptions (arguments : List Row) (shown : DisplayOptions) : Ty
 
 -- The arguments after the command describe this task.
 abbrev pub SetsTask : List Row → Task → Type 0
-SetsTask arguments Script = Unit {0}
+SetsTask arguments (Script options) = is_set (codes "plans") arguments ≡ options.plans
 SetsTask arguments (Import file) = first_of (codes "file") arguments ≡ Some (string_bytes file)
 SetsTask arguments Export = Unit {0}
 SetsTask arguments (Alphabetical shown) = IsDisplayOptions arguments shown

@@ -2,6 +2,7 @@
 use Rattle.std.specs.Prelude.{ℕ, List, [], ◌∷◌, Some, true, codes, fold}
 use Rattle.clap.specs.Simple.{on_top}
 use Rattle.clap.specs.Words.{App, Rule, Text, new_app, new_rule, with_rule, with_subcommand}
+use Rattle.clap.specs.declared.builder.action.ArgAction.TheVariants.{SetTrue}
 use Rattle.clap.specs.declared.builder.value_parser.ValueParser.TheVariants.{Unsigned}
 
 -- An option, written with two hyphens, that takes one value.
@@ -11,6 +12,10 @@ option name = record (new_rule name) { long = Some name; value_names = 1 }
 -- An option that takes a number from 1 to `most`.
 abbrev pub number_option : Text → ℕ → Rule
 number_option name most = record (option name) { parser = Some (Unsigned 1 most) }
+
+-- A flag: an option without a value.
+abbrev pub flag : Text → Rule
+flag name = record (new_rule name) { long = Some name; action = Some SetTrue }
 
 -- A rule for an option or argument that is required.
 abbrev pub required_rule : Rule → Rule
@@ -24,6 +29,10 @@ required_file = required_rule (record (new_rule (codes "file")) { value_names = 
 abbrev pub command : Text → App
 command name = new_app name
 
+-- The command `script`, with the flag for plans.
+abbrev pub script : App
+script = with_rule (command (codes "script")) (flag (codes "plans"))
+
 -- The command `import`, with its required file.
 abbrev pub import : App
 import = with_rule (command (codes "import")) required_file
@@ -34,11 +43,13 @@ display name =
     with_rule (with_rule (command name) (required_rule (option (codes "scheme"))))
     (required_rule (option (codes "lang")))
 
--- The command `serve`, with its required port and its number of connections.
+-- The command `serve`, with its required port, its number of connections, and the flag for plans.
 abbrev pub serve : App
 serve =
-    with_rule (with_rule (command (codes "serve")) (required_rule (number_option (codes "port") 65535)))
-    (number_option (codes "count") 4294967295)
+    with_rule
+    (with_rule (with_rule (command (codes "serve")) (required_rule (number_option (codes "port") 65535)))
+    (number_option (codes "count") 4294967295))
+    (flag (codes "plans"))
 
 -- An option for a limit of the store, a number from 1 to 2³² - 1.
 abbrev pub limit : Text → Rule
@@ -71,7 +82,7 @@ program_options =
 -- The eight commands, in the order of the help.
 abbrev pub commands : List App
 commands =
-    command (codes "script") ∷ import ∷ command (codes "export") ∷ display (codes "alphabetical")
+    script ∷ import ∷ command (codes "export") ∷ display (codes "alphabetical")
     ∷ display (codes "hierarchical") ∷ serve ∷ command (codes "check") ∷ command (codes "migrate") ∷ []
 
 -- The program with its options and its commands.

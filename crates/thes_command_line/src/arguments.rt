@@ -3,7 +3,7 @@ ghost use Rattle.std.specs.Prelude.{◌≡◌, ◌↔◌, IsTrue, codes, map, op
 ghost use Rattle.std.specs.IoError.{error_kind};
 ghost use Rattle.std.specs.Vec.Iter.{into_iter_items};
 ghost use Rattle.clap.specs.Words.{first_of, found_of, kind_of, rows_of, subcommand_rows_of};
-ghost use Rattle.thes_command_line.specs.CommandLine.{base_in, command_of, NamesDisplay, IsCompleteCommand, HasCommand, HasLimit, HasLimits, HasOptions, HasPort, IsServeOptions, limits_in, number_of_option, ExitsFor, PlanResult, MatchedPlanResult, PlansTask, ReadsDisplayOptions};
+ghost use Rattle.thes_command_line.specs.CommandLine.{base_in, command_of, NamesDisplay, IsCompleteCommand, HasCommand, HasLimit, HasLimits, HasOptions, HasPort, IsServeOptions, is_set, limits_in, number_of_option, ExitsFor, PlanResult, MatchedPlanResult, PlansTask, ReadsDisplayOptions};
 ghost use Rattle.thes_command_line.specs.EarlyExit.{exit_status};
 
 use crate::commands::program;
@@ -30,18 +30,27 @@ pub struct DisplayOptions {
     pub lang: Tag,
 }
 
+/// The options of `script`.
+#[derive(Clone, Copy, Debug)]
+pub struct ScriptOptions {
+    /// Whether a line may be a plan.
+    pub plans: bool,
+}
+
 /// The options of `serve`: the port to listen on, and the number of connections to serve.
 #[derive(Clone, Copy, Debug)]
 pub struct ServeOptions {
     pub port: u16,
     pub count: u32,
+    /// Whether plans are taken at `/plans`.
+    pub plans: bool,
 }
 
 /// What a command does with a store.
 #[derive(Debug, Drop)]
 pub enum Task {
     /// Answers the requests of a script on standard input.
-    Script,
+    Script(ScriptOptions),
     /// Imports the posting file with this name.
     Import(String),
     /// Writes the triples of the store as N-Triples.
@@ -241,7 +250,19 @@ fn display_options(alloc: Global, arguments: &ArgMatches<'_>) -> Result<DisplayO
     }
 }
 
-// Returns the port and the number of connections of the command `serve`, which `clap` has checked.
+// Returns whether a flag is given.
+#[tactic(auto, using(crate::proofs::ReadingLemmas::values_read))]
+fn is_set(arguments: &ArgMatches<'_>, name: &str) -> bool
+    ensures { result ≡ is_set name.now (rows_of (found_of arguments.now)) }
+{
+    match arguments.get_str(name) {
+        Some(text) => text == "true",
+        None => false,
+    }
+}
+
+// Returns the port, the number of connections and the flag of the command `serve`, which `clap` has
+// checked.
 fn serve_options(arguments: &ArgMatches<'_>) -> ServeOptions
     requires { HasPort (rows_of (found_of arguments.now)) }
     ensures { IsServeOptions (rows_of (found_of arguments.now)) result }
@@ -249,6 +270,7 @@ fn serve_options(arguments: &ArgMatches<'_>) -> ServeOptions
     ServeOptions {
         port: arguments.get_one::<u16>("port").unwrap(),
         count: arguments.get_one::<u32>("count").unwrap_or(COUNT),
+        plans: is_set(arguments, "plans"),
     }
 }
 
@@ -258,7 +280,8 @@ fn task_of(alloc: Global, name: &str, arguments: &ArgMatches<'_>) -> Result<Task
     ensures { PlansTask name.now (rows_of (found_of arguments.now)) result }
 {
     if name == "script" {
-        Ok(Task::Script)
+        let plans = is_set(arguments, "plans");
+        Ok(Task::Script(ScriptOptions { plans }))
     } else if name == "import" {
         import_task(alloc, arguments)
     } else if name == "export" {

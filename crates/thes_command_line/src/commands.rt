@@ -5,7 +5,7 @@ ghost use Rattle.clap.specs.declared.builder.command.Command.TheViews.{out-Comma
 ghost use Rattle.thes_command_line.specs.Commands as line;
 
 use clap::builder::ValueParser;
-use clap::{Arg, Command};
+use clap::{Arg, ArgAction, Command};
 use std::alloc::{AllocError, Global};
 
 const VERSION: &str = "0.2";
@@ -91,7 +91,10 @@ Exit status:
 In the repository, docs/REQUESTS.md describes each request and its answers, docs/OPERATING.md files and
 faults.";
 
-const SCRIPT_USAGE: &str = "thesaurus [--db <FILE>] script";
+const SCRIPT_PLANS: &str =
+    "A line that is an array of 1 to 128 requests is a plan: all of them are performed, or none";
+
+const SCRIPT_USAGE: &str = "thesaurus [--db <FILE>] script [--plans]";
 
 const SCRIPT_EXAMPLE: &str = "\
 An example. A merge takes the postings of its source along, and they show the move:
@@ -154,7 +157,10 @@ An example. Narrower terms are indented below broader ones; a term that was merg
 
 Options before the command, as --db, choose the store: thesaurus --help lists them.";
 
-const SERVE_USAGE: &str = "thesaurus [--db <FILE>] serve --port <N> [--count <N>]";
+const SERVE_PLANS: &str =
+    "Take plans at /plans: arrays of 1 to 128 requests, of which all are performed, or none";
+
+const SERVE_USAGE: &str = "thesaurus [--db <FILE>] serve --port <N> [--count <N>] [--plans]";
 
 const SERVE_EXAMPLE: &str = "\
 An example. The store for other programs on this machine, at http://127.0.0.1:8080/; docs/HTTP.md in the
@@ -205,6 +211,17 @@ fn number_option<'a>(alloc: Global, name: &'a str, most: u64, help: &'a str) -> 
     option(alloc, name, "N", help).value_parser(ValueParser::Unsigned(1, most))
 }
 
+// Returns a flag: an option without a value.
+fn flag<'a>(alloc: Global, name: &'a str, help: &'a str) -> Arg<'a>
+    ensures rule { rule_of result ≡ line.flag name.now }
+    ensures local { result.global ≡ false }
+{
+    Arg::new(alloc, name)
+        .long(name)
+        .action(ArgAction::SetTrue)
+        .help(help)
+}
+
 // Returns an option for a limit of the store, a number from 1 to 2³² - 1.
 fn limit<'a>(alloc: Global, name: &'a str, help: &'a str) -> Arg<'a>
     ensures rule { rule_of result ≡ line.limit name.now }
@@ -241,6 +258,18 @@ fn command<'a>(
         .after_help(example)
 }
 
+// Returns the command `script`, with the flag for plans.
+fn script<'a>(alloc: Global) -> Result<Command<'a>, AllocError>
+    ensures app { IfOk result (λ c. app_of c ≡ line.script) }
+    ensures local { IfOk result (λ c. (fields_of c).has_globals ≡ false) }
+{
+    command(alloc, "script", SCRIPT, SCRIPT_USAGE, SCRIPT_EXAMPLE).arg(flag(
+        alloc,
+        "plans",
+        SCRIPT_PLANS,
+    ))
+}
+
 // Returns the command `import`, with its required file.
 fn import<'a>(alloc: Global) -> Result<Command<'a>, AllocError>
     ensures app { IfOk result (λ c. app_of c ≡ line.import) }
@@ -265,14 +294,16 @@ fn display<'a>(
         .arg(option(alloc, "lang", "TAG", LANG).required(true))
 }
 
-// Returns the command `serve`, with its required port and its number of connections.
+// Returns the command `serve`, with its required port, its number of connections, and the flag for
+// plans.
 fn serve<'a>(alloc: Global) -> Result<Command<'a>, AllocError>
     ensures app { IfOk result (λ c. app_of c ≡ line.serve) }
     ensures local { IfOk result (λ c. (fields_of c).has_globals ≡ false) }
 {
     command(alloc, "serve", SERVE, SERVE_USAGE, SERVE_EXAMPLE)
         .arg(number_option(alloc, "port", 65_535, PORT).required(true))?
-        .arg(number_option(alloc, "count", 4_294_967_295, COUNT))
+        .arg(number_option(alloc, "count", 4_294_967_295, COUNT))?
+        .arg(flag(alloc, "plans", SERVE_PLANS))
 }
 
 // Returns the program with the options `--db` and `--base`, before any other option or command is
@@ -338,8 +369,7 @@ pub fn program<'a>(alloc: Global) -> Result<Command<'a>, AllocError>
     ensures { IfOk result (λ program. app_of program ≡ line.program) }
 {
     let program = program_options(alloc);
-    let script = command(alloc, "script", SCRIPT, SCRIPT_USAGE, SCRIPT_EXAMPLE);
-    let program = with_command(program, Ok(script));
+    let program = with_command(program, script(alloc));
     let program = with_command(program, import(alloc));
     let export = command(alloc, "export", EXPORT, EXPORT_USAGE, EXPORT_EXAMPLE);
     let program = with_command(program, Ok(export));

@@ -9,7 +9,8 @@ use Rattle.thes_base.specs.declared.fault.Fault.TheVariants.{OutOfMemory}
 use Rattle.thes_base.specs.declared.fault.FormFault.TheVariants.{BadShape, BadNumber, BadTag}
 use Rattle.thes_base.specs.declared.fault.FormFault.{FormFault}
 use Rattle.thes_base.specs.declared.request.Command.{Command}
-use Rattle.thes_requests.specs.Requests.{request_of}
+use Rattle.thes_requests.specs.Requests.{json_in, request_of}
+use Rattle.thes_requests.specs.Serving.{ServesPlan}
 use Rattle.thes_requests.specs.declared.request.Query.{Query}
 use Rattle.thes_requests.specs.declared.request.Query.TheVariants as asks
 use Rattle.thes_requests.specs.declared.request.Request.TheVariants.{Do, Get}
@@ -28,12 +29,12 @@ use Rattle.thes_http.proofs.ServeLemmas.{has_more}
 use Rattle.thes_http.specs.declared.response.Response.{Response}
 use Rattle.thes_requests.specs.declared.request.Display.{Display}
 use Rattle.thes_requests.specs.declared.request.Display.TheVariants as display
-use Rattle.thes_http.specs.Responses.{problem_response, form_response, fault_response, command_response}
+use Rattle.thes_http.specs.Responses.{problem_response, form_response, fault_response, command_response, plan_response}
 use Rattle.thes_http.specs.Responses.{query_response, import_response, export_response, display_response}
 use Rattle.thes_http.specs.ServiceBehaviour.{ServiceBehaviour}
 use Rattle.thes_http.specs.Serving.{RespondsUnchanged, CommandEffect, QueryEffect, WithNumber}
 use Rattle.thes_http.specs.Serving.{DisplayEffect, DisplayQueryEffect, EndpointEffect, AnswersHead, Answers}
-use Rattle.thes_http.specs.Laws.{AnswerOneCall, command_answers, query_answers, import_answers, export_answers}
+use Rattle.thes_http.specs.Laws.{AnswerOneCall, command_answers, plan_answers, query_answers, import_answers, export_answers}
 use Rattle.thes_http.specs.Laws.{display_answers, no_call, RunsOut, HasOneAnswerToACall, IsFaultResponse, HasOneCall}
 use Rattle.thes_http.specs.Laws.{HasOneAnswer, CutHasNoAnswer}
 
@@ -108,6 +109,7 @@ module _ {S : Type 0} (d : ServiceBehaviour S) where
     same_place : (p : Endpoint) (number query body : List ℕ) → EndpointEffect d old r x p number query body
         → EndpointEffect d old q y p number query body → AnswerOneCall d old r x q y
     same_place endpoint.Requests number query body a b = same_command body a b
+    same_place endpoint.Plans number query body a b = plan_answers body a.0 b.0 a.1 b.1 a.2 b.2
     same_place endpoint.Import number query body a b = import_answers body a.0 b.0 a.1 b.1 a.2 b.2
     same_place endpoint.Totals number query body a b = same_query asks.Totals a b
     same_place endpoint.Concept number query body a b = same_number_query asks.Concept number a b
@@ -135,9 +137,9 @@ module _ {S : Type 0} (d : ServiceBehaviour S) where
         absurd (whole_is_not_bad (bytes ++ more) (a.1 ++ more) a.0 (has_more bytes a.0 a.1 more a.2) b.0)
     same_answer bytes more (inr (inl a)) (inr (inl b)) =
         let one = one_head (bytes ++ more) b.1 (a.1 ++ more) b.0 a.0 b.2 (has_more bytes a.0 a.1 more a.2) in
-        inl (same_head (head_request_of (parts_of a.0)) a.1 more a.3
-        (subst (λ (t : List ℕ). AnswersHead d old q y (head_request_of (parts_of a.0)) t) one.1
-        (subst (λ (h : RequestHead). AnswersHead d old q y (head_request_of (parts_of h)) b.1) one.0 b.3)))
+        inl (same_head (head_request_of (d.requests.takes_plans old) (parts_of a.0)) a.1 more a.3
+        (subst (λ (t : List ℕ). AnswersHead d old q y (head_request_of (d.requests.takes_plans old) (parts_of a.0)) t) one.1
+        (subst (λ (h : RequestHead). AnswersHead d old q y (head_request_of (d.requests.takes_plans old) (parts_of h)) b.1) one.0 b.3)))
     same_answer bytes more (inr (inl a)) (inr (inr b)) = inr (inr b)
     same_answer bytes more (inr (inr a)) b = inr (inl a)
 
@@ -163,6 +165,8 @@ module _ {S : Type 0} (d : ServiceBehaviour S) where
   unfolding Determined
   same_call old x y r q one (command_answers command a b p p' e e') = same_results command_response
       (λ c. d.requests.performs old command c) x y r q (λ f. refl) (λ a' b'. one.performs command a' b' x y) a b p p' e e'
+  same_call old x y r q one (plan_answers body a b p p' e e') = same_results plan_response
+      (λ c. ServesPlan d.requests old (json_in body) c) x y r q (λ f. refl) (λ a' b'. one.plans body a' b' x y) a b p p' e e'
   same_call old x y r q one (query_answers query a b p p' e e') = same_results query_response
       (λ c. d.requests.shows old query c) x y r q (λ f. refl) (λ a' b'. one.shows query a' b' x y) a b p p' e e'
   same_call old x y r q one (import_answers file a b p p' e e') = same_results import_response
@@ -198,7 +202,7 @@ module _ {S : Type 0} (d : ServiceBehaviour S) where
       absurd (whole_is_not_bad bytes cut.1 cut.0 cut.3 a.0)
   cut_has_no_answer old new response bytes (inr cut) (inr (inl a)) =
       let one = one_head bytes a.1 cut.1 a.0 cut.0 a.2 cut.3 in
-      absurd (cut_head_answered old new response cut.0 cut.1 cut.2 (head_request_of (parts_of cut.0)) cut.4 cut.5
-      (subst (λ (t : List ℕ). AnswersHead d old response new (head_request_of (parts_of cut.0)) t) one.1
-      (subst (λ (h : RequestHead). AnswersHead d old response new (head_request_of (parts_of h)) a.1) one.0 a.3)))
+      absurd (cut_head_answered old new response cut.0 cut.1 cut.2 (head_request_of (d.requests.takes_plans old) (parts_of cut.0)) cut.4 cut.5
+      (subst (λ (t : List ℕ). AnswersHead d old response new (head_request_of (d.requests.takes_plans old) (parts_of cut.0)) t) one.1
+      (subst (λ (h : RequestHead). AnswersHead d old response new (head_request_of (d.requests.takes_plans old) (parts_of h)) a.1) one.0 a.3)))
   cut_has_no_answer old new response bytes cut (inr (inr a)) = a

@@ -1,3 +1,4 @@
+pub mod PlanLemmas
 mod ServeLemmas
 mod WriteLemmas
 mod ServerLemmas

@@ -1,5 +1,5 @@
 -- The outcome of one connection: the bytes consumed, the response, and the bytes written.
-use Rattle.std.specs.Prelude.{ℕ, ◌≡◌, true, List, Option, Result, IfOk, OnErr, IsErrOf}
+use Rattle.std.specs.Prelude.{ℕ, ◌≡◌, Bool, true, List, Option, Result, IfOk, OnErr, IsErrOf}
 use Rattle.std.specs.Io.KnownBytes.{Consumes, IsAtEnd}
 use Rattle.thes_base.specs.Pipe.{ended_of, unread_bytes, PaysCalls}
 use Rattle.thes_base.specs.declared.pipe.Pipe.{Pipe}
@@ -22,12 +22,12 @@ pub record IsConnectionAnswer {S : Type 0} (d : ServiceBehaviour S) (known left 
   pub taken : Consumes known left bytes
   pub answers : Answers d old response new bytes
 
--- The input ended inside a request, after these bytes.
-pub record IsCutOff (known left : Option (List ℕ)) : Type 0 where
+-- The input ended inside a request, after these bytes; whether plans are taken may matter.
+pub record IsCutOff (takes_plans : Bool) (known left : Option (List ℕ)) : Type 0 where
   pub bytes : List ℕ
   pub taken : Consumes known left bytes
   pub at_end : IsAtEnd left
-  pub cut : IsCutRequest bytes
+  pub cut : IsCutRequest takes_plans bytes
 
 -- The outcome of a request, before anything is written: the response to it; or nothing was performed, since the input
 -- has ended within the request, or the reader has stopped. The budget falls by the number of reads.
@@ -36,7 +36,8 @@ pub record RequestOutcome {R S : Type 0} (remaining : R → Option (List ℕ)) (
   pub answer : IfOk result (λ response.
       IsConnectionAnswer d (unread_bytes remaining reader) (unread_bytes remaining reader') old response new)
   pub cut : IsErrOf result input_fault.Cut
-      → IsCutOff (unread_bytes remaining reader) (unread_bytes remaining reader') × (ended_of reader' ≡ true)
+      → IsCutOff (d.requests.takes_plans old) (unread_bytes remaining reader) (unread_bytes remaining reader')
+      × (ended_of reader' ≡ true)
   pub fault : IsErrOf result input_fault.ReadFault → HasStopped reader'
   pub same : OnErr result (new ≡ old)
   pub calls : PaysCalls reader reader' before after
@@ -72,7 +73,8 @@ module _ {R W S : Type 0} (remaining : R → Option (List ℕ)) (contents : W �
   abbrev pub EndsAs : ConnectionEnd → Type 0
   EndsAs (Answered status) = IsAnsweredWith status
   EndsAs Cut =
-      IsCutOff (unread_bytes remaining old.reader) (unread_bytes remaining new.reader)
+      IsCutOff (d.requests.takes_plans old.handler) (unread_bytes remaining old.reader)
+      (unread_bytes remaining new.reader)
       × (ended_of new.reader ≡ true) × IsUntouched old new
   EndsAs ReadFault = HasStopped new.reader × IsUntouched old new
   EndsAs WriteFault = HasStopped new.writer × IsAnsweredInPart

@@ -6,11 +6,14 @@ use Rattle.thes_base.specs.declared.request.Command.{Command}
 use Rattle.thes_base.specs.declared.request.Answer.{Answer}
 use Rattle.thes_requests.specs.declared.handler.QueryAnswer.{QueryAnswer}
 use Rattle.thes_requests.specs.declared.request.Query.{Query}
+use Rattle.thes_requests.specs.declared.plan_reply.PlanReply.{PlanReply}
+use Rattle.thes_requests.specs.Requests.{json_in}
+use Rattle.thes_requests.specs.Serving.{ServesPlan}
 use Rattle.thes_http.specs.declared.response.Response.{Response}
 use Rattle.thes_http.specs.declared.service.ImportAnswer.{ImportAnswer}
 use Rattle.thes_requests.specs.declared.request.Display.{Display}
 use Rattle.thes_http.specs.declared.service.DisplayAnswer.{DisplayAnswer}
-use Rattle.thes_http.specs.Responses.{fault_response, command_response, query_response, import_response}
+use Rattle.thes_http.specs.Responses.{fault_response, command_response, plan_response, query_response, import_response}
 use Rattle.thes_http.specs.Responses.{export_response, display_response}
 use Rattle.thes_http.specs.ServiceBehaviour.{ServiceBehaviour}
 use Rattle.thes_http.specs.Serving.{Answers, IsCutRequest}
@@ -22,6 +25,9 @@ module _ {S : Type 0} (d : ServiceBehaviour S) (old : S) where
     command_answers : (command : Command) (a b : Result Answer Fault)
         → d.requests.performs old command a x → d.requests.performs old command b y
         → r ≡ command_response a → q ≡ command_response b → AnswerOneCall r x q y
+    plan_answers : (body : List ℕ) (a b : Result PlanReply Fault)
+        → ServesPlan d.requests old (json_in body) a x → ServesPlan d.requests old (json_in body) b y
+        → r ≡ plan_response a → q ≡ plan_response b → AnswerOneCall r x q y
     query_answers : (query : Query) (a b : Result QueryAnswer Fault)
         → d.requests.shows old query a x → d.requests.shows old query b y
         → r ≡ query_response a → q ≡ query_response b → AnswerOneCall r x q y
@@ -45,6 +51,8 @@ module _ {S : Type 0} (d : ServiceBehaviour S) (old : S) where
         → d.requests.performs old command (Ok a) x → d.requests.performs old command (Ok b) y → (a ≡ b) × (x ≡ y)
     pub shows : (query : Query) (a b : QueryAnswer) (x y : S)
         → d.requests.shows old query (Ok a) x → d.requests.shows old query (Ok b) y → (a ≡ b) × (x ≡ y)
+    pub plans : (body : List ℕ) (a b : PlanReply) (x y : S) → ServesPlan d.requests old (json_in body) (Ok a) x
+        → ServesPlan d.requests old (json_in body) (Ok b) y → (a ≡ b) × (x ≡ y)
     pub imports : (file : List ℕ) (a b : ImportAnswer) (x y : S)
         → d.imports old file (Ok a) x → d.imports old file (Ok b) y → (a ≡ b) × (x ≡ y)
     pub exports : (a b : List ℕ) (x y : S)
@@ -77,5 +85,5 @@ module _ {S : Type 0} (d : ServiceBehaviour S) where
   -- A request that was cut off has no answer, unless memory ran out.
   abbrev pub CutHasNoAnswer : Type 0
   CutHasNoAnswer =
-      (old new : S) (response : Response) (bytes : List ℕ) → IsCutRequest bytes
+      (old new : S) (response : Response) (bytes : List ℕ) → IsCutRequest (d.requests.takes_plans old) bytes
       → Answers d old response new bytes → RunsOut d old response new

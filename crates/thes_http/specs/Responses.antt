@@ -13,7 +13,10 @@ use Rattle.thes_requests.specs.declared.answer.Reply.{Reply}
 use Rattle.thes_requests.specs.declared.answer.Reply.TheVariants as reply
 use Rattle.thes_requests.specs.declared.handler.QueryAnswer.{QueryAnswer}
 use Rattle.thes_requests.specs.declared.handler.QueryAnswer.TheVariants as view
+use Rattle.thes_requests.specs.declared.plan_reply.PlanReply.{PlanReply}
+use Rattle.thes_requests.specs.declared.plan_reply.PlanReply.TheVariants as plan
 use Rattle.thes_requests.specs.AnswerTexts.{reply_text}
+use Rattle.thes_requests.specs.PlanTexts.{plan_reply_text}
 use Rattle.thes_http_request.specs.declared.endpoint.Endpoint.{Endpoint}
 use Rattle.thes_http_request.specs.declared.problem.Problem.{Problem}
 use Rattle.thes_http_request.specs.declared.problem.Problem.TheVariants.{BadHead, TransferCoding, NoSuchPath}
@@ -100,6 +103,7 @@ abbrev pub body_text : Body → List ℕ
 body_text (body.Problem p) = problem_text p
 body_text (body.Reply r) = reply_text r
 body_text (body.View line) = line
+body_text (body.Plan r) = plan_reply_text r
 body_text (body.Page page) = page
 
 -- The header lines for the type and the length of a body, and for closing the connection.
@@ -161,6 +165,17 @@ abbrev pub command_response : Result Answer Fault → Response
 command_response (Ok (No r)) = reply_response status.Conflict (reply.Answer (No r))
 command_response (Ok a) = reply_response status.Fine (reply.Answer a)
 command_response (Err f) = fault_response f
+
+-- The status for the reply to a plan: 200 for answers, 409 for a refusal, 400 for a text that isn't a plan.
+abbrev pub plan_status : PlanReply → Status
+plan_status (plan.Done line) = status.Fine
+plan_status (plan.Refused place refusal) = status.Conflict
+plan_status (plan.Bad fault) = status.BadRequest
+
+-- The response to a plan: its reply, or 503 for a fault.
+abbrev pub plan_response : Result PlanReply Fault → Response
+plan_response (Ok r) = record { status = plan_status r; media = media.Json; body = body.Plan r }
+plan_response (Err f) = fault_response f
 
 -- The response to a query: 200 with the view, 404 with the refusal, or 503 for a fault.
 abbrev pub query_response : Result QueryAnswer Fault → Response

@@ -1,8 +1,10 @@
 -- The behaviour of a service.
-use Rattle.std.specs.Prelude.{ℕ, List, Result}
+use Rattle.std.specs.Prelude.{◌≡◌, ℕ, List, Result}
 use Rattle.thes_base.specs.declared.fault.Fault.{Fault}
 use Rattle.thes_base.specs.declared.request.Command.{Command}
 use Rattle.thes_base.specs.declared.request.Answer.{Answer}
+use Rattle.thes_plans.specs.declared.plan.PlanOutcome.{PlanOutcome}
+use Rattle.thes_plans.specs.declared.plan.PlanRequest.{PlanRequest}
 use Rattle.thes_requests.specs.RequestBehaviour.{RequestBehaviour}
 use Rattle.thes_requests.specs.declared.handler.QueryAnswer.{QueryAnswer}
 use Rattle.thes_requests.specs.declared.request.Query.{Query}
@@ -10,7 +12,7 @@ use Rattle.thes_http.specs.declared.service.ImportAnswer.{ImportAnswer}
 use Rattle.thes_requests.specs.declared.request.Display.{Display}
 use Rattle.thes_http.specs.declared.service.DisplayAnswer.{DisplayAnswer}
 
--- What a service does: for commands and queries, for a posting file, for an export, and for a
+-- What a service does: for commands, queries and plans, for a posting file, for an export, and for a
 -- display of a scheme in the language of a tag. Each is a relation of the state before, what is
 -- asked for, the answer, and the state after.
 pub record ServiceBehaviour (S : Type 0) : Type 1 where
@@ -25,3 +27,6 @@ pub record DoesRequests {S : Type 0} (handler : RequestBehaviour S) (service : S
       → handler.performs old command result new → service.requests.performs old command result new
   pub shows : (old : S) (query : Query) (result : Result QueryAnswer Fault) (new : S)
       → handler.shows old query result new → service.requests.shows old query result new
+  pub takes_plans : (s : S) → handler.takes_plans s ≡ service.requests.takes_plans s
+  pub performs_plan : (old : S) (plan : List PlanRequest) (result : Result PlanOutcome Fault) (new : S)
+      → handler.performs_plan old plan result new → service.requests.performs_plan old plan result new

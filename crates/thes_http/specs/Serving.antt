@@ -1,5 +1,5 @@
 -- The effect of the bytes of a connection, and the response to them.
-use Rattle.std.specs.Prelude.{ℕ, ◌≡◌, ◌≤◌, ◌<◌, ◌⊎◌, List, length, take, map, Option, Some, None, Result, Ok, Err}
+use Rattle.std.specs.Prelude.{ℕ, ◌≡◌, ◌≤◌, ◌<◌, ◌⊎◌, Bool, List, length, take, map, Option, Some, None, Result, Ok, Err}
 use Rattle.std.specs.Char.{to_ascii_lowercase}
 use Rattle.httparse.specs.Grammar.{RequestHead}
 use Rattle.thes_base.specs.Forms.{IsNumber, IsNumeral, IsTag}
@@ -10,7 +10,9 @@ use Rattle.thes_base.specs.declared.fault.FormFault.TheVariants.{BadShape, BadNu
 use Rattle.thes_base.specs.declared.request.Command.{Command}
 use Rattle.thes_base.specs.declared.request.Answer.{Answer}
 use Rattle.thes_requests.specs.Readings.{ReadsAs}
-use Rattle.thes_requests.specs.Requests.{request_of}
+use Rattle.thes_requests.specs.Requests.{json_in, request_of}
+use Rattle.thes_requests.specs.Serving.{ServesPlan}
+use Rattle.thes_requests.specs.declared.plan_reply.PlanReply.{PlanReply}
 use Rattle.thes_requests.specs.declared.handler.QueryAnswer.{QueryAnswer}
 use Rattle.thes_requests.specs.declared.request.Query.{Query}
 use Rattle.thes_requests.specs.declared.request.Query.TheVariants as asks
@@ -28,7 +30,7 @@ use Rattle.thes_http_request.specs.Heads.{parts_of, HasHead, IsCutHead, IsBadHea
 use Rattle.thes_http_request.specs.HeadRequests.{HeadRequest, head_request_of}
 use Rattle.thes_http_request.specs.Queries.{DisplayQuery, display_query_of}
 use Rattle.thes_http.specs.ServiceBehaviour.{ServiceBehaviour}
-use Rattle.thes_http.specs.Responses.{problem_response, form_response, fault_response, command_response}
+use Rattle.thes_http.specs.Responses.{problem_response, form_response, fault_response, command_response, plan_response}
 use Rattle.thes_http.specs.Responses.{query_response, import_response, export_response, display_response}
 
 -- The text isn't the numeral of a resource's or posting's number.
@@ -52,6 +54,11 @@ module _ {S : Type 0} (d : ServiceBehaviour S) (old : S) (r : Response) (new : S
       × d.requests.performs old command answer new × (r ≡ command_response answer))
       ⊎ (((query : Query) × ReadsAs (request_of body) (Ok (Get query)) × RespondsUnchanged (form_response BadShape))
       ⊎ ((f : FormFault) × ReadsAs (request_of body) (Err f) × RespondsUnchanged (form_response f)))
+
+  -- The effect of the body of a plan, and its response.
+  abbrev pub PlanEffect : List ℕ → Type 0
+  PlanEffect body =
+      (answer : Result PlanReply Fault) × ServesPlan d.requests old (json_in body) answer new × (r ≡ plan_response answer)
 
   -- The effect of importing a posting file, and its response.
   abbrev pub ImportEffect : List ℕ → Type 0
@@ -95,6 +102,7 @@ module _ {S : Type 0} (d : ServiceBehaviour S) (old : S) (r : Response) (new : S
   -- The effect of a request for each endpoint, and its response.
   abbrev pub EndpointEffect : Endpoint → List ℕ → List ℕ → List ℕ → Type 0
   EndpointEffect endpoint.Requests number query body = CommandEffect body
+  EndpointEffect endpoint.Plans number query body = PlanEffect body
   EndpointEffect endpoint.Import number query body = ImportEffect body
   EndpointEffect endpoint.Totals number query body = QueryEffect asks.Totals
   EndpointEffect endpoint.Concept number query body = NumberQueryEffect asks.Concept number
@@ -122,12 +130,12 @@ module _ {S : Type 0} (d : ServiceBehaviour S) (old : S) (r : Response) (new : S
   Answers bytes =
       (IsBadHead bytes × RespondsUnchanged (problem_response BadHead))
       ⊎ (((h : RequestHead) × (rest : List ℕ) × HasHead bytes h rest
-      × AnswersHead (head_request_of (parts_of h)) rest)
+      × AnswersHead (head_request_of (d.requests.takes_plans old) (parts_of h)) rest)
       ⊎ RespondsUnchanged (fault_response OutOfMemory))
 
--- The bytes end inside the head, or inside the body.
-abbrev pub IsCutRequest : List ℕ → Type 0
-IsCutRequest bytes =
+-- The bytes end inside the head, or inside the body. Whether there is a body may depend on whether plans are taken.
+abbrev pub IsCutRequest : Bool → List ℕ → Type 0
+IsCutRequest takes_plans bytes =
     IsCutHead bytes
     ⊎ ((h : RequestHead) × (rest : List ℕ) × (w : HeadRequest) × HasHead bytes h rest
-    × (head_request_of (parts_of h) ≡ Ok w) × (length rest < w.body))
+    × (head_request_of takes_plans (parts_of h) ≡ Ok w) × (length rest < w.body))

@@ -1,6 +1,6 @@
 //! Performs the request of a head, with its body.
 ghost use Rattle.std.specs.Prelude.{◌≡◌, if◌then◌else◌, true};
-ghost use Rattle.thes_http.specs.Serving.{CommandEffect, QueryEffect, NumberQueryEffect, DisplayEffect, DisplayQueryEffect, OrOutOfMemory, EndpointEffectOrFailure};
+ghost use Rattle.thes_http.specs.Serving.{CommandEffect, PlanEffect, QueryEffect, NumberQueryEffect, DisplayEffect, DisplayQueryEffect, OrOutOfMemory, EndpointEffectOrFailure};
 ghost use Rattle.thes_http_request.specs.Queries.{display_query_of};
 
 use crate::response::Response;
@@ -13,6 +13,7 @@ use thes_http_request::endpoint::Endpoint;
 use thes_http_request::head_request::HeadRequest;
 use thes_http_request::problem::Problem;
 use thes_http_request::query::read_query;
+use thes_requests::plan_serving::serve_plan;
 use thes_requests::request::{Display, Query, Request, RequestScratch, read_request};
 
 /// Performs the request of a head with this body, and returns the response.
@@ -28,6 +29,7 @@ pub fn act<S: Service>(
 {
     match want.endpoint {
         Endpoint::Requests => perform(alloc, service, body),
+        Endpoint::Plans => perform_plan(alloc, service, body),
         Endpoint::Import => Response::for_import(service.import(alloc, body)),
         Endpoint::Totals => show(alloc, service, Query::Totals),
         Endpoint::Concept => show_resource(alloc, service, want.number, false),
@@ -51,6 +53,14 @@ fn perform<S: Service>(alloc: Global, service: &mut S, body: &[u8]) -> Response
         Err(ReadStop::Form(fault)) => Response::form(fault),
         Err(ReadStop::OutOfMemory) => Response::fault(Fault::OutOfMemory),
     }
+}
+
+// Performs the plan in a body; a body that isn't a plan has no effect.
+fn perform_plan<S: Service>(alloc: Global, service: &mut S, body: &[u8]) -> Response
+    requires { S.is_open service.old ≡ true }
+    ensures { PlanEffect S.behaviour service.old result service.new body.now }
+{
+    Response::for_plan(serve_plan(&mut RequestScratch::new(alloc), service, body))
 }
 
 // Passes a query to the service, and returns the response.

@@ -1,7 +1,7 @@
 //! Responses, each with a status, a media type and a body, and their bytes.
 ghost use Rattle.std.specs.Prelude.{◌≡◌, ◌≤◌, false, length};
 ghost use Rattle.thes_base.specs.Pipe.{failed_of};
-ghost use Rattle.thes_http.specs.Responses.{status_code, status_line, media_type, problem_text, problem_status, allow_line, allow_text, body_text, head_text, ResponseWriteOutcome, reply_response, page_response, problem_response, form_response, fault_response, command_response, query_response, import_response, export_response, display_response};
+ghost use Rattle.thes_http.specs.Responses.{status_code, status_line, media_type, problem_text, problem_status, allow_line, allow_text, body_text, head_text, ResponseWriteOutcome, reply_response, page_response, problem_response, form_response, fault_response, command_response, plan_response, plan_status, query_response, import_response, export_response, display_response};
 
 use crate::head_text::HeadText;
 use crate::service::{DisplayAnswer, ImportAnswer, Page};
@@ -15,6 +15,7 @@ use thes_http_request::endpoint::Endpoint;
 use thes_http_request::problem::Problem;
 use thes_requests::answer::{Reply, reply_line};
 use thes_requests::handler::{QueryAnswer, ViewLine};
+use thes_requests::plan_reply::{PlanReply, plan_fault_line, plan_refusal_line};
 
 /// The status of a response: one of nine codes of HTTP.
 #[derive(Clone, Copy, Debug, PartialEq, Eq)]
@@ -126,17 +127,29 @@ fn allow_line(endpoint: Endpoint) -> &'static str
     ensures short { length result.now ≤ 20 }
 {
     match endpoint {
-        Endpoint::Requests | Endpoint::Import => "Allow: POST\r\n",
+        Endpoint::Requests | Endpoint::Plans | Endpoint::Import => "Allow: POST\r\n",
         _ => "Allow: GET\r\n",
     }
 }
 
-/// The content of a response: a problem, a reply, the line of a view, or a page.
+// Returns the status for the reply to a plan.
+fn plan_status(reply: &PlanReply) -> Status
+    ensures { result ≡ plan_status reply.now }
+{
+    match reply {
+        PlanReply::Done(_) => Status::Fine,
+        PlanReply::Refused(..) => Status::Conflict,
+        PlanReply::Bad(_) => Status::BadRequest,
+    }
+}
+
+/// The content of a response: a problem, a reply, the line of a view, the reply to a plan, or a page.
 #[derive(Drop)]
 pub enum Body {
     Problem(Problem),
     Reply(Reply),
     View(ViewLine),
+    Plan(PlanReply),
     Page(Page),
 }
 
@@ -208,6 +221,21 @@ impl Response {
                 Reply::Answer(Answer::No(refusal)),
             ),
             Ok(answer) => Response::reply_response(Status::Fine, Reply::Answer(answer)),
+            Err(fault) => Response::fault(fault),
+        }
+    }
+
+    /// Returns the response to a plan: 200 for answers, 409 for a refusal, 400 for a text that isn't
+    /// a plan, or 503 for a fault.
+    pub fn for_plan(reply: Result<PlanReply, Fault>) -> Response
+        ensures { result ≡ plan_response reply }
+    {
+        match reply {
+            Ok(reply) => Response {
+                status: plan_status(&reply),
+                media: MediaType::Json,
+                body: Body::Plan(reply),
+            },
             Err(fault) => Response::fault(fault),
         }
     }
@@ -334,6 +362,17 @@ impl Response {
             ),
             Body::Reply(reply) => self.write_with(writer, budget, reply_line(*reply).as_bytes()),
             Body::View(line) => self.write_with(writer, budget, line.as_bytes()),
+            Body::Plan(PlanReply::Done(line)) => self.write_with(writer, budget, line.as_bytes()),
+            Body::Plan(PlanReply::Refused(place, refusal)) => self.write_with(
+                writer,
+                budget,
+                plan_refusal_line(*place, *refusal).as_bytes(),
+            ),
+            Body::Plan(PlanReply::Bad(fault)) => self.write_with(
+                writer,
+                budget,
+                plan_fault_line(*fault).as_bytes(),
+            ),
             Body::Page(page) => self.write_with(writer, budget, page.as_bytes()),
         }
     }

@@ -13,7 +13,7 @@ use std::io::{Read, Write};
 use thes_base::fault::Fault;
 use thes_base::pipe::{Budget, Pipe};
 use thes_http_request::body::{BodyStop, read_body};
-use thes_http_request::endpoint::Routes;
+use thes_http_request::endpoint::{Paths, Routes};
 use thes_http_request::head_request::read_head_request;
 use thes_http_request::inbox::{HeadStop, Inbox, InputFault};
 use thes_http_request::problem::Problem;
@@ -29,6 +29,16 @@ pub enum ConnectionEnd {
     ReadFault,
     /// The writer failed, or was denied a write, within the response.
     WriteFault,
+}
+
+// Returns the routes for the requests of a service, which may take plans.
+fn paths_of<'r, S: Service>(routes: &'r Routes, service: &S) -> Paths<'r>
+    ensures { result.takes_plans ≡ S.behaviour.requests.takes_plans service.now }
+{
+    Paths {
+        routes,
+        takes_plans: service.takes_plans(),
+    }
 }
 
 // Reads the request, performs it, and returns the response; problems, form faults and faults are
@@ -54,7 +64,8 @@ fn answer<R: Read, S: Service>(
         Err(HeadStop::Bad) => return Ok(Response::problem(Problem::BadHead)),
         Err(HeadStop::InputFault(gone)) => return Err(gone),
     };
-    let want = match read_head_request(alloc, routes, inbox.head_bytes(), spans, &headers) {
+    let paths = paths_of(routes, service);
+    let want = match read_head_request(alloc, paths, inbox.head_bytes(), spans, &headers) {
         Ok(want) => want,
         Err(problem) => return Ok(Response::problem(problem)),
     };

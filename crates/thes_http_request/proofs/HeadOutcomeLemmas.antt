@@ -1,6 +1,6 @@
 -- Proves that the parts read from the spans of a head have the outcome of the head.
 use Rattle.std.proofs.lemmas.Grind.{common_steps}
-use Rattle.std.proofs.Common.{◌≡◌, ℕ, ◌≤◌, List, length, take, drop, map, Result, Ok, Err, IfOk, arith}
+use Rattle.std.proofs.Common.{◌≡◌, ℕ, ◌≤◌, Bool, List, length, take, drop, map, Result, Ok, Err, IfOk, arith}
 use Rattle.httparse.specs.Spans.{header_bytes, span_bytes}
 use Rattle.httparse.specs.declared.spans.HeaderSpan.{HeaderSpan}
 use Rattle.httparse.specs.declared.spans.RequestSpans.{RequestSpans}
@@ -18,21 +18,21 @@ parts_at bytes headers spans = record {
 }
 
 -- The parts read from the spans are those of the head, so their checks have the same outcome.
-head_outcome_from : (bytes : List ℕ) (headers : List HeaderSpan) (spans : RequestSpans) (p : Parts)
+head_outcome_from : (takes_plans : Bool) (bytes : List ℕ) (headers : List HeaderSpan) (spans : RequestSpans) (p : Parts)
     (outcome : Result HeadRequest Problem)
-    → IsHeadAt bytes headers spans → length bytes ≤ head_limit → p ≡ parts_at bytes headers spans → head_request_of p
-    ≡ outcome → HeadOutcome bytes (drop spans.len bytes) outcome
-head_outcome_from bytes headers spans p outcome a l e w = grind (arith, common_steps)
+    → IsHeadAt bytes headers spans → length bytes ≤ head_limit → p ≡ parts_at bytes headers spans → head_request_of takes_plans p
+    ≡ outcome → HeadOutcome takes_plans bytes (drop spans.len bytes) outcome
+head_outcome_from takes_plans bytes headers spans p outcome a l e w = grind (arith, common_steps)
 
-pub head_outcome_ok : {A E : Type 0} (r : Result A E) (f : A → HeadRequest) (bytes : List ℕ)
+pub head_outcome_ok : {A E : Type 0} (r : Result A E) (f : A → HeadRequest) (takes_plans : Bool) (bytes : List ℕ)
     (headers : List HeaderSpan) (spans : RequestSpans) (p : Parts)
     → IsHeadAt bytes headers spans → length bytes ≤ head_limit → p ≡ parts_at bytes headers spans
-    → IfOk r (λ w. head_request_of p ≡ Ok (f w))
-    → IfOk r (λ w. HeadOutcome bytes (drop spans.len bytes) (Ok (f w)))
-head_outcome_ok r f bytes headers spans p a l e w = grind (arith, common_steps, head_outcome_from)
+    → IfOk r (λ w. head_request_of takes_plans p ≡ Ok (f w))
+    → IfOk r (λ w. HeadOutcome takes_plans bytes (drop spans.len bytes) (Ok (f w)))
+head_outcome_ok r f takes_plans bytes headers spans p a l e w = grind (arith, common_steps, head_outcome_from)
 
-pub head_outcome_err : (bytes : List ℕ) (headers : List HeaderSpan) (spans : RequestSpans) (p : Parts)
+pub head_outcome_err : (takes_plans : Bool) (bytes : List ℕ) (headers : List HeaderSpan) (spans : RequestSpans) (p : Parts)
     (problem : Problem)
-    → IsHeadAt bytes headers spans → length bytes ≤ head_limit → p ≡ parts_at bytes headers spans → head_request_of p
-    ≡ Err problem → HeadOutcome bytes (drop spans.len bytes) (Err problem)
-head_outcome_err bytes headers spans p problem a l e w = head_outcome_from bytes headers spans p (Err problem) a l e w
+    → IsHeadAt bytes headers spans → length bytes ≤ head_limit → p ≡ parts_at bytes headers spans → head_request_of takes_plans p
+    ≡ Err problem → HeadOutcome takes_plans bytes (drop spans.len bytes) (Err problem)
+head_outcome_err takes_plans bytes headers spans p problem a l e w = head_outcome_from takes_plans bytes headers spans p (Err problem) a l e w

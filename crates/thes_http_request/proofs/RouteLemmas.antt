@@ -19,7 +19,7 @@ use Rattle.matchit.specs.Route.{parse_route}
 use Rattle.matchit.specs.declared.error.InsertError.{InsertError}
 use Rattle.matchit.proofs.OnLiterals.{matchit_on_literals}
 use Rattle.thes_http_request.specs.declared.endpoint.Endpoint.{Endpoint}
-use Rattle.thes_http_request.specs.declared.endpoint.Endpoint.TheVariants.{Requests, Import, Totals, Concept, Postings}
+use Rattle.thes_http_request.specs.declared.endpoint.Endpoint.TheVariants.{Requests, Plans, Import, Totals, Concept, Postings}
 use Rattle.thes_http_request.specs.declared.endpoint.Endpoint.TheVariants.{Posting, Export, Alphabetical, Hierarchical}
 use Rattle.thes_http_request.specs.Endpoints.{EndpointMatch, is_slash, endpoint_of_path, endpoint_of_parts}
 use Rattle.thes_http_request.specs.Endpoints.{endpoint_named, endpoint_within, endpoint_below, display_named}
@@ -45,22 +45,23 @@ numbered_route before after endpoint = record {
 abbrev row : RouteOf Endpoint → List ℕ × RouteOf Endpoint
 row r = (r.pattern, r)
 
-abbrev nine_rows : RouteRows
-nine_rows =
+abbrev ten_rows : RouteRows
+ten_rows =
     row (numbered_route (codes "/concepts/") (codes "/postings") Postings)
     ∷ row (numbered_route (codes "/concepts/") [] Concept)
     ∷ row (plain_route (codes "/display/alphabetical") Alphabetical)
     ∷ row (plain_route (codes "/display/hierarchical") Hierarchical)
     ∷ row (plain_route (codes "/export") Export)
     ∷ row (plain_route (codes "/import") Import)
+    ∷ row (plain_route (codes "/plans") Plans)
     ∷ row (numbered_route (codes "/postings/") [] Posting)
     ∷ row (plain_route (codes "/requests") Requests)
     ∷ row (plain_route (codes "/totals") Totals)
     ∷ []
 
-nine_rows_are : route_rows ≡ nine_rows
+ten_rows_are : route_rows ≡ ten_rows
 unfolding route_rows with_route matchit_on_literals
-nine_rows_are = refl
+ten_rows_are = refl
 
 -- A text without a slash is one part of a path, and a slash separates it from the parts that
 -- follow.
@@ -221,22 +222,23 @@ postings_is path r m =
 row_and_rest : {A B : Type 0} → A → B → A × B
 row_and_rest a b = (a, b)
 
-place_found_in : (path : List ℕ) (r : RouteOf Endpoint) → AnyRow (IsMatch r path) nine_rows → IsPlaceOf path r
+place_found_in : (path : List ℕ) (r : RouteOf Endpoint) → AnyRow (IsMatch r path) ten_rows → IsPlaceOf path r
 unfolding endpoint_of_path
-place_found_in path r h = any_elim (IsMatch r path) nine_rows
+place_found_in path r h = any_elim (IsMatch r path) ten_rows
     (row_and_rest (postings_is path r) (row_and_rest (concept_is path r)
     (row_and_rest (plain_is (codes "/display/alphabetical") Alphabetical path r refl refl)
     (row_and_rest (plain_is (codes "/display/hierarchical") Hierarchical path r refl refl)
     (row_and_rest (plain_is (codes "/export") Export path r refl refl)
-    (row_and_rest (plain_is (codes "/import") Import path r refl refl) (row_and_rest (posting_is path r)
+    (row_and_rest (plain_is (codes "/import") Import path r refl refl)
+    (row_and_rest (plain_is (codes "/plans") Plans path r refl refl) (row_and_rest (posting_is path r)
     (row_and_rest (plain_is (codes "/requests") Requests path r refl refl)
-    (row_and_rest (plain_is (codes "/totals") Totals path r refl refl) tt))))))))) h
+    (row_and_rest (plain_is (codes "/totals") Totals path r refl refl) tt)))))))))) h
 
 -- A route that the router finds is that of the endpoint which the path names.
 pub route_found : (rows : RouteRows) (path : List ℕ) (r : RouteOf Endpoint) → rows ≡ route_rows
     → first rows path ≡ Some r → IsPlaceOf path r
 route_found rows path r e f =
-    place_found_in path r (found_matches 0 nine_rows path r (rw (e ∙ nine_rows_are) at f))
+    place_found_in path r (found_matches 0 ten_rows path r (rw (e ∙ ten_rows_are) at f))
 
 -- A choice by a name is None if its second branch is, and its first whenever the name is chosen.
 unless_named : (a w : List ℕ) (x y : Option EndpointMatch) → (a ≡ w → x ≡ None) → y ≡ None
@@ -244,64 +246,65 @@ unless_named : (a w : List ℕ) (x y : Option EndpointMatch) → (a ≡ w → x 
 unless_named a w x y f e = grind (arith, common_steps, bytes_eq-Decides)
 
 -- A path that leads to a row of its own has a route.
-misses : {Q : Type 0} (w : List ℕ) (r : RouteOf Endpoint) → first nine_rows w ≡ None → own (steps w nine_rows) ≡ Some r
+misses : {Q : Type 0} (w : List ℕ) (r : RouteOf Endpoint) → first ten_rows w ≡ None → own (steps w ten_rows) ≡ Some r
     → Q
 unfolding matchit_on_literals
 misses w r e o =
-    let left = none_after w nine_rows [] (rw (append-nil w) e) in
+    let left = none_after w ten_rows [] (rw (append-nil w) e) in
     absurd (cc)
 
-named_none : (a : List ℕ) → first nine_rows (slash ∷ a) ≡ None → endpoint_named a ≡ None
+named_none : (a : List ℕ) → first ten_rows (slash ∷ a) ≡ None → endpoint_named a ≡ None
 named_none a e =
     unless_named a (codes "requests") _ _ (λ s. misses (codes "/requests") _ (rw s at e) refl)
+    (unless_named a (codes "plans") _ _ (λ s. misses (codes "/plans") _ (rw s at e) refl)
     (unless_named a (codes "import") _ _ (λ s. misses (codes "/import") _ (rw s at e) refl)
     (unless_named a (codes "totals") _ _ (λ s. misses (codes "/totals") _ (rw s at e) refl)
-    (unless_named a (codes "export") _ _ (λ s. misses (codes "/export") _ (rw s at e) refl) refl)))
+    (unless_named a (codes "export") _ _ (λ s. misses (codes "/export") _ (rw s at e) refl) refl))))
 
-display_none : (b : List ℕ) → first nine_rows (codes "/display/" ++ b) ≡ None → display_named b ≡ None
+display_none : (b : List ℕ) → first ten_rows (codes "/display/" ++ b) ≡ None → display_named b ≡ None
 display_none b e =
     unless_named b (codes "alphabetical") _ _ (λ s. misses (codes "/display/alphabetical") _ (rw s at e) refl)
     (unless_named b (codes "hierarchical") _ _ (λ s. misses (codes "/display/hierarchical") _ (rw s at e) refl) refl)
 
-concept_none : (b : List ℕ) → has_slash b ≡ false → first nine_rows (codes "/concepts/" ++ b) ≡ None
+concept_none : (b : List ℕ) → has_slash b ≡ false → first ten_rows (codes "/concepts/" ++ b) ≡ None
     → numbered_endpoint Concept b ≡ None
 concept_none [] h e = refl
 concept_none (x ∷ b) h e =
-    let left = none_after (codes "/concepts/") nine_rows (x ∷ b) e in
-    let none = none_end (steps (codes "/concepts/") nine_rows) _ x b refl
+    let left = none_after (codes "/concepts/") ten_rows (x ∷ b) e in
+    let none = none_end (steps (codes "/concepts/") ten_rows) _ x b refl
     (rw (segment_all (x ∷ b) h, no_cut (x ∷ b) h) refl) h left in
     absurd (cc)
 
-posting_none : (b : List ℕ) → has_slash b ≡ false → first nine_rows (codes "/postings/" ++ b) ≡ None
+posting_none : (b : List ℕ) → has_slash b ≡ false → first ten_rows (codes "/postings/" ++ b) ≡ None
     → numbered_endpoint Posting b ≡ None
 posting_none [] h e = refl
 posting_none (x ∷ b) h e =
-    let left = none_after (codes "/postings/") nine_rows (x ∷ b) e in
-    let none = none_end (steps (codes "/postings/") nine_rows) _ x b refl refl h left in
+    let left = none_after (codes "/postings/") ten_rows (x ∷ b) e in
+    let none = none_end (steps (codes "/postings/") ten_rows) _ x b refl refl h left in
     absurd (cc)
 
-postings_none : (b : List ℕ) → has_slash b ≡ false → first nine_rows (codes "/concepts/"
+postings_none : (b : List ℕ) → has_slash b ≡ false → first ten_rows (codes "/concepts/"
     ++ (b ++ codes "/postings")) ≡ None → numbered_endpoint Postings b ≡ None
 unfolding matchit_on_literals
 postings_none [] h e = refl
 postings_none (x ∷ b) h e =
-    let left = none_after (codes "/concepts/") nine_rows (x ∷ (b ++ codes "/postings")) e in
+    let left = none_after (codes "/concepts/") ten_rows (x ∷ (b ++ codes "/postings")) e in
     let seg : segment (x ∷ (b ++ codes "/postings")) ≡ x ∷ (b ++ slash ∷ []) =
     segment_to_slash (x ∷ b) (codes "postings") h in
     let n = length-append b (slash ∷ []) in
-    let rest = none_suffix (steps (codes "/concepts/") nine_rows) _ x b (codes "postings") refl
+    let rest = none_suffix (steps (codes "/concepts/") ten_rows) _ x b (codes "postings") refl
     (rw (seg, cuts_at_slash x b) refl) (rw seg (omega arith)) left in
     absurd (cc)
 
-within_none : (a b : List ℕ) → has_slash b ≡ false → first nine_rows (slash ∷ (a ++ slash ∷ b)) ≡ None
+within_none : (a b : List ℕ) → has_slash b ≡ false → first ten_rows (slash ∷ (a ++ slash ∷ b)) ≡ None
     → endpoint_within a b ≡ None
 within_none a b h e = grind (arith, common_steps, unless_named, concept_none, posting_none, display_none)
 
-below_none : (a b c : List ℕ) → has_slash b ≡ false → first nine_rows (slash ∷ (a ++ slash ∷ (b ++ slash ∷ c))) ≡ None
+below_none : (a b c : List ℕ) → has_slash b ≡ false → first ten_rows (slash ∷ (a ++ slash ∷ (b ++ slash ∷ c))) ≡ None
     → endpoint_below a b c ≡ None
 below_none a b c h e = grind (arith, common_steps, bytes_eq-Decides, postings_none)
 
-parts_none : (parts : List (List ℕ)) → NoSlashes parts → first nine_rows (join_with_byte slash parts) ≡ None
+parts_none : (parts : List (List ℕ)) → NoSlashes parts → first ten_rows (join_with_byte slash parts) ≡ None
     → endpoint_of_parts parts ≡ None
 parts_none [] n e = refl
 parts_none ((x ∷ part) ∷ parts) n e = refl
@@ -317,7 +320,7 @@ pub no_route_found : (rows : RouteRows) (path : List ℕ) → rows ≡ route_row
 unfolding endpoint_of_path
 no_route_found rows path e f =
     parts_none (slice_split is_slash path) (no_slash_parts path)
-    (ap (first nine_rows) (join_with_byte-slice_split slash path) ∙ rw (e ∙ nine_rows_are) at f)
+    (ap (first ten_rows) (join_with_byte-slice_split slash path) ∙ rw (e ∙ ten_rows_are) at f)
 
 -- Inserting a route into the router adds the route to its rows.
 pub rows_with_new_route : (text : List ℕ) (endpoint : Endpoint) (old new : RouteRows)

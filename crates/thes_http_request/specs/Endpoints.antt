@@ -1,10 +1,10 @@
 -- The endpoints of the service, and their paths.
-use Rattle.std.specs.Prelude.{ℕ, ◌==◌, ◌&&◌, if◌then◌else◌, nat_lt, Bool, List, [], ◌∷◌, length, codes, Option, Some}
+use Rattle.std.specs.Prelude.{ℕ, ◌==◌, ◌&&◌, ◌||◌, not, if◌then◌else◌, nat_lt, Bool, true, false, List, [], ◌∷◌, length, codes, Option, Some}
 use Rattle.std.specs.Prelude.{None}
 use Rattle.std.specs.List.{slice_split, before_first, after_first}
 use Rattle.std.specs.Str.{bytes_eq}
 use Rattle.thes_http_request.specs.declared.endpoint.Endpoint.{Endpoint}
-use Rattle.thes_http_request.specs.declared.endpoint.Endpoint.TheVariants.{Requests, Import, Totals, Concept, Postings}
+use Rattle.thes_http_request.specs.declared.endpoint.Endpoint.TheVariants.{Requests, Plans, Import, Totals, Concept, Postings}
 use Rattle.thes_http_request.specs.declared.endpoint.Endpoint.TheVariants.{Posting, Export, Alphabetical, Hierarchical}
 
 -- An endpoint, and the text in its path where a number is expected, or an empty text.
@@ -25,6 +25,7 @@ numbered_endpoint endpoint text = if nat_lt 0 (length text) then Some
 abbrev pub endpoint_named : List ℕ → Option EndpointMatch
 endpoint_named a =
     if bytes_eq a (codes "requests") then plain_endpoint Requests
+    else if bytes_eq a (codes "plans") then plain_endpoint Plans
     else if bytes_eq a (codes "import") then plain_endpoint Import
     else if bytes_eq a (codes "totals") then plain_endpoint Totals
     else if bytes_eq a (codes "export") then plain_endpoint Export
@@ -65,9 +66,24 @@ is_slash b = b == 47
 abbrev pub is_question_mark : ℕ → Bool
 is_question_mark b = b == 63
 
--- The endpoint that a path names, if there is one.
+-- The endpoint that a path names, if there is one, where plans are taken.
 unfoldable pub endpoint_of_path : List ℕ → Option EndpointMatch
 endpoint_of_path path = endpoint_of_parts (slice_split is_slash path)
+
+-- Whether the endpoint is that of plans.
+abbrev pub is_plans : Endpoint → Bool
+is_plans Plans = true
+is_plans _ = false
+
+-- The endpoint found, but not that of plans unless they are taken.
+abbrev pub endpoint_taken : Bool → Option EndpointMatch → Option EndpointMatch
+endpoint_taken takes_plans None = None
+endpoint_taken takes_plans (Some found) =
+    if takes_plans || not (is_plans found.endpoint) then Some found else None
+
+-- The endpoint that a path names, if there is one; `/plans` names one only where plans are taken.
+abbrev pub endpoint_at : Bool → List ℕ → Option EndpointMatch
+endpoint_at takes_plans path = endpoint_taken takes_plans (endpoint_of_path path)
 
 -- The path of a target: the bytes before its first question mark.
 abbrev pub path_of : List ℕ → List ℕ
@@ -80,11 +96,13 @@ query_of target = after_first is_question_mark target
 -- The method of an endpoint.
 abbrev pub method_of : Endpoint → List ℕ
 method_of Requests = codes "POST"
+method_of Plans = codes "POST"
 method_of Import = codes "POST"
 method_of _ = codes "GET"
 
 -- The greatest length of a body in bytes, or `None` if the endpoint reads no body.
 abbrev pub body_limit : Endpoint → Option ℕ
 body_limit Requests = Some 1048576
+body_limit Plans = Some 1048576
 body_limit Import = Some 16777216
 body_limit _ = None

@@ -1,11 +1,11 @@
 -- Defines the request in a head, or the first problem that the checks of the head find.
-use Rattle.std.specs.Prelude.{ℕ, if◌then◌else◌, List, codes, Option, Some, None, Result, Ok, Err}
+use Rattle.std.specs.Prelude.{ℕ, if◌then◌else◌, Bool, List, codes, Option, Some, None, Result, Ok, Err}
 use Rattle.std.specs.Str.{bytes_eq}
 use Rattle.thes_http_request.specs.declared.endpoint.Endpoint.{Endpoint}
 use Rattle.thes_http_request.specs.declared.problem.Problem.{Problem}
 use Rattle.thes_http_request.specs.declared.problem.Problem.TheVariants.{TransferCoding, NoSuchPath, BadMethod}
 use Rattle.thes_http_request.specs.Heads.{Parts}
-use Rattle.thes_http_request.specs.Endpoints.{EndpointMatch, endpoint_of_path, path_of, query_of, method_of}
+use Rattle.thes_http_request.specs.Endpoints.{EndpointMatch, endpoint_at, path_of, query_of, method_of}
 use Rattle.thes_http_request.specs.Endpoints.{body_limit}
 use Rattle.thes_http_request.specs.Fields.{has_field, body_length}
 
@@ -33,7 +33,8 @@ request_at_endpoint p (Some found) =
     else Err (BadMethod found.endpoint)
 
 -- The request in a head, or the first problem: a transfer coding, the path, the method, or the
--- length of the body.
-unfoldable pub head_request_of : Parts → Result HeadRequest Problem
-head_request_of p = if has_field (codes "transfer-encoding") p.fields then Err TransferCoding else request_at_endpoint p
-    (endpoint_of_path (path_of p.target))
+-- length of the body. It depends on whether plans are taken.
+unfoldable pub head_request_of : Bool → Parts → Result HeadRequest Problem
+head_request_of takes_plans p =
+    if has_field (codes "transfer-encoding") p.fields then Err TransferCoding
+    else request_at_endpoint p (endpoint_at takes_plans (path_of p.target))

@@ -36,11 +36,12 @@ spans_named name bytes header = is_named (map to_ascii_lowercase name) (header_b
 abbrev pub first_named : List ℕ → List ℕ → List HeaderSpan → ℕ
 first_named name bytes headers = position_or_len (spans_named name bytes) headers
 
--- The bytes begin with a head, which `rest` follows, and the checks of that head have this outcome.
-pub record HeadOutcome (bytes rest : List ℕ) (outcome : Result HeadRequest Problem) : Type 0 where
+-- The bytes begin with a head, which `rest` follows, and the checks of that head have this outcome, which depends on
+-- whether plans are taken.
+pub record HeadOutcome (takes_plans : Bool) (bytes rest : List ℕ) (outcome : Result HeadRequest Problem) : Type 0 where
   pub head : RequestHead
   pub has : HasHead bytes head rest
-  pub wants : head_request_of (parts_of head) ≡ outcome
+  pub wants : head_request_of takes_plans (parts_of head) ≡ outcome
 
 -- The pipe has failed, or was denied a read or a write.
 abbrev pub HasStopped : {T : Type 0} → Pipe T → Type 0

@@ -6,7 +6,7 @@ use Rattle.matchit.specs.Route.{Scan, parse_route}
 use Rattle.matchit.specs.Router.{RouteOf, route_from}
 use Rattle.matchit.specs.declared.error.InsertError.{InsertError}
 use Rattle.thes_http_request.specs.declared.endpoint.Endpoint.{Endpoint}
-use Rattle.thes_http_request.specs.declared.endpoint.Endpoint.TheVariants.{Requests, Import, Totals, Concept, Postings}
+use Rattle.thes_http_request.specs.declared.endpoint.Endpoint.TheVariants.{Requests, Plans, Import, Totals, Concept, Postings}
 use Rattle.thes_http_request.specs.declared.endpoint.Endpoint.TheVariants.{Posting, Export, Alphabetical, Hierarchical}
 
 -- The rows of a router: patterns, each with its route to an endpoint.
@@ -22,7 +22,7 @@ with_scan (Err e) endpoint rows = rows
 unfoldable pub with_route : List ℕ → Endpoint → RouteRows → RouteRows
 with_route text endpoint rows = with_scan (parse_route text) endpoint rows
 
--- The rows of the nine routes.
+-- The rows of the ten routes.
 unfoldable pub route_rows : RouteRows
 route_rows =
     with_route (codes "/display/hierarchical") Hierarchical
@@ -33,4 +33,5 @@ route_rows =
     (with_route (codes "/concepts/{n}") Concept
     (with_route (codes "/totals") Totals
     (with_route (codes "/import") Import
-    (with_route (codes "/requests") Requests []))))))))
+    (with_route (codes "/plans") Plans
+    (with_route (codes "/requests") Requests [])))))))))

@@ -1,7 +1,7 @@
 //! The endpoints that a path can name, and the routes to them.
 ghost use Rattle.std.specs.Prelude.{◌≡◌, ◌<◌, ◌^◌, ℕ, Some, None, IfSome, IfOk, OnOk, MatchOption};
 ghost use Rattle.std.specs.Str.{bytes_eq};
-ghost use Rattle.thes_http_request.specs.Endpoints.{method_of, body_limit, endpoint_of_path};
+ghost use Rattle.thes_http_request.specs.Endpoints.{method_of, body_limit, endpoint_at, endpoint_of_path};
 ghost use Rattle.thes_http_request.specs.Routes.{with_route};
 
 use http::Method;
@@ -17,6 +17,8 @@ const METHOD_LIMIT: usize = 15;
 pub enum Endpoint {
     /// A command to perform, in the body.
     Requests,
+    /// A plan to perform, in the body.
+    Plans,
     /// A posting file to import, in the body.
     Import,
     /// The totals of all postings.
@@ -41,7 +43,7 @@ impl Endpoint {
         ensures { result ≡ method_of self }
     {
         match self {
-            Endpoint::Requests | Endpoint::Import => Method::POST,
+            Endpoint::Requests | Endpoint::Plans | Endpoint::Import => Method::POST,
             _ => Method::GET,
         }
     }
@@ -68,7 +70,7 @@ impl Endpoint {
         ensures short { IfSome result (λ most. most < 2 ^ 30) }
     {
         match self {
-            Endpoint::Requests => Some(1_048_576),
+            Endpoint::Requests | Endpoint::Plans => Some(1_048_576),
             Endpoint::Import => Some(16_777_216),
             _ => None,
         }
@@ -82,7 +84,7 @@ pub struct EndpointMatch<'a> {
     pub number: &'a str,
 }
 
-/// The routes to all endpoints.
+/// The routes to all endpoints, also to that of plans.
 #[derive(Drop)]
 pub struct Routes {
     router: Router<Endpoint>,
@@ -115,10 +117,11 @@ fn add_route(
 }
 
 impl Routes {
-    /// Allocates the routes to all nine endpoints.
+    /// Allocates the routes to all ten endpoints.
     pub fn new(alloc: Global) -> Result<Routes, AllocError> {
         let mut router = Router::new(alloc);
         add_route(&mut router, "/requests", Endpoint::Requests)?;
+        add_route(&mut router, "/plans", Endpoint::Plans)?;
         add_route(&mut router, "/import", Endpoint::Import)?;
         add_route(&mut router, "/totals", Endpoint::Totals)?;
         add_route(&mut router, "/concepts/{n}", Endpoint::Concept)?;
@@ -142,6 +145,28 @@ impl Routes {
                 number: found.params.get("n").unwrap_or(""),
             }),
             Err(_) => None,
+        }
+    }
+}
+
+/// The routes by which paths are looked up, and whether plans are taken: else `/plans` names no
+/// endpoint.
+#[derive(Clone, Copy)]
+pub struct Paths<'r> {
+    pub routes: &'r Routes,
+    pub takes_plans: bool,
+}
+
+impl<'r> Paths<'r> {
+    /// Returns the endpoint that a path names, if there is one; allocates nothing.
+    pub fn find<'p>(self, path: &'p str) -> Option<EndpointMatch<'p>>
+        ensures { MatchOption result (endpoint_at self.entry.takes_plans path.now ≡ None)
+            (λ f. endpoint_at self.entry.takes_plans path.now ≡ Some
+            (record { endpoint = f.endpoint; number = f.number.now })) }
+    {
+        match self.routes.find(path) {
+            Some(found) if self.takes_plans || found.endpoint != Endpoint::Plans => Some(found),
+            _ => None,
         }
     }
 }

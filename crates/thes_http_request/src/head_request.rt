@@ -6,7 +6,7 @@ ghost use Rattle.thes_http_request.specs.Inbox.{IsHeadAt, HeadOutcome};
 ghost use Rattle.thes_http_request.specs.Endpoints.{path_of, query_of};
 ghost use Rattle.thes_http_request.specs.HeadRequests.{head_request_of};
 
-use crate::endpoint::{Endpoint, Routes};
+use crate::endpoint::{Endpoint, Paths};
 use crate::fields::{body_length, has_field};
 use crate::problem::Problem;
 use httparse::spans::{HeaderSpan, RequestSpans};
@@ -28,14 +28,14 @@ pub struct HeadRequest<'a> {
 #[tactic(auto, using(crate::proofs::HeadOutcomeLemmas::head_outcome_ok, crate::proofs::HeadOutcomeLemmas::head_outcome_err))]
 pub fn read_head_request<'a>(
     alloc: Global,
-    routes: &Routes,
+    paths: Paths<'_>,
     head: &'a [u8],
     spans: RequestSpans,
     headers: &[HeaderSpan],
 ) -> Result<HeadRequest<'a>, Problem>
     requires at { IsHeadAt head.now headers.now spans }
     requires short { length head.now ≤ head_limit }
-    ensures ok { IfOk result (λ w. HeadOutcome head.now (drop spans.len head.now)
+    ensures ok { IfOk result (λ w. HeadOutcome paths.entry.takes_plans head.now (drop spans.len head.now)
         (Ok (record {
           endpoint = w.endpoint;
           number = w.number.now;
@@ -43,14 +43,14 @@ pub fn read_head_request<'a>(
           body = w.body;
         }))) }
     ensures err { (p : _) → IsErrOf result p →
-        HeadOutcome head.now (drop spans.len head.now) (Err p) }
+        HeadOutcome paths.entry.takes_plans head.now (drop spans.len head.now) (Err p) }
 {
     let Ok(target) = str::from_utf8(spans.path.of(head)) else {
         return Err(Problem::BadHead);
     };
     request_of_parts(
         alloc,
-        routes,
+        paths,
         spans.method.of(head),
         target,
         head,
@@ -62,14 +62,14 @@ pub fn read_head_request<'a>(
 // returns the request, or the first problem.
 fn request_of_parts<'a>(
     alloc: Global,
-    routes: &Routes,
+    paths: Paths<'_>,
     method: &[u8],
     target: &'a str,
     bytes: &[u8],
     headers: &[HeaderSpan],
 ) -> Result<HeadRequest<'a>, Problem>
     requires { All (IsHeaderWithin (length bytes.now)) headers.now }
-    ensures ok { IfOk result (λ w. head_request_of (record {
+    ensures ok { IfOk result (λ w. head_request_of paths.entry.takes_plans (record {
       method = method.now;
       target = target.now;
       fields = map (header_bytes bytes.now) headers.now;
@@ -81,7 +81,7 @@ fn request_of_parts<'a>(
           body = w.body;
         })) }
     ensures err { (p : _) → IsErrOf result p
-        → head_request_of (record {
+        → head_request_of paths.entry.takes_plans (record {
           method = method.now;
           target = target.now;
           fields = map (header_bytes bytes.now) headers.now;
@@ -91,7 +91,7 @@ fn request_of_parts<'a>(
         return Err(Problem::TransferCoding);
     }
     let (path, query) = split_target(target);
-    let Some(found) = routes.find(path) else {
+    let Some(found) = paths.find(path) else {
         return Err(Problem::NoSuchPath);
     };
     if !found.endpoint.has_method(alloc, method) {

@@ -12,7 +12,7 @@ use Rattle.thes_jobs.specs.Starting.{job_in_file}
 -- A task without work is a migration.
 pub migrates : (F L : Type 0) (task : Task) (prints_it : Bool)
     → OpensPlanned {F = F} {L = L} (planned_work task) prints_it (Ok None) → task ≡ tasks.Migrate
-migrates F L tasks.Script prints_it h = absurd cc
+migrates F L (tasks.Script options) prints_it h = absurd cc
 migrates F L tasks.Check prints_it h = absurd cc
 migrates F L tasks.Export prints_it h = absurd cc
 migrates F L (tasks.Alphabetical options) prints_it h = absurd cc

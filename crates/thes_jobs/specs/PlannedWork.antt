@@ -22,7 +22,7 @@ display_work display options = Output (output.Display display options)
 
 -- The work of each task, before any file or socket is opened.
 abbrev pub planned_work : {F L : Type 0} → Task → PlannedWork F L
-planned_work tasks.Script = planned.Ready Script
+planned_work (tasks.Script options) = planned.Ready (Script options)
 planned_work tasks.Check = planned.Ready (Output output.Check)
 planned_work tasks.Export = planned.Ready (Output output.Export)
 planned_work (tasks.Alphabetical options) = planned.Ready (display_work displays.Alphabetical options)
@@ -40,7 +40,12 @@ import_work (Err error) prints_it = Err File
 -- The work of serving a socket with these options, or that it couldn't be opened.
 abbrev pub serve_work : {F L : Type 0} → Result L OpenFailure → ServeOptions → Result (Work F L) OpenFailure
 serve_work (Ok listener) options =
-    Ok (Output (output.Serve (record { listener = listener; port = options.port; count = options.count })))
+    Ok (Output (output.Serve (record {
+      listener = listener;
+      port = options.port;
+      count = options.count;
+      plans = options.plans;
+    })))
 serve_work (Err unopened) options = Err unopened
 
 -- The failure is one of opening a socket.

@@ -6,23 +6,24 @@ use sqlite::{Alter, Connection};
 use std::io;
 use thes_base::data::Limits;
 use thes_base::text::Base;
-use thes_command_line::arguments::{DisplayOptions, ServeOptions, Task};
+use thes_command_line::arguments::{DisplayOptions, ScriptOptions, ServeOptions, Task};
 use thes_command_line::printing::OpenFailure;
 use thes_requests::request::Display;
 
-/// A listening socket, its port, and the number of connections to serve.
+/// A listening socket, its port, the number of connections to serve, and whether plans are taken.
 #[derive(Drop)]
 pub struct Listening<L> {
     pub listener: L,
     pub port: u16,
     pub count: u32,
+    pub plans: bool,
 }
 
 /// The work of a task, with its file or socket open if it has one.
 #[derive(Drop)]
 pub enum Work<F, L> {
     /// Answers the script on standard input.
-    Script,
+    Script(ScriptOptions),
     /// Work that reads no standard input.
     Output(OutputWork<F, L>),
 }
@@ -67,7 +68,7 @@ pub fn planned_work<F, L>(task: Task) -> PlannedWork<F, L>
     ensures { result ≡ work.planned_work task }
 {
     match task {
-        Task::Script => PlannedWork::Ready(Work::Script),
+        Task::Script(options) => PlannedWork::Ready(Work::Script(options)),
         Task::Check => PlannedWork::Ready(Work::Output(OutputWork::Check)),
         Task::Export => PlannedWork::Ready(Work::Output(OutputWork::Export)),
         Task::Alphabetical(options) => {
@@ -108,6 +109,7 @@ pub fn serve_work<F, L>(
             listener,
             port: options.port,
             count: options.count,
+            plans: options.plans,
         }))),
         Err(unopened) => Err(unopened),
     }

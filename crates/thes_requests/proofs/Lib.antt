@@ -1,8 +1,11 @@
 pub mod GrammarLemmas
 pub mod ObjectLemmas
 pub mod TreeLemmas
+pub mod PlanTextLemmas
+pub mod ReferenceLemmas
 pub mod MemberLemmas
 pub mod ReadingLemmas
+pub mod PlanReadingLemmas
 pub mod MemberReadingLemmas
 pub mod LineBufferLemmas
 pub mod LineLemmas

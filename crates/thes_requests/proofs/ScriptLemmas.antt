@@ -5,7 +5,6 @@ use Rattle.std.proofs.Common.{◌++◌, length, length-append, take, Bool, true,
 use Rattle.std.proofs.KnownBytes.{Appends-trans, Appends-nil, Consumes-trans, Consumes-nil, Consumes-kept, Keeps-refl}
 use Rattle.std.proofs.lemmas.List.Elements.{All-push, All-nil, All-head, All-tail}
 use Rattle.std.specs.List.{All}
-use Rattle.std.specs.Str.Lines.{lines}
 use Rattle.std.specs.Io.KnownBytes.{Consumes, IsAtEnd, prepend_known}
 use Rattle.thes_base.specs.Pipe.{failed_of, ended_of, denied_of, unread_bytes, written_bytes, reading_fault}
 use Rattle.thes_base.specs.Pipe.{AppendsPrefix}

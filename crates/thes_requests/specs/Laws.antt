@@ -1,8 +1,12 @@
--- Laws of requests: every line has one meaning.
-use Rattle.std.specs.Prelude.{◌≡◌, ℕ, List, Result}
+-- Laws of requests and plans: every line has one meaning.
+use Rattle.std.specs.Prelude.{◌≡◌, ℕ, List, [], ◌∷◌, Option, Result, Ok, Err}
+use Rattle.serde_json.specs.Data.{Data}
 use Rattle.thes_base.specs.declared.fault.FormFault.{FormFault}
+use Rattle.thes_plans.specs.declared.plan.PlanRequest.{PlanRequest}
+use Rattle.thes_requests.specs.PlanReadings.{OptionReadsAs}
 use Rattle.thes_requests.specs.Readings.{ReadsAs}
 use Rattle.thes_requests.specs.Requests.{request_of}
+use Rattle.thes_requests.specs.declared.plan.PlanFault.{PlanFault}
 use Rattle.thes_requests.specs.declared.request.Request.{Request}
 
 -- Bytes have at most one meaning: one request, or one form fault.
@@ -15,3 +19,30 @@ OneReading =
 abbrev pub SomeReading : Type 0
 SomeReading =
     (bytes : List ℕ) → ¬ ¬ ((x : Result Request FormFault) × ReadsAs (request_of bytes) x)
+
+-- Two requests of a plan are the same: their commands, and their references.
+pub record SameAsked (a b : PlanRequest) : Type 0 where
+  pub command : a.command ≡ b.command
+  pub first : a.first ≡ b.first
+  pub second : a.second ≡ b.second
+  pub postings : a.postings.items ≡ b.postings.items
+
+-- Two plans have the same requests, in order.
+abbrev pub SamePlans : List PlanRequest → List PlanRequest → Type 0
+SamePlans [] [] = Unit {0}
+SamePlans [] (b ∷ q) = ⊥
+SamePlans (a ∷ p) [] = ⊥
+SamePlans (a ∷ p) (b ∷ q) = SameAsked a b × SamePlans p q
+
+-- Two outcomes of reading a plan are the same: the requests, or the fault.
+abbrev pub SameReading : Result (List PlanRequest) PlanFault → Result (List PlanRequest) PlanFault → Type 0
+SameReading (Ok p) (Ok q) = SamePlans p q
+SameReading (Ok p) (Err g) = ⊥
+SameReading (Err f) (Ok q) = ⊥
+SameReading (Err f) (Err g) = f ≡ g
+
+-- A text, given by its JSON value if it has one, has at most one meaning as a plan.
+abbrev pub OnePlanReading : Type 0
+OnePlanReading =
+    (value : Option Data) (x y : Result (List PlanRequest) PlanFault)
+    → OptionReadsAs value x → OptionReadsAs value y → SameReading x y

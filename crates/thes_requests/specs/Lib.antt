@@ -4,7 +4,10 @@ pub mod Members
 pub mod Keywords
 pub mod Requests
 pub mod MemberReadings
+pub mod References
+pub mod PlanReadings
 pub mod AnswerTexts
+pub mod PlanTexts
 pub mod LineBuffer
 pub mod RequestBehaviour
 pub mod Serving

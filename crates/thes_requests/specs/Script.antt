@@ -14,8 +14,9 @@ use Rattle.thes_requests.specs.AnswerTexts.{reply_text}
 use Rattle.thes_requests.specs.LineBuffer.{has_newline, line_limit}
 use Rattle.thes_requests.specs.Serving.{LineBehaviour, line_answer_text}
 use Rattle.thes_requests.specs.declared.answer.Reply.TheVariants as reply
+use Rattle.thes_requests.specs.declared.plan_reply.PlanReply.TheVariants as plan
 use Rattle.thes_requests.specs.declared.serve.LineAnswer.{LineAnswer}
-use Rattle.thes_requests.specs.declared.serve.LineAnswer.TheVariants.{Reply, View}
+use Rattle.thes_requests.specs.declared.serve.LineAnswer.TheVariants.{Reply, View, Plan}
 use Rattle.thes_requests.specs.declared.serve.LineOutcome.{LineOutcome}
 use Rattle.thes_requests.specs.declared.serve.LineOutcome.TheVariants.{Skipped, Unheld, Answered}
 use Rattle.thes_requests.specs.declared.script.ScriptEnd.{ScriptEnd}
@@ -87,6 +88,8 @@ end_after_answer e (Reply (reply.Answer a)) = e
 end_after_answer e (Reply (reply.Bad f)) = record e { refused = true }
 end_after_answer e (Reply (reply.Fault f)) = record e { fault = Some f }
 end_after_answer e (View text) = e
+end_after_answer e (Plan (plan.Done line)) = e
+end_after_answer e (Plan reply) = record e { refused = true }
 
 -- The end of a script after a line with this outcome: unchanged if it is skipped.
 abbrev pub end_after_outcome : ScriptEnd → LineOutcome → ScriptEnd

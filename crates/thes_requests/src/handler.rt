@@ -1,5 +1,6 @@
-//! The trait of an object that performs commands and answers queries.
-ghost use Rattle.std.specs.Prelude.{◌≡◌, true, Bool};
+//! The trait of an object that performs commands and plans, and answers queries.
+ghost use Rattle.std.specs.Prelude.{◌≡◌, true, Bool, IfOk};
+ghost use Rattle.thes_plans.specs.Plans.{HasEachAnswer};
 ghost use Rattle.thes_requests.specs.RequestBehaviour.{RequestBehaviour};
 
 use crate::request::Query;
@@ -7,6 +8,7 @@ use std::alloc::Global;
 use std::marker::Model;
 use thes_base::fault::{Fault, Refusal};
 use thes_base::request::{Answer, Command};
+use thes_plans::plan::{PlanOutcome, PlanRequest};
 
 /// A view as one line of JSON, with its line feed.
 #[derive(Drop)]
@@ -45,8 +47,8 @@ pub enum QueryAnswer {
     No(Refusal),
 }
 
-/// A handler of requests: it performs commands and answers queries, over a state in memory or over
-/// shared storage.
+/// A handler of requests: it performs commands and plans, and answers queries, over a state in memory
+/// or over shared storage.
 pub trait RequestHandler {
     // What each call does.
     ghost requests: { RequestBehaviour Self };
@@ -62,6 +64,17 @@ pub trait RequestHandler {
     fn show(&mut self, alloc: Global, query: &Query) -> Result<QueryAnswer, Fault>
         requires { is_open self.old ≡ true }
         ensures { requests.shows self.old query.now result self.new };
+
+    /// Performs a plan, and returns its outcome: the answers to all its requests, or the refusal of
+    /// the first that is refused.
+    fn perform_plan(&mut self, plan: &[PlanRequest]) -> Result<PlanOutcome, Fault>
+        requires { is_open self.old ≡ true }
+        ensures performs { requests.performs_plan self.old plan.now result self.new }
+        ensures each { IfOk result (λ outcome. HasEachAnswer plan.now outcome) };
+
+    /// Returns whether plans are among the requests of a script or a connection.
+    fn takes_plans(&self) -> bool
+        ensures { result ≡ requests.takes_plans self.now };
 
     /// Returns whether the handler still accepts calls: running out of memory in a call can close
     /// it for good.

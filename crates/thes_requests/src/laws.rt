@@ -1,5 +1,5 @@
-//! Laws of requests: every line has one meaning.
-ghost use Rattle.thes_requests.specs.Laws.{OneReading, SomeReading};
+//! Laws of requests and plans: every line has one meaning.
+ghost use Rattle.thes_requests.specs.Laws.{OnePlanReading, OneReading, SomeReading};
 
 /// No effect; states for the proof that bytes have at most one meaning: one request or one form
 /// fault.
@@ -11,4 +11,11 @@ pub fn one_reading()
 /// No effect; states for the proof that all bytes have a meaning (stated as a double negation).
 pub fn some_reading()
     ensures { SomeReading }
+{}
+
+/// No effect; states for the proof that a text has at most one meaning as a plan: its requests, or one
+/// fault.
+#[tactic(auto, using(crate::proofs::PlanReadingLemmas::one_plan))]
+pub fn one_plan_reading()
+    ensures { OnePlanReading }
 {}

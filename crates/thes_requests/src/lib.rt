@@ -1,5 +1,5 @@
-//! Requests in JSON, the lines of JSON that answer them, and scripts of requests over a request
-//! handler.
+//! Requests and plans in JSON, the lines of JSON that answer them, and scripts of requests over a
+//! request handler.
 #![tactic(auto)]
 
 pub mod answer;
@@ -11,6 +11,10 @@ mod line_buffer;
 mod lines;
 mod members;
 mod numeral;
+pub mod plan;
+pub mod plan_reply;
+pub mod plan_serving;
+mod references;
 pub mod request;
 pub mod script;
 mod serve;

@@ -213,8 +213,12 @@ fn withdraw_in(value: &Value<'_>) -> Result<Command, ReadStop>
     Ok(Command::Withdraw(posting))
 }
 
-// Reads the members of the command with this keyword.
-fn command_in(alloc: Global, verb: CommandKeyword, value: &Value<'_>) -> Result<Command, ReadStop>
+/// Reads the members of the command with this keyword.
+pub fn command_in(
+    alloc: Global,
+    verb: CommandKeyword,
+    value: &Value<'_>,
+) -> Result<Command, ReadStop>
     ensures { Gives (command_in verb (view value.now)) result }
 {
     match verb {
@@ -314,9 +318,9 @@ fn get_in(noun: Option<QueryKeyword>, value: &Value<'_>) -> Result<Request, Read
     Ok(Request::Get(query_in(noun, value)?))
 }
 
-// Reads a request from a JSON value, by `do` or, if the object has none, by `get`.
+/// Reads a request from a JSON value, by `do` or, if the object has none, by `get`.
 #[tactic(auto, unfolding(crate::specs::Requests::request_in))]
-fn request_in(alloc: Global, value: &Value<'_>) -> Result<Request, ReadStop>
+pub fn request_in(alloc: Global, value: &Value<'_>) -> Result<Request, ReadStop>
     ensures { Gives (request_in (view value.now)) result }
 {
     match (value.get("do"), value.get("get")) {
@@ -326,8 +330,8 @@ fn request_in(alloc: Global, value: &Value<'_>) -> Result<Request, ReadStop>
     }
 }
 
-// Parses the bytes as JSON; bytes that aren't UTF-8 are `NotJson`.
-fn json_in<'a>(
+/// Parses the bytes as JSON; bytes that aren't UTF-8 are `NotJson`.
+pub fn json_in<'a>(
     alloc: Global,
     bytes: &'a [u8],
     scratch: &'a mut Scratch,
@@ -346,7 +350,7 @@ fn json_in<'a>(
 #[derive(Drop)]
 pub struct RequestScratch {
     pub alloc: Global,
-    scratch: Scratch,
+    pub scratch: Scratch,
 }
 
 impl RequestScratch {

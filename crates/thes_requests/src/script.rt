@@ -9,6 +9,7 @@ use crate::answer::Reply;
 use crate::handler::RequestHandler;
 use crate::line_buffer::LineSearch;
 use crate::lines::ScriptLines;
+use crate::plan_reply::PlanReply;
 use crate::request::RequestScratch;
 use crate::serve::{LineAnswer, LineOutcome, serve_line};
 use std::alloc::Global;
@@ -43,14 +44,19 @@ impl ScriptEnd {
     {
         match outcome {
             LineOutcome::Answered(
-                LineAnswer::Reply(Reply::Answer(Answer::No(_)) | Reply::Bad(_)),
+                LineAnswer::Reply(Reply::Answer(Answer::No(_)) | Reply::Bad(_))
+                | LineAnswer::Plan(PlanReply::Refused(..) | PlanReply::Bad(_)),
             ) => self.refused = true,
             LineOutcome::Answered(LineAnswer::Reply(Reply::Fault(fault))) => {
                 self.fault = Some(*fault)
             }
             LineOutcome::Unheld => self.fault = Some(Fault::OutOfMemory),
             LineOutcome::Skipped
-            | LineOutcome::Answered(LineAnswer::Reply(Reply::Answer(_)) | LineAnswer::View(_)) => {}
+            | LineOutcome::Answered(
+                LineAnswer::Reply(Reply::Answer(_))
+                | LineAnswer::View(_)
+                | LineAnswer::Plan(PlanReply::Done(_)),
+            ) => {}
         }
     }
 }

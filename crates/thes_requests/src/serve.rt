@@ -1,25 +1,33 @@
-//! Serves one line of a script: reads its request, and answers it.
-ghost use Rattle.std.specs.Prelude.{◌≡◌, ℕ, List, true, false, OnOk, OnErr};
+//! Serves one line of a script: reads its request or plan, and answers it.
+ghost use Rattle.std.specs.Prelude.{◌≡◌, ℕ, List, Some, true, false, OnOk, OnErr};
 ghost use Rattle.std.specs.Io.KnownBytes.{Appends};
 ghost use Rattle.thes_base.specs.Pipe.{failed_of, written_bytes, AppendsPrefix};
 ghost use Rattle.thes_base.specs.PipeFrames.{WriteFrame};
 ghost use Rattle.thes_requests.specs.Script.{is_blank, outcome_text, StepLine};
-ghost use Rattle.thes_requests.specs.Serving.{Serves, command_answer, query_answer};
+ghost use Rattle.thes_requests.specs.Serving.{Serves, command_answer, is_plan_line, plan_answer, query_answer, stop_answer};
+ghost use Rattle.thes_requests.specs.Requests.{json_in};
+ghost use Rattle.thes_requests.specs.Tree.{view};
 
 use crate::answer::{Reply, reply_line};
 use crate::handler::{QueryAnswer, RequestHandler, ViewLine};
 use crate::line_buffer::LineSearch;
-use crate::request::{Request, RequestScratch, read_request};
+use crate::plan::plan_in;
+use crate::plan_reply::PlanReply;
+use crate::plan_serving::perform_read_plan;
+use crate::request::{Request, RequestScratch, json_in, request_in};
+use crate::tree::Value;
+use std::alloc::Global;
 use std::io::Write;
 use thes_base::fault::{Fault, ReadStop};
 use thes_base::pipe::{Budget, Pipe, Stop};
 use thes_base::request::Answer;
 
-/// The answer to a line: a reply of fixed form, or the line of a view.
+/// The answer to a line: a reply of fixed form, the line of a view, or the reply to a plan.
 #[derive(Drop)]
 pub enum LineAnswer {
     Reply(Reply),
     View(ViewLine),
+    Plan(PlanReply),
 }
 
 impl LineAnswer {
@@ -40,6 +48,26 @@ impl LineAnswer {
         match given {
             Ok(QueryAnswer::Line(line)) => LineAnswer::View(line),
             Ok(QueryAnswer::No(refusal)) => LineAnswer::Reply(Reply::Answer(Answer::No(refusal))),
+            Err(fault) => LineAnswer::Reply(Reply::Fault(fault)),
+        }
+    }
+
+    // Returns the form fault of a line that isn't a request, or running out of memory, as a reply.
+    fn for_stop(stop: ReadStop) -> LineAnswer
+        ensures { result ≡ stop_answer stop }
+    {
+        match stop {
+            ReadStop::Form(fault) => LineAnswer::Reply(Reply::Bad(fault)),
+            ReadStop::OutOfMemory => LineAnswer::Reply(Reply::Fault(Fault::OutOfMemory)),
+        }
+    }
+
+    // Returns the reply to a plan, or its fault as a reply.
+    fn for_plan(given: Result<PlanReply, Fault>) -> LineAnswer
+        ensures { result ≡ plan_answer given }
+    {
+        match given {
+            Ok(reply) => LineAnswer::Plan(reply),
             Err(fault) => LineAnswer::Reply(Reply::Fault(fault)),
         }
     }
@@ -78,6 +106,7 @@ impl LineOutcome {
             LineOutcome::Answered(LineAnswer::View(line)) => {
                 writer.write_all(budget, line.as_bytes())
             }
+            LineOutcome::Answered(LineAnswer::Plan(reply)) => reply.write(writer, budget),
         }
     }
 }
@@ -89,8 +118,61 @@ fn is_blank(line: &[u8]) -> bool
     line.iter().all(|byte| *byte == b' ' || *byte == b'\t')
 }
 
-/// Skips a blank line; reads the request in any other, and performs its command or answers its
-/// query. A form fault has no effect, and neither has a line that didn't fit into memory.
+// Reads the request in a JSON value, and performs its command or answers its query. A form fault has no effect.
+fn serve_request<D: RequestHandler>(alloc: Global, handler: &mut D, value: Value<'_>) -> LineAnswer
+    requires { D.is_open handler.old ≡ true }
+    ensures { (line : List ℕ) → json_in line ≡ Some (view value.entry)
+        → is_plan_line (D.requests.takes_plans handler.old) line ≡ false
+        → Serves D.requests handler.old line result handler.new }
+{
+    let request = request_in(alloc, &value);
+    drop(value);
+    match request {
+        Ok(Request::Do(command)) => LineAnswer::for_command(handler.perform(&command)),
+        Ok(Request::Get(query)) => LineAnswer::for_query(handler.show(alloc, &query)),
+        Err(stop) => LineAnswer::for_stop(stop),
+    }
+}
+
+// Reads the plan in a JSON value, and performs it. A text that isn't a plan has no effect.
+fn serve_plan_line<D: RequestHandler>(
+    alloc: Global,
+    handler: &mut D,
+    value: Value<'_>,
+) -> LineAnswer
+    requires { D.is_open handler.old ≡ true }
+    ensures { (line : List ℕ) → json_in line ≡ Some (view value.entry)
+        → is_plan_line (D.requests.takes_plans handler.old) line ≡ true
+        → Serves D.requests handler.old line result handler.new }
+{
+    let plan = plan_in(alloc, value);
+    LineAnswer::for_plan(perform_read_plan(alloc, handler, plan))
+}
+
+// Answers a line that isn't blank: a plan if it is an array and the handler takes plans, else a request.
+fn answer_line<D: RequestHandler>(
+    memory: &mut RequestScratch,
+    handler: &mut D,
+    line: &[u8],
+) -> LineAnswer
+    requires { D.is_open handler.old ≡ true }
+    ensures { Serves D.requests handler.old line.now result handler.new }
+{
+    let alloc = memory.alloc;
+    match json_in(alloc, line, &mut memory.scratch) {
+        Ok(value) => {
+            if handler.takes_plans() && value.as_array().is_some() {
+                serve_plan_line(alloc, handler, value)
+            } else {
+                serve_request(alloc, handler, value)
+            }
+        }
+        Err(stop) => LineAnswer::for_stop(stop),
+    }
+}
+
+/// Skips a blank line; reads the request or, if the handler takes plans, the plan in any other, and
+/// performs it. A form fault has no effect, and neither has a line that didn't fit into memory.
 pub fn serve_line<D: RequestHandler>(
     memory: &mut RequestScratch,
     handler: &mut D,
@@ -107,16 +189,5 @@ pub fn serve_line<D: RequestHandler>(
     if is_blank(line) {
         return LineOutcome::Skipped;
     }
-    match read_request(memory, line) {
-        Ok(Request::Do(command)) => {
-            LineOutcome::Answered(LineAnswer::for_command(handler.perform(&command)))
-        }
-        Ok(Request::Get(query)) => {
-            LineOutcome::Answered(LineAnswer::for_query(handler.show(memory.alloc, &query)))
-        }
-        Err(ReadStop::Form(fault)) => LineOutcome::Answered(LineAnswer::Reply(Reply::Bad(fault))),
-        Err(ReadStop::OutOfMemory) => {
-            LineOutcome::Answered(LineAnswer::Reply(Reply::Fault(Fault::OutOfMemory)))
-        }
-    }
+    LineOutcome::Answered(answer_line(memory, handler, line))
 }

@@ -153,8 +153,8 @@ fn has_names<'a>(members: &[(&'a str, Value<'a>)], count: usize) -> bool
     names == count
 }
 
-// Appends a member; before the first one, reserves capacity for all members of a request.
-fn push_member<'a>(
+/// Appends a member; before the first one, reserves capacity for all members of a request.
+pub fn push_member<'a>(
     members: &mut Vec<(&'a str, Value<'a>)>,
     name: &'a str,
     value: Value<'a>,

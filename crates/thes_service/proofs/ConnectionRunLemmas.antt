@@ -1,16 +1,15 @@
 -- Proves that the requests of connections lead an office through a run of the machine.
-use Rattle.std.proofs.Common.{◌∙◌, inl, inr, subst, ℕ, List, [], ◌∷◌, ◌++◌, Option, None, Some, Result, Ok, Err, arith}
-use Rattle.thes_base.specs.declared.data.Limits.{Limits}
+use Rattle.std.proofs.Common.{inl, inr, ℕ, Bool, List, [], ◌∷◌, Option, None, Some, Result, Ok, Err}
 use Rattle.thes_base.specs.declared.fault.Fault.{Fault}
 use Rattle.thes_base.specs.declared.request.Answer.{Answer}
 use Rattle.thes_base.specs.declared.request.Command.{Command}
 use Rattle.thes_base.specs.Headline.{IsConsistentState}
 use Rattle.thes_base.specs.State.{State}
 use Rattle.thes_store.specs.Storage.{StorageView}
-use Rattle.thes_office.specs.Office.{FaultBehaviour, TablesAfterRun, OfficeView}
+use Rattle.thes_office.specs.Office.{FaultBehaviour, OfficeView}
 use Rattle.thes_office.specs.TablesOfState.{TablesOfState}
-use Rattle.thes_office.proofs.OfficeViewLemmas.{run_of_more}
 use Rattle.thes_requests.specs.declared.request.Query.{Query}
+use Rattle.thes_requests.specs.Requests.{json_in}
 use Rattle.thes_import.specs.Imports as importer
 use Rattle.thes_import.specs.declared.postings.ImportHalt.{ImportHalt}
 use Rattle.thes_import.specs.declared.postings.FileImport as performed
@@ -30,42 +29,21 @@ use Rattle.thes_http.specs.Serving.{CommandEffect, QueryEffect as ShowsView, Num
 use Rattle.thes_http.specs.ServiceBehaviour.{ServiceBehaviour}
 use Rattle.thes_service.specs.OfficeRequests.{IsReachedByRun, OfficePerforms}
 use Rattle.thes_service.specs.Service.{office_behaviour}
-use Rattle.thes_service.proofs.ScriptRunLemmas.{led_kept, led_same, led_start, led_step}
+use Rattle.thes_service.proofs.ScriptRunLemmas.{led_kept, led_run, led_same, led_start, led_step, plan_reached}
 
-module _ {K : Type 0} (view : K → StorageView) where
+module _ {K : Type 0} (view : K → StorageView) (takes : Bool) where
   abbrev IsReached : OfficeView K → OfficeView K → Type 0
   IsReached old new = IsReachedByRun view old new
 
   -- The behaviour of an office as a service.
   abbrev Office : ServiceBehaviour (OfficeView K)
-  Office = office_behaviour view
-
-  -- A run of several requests extends the run before it.
-  led_run : {T : Type 0} (old mid new : OfficeView K) (result : Result T Fault) (commands : List Command)
-      (answers : List Answer) → IsReached old mid → FaultBehaviour view mid new result
-      → ((view new.keeper).is_up → TablesAfterRun mid.limits (view mid.keeper).rows commands answers
-      (view new.keeper).rows)
-      → IsReached old new
-  led_run old mid new result commands answers reached fault_behaviour run = record {
-    limits = fault_behaviour.limits ∙ reached.limits;
-    was = λ up. reached.was (fault_behaviour.was up);
-    later = omega (arith, reached.later, fault_behaviour.later);
-    goes_on = λ up. let x = reached.goes_on (fault_behaviour.was up) in
-        let more = subst (λ (l : Limits). TablesAfterRun l (view mid.keeper).rows commands answers
-        (view new.keeper).rows)
-        reached.limits (run up) in (
-          x.0 ++ commands,
-          x.1 ++ answers,
-          run_of_more old.limits (view old.keeper).rows (view mid.keeper).rows
-              (view new.keeper).rows x.0 x.1 commands answers x.2 more,
-        );
-  }
+  Office = office_behaviour view takes
 
   import_reached : {T : Type 0} (old mid new : OfficeView K) (result : Result T Fault) (file : List ℕ)
       (is : Result performed.FileImport ImportHalt) → FaultBehaviour view mid new result
       → importer.Imports view mid file is new → IsReached old mid → IsReached old new
   import_reached old mid new result file (Ok (done.Rows report)) fault_behaviour x reached = let all = x.2 in
-      led_run old mid new result _ _ reached fault_behaviour (λ up. let ran = all.performs up in ran.goes_on)
+      led_run view old mid new result _ _ reached fault_behaviour (λ up. let ran = all.performs up in ran.goes_on)
   import_reached old mid new result file (Ok done.Malformed) fault_behaviour x reached = led_kept view old
       mid new
       reached x.1
@@ -73,7 +51,7 @@ module _ {K : Type 0} (view : K → StorageView) where
       mid new
       reached x.2
   import_reached old mid new result file (Err halted) fault_behaviour (inr x) reached = let some = x.2 in let all =
-      some.imports in led_run old mid new result _ _ reached fault_behaviour
+      some.imports in led_run view old mid new result _ _ reached fault_behaviour
       (λ up. let ran = all.performs up in ran.goes_on)
 
   request_reached : (old mid new : OfficeView K) (command : Command) (answer : Result Answer Fault)
@@ -115,6 +93,8 @@ module _ {K : Type 0} (view : K → StorageView) where
   does : (old mid new : OfficeView K) (r : Response) (p : Endpoint) (number query body : List ℕ)
       → EndpointEffect Office mid r new p number query body → IsReached old mid → IsReached old new
   does old mid new r endpoint.Requests number query body x reached = performs old mid new r body x reached
+  does old mid new r endpoint.Plans number query body x reached = plan_reached view takes (json_in body) x.0
+      old mid new x.1 reached
   does old mid new r endpoint.Import number query body x reached = let import = x.1 in
       import_reached old mid new x.0 body import.done import.fault_behaviour import.imports reached
   does old mid new r endpoint.Totals number query body x reached = shows old mid new r _ x reached
@@ -137,7 +117,7 @@ module _ {K : Type 0} (view : K → StorageView) where
       → IsReached old mid → IsReached old new
   exchange_reached old mid new r bytes (inl x) reached = led_kept view old mid new reached x.1.1
   exchange_reached old mid new r bytes (inr (inl x)) reached =
-      head_answered old mid new r (head_request_of (parts_of x.0)) x.1 x.3 reached
+      head_answered old mid new r (head_request_of takes (parts_of x.0)) x.1 x.3 reached
   exchange_reached old mid new r bytes (inr (inr x)) reached = led_kept view old mid new reached x.1
 
   all_answered : (old new : OfficeView K) (exchanges : List Exchange) → AreAnswered Office old exchanges new

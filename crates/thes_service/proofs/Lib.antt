@@ -1,6 +1,7 @@
 pub mod StateViewLemmas
 pub mod ScriptRunLemmas
 pub mod ConnectionRunLemmas
+pub mod PlanAnswerLemmas
 pub mod MachineServiceLemmas
 pub mod SimulationLemmas
 pub mod OfficeAnswerLemmas

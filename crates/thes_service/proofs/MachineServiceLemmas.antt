@@ -1,5 +1,5 @@
 -- The machine as a service: each call has one answer and one state after it, unless memory or the storage fails.
-use Rattle.std.proofs.Common.{◌≡◌, ◌∙◌, ◌⊎◌, ◌++◌, ◌∷◌, [], ℕ, List, Result, Ok, Err, inl, inr, refl, sym, ap}
+use Rattle.std.proofs.Common.{◌≡◌, ◌∙◌, ◌⊎◌, ◌++◌, ◌∷◌, [], ℕ, Bool, List, Option, Result, Ok, Err, inl, inr, refl, sym, ap}
 use Rattle.thes_base.specs.declared.data.Resource.{Resource}
 use Rattle.thes_base.specs.declared.fault.Fault.{Fault}
 use Rattle.thes_base.specs.declared.fault.Fault.TheVariants.{OutOfMemory, Store}
@@ -13,6 +13,12 @@ use Rattle.thes_base.specs.Refusals.{Setting, IsSetting}
 use Rattle.thes_base.specs.Resources.{IsScheme}
 use Rattle.thes_base.specs.State.{State}
 use Rattle.thes_base.proofs.OutcomeLemmas.{one_outcome}
+use Rattle.serde_json.specs.Data.{Data}
+use Rattle.thes_plans.specs.Plans.{IsPlanOutcome}
+use Rattle.thes_requests.specs.declared.plan_reply.PlanReply.{PlanReply}
+use Rattle.thes_requests.specs.Requests.{json_in}
+use Rattle.thes_requests.specs.Serving.{ServesPlan}
+use Rattle.thes_service.proofs.PlanAnswerLemmas.{one_plan_reply}
 use Rattle.thes_exchange.specs.Viewing.{IsQueryAnswer}
 use Rattle.thes_exchange.proofs.OneViewLemmas.{one_view}
 use Rattle.thes_display.specs.DisplayWrites.{IsSchemeRefusal}
@@ -30,9 +36,9 @@ use Rattle.thes_http.specs.declared.service.DisplayAnswer.{DisplayAnswer}
 use Rattle.thes_http.specs.declared.service.DisplayAnswer.TheVariants as displayed
 use Rattle.thes_http.specs.declared.service.ImportAnswer.{ImportAnswer}
 use Rattle.thes_http.specs.declared.service.ImportAnswer.TheVariants as imported
-use Rattle.thes_http.specs.Laws.{AnswerOneCall, command_answers, query_answers, import_answers, export_answers}
+use Rattle.thes_http.specs.Laws.{AnswerOneCall, command_answers, plan_answers, query_answers, import_answers, export_answers}
 use Rattle.thes_http.specs.Laws.{display_answers, no_call, HasOneAnswerToACall}
-use Rattle.thes_http.specs.Responses.{fault_response, command_response, query_response, import_response}
+use Rattle.thes_http.specs.Responses.{fault_response, command_response, plan_response, query_response, import_response}
 use Rattle.thes_http.specs.Responses.{export_response, display_response}
 use Rattle.thes_http.specs.ServiceBehaviour.{ServiceBehaviour}
 use Rattle.thes_http.specs.Serving.{Answers}
@@ -55,12 +61,14 @@ module _ (setting : Setting) where
   ImportAnswers s file answer t =
       (done : performed.FileImport) × IsImportOf setting s file done t × (Ok answer ≡ import_answer (Ok done))
 
-  -- The machine as a service; where it fails, nothing is said of the state after.
-  abbrev pub machine_service : ServiceBehaviour State
-  machine_service = record {
+  -- The machine as a service, which takes plans or doesn't; where it fails, nothing is said of the state after.
+  abbrev pub machine_service : Bool → ServiceBehaviour State
+  machine_service takes = record {
     requests = record {
       performs = λ s command result t. HoldsUnlessFailure (λ answer. Step setting s command answer t) result;
       shows = λ s query result t. HoldsUnlessFailure (λ answer. IsQueryAnswer s query (Ok answer) × (t ≡ s)) result;
+      takes_plans = λ s. takes;
+      performs_plan = λ s plan result t. HoldsUnlessFailure (λ outcome. IsPlanOutcome setting s plan outcome t) result;
     };
     imports = λ s file result t. HoldsUnlessFailure (λ answer. ImportAnswers s file answer t) result;
     exports = λ s result t. HoldsUnlessFailure (λ text. IsExport setting.base s text × (t ≡ s)) result;
@@ -123,12 +131,16 @@ module _ (setting : Setting) (fit : IsSetting setting) (s : State) (legal : IsLe
       let same : a ≡ b = cc in
       (same, one.1)
 
+module _ (setting : Setting) (takes : Bool) (fit : IsSetting setting) (s : State)
+    (legal : IsLegalState setting.base s) where
   -- Each call of the machine as a service has one answer and one state after it.
-  pub machine_has_one_answer : HasOneAnswerToACall (machine_service setting) s
+  pub machine_has_one_answer : HasOneAnswerToACall (machine_service setting takes) s
   machine_has_one_answer = record {
-    performs = one_step;
+    performs = one_step setting fit s legal;
     shows = λ query a b t u x y. (one_view s query a b x.0 y.0, x.1 ∙ sym y.1);
-    imports = one_import;
+    plans = λ body. one_plan_reply setting fit s legal (machine_service setting takes).requests
+        (λ plan o t performed. performed) (json_in body);
+    imports = one_import setting fit s legal;
     exports = λ a b t u x y. (one_text setting.base s a b x.0 y.0, x.1 ∙ sym y.1);
     displays = λ display scheme tag a b t u x y.
         (one_display_answer display scheme tag s a b x.0 y.0, x.1 ∙ sym y.1);
@@ -155,12 +167,20 @@ module _ (setting : Setting) (fit : IsSetting setting) (s : State) (legal : IsLe
       inr (inr (reports q g (fails g u y) (f ∙ fault g)))
 
   abbrev Machine : ServiceBehaviour State
-  Machine = machine_service setting
+  Machine = machine_service setting takes
+
+  -- A plan that isn't answered failed.
+  plan_fails : (value : Option Data) (f : Fault) (v : State) → ServesPlan Machine.requests s value (Err f) v → IsFailure f
+  plan_fails value f v (inl x) = inl x.0
+  plan_fails value f v (inr x) = x.2
 
   same_call : (t u : State) (r q : Response) → AnswerOneCall Machine s r t q u → IsOneAnswer t r u q
   same_call t u r q (command_answers command a b x y e f) = same_results command_response
       (λ c v. Machine.requests.performs s command c v) t u r q (λ g. refl) (λ g v z. z)
       (λ c d. machine_has_one_answer.performs command c d t u) a b x y e f
+  same_call t u r q (plan_answers body a b x y e f) = same_results plan_response
+      (λ c v. ServesPlan Machine.requests s (json_in body) c v) t u r q (λ g. refl) (plan_fails (json_in body))
+      (λ c d. machine_has_one_answer.plans body c d t u) a b x y e f
   same_call t u r q (query_answers query a b x y e f) = same_results query_response
       (λ c v. Machine.requests.shows s query c v) t u r q (λ g. refl) (λ g v z. z)
       (λ c d. machine_has_one_answer.shows query c d t u) a b x y e f

@@ -1,6 +1,7 @@
 -- Proves that the lines of a script lead an office through a run of the machine.
-use Rattle.std.proofs.Common.{◌≡◌, ◌∙◌, inl, inr, sym, refl, subst, ℕ, List, [], ◌∷◌, ◌++◌, Option, Result, Ok, Err}
+use Rattle.std.proofs.Common.{◌≡◌, ◌∙◌, inl, inr, sym, refl, subst, ℕ, Bool, List, [], ◌∷◌, ◌++◌, Option, None, Some, Result, Ok, Err}
 use Rattle.std.proofs.Common.{arith}
+use Rattle.serde_json.specs.Data.{Data}
 use Rattle.thes_base.specs.declared.data.Limits.{Limits}
 use Rattle.thes_base.specs.declared.fault.Fault.{Fault}
 use Rattle.thes_base.specs.declared.fault.PipeFault.{PipeFault}
@@ -8,19 +9,28 @@ use Rattle.thes_base.specs.declared.request.Answer.{Answer}
 use Rattle.thes_base.specs.declared.request.Command.{Command}
 use Rattle.thes_base.specs.Headline.{IsConsistentState}
 use Rattle.thes_base.specs.State.{State}
+use Rattle.thes_plans.specs.declared.plan.PlanOutcome.{PlanOutcome}
+use Rattle.thes_plans.specs.declared.plan.PlanOutcome.TheVariants.{Done, Refused}
+use Rattle.thes_plans.specs.declared.plan.PlanRequest.{PlanRequest}
+use Rattle.thes_plans.specs.Resolving.{resolved_commands}
 use Rattle.thes_tables.specs.Cells.{Raw}
 use Rattle.thes_store.specs.Storage.{StorageView}
 use Rattle.thes_office.specs.Office.{FaultBehaviour, TablesAfterRun, OfficeView, SameTables, TablesAfterStep}
 use Rattle.thes_office.specs.TablesOfState.{TablesOfState}
-use Rattle.thes_office.proofs.OfficeViewLemmas.{run_of_one_more, empty_run}
+use Rattle.thes_office.proofs.OfficeViewLemmas.{run_of_one_more, run_of_more, empty_run}
 use Rattle.thes_requests.specs.declared.answer.Reply.TheVariants as reply
 use Rattle.thes_requests.specs.declared.serve.LineAnswer.{LineAnswer}
-use Rattle.thes_requests.specs.declared.serve.LineAnswer.TheVariants.{Reply, View}
+use Rattle.thes_requests.specs.declared.plan_reply.PlanReply.{PlanReply}
+use Rattle.thes_requests.specs.declared.plan_reply.PlanReply.TheVariants as planned
+use Rattle.thes_requests.specs.declared.serve.LineAnswer.TheVariants.{Reply, View, Plan}
 use Rattle.thes_requests.specs.declared.script.ScriptEnd.{ScriptEnd}
 use Rattle.thes_requests.specs.declared.serve.LineOutcome.{LineOutcome}
 use Rattle.thes_requests.specs.declared.serve.LineOutcome.TheVariants.{Skipped, Unheld, Answered}
+use Rattle.thes_requests.specs.Requests.{json_in}
 use Rattle.thes_requests.specs.Script.{StepLine, RunLines, Session, EndsScript}
-use Rattle.thes_service.specs.OfficeRequests.{IsReachedByRun, OfficeServes, is_always_open}
+use Rattle.thes_requests.specs.Serving.{ServesPlan}
+use Rattle.thes_service.specs.OfficeRequests.{IsReachedByRun, OfficePerformsPlan, OfficeServes, is_always_open}
+use Rattle.thes_service.specs.OfficeRequests.{office_requests}
 
 module _ {K : Type 0} (view : K → StorageView) where
   -- Before the first line, the run is empty.
@@ -71,49 +81,106 @@ module _ {K : Type 0} (view : K → StorageView) where
       → IsReachedByRun view old new
   led_kept old mid new reached same = subst (IsReachedByRun view old) (sym same) reached
 
-  line_reached : (line : List ℕ) (o : LineAnswer) (old mid new : OfficeView K) → OfficeServes view mid
+  -- A run of several requests extends the run before it.
+  pub led_run : {T : Type 0} (old mid new : OfficeView K) (result : Result T Fault) (commands : List Command)
+      (answers : List Answer) → IsReachedByRun view old mid → FaultBehaviour view mid new result
+      → ((view new.keeper).is_up → TablesAfterRun mid.limits (view mid.keeper).rows commands answers
+      (view new.keeper).rows)
+      → IsReachedByRun view old new
+  led_run old mid new result commands answers reached fault_behaviour run = record {
+    limits = fault_behaviour.limits ∙ reached.limits;
+    was = λ up. reached.was (fault_behaviour.was up);
+    later = omega (arith, reached.later, fault_behaviour.later);
+    goes_on = λ up. let x = reached.goes_on (fault_behaviour.was up) in
+        let more = subst (λ (l : Limits). TablesAfterRun l (view mid.keeper).rows commands answers
+        (view new.keeper).rows)
+        reached.limits (run up) in (
+          x.0 ++ commands,
+          x.1 ++ answers,
+          run_of_more old.limits (view old.keeper).rows (view mid.keeper).rows
+              (view new.keeper).rows x.0 x.1 commands answers x.2 more,
+        );
+  }
+
+  -- A plan extends the run by its requests, if it is done; else it leaves the run unchanged.
+  pub led_plan : (old mid new : OfficeView K) (plan : List PlanRequest) (result : Result PlanOutcome Fault)
+      → OfficePerformsPlan view mid plan result new → IsReachedByRun view old mid → IsReachedByRun view old new
+  led_plan old mid new plan (Ok (Done answers)) x reached = led_run old mid new _
+      (resolved_commands [] plan answers.items) answers.items reached x.fault_behaviour (λ up.
+      let after = x.performed up in
+      let performs = after.performs in
+      record {
+        base = after.base;
+        state_before = after.state_before;
+        state_after = after.state_after;
+        tables_before = after.tables_before;
+        run = performs.run;
+        shows = after.shows;
+        in_order = after.in_order;
+      })
+  led_plan old mid new plan (Ok (Refused place refusal)) x reached = led_same old mid new _ reached x.fault_behaviour
+      (λ up. let after = x.performed up in after.same tt)
+  led_plan old mid new plan (Err fault) x reached = led_same old mid new _ reached x.fault_behaviour x.performed
+
+  -- A text that is read as a plan extends the run, or leaves it unchanged.
+  pub plan_reached : (takes : Bool) (value : Option Data) (result : Result PlanReply Fault) (old mid new : OfficeView K)
+      → ServesPlan (office_requests view takes) mid value result new → IsReachedByRun view old mid
+      → IsReachedByRun view old new
+  plan_reached takes value (Ok (planned.Bad f)) old mid new p reached = led_kept old mid new reached p.1
+  plan_reached takes value (Ok (planned.Done line)) old mid new p reached =
+      led_plan old mid new p.0 _ p.2.1 reached
+  plan_reached takes value (Ok (planned.Refused place refusal)) old mid new p reached =
+      led_plan old mid new p.0 _ p.2.1 reached
+  plan_reached takes value (Err f) old mid new (inl p) reached = led_kept old mid new reached p.1
+  plan_reached takes value (Err f) old mid new (inr p) reached = led_plan old mid new p.0 _ p.2 reached
+
+  line_reached : (takes : Bool) (line : List ℕ) (o : LineAnswer) (old mid new : OfficeView K) → OfficeServes view takes mid
       line o new → IsReachedByRun view old mid → IsReachedByRun view old new
-  line_reached line (Reply (reply.Answer a)) old mid new (inl p) reached = led_step old mid new p.0 a reached
+  line_reached takes line (Reply (reply.Answer a)) old mid new (inl p) reached = led_step old mid new p.0 a reached
       p.2.fault_behaviour
       p.2.performed
-  line_reached line (Reply (reply.Answer a)) old mid new (inr p) reached = led_same old mid new _ reached
+  line_reached takes line (Reply (reply.Answer a)) old mid new (inr p) reached = led_same old mid new _ reached
       p.3.fault_behaviour
       p.3.same
-  line_reached line (Reply (reply.Bad f)) old mid new p reached = led_kept old mid new reached p.1
-  line_reached line (Reply (reply.Fault f)) old mid new (inl p) reached = led_kept old mid new reached p.1
-  line_reached line (Reply (reply.Fault f)) old mid new (inr (inl p)) reached =
+  line_reached takes line (Reply (reply.Bad f)) old mid new p reached = led_kept old mid new reached p.2
+  line_reached takes line (Reply (reply.Fault f)) old mid new (inl p) reached = led_kept old mid new reached p.1
+  line_reached takes line (Reply (reply.Fault f)) old mid new (inr (inl p)) reached =
       led_same old mid new _ reached p.2.fault_behaviour p.2.performed
-  line_reached line (Reply (reply.Fault f)) old mid new (inr (inr p)) reached =
+  line_reached takes line (Reply (reply.Fault f)) old mid new (inr (inr (inl p))) reached =
       led_same old mid new _ reached p.2.fault_behaviour p.2.same
-  line_reached line (View text) old mid new p reached = led_same old mid new _ reached p.2.fault_behaviour p.2.same
+  line_reached takes line (Reply (reply.Fault f)) old mid new (inr (inr (inr p))) reached =
+      plan_reached takes (json_in line) (Err f) old mid new p.1 reached
+  line_reached takes line (Plan answer) old mid new p reached =
+      plan_reached takes (json_in line) (Ok answer) old mid new p.1 reached
+  line_reached takes line (View text) old mid new p reached = led_same old mid new _ reached p.2.fault_behaviour p.2.same
 
   -- A line extends the run, or leaves it unchanged.
-  pub step_reached : (line : List ℕ) (f : LineOutcome) (old mid new : OfficeView K)
-      → StepLine (OfficeServes view) mid line f new → IsReachedByRun view old mid
+  pub step_reached : (takes : Bool) (line : List ℕ) (f : LineOutcome) (old mid new : OfficeView K)
+      → StepLine (OfficeServes view takes) mid line f new → IsReachedByRun view old mid
       → IsReachedByRun view old new
-  step_reached line Skipped old mid new p reached = led_kept old mid new reached p.1
-  step_reached line Unheld old mid new p reached = led_kept old mid new reached p
-  step_reached line (Answered o) old mid new p reached = line_reached line o old mid new p.1 reached
+  step_reached takes line Skipped old mid new p reached = led_kept old mid new reached p.1
+  step_reached takes line Unheld old mid new p reached = led_kept old mid new reached p
+  step_reached takes line (Answered o) old mid new p reached = line_reached takes line o old mid new p.1 reached
 
   -- Lines extend the run.
-  pub lines_reached : (lines : List (List ℕ)) (line_outcomes : List LineOutcome) (old mid new : OfficeView K)
-      → RunLines (OfficeServes view) mid lines line_outcomes new → IsReachedByRun view old
+  pub lines_reached : (takes : Bool) (lines : List (List ℕ)) (line_outcomes : List LineOutcome)
+      (old mid new : OfficeView K) → RunLines (OfficeServes view takes) mid lines line_outcomes new → IsReachedByRun view old
       mid → IsReachedByRun view old new
-  lines_reached [] [] old mid new r so_far = led_kept old mid new so_far r
-  lines_reached [] (f ∷ line_outcomes) old mid new r so_far = absurd r
-  lines_reached (line ∷ more) [] old mid new r so_far = absurd r
-  lines_reached (line ∷ more) (f ∷ line_outcomes) old mid new r so_far = lines_reached more line_outcomes old r.0 new r.2
-      (step_reached line f old mid r.0 r.1 so_far)
+  lines_reached takes [] [] old mid new r so_far = led_kept old mid new so_far r
+  lines_reached takes [] (f ∷ line_outcomes) old mid new r so_far = absurd r
+  lines_reached takes (line ∷ more) [] old mid new r so_far = absurd r
+  lines_reached takes (line ∷ more) (f ∷ line_outcomes) old mid new r so_far = lines_reached takes more line_outcomes old r.0 new r.2
+      (step_reached takes line f old mid r.0 r.1 so_far)
 
   -- A script is a run of the machine, whether or not a fault stopped it.
-  pub script_leads : {R W : Type 0} (remaining : R → Option (List ℕ)) (contents : W → Option (List ℕ))
+  pub script_leads : (takes : Bool) {R W : Type 0} (remaining : R → Option (List ℕ)) (contents : W → Option (List ℕ))
       (result : Result ScriptEnd PipeFault) (old new : Session R W (OfficeView K))
       → ((view old.handler.keeper).is_up → (base : List ℕ) × (s : State)
       × TablesOfState (view old.handler.keeper).rows base s
       × IsConsistentState base s)
-      → EndsScript remaining contents (OfficeServes view) is_always_open old new result
+      → EndsScript remaining contents (OfficeServes view takes) is_always_open old new result
       → IsReachedByRun view old.handler new.handler
-  script_leads remaining contents (Ok ended) old new shows ends = let l = ends.lines in
-      lines_reached _ ends.line_outcomes old.handler old.handler new.handler l.run (led_start old.handler shows)
-  script_leads remaining contents (Err fault) old new shows ends = let l = ends.lines in
-      lines_reached _ ends.line_outcomes old.handler old.handler new.handler l.run (led_start old.handler shows)
+  script_leads takes remaining contents (Ok ended) old new shows ends = let l = ends.lines in
+      lines_reached takes _ ends.line_outcomes old.handler old.handler new.handler l.run (led_start old.handler shows)
+  script_leads takes remaining contents (Err fault) old new shows ends = let l = ends.lines in
+      lines_reached takes _ ends.line_outcomes old.handler old.handler new.handler l.run (led_start old.handler shows)

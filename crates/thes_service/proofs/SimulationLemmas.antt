@@ -1,9 +1,16 @@
 -- Proves that a service which does between two states all that another does answers as the other does.
-use Rattle.std.proofs.Common.{◌≡◌, ℕ, List, inl, inr, take, Option, Some, None, Result, Ok, Err}
+use Rattle.std.proofs.Common.{◌≡◌, ℕ, Bool, List, inl, inr, subst, take, Option, Some, None, Result, Ok, Err}
 use Rattle.thes_base.specs.declared.fault.Fault.{Fault}
 use Rattle.thes_base.specs.declared.request.Answer.{Answer}
 use Rattle.thes_base.specs.declared.request.Command.{Command}
+use Rattle.serde_json.specs.Data.{Data}
+use Rattle.thes_plans.specs.declared.plan.PlanOutcome.{PlanOutcome}
+use Rattle.thes_plans.specs.declared.plan.PlanRequest.{PlanRequest}
 use Rattle.thes_requests.specs.declared.handler.QueryAnswer.{QueryAnswer}
+use Rattle.thes_requests.specs.declared.plan_reply.PlanReply.{PlanReply}
+use Rattle.thes_requests.specs.declared.plan_reply.PlanReply.TheVariants as planned
+use Rattle.thes_requests.specs.Requests.{json_in}
+use Rattle.thes_requests.specs.Serving.{ServesPlan}
 use Rattle.thes_requests.specs.declared.request.Query.{Query}
 use Rattle.thes_requests.specs.declared.request.Query.TheVariants as asks
 use Rattle.thes_http_request.specs.declared.endpoint.Endpoint.{Endpoint}
@@ -28,12 +35,28 @@ pub record DoesAsMuch {S T : Type 0} (d : ServiceBehaviour S) (e : ServiceBehavi
       → e.requests.performs s command result t
   pub shows : (query : Query) (result : Result QueryAnswer Fault) → d.requests.shows old query result new
       → e.requests.shows s query result t
+  pub performs_plan : (plan : List PlanRequest) (result : Result PlanOutcome Fault)
+      → d.requests.performs_plan old plan result new → e.requests.performs_plan s plan result t
+  pub takes_plans : d.requests.takes_plans old ≡ e.requests.takes_plans s
   pub imports : (file : List ℕ) (result : Result ImportAnswer Fault) → d.imports old file result new
       → e.imports s file result t
   pub exports : (result : Result (List ℕ) Fault) → d.exports old result new → e.exports s result t
   pub displays : (which : Display) (scheme : ℕ) (tag : List ℕ) (result : Result DisplayAnswer Fault)
       → d.displays old which scheme tag result new → e.displays s which scheme tag result t
   pub keeps : new ≡ old → t ≡ s
+
+module _ {S T : Type 0} (d : ServiceBehaviour S) (e : ServiceBehaviour T) (old new : S) (s t : T)
+    (does : DoesAsMuch d e old new s t) where
+  -- What comes of a text that is read as a plan.
+  pub serves_plan : (value : Option Data) (result : Result PlanReply Fault) → ServesPlan d.requests old value result new
+      → ServesPlan e.requests s value result t
+  serves_plan value (Ok (planned.Bad f)) a = (a.0, does.keeps a.1)
+  serves_plan value (Ok (planned.Done line)) a =
+      (a.0, a.1, (a.2.0, does.performs_plan a.0 (Ok a.2.0) a.2.1, a.2.2))
+  serves_plan value (Ok (planned.Refused place refusal)) a =
+      (a.0, a.1, (a.2.0, does.performs_plan a.0 (Ok a.2.0) a.2.1, a.2.2))
+  serves_plan value (Err f) (inl a) = inl (a.0, does.keeps a.1)
+  serves_plan value (Err f) (inr a) = inr (a.0, a.1, does.performs_plan a.0 (Err f) a.2)
 
 module _ {S T : Type 0} (d : ServiceBehaviour S) (e : ServiceBehaviour T) (old new : S) (s t : T)
     (does : DoesAsMuch d e old new s t) (r : Response) where
@@ -72,6 +95,7 @@ module _ {S T : Type 0} (d : ServiceBehaviour S) (e : ServiceBehaviour T) (old n
   acts : (p : Endpoint) (number query body : List ℕ) → EndpointEffect d old r new p number query body
       → EndpointEffect e s r t p number query body
   acts endpoint.Requests number query body a = performs body a
+  acts endpoint.Plans number query body a = (a.0, serves_plan d e old new s t does (json_in body) a.0 a.1, a.2)
   acts endpoint.Import number query body a = (a.0, does.imports body a.0 a.1, a.2)
   acts endpoint.Totals number query body a = shows asks.Totals a
   acts endpoint.Concept number query body a = shows_number asks.Concept number a
@@ -88,6 +112,11 @@ module _ {S T : Type 0} (d : ServiceBehaviour S) (e : ServiceBehaviour T) (old n
 
   pub answers_as_much : (bytes : List ℕ) → Answers d old r new bytes → Answers e s r t bytes
   answers_as_much bytes (inl a) = inl (a.0, responds _ a.1)
-  answers_as_much bytes (inr (inl a)) =
-      inr (inl (a.0, a.1, a.2, answers_head (head_request_of (parts_of a.0)) a.1 a.3))
+  answers_as_much bytes (inr (inl a)) = inr (inl (
+    a.0,
+    a.1,
+    a.2,
+    answers_head (head_request_of (e.requests.takes_plans s) (parts_of a.0)) a.1
+        (subst (λ (takes : Bool). AnswersHead d old r new (head_request_of takes (parts_of a.0)) a.1) does.takes_plans a.3),
+  ))
   answers_as_much bytes (inr (inr a)) = inr (inr (responds _ a))

@@ -1,6 +1,6 @@
 -- The laws of an office's answers: the bytes of requests over HTTP, or of a script, and the state before determine the
 -- responses, or the output, and the state after.
-use Rattle.std.specs.Prelude.{◌≡◌, ◌⊎◌, ◌++◌, ℕ, List, map}
+use Rattle.std.specs.Prelude.{◌≡◌, ◌⊎◌, ◌++◌, ℕ, Bool, List, map}
 use Rattle.std.specs.List.{AllByRecursion}
 use Rattle.thes_base.specs.declared.fault.Fault.TheVariants.{OutOfMemory, Store}
 use Rattle.thes_base.specs.Refusals.{Setting, AreLimits}
@@ -31,14 +31,15 @@ IsFailedLine Unheld = Unit {0}
 IsFailedLine (Answered (Reply (reply.Fault fault))) = Unit {0}
 IsFailedLine outcome = ⊥
 
-module _ {K : Type 0} (view : K → StorageView) where
+-- An office that takes plans, or doesn't.
+module _ {K : Type 0} (view : K → StorageView) (takes : Bool) where
   -- An office with these limits, whose tables encode the state, answers the bytes with the response, and its storage
   -- is up at the end.
   pub record AnswersInState (setting : Setting) (s : State) (old : OfficeView K) (bytes : List ℕ) (response : Response)
       (new : OfficeView K) : Type 0 where
     pub limits : old.limits ≡ setting.limits
     pub shows : TablesOfState (view old.keeper).rows setting.base s
-    pub answers : Answers (office_behaviour view) old response new bytes
+    pub answers : Answers (office_behaviour view takes) old response new bytes
     pub is_up : (view new.keeper).is_up
 
   -- An office with these limits, whose tables encode the state, has these exchanges, the latest first; its storage is
@@ -47,7 +48,7 @@ module _ {K : Type 0} (view : K → StorageView) where
       (new : OfficeView K) : Type 0 where
     pub limits : old.limits ≡ setting.limits
     pub shows : TablesOfState (view old.keeper).rows setting.base s
-    pub answers : AreAnswered (office_behaviour view) old exchanges new
+    pub answers : AreAnswered (office_behaviour view takes) old exchanges new
     pub is_up : (view new.keeper).is_up
     pub no_failure : AllByRecursion (λ e. ¬ ReportsFailure e.response) exchanges
 
@@ -57,7 +58,7 @@ module _ {K : Type 0} (view : K → StorageView) where
       (outcomes : List LineOutcome) (new : OfficeView K) : Type 0 where
     pub limits : old.limits ≡ setting.limits
     pub shows : TablesOfState (view old.keeper).rows setting.base s
-    pub lines : ServesLines (OfficeServes view) bytes outcomes old new
+    pub lines : ServesLines (OfficeServes view takes) bytes outcomes old new
     pub is_up : (view new.keeper).is_up
     pub no_failure : AllByRecursion (λ o. ¬ IsFailedLine o) outcomes
 
@@ -65,9 +66,10 @@ module _ {K : Type 0} (view : K → StorageView) where
 -- unless a response reports a failure. More bytes may have been read for one response than for the other.
 abbrev pub HasOneOfficeAnswer : {K L : Type 0} → (K → StorageView) → (L → StorageView) → Type 0
 HasOneOfficeAnswer {K} {L} view other =
-    (setting : Setting) → AreLimits setting.limits → (s : State) (old new : OfficeView K) (old' new' : OfficeView L)
+    (takes : Bool) (setting : Setting) → AreLimits setting.limits → (s : State) (old new : OfficeView K) (old' new' : OfficeView L)
     (r q : Response) (bytes more : List ℕ)
-    → AnswersInState view setting s old bytes r new → AnswersInState other setting s old' (bytes ++ more) q new'
+    → AnswersInState view takes setting s old bytes r new
+    → AnswersInState other takes setting s old' (bytes ++ more) q new'
     → ((r ≡ q) × EncodeOneState setting.base (view new.keeper).rows (other new'.keeper).rows)
     ⊎ (ReportsFailure r ⊎ ReportsFailure q)
 
@@ -75,16 +77,18 @@ HasOneOfficeAnswer {K} {L} view other =
 -- any two storages, unless a response reports a failure.
 abbrev pub HasOneListOfResponses : {K L : Type 0} → (K → StorageView) → (L → StorageView) → Type 0
 HasOneListOfResponses {K} {L} view other =
-    (setting : Setting) → AreLimits setting.limits → (s : State) (old new : OfficeView K) (old' new' : OfficeView L)
+    (takes : Bool) (setting : Setting) → AreLimits setting.limits → (s : State) (old new : OfficeView K) (old' new' : OfficeView L)
     (exchanges others : List Exchange) → map (λ e. e.bytes) exchanges ≡ map (λ e. e.bytes) others
-    → ExchangesInState view setting s old exchanges new → ExchangesInState other setting s old' others new'
+    → ExchangesInState view takes setting s old exchanges new
+    → ExchangesInState other takes setting s old' others new'
     → (exchanges ≡ others) × EncodeOneState setting.base (view new.keeper).rows (other new'.keeper).rows
 
 -- The bytes of a script and the state before determine the outcomes of its lines, and so its output, and the state after
 -- them, over any two storages, unless a line is answered with a fault.
 abbrev pub HasOneScript : {K L : Type 0} → (K → StorageView) → (L → StorageView) → Type 0
 HasOneScript {K} {L} view other =
-    (setting : Setting) → AreLimits setting.limits → (s : State) (old new : OfficeView K) (old' new' : OfficeView L)
+    (takes : Bool) (setting : Setting) → AreLimits setting.limits → (s : State) (old new : OfficeView K) (old' new' : OfficeView L)
     (bytes : List ℕ) (outcomes others : List LineOutcome)
-    → ScriptInState view setting s old bytes outcomes new → ScriptInState other setting s old' bytes others new'
+    → ScriptInState view takes setting s old bytes outcomes new
+    → ScriptInState other takes setting s old' bytes others new'
     → (outcomes ≡ others) × EncodeOneState setting.base (view new.keeper).rows (other new'.keeper).rows

@@ -3,9 +3,12 @@ use Rattle.std.specs.Prelude.{◌≡◌, ◌≤◌, Bool, true, List, Result, Ok
 use Rattle.thes_base.specs.declared.fault.Fault.{Fault}
 use Rattle.thes_base.specs.declared.request.Answer.{Answer}
 use Rattle.thes_base.specs.declared.request.Command.{Command}
+use Rattle.thes_plans.specs.declared.plan.PlanOutcome.{PlanOutcome}
+use Rattle.thes_plans.specs.declared.plan.PlanRequest.{PlanRequest}
 use Rattle.thes_store.specs.Storage.{StorageView}
 use Rattle.thes_office.specs.QueryFrames.{InStateOfTables}
 use Rattle.thes_office.specs.Office.{FaultBehaviour, TablesAfterRun, OfficeView, PerformResult, SameTables}
+use Rattle.thes_office.specs.Plans.{RunPlanResult}
 use Rattle.thes_requests.specs.declared.handler.QueryAnswer.{QueryAnswer}
 use Rattle.thes_requests.specs.declared.request.Query.{Query}
 use Rattle.thes_exchange.specs.Viewing.{IsQueryAnswer}
@@ -33,14 +36,26 @@ module _ {K : Type 0} (view : K → StorageView) where
     pub viewed : IfOk result (λ v. (view new.keeper).is_up →
         InStateOfTables (view new.keeper).rows (λ s. IsQueryAnswer s query (Ok v)))
 
-  -- The behaviour of an office as a request handler.
-  abbrev pub office_requests : RequestBehaviour (OfficeView K)
-  office_requests = record { performs = OfficePerforms; shows = OfficeShows }
+  -- A plan leads to the state that its requests lead to, with its outcome: a refused one leaves the
+  -- tables unchanged, and so does a fault.
+  pub record OfficePerformsPlan (old : OfficeView K) (plan : List PlanRequest) (result : Result PlanOutcome Fault)
+      (new : OfficeView K) : Type 0 where
+    pub fault_behaviour : FaultBehaviour view old new result
+    pub performed : RunPlanResult view old plan result new
 
-  -- A line is answered by a step of the machine, or by a view of the state; the answer may also be
-  -- a form fault or a fault.
-  abbrev pub OfficeServes : LineBehaviour (OfficeView K)
-  OfficeServes = Serves office_requests
+  -- The behaviour of an office as a request handler, which may take plans.
+  abbrev pub office_requests : Bool → RequestBehaviour (OfficeView K)
+  office_requests takes = record {
+    performs = OfficePerforms;
+    shows = OfficeShows;
+    takes_plans = λ office. takes;
+    performs_plan = OfficePerformsPlan;
+  }
+
+  -- A line is answered by a step of the machine, by a view of the state, or by the run of a plan; the
+  -- answer may also be a form fault or a fault.
+  abbrev pub OfficeServes : Bool → LineBehaviour (OfficeView K)
+  OfficeServes takes = Serves (office_requests takes)
 
   -- A run of the machine leads from the old tables to the new ones. The new tables encode a
   -- consistent state: each posting that isn't withdrawn is assigned to exactly one live concept,

@@ -1,5 +1,5 @@
 -- The effect of posting files on an office, and the exports and displays of the state that its tables encode.
-use Rattle.std.specs.Prelude.{◌≡◌, ℕ, List, Result, Ok, Err, IfOk}
+use Rattle.std.specs.Prelude.{◌≡◌, ℕ, Bool, List, Result, Ok, Err, IfOk}
 use Rattle.thes_base.specs.declared.fault.Fault.{Fault}
 use Rattle.thes_base.specs.Resources.{IsScheme}
 use Rattle.thes_base.specs.State.{State}
@@ -71,10 +71,10 @@ module _ {K : Type 0} (view : K → StorageView) where
     pub imports : importer.Imports view old file done new
     pub reports : result ≡ import_answer done
 
-  -- The behaviour of an office as a service.
-  abbrev pub office_behaviour : ServiceBehaviour (OfficeView K)
-  office_behaviour = record {
-    requests = office_requests view;
+  -- The behaviour of an office as a service, which may take plans.
+  abbrev pub office_behaviour : Bool → ServiceBehaviour (OfficeView K)
+  office_behaviour takes = record {
+    requests = office_requests view takes;
     imports = OfficeImports;
     exports = OfficeExports;
     displays = OfficeDisplays;

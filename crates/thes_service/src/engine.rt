@@ -1,6 +1,6 @@
 //! The engine over an office: performs requests, answers queries, runs scripts, and serves HTTP
 //! connections.
-ghost use Rattle.std.specs.Prelude.{◌≡◌, IfOk};
+ghost use Rattle.std.specs.Prelude.{◌≡◌, refl, IfOk};
 ghost use Rattle.thes_base.specs.Pipe.{KeepsSharedCallLimit};
 ghost use Rattle.thes_http.specs.Server.{LeadsBy};
 ghost use Rattle.thes_requests.specs.Script.{session, EndsScript, IsFreshSession};
@@ -8,6 +8,7 @@ ghost use Rattle.thes_service.specs.OfficeRequests.{OfficeServes, is_always_open
 ghost use Rattle.thes_service.specs.Service.{office_behaviour};
 
 use crate::displaying::display_of_core;
+use crate::plan_mode::PlanMode;
 use crate::viewing::{view_concept, view_posting, view_postings, view_totals};
 use std::alloc::Global;
 use std::io;
@@ -28,19 +29,21 @@ use thes_import::postings;
 use thes_import::postings::{ImportHalt, import_postings};
 use thes_import::report::Report;
 use thes_office::Office;
+use thes_plans::plan::{PlanOutcome, PlanRequest};
 use thes_requests::handler::{QueryAnswer, RequestHandler};
 use thes_requests::request::{Display, Query};
 use thes_requests::script::{ScriptEnd, script};
 use thes_store::keeper::Keeper;
 
-/// An office that performs the requests of scripts and connections. In contracts its value is that
-/// of the office.
+/// An office that performs the requests of scripts and connections, and plans if its mode says so. In
+/// contracts its value is that of the office.
 #[derive(Drop)]
-pub struct OfficeHandler<K: Keeper> {
+pub struct OfficeHandler<K: Keeper, M: PlanMode> {
     pub office: Office<K>,
+    pub mode: M,
 }
 
-impl<K: Keeper> Model for OfficeHandler<K> {
+impl<K: Keeper, M: PlanMode> Model for OfficeHandler<K, M> {
     ghost use Rattle.std.specs.Coded.{codes};
     ghost use Rattle.thes_office.specs.Office.{OfficeView};
 
@@ -51,30 +54,30 @@ impl<K: Keeper> Model for OfficeHandler<K> {
     ghost view = { λ a. a.office };
 }
 
-impl<K: Keeper> OfficeHandler<K> {
+impl<K: Keeper, M: PlanMode + Copy> OfficeHandler<K, M> {
     /// Wraps an office, fresh or stale.
-    pub fn new(office: Office<K>) -> OfficeHandler<K>
+    pub fn new(office: Office<K>, mode: M) -> OfficeHandler<K, M>
         ensures { result ≡ office }
     {
-        OfficeHandler { office }
+        OfficeHandler { office, mode }
     }
 
     /// Returns the office.
     pub fn into_office(self) -> Office<K>
         ensures { result ≡ self }
     {
-        let OfficeHandler { office } = self;
+        let OfficeHandler { office, mode: _ } = self;
         office
     }
 }
 
-/// Each command is performed by a step of the machine over the tables of the storage, and each view
-/// is of the state that they encode. A stale copy is reloaded first; a fault leaves the tables
-/// unchanged.
-impl<K: Keeper> RequestHandler for OfficeHandler<K> {
+/// Each command is performed by a step of the machine over the tables of the storage, each plan by a
+/// run of it or not at all, and each view is of the state that they encode. A stale copy is reloaded
+/// first; a fault leaves the tables unchanged.
+impl<K: Keeper, M: PlanMode> RequestHandler for OfficeHandler<K, M> {
     ghost use Rattle.thes_service.specs.OfficeRequests.{office_requests, is_always_open};
 
-    ghost requests = { office_requests K.view };
+    ghost requests = { office_requests K.view M.takes };
 
     ghost is_open = { is_always_open };
 
@@ -89,6 +92,14 @@ impl<K: Keeper> RequestHandler for OfficeHandler<K> {
             Query::Postings(concept) => view_postings(&mut self.office, alloc, concept),
             Query::Posting(number) => view_posting(&mut self.office, alloc, number),
         }
+    }
+
+    fn perform_plan(&mut self, plan: &[PlanRequest]) -> Result<PlanOutcome, Fault> {
+        self.office.run_plan(plan)
+    }
+
+    fn takes_plans(&self) -> bool {
+        self.mode.takes_plans()
     }
 
     fn is_open(&self) -> bool {
@@ -107,14 +118,17 @@ fn page_of(report: Report) -> Page
 /// An import is a run of the machine over the tables of the storage; a fault ends it, and the rows
 /// before it stay performed. Exports and displays are of the state that the tables encode, and
 /// leave the tables unchanged. A stale copy is reloaded first.
-impl<K: Keeper> Service for OfficeHandler<K> {
+impl<K: Keeper, M: PlanMode> Service for OfficeHandler<K, M> {
+    ghost use Rattle.std.specs.Prelude.{refl};
     ghost use Rattle.thes_service.specs.Service.{office_behaviour};
 
-    ghost behaviour = { office_behaviour K.view };
+    ghost behaviour = { office_behaviour K.view M.takes };
 
     ghost does_requests = { record {
       performs = λ old command result new does. does;
       shows = λ old query result new does. does;
+      takes_plans = λ s. refl;
+      performs_plan = λ old plan result new does. does;
     } };
 
     fn import(&mut self, alloc: Global, file: &[u8]) -> Result<ImportAnswer, Fault> {
@@ -143,8 +157,8 @@ impl<K: Keeper> Service for OfficeHandler<K> {
     }
 }
 
-/// Answers each line of the input by a step of the machine, or by a view of the state that the
-/// tables encode.
+/// Answers each line of the input by a step of the machine, by a view of the state that the tables
+/// encode, or, if plans are taken, by the run of a plan.
 ///
 /// If the storage is up at the end of the call, a run of the machine leads from the state that the
 /// tables encoded to their new one, whatever the lines are. The new state is consistent: each
@@ -152,14 +166,14 @@ impl<K: Keeper> Service for OfficeHandler<K> {
 /// triples meet the conditions of SKOS. If the storage fails or memory runs out, the line is
 /// answered with the fault, and the tables are unchanged. The limits on lines are those of
 /// `script`; `OutOfMemory` is returned only before the first line.
-pub fn office_script<K: Keeper, R: Read, W: Write>(
+pub fn office_script<K: Keeper, M: PlanMode, R: Read, W: Write>(
     alloc: Global,
     reader: &mut Pipe<R>,
     writer: &mut Pipe<W>,
-    handler: &mut OfficeHandler<K>,
+    handler: &mut OfficeHandler<K, M>,
 ) -> Result<ScriptEnd, PipeFault>
     requires { IsFreshSession (session reader.old writer.old handler.old) }
-    ensures ends { EndsScript R.remaining W.contents (OfficeServes K.view) is_always_open
+    ensures ends { EndsScript R.remaining W.contents (OfficeServes K.view M.takes) is_always_open
         (session reader.old writer.old handler.old) (session reader.new writer.new handler.new)
         result }
     ensures reached { IsReachedByRun K.view handler.old handler.new }
@@ -177,18 +191,18 @@ pub fn office_script<K: Keeper, R: Read, W: Write>(
 /// posting that isn't withdrawn is assigned to exactly one live concept, the counts add up, and the
 /// triples meet the conditions of SKOS. An error is that of accepting a connection, or
 /// `OutOfMemory` if memory for the routes ran out.
-pub fn office_serve<N: Net + Clock, K: Keeper>(
+pub fn office_serve<N: Net + Clock, K: Keeper, M: PlanMode>(
     alloc: Global,
     clock: &N,
     listener: &N::Listener,
     count: u32,
-    handler: &mut OfficeHandler<K>,
+    handler: &mut OfficeHandler<K, M>,
 ) -> io::Result<ConnectionCount>
     ensures all { IfOk result (λ connections. connections ≡ count) }
-    ensures served { LeadsBy (office_behaviour K.view) count handler.old handler.new }
+    ensures served { LeadsBy (office_behaviour K.view M.takes) count handler.old handler.new }
     ensures reached { IsReachedByRun K.view handler.old handler.new }
 {
     // No effect; states for the proof that the tables encode a state.
     let _ = handler.office.is_stale();
-    serve::<N, OfficeHandler<K>>(alloc, clock, listener, count, handler)
+    serve::<N, OfficeHandler<K, M>>(alloc, clock, listener, count, handler)
 }

@@ -4,6 +4,7 @@
 mod displaying;
 mod engine;
 pub mod laws;
+pub mod plan_mode;
 mod posting_lister;
 mod viewing;
 

@@ -14,4 +14,5 @@ mod page_cache;
 pub mod reopening;
 mod row_output;
 mod rows;
+mod telling;
 pub mod unread;

@@ -20,6 +20,7 @@ use crate::faults::{count_fault, fault_of};
 use crate::finding::{find_posting, find_row, find_with_moves};
 use crate::keeper::SqlKeeper;
 use crate::row_output::{collect_numbers, yield_postings, yield_table_rows};
+use crate::telling::telling_change;
 use sqlite::{Alter, Connection};
 use std::alloc::Global;
 use std::marker::Model;
@@ -156,19 +157,11 @@ fn row_later<S: Alter>(
     }
 }
 
-// Returns the change whose presence in the database shows that all changes were made. That is the
-// last one or, if the last may have changed no row, the first one; None if there are no changes.
-fn telling_change(changes: &[Change]) -> Option<&Change> {
-    match changes.last() {
-        Some(Change::MoveAll(_, _) | Change::SetPlace(_, _)) => changes.first(),
-        last => last,
-    }
-}
-
-// Checks whether changes whose commit failed were made; None if the database can't be queried.
+// Checks whether changes whose commit failed were made; None if the database can't be queried. Changes
+// that leave the rows as they were count as made, but no changes don't.
 fn has_changes<S: Alter>(conn: &mut Connection<S>, changes: &[Change]) -> Option<bool> {
     match telling_change(changes) {
-        None => Some(false),
+        None => Some(!changes.is_empty()),
         Some(change) => match has_change(conn, change) {
             Ok(found) => Some(found),
             Err(_) => None,

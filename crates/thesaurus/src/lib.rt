@@ -43,6 +43,7 @@ pub use thes_store::sink::{PostingSink, RowSink};
 // Plans: several requests as one.
 pub use thes_plans::plan::{PlanOutcome, PlanRequest, REQUEST_LIMIT};
 pub use thes_plans::references::first_bad_reference;
+pub use thes_requests::plan::{PlanFault, PlanStop, read_plan};
 
 // Requests, answers and views as JSON, scripts, posting files and exports.
 pub use thes_exchange::concept::concept_view;
@@ -55,6 +56,7 @@ pub use thes_requests::answer::{Reply, write_answer};
 pub use thes_requests::handler::{QueryAnswer, RequestHandler, ViewLine};
 pub use thes_requests::request::{Query, Request, RequestScratch, read_request};
 pub use thes_requests::script::ScriptEnd as Ended;
+pub use thes_service::plan_mode::{NoPlans, PlanMode, WithPlans};
 pub use thes_service::{OfficeHandler, office_script as script};
 
 // Displays, and connections.

@@ -1,5 +1,5 @@
 //! A service whose only state is a count.
-ghost use Rattle.std.specs.Prelude.{true};
+ghost use Rattle.std.specs.Prelude.{false, true};
 ghost use Rattle.thes_base.specs.Pipe.{IsFresh};
 
 use std::alloc::Global;
@@ -12,6 +12,7 @@ use thes_base::text::Tag;
 use thes_http::serve::{ConnectionEnd, serve_one};
 use thes_http::service::{DisplayAnswer, ImportAnswer, Page, Service};
 use thes_http_request::endpoint::Routes;
+use thes_plans::plan::{PlanOutcome, PlanRequest};
 use thes_requests::handler::{QueryAnswer, RequestHandler, ViewLine};
 use thes_requests::request::{Display, Query};
 
@@ -26,7 +27,12 @@ pub struct CountingService {
 }
 
 impl RequestHandler for CountingService {
-    ghost requests = { record { performs = λ _ _ _ _. Unit {0}; shows = λ _ _ _ _. Unit {0} } };
+    ghost requests = { record {
+      performs = λ _ _ _ _. Unit {0};
+      shows = λ _ _ _ _. Unit {0};
+      takes_plans = λ _. false;
+      performs_plan = λ _ _ _ _. Unit {0};
+    } };
 
     ghost is_open = { λ _. true };
 
@@ -51,12 +57,24 @@ impl RequestHandler for CountingService {
         }
     }
 
+    // (no plan reaches it)
+    fn perform_plan(&mut self, plan: &[PlanRequest]) -> Result<PlanOutcome, Fault> {
+        let _ = plan;
+        Err(Fault::OutOfMemory)
+    }
+
+    fn takes_plans(&self) -> bool {
+        false
+    }
+
     fn is_open(&self) -> bool {
         true
     }
 }
 
 impl Service for CountingService {
+    ghost use Rattle.std.specs.Prelude.{refl};
+
     ghost behaviour = { record {
       requests = Self.requests;
       imports = λ _ _ _ _. Unit {0};
@@ -67,6 +85,8 @@ impl Service for CountingService {
     ghost does_requests = { record {
       performs = λ _ _ _ _ does. does;
       shows = λ _ _ _ _ does. does;
+      takes_plans = λ _. refl;
+      performs_plan = λ _ _ _ _ does. does;
     } };
 
     fn import(&mut self, alloc: Global, file: &[u8]) -> Result<ImportAnswer, Fault> {

@@ -38,4 +38,5 @@ returns c =
         default_from_one count_text
             c.unwrap_or.result c.requires.count count_is,
       );
+      plans = sym c.is_set.ensures;
     }

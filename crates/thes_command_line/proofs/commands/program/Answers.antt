@@ -3,7 +3,7 @@ use Rattle.thes_command_line.proofs.commands.program.Goals as goal
 -- The program has its options and all its commands, added in order.
 pub returns : goal.returns
 returns c =
-    let script = c.with_command-program.ensures _ _ c.program_options-program.ensures c.command-script.ensures.app in
+    let script = c.with_command-program.ensures _ _ c.program_options-program.ensures c.script.ensures.app in
     let import = c.with_command-program-2.ensures _ _ script c.import.ensures.app in
     let export = c.with_command-program-3.ensures _ _ import c.command-export.ensures.app in
     let alphabetical = c.with_command-program-4.ensures _ _ export c.display-alphabetical.ensures.app in

@@ -9,7 +9,7 @@ use Rattle.thes_service.proofs.engine.office_script.Goals as goal
 
 pub returns-clause-reached : goal.returns-clause-reached
 returns-clause-reached g c =
-    script_leads g.K.Keeper.view g.R.Read.remaining g.W.Write.contents
+    script_leads g.K.Keeper.view g.M.PlanMode.takes g.R.Read.remaining g.W.Write.contents
     c.script.result
     (session c.args.reader.now c.args.writer.now c.args.handler.now) (session c.script.new.reader c.script.new.writer
     c.script.new.handler)

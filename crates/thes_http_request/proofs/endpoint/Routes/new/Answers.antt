@@ -6,6 +6,7 @@ pub invariant_of-result : goal.invariant_of-result
 unfolding route_rows
 invariant_of-result c =
     rw (
+      c.in_ok-add_route-10.ensures,
       c.in_ok-add_route-9.ensures,
       c.in_ok-add_route-8.ensures,
       c.in_ok-add_route-7.ensures,

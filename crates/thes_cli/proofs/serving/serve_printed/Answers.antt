@@ -2,7 +2,7 @@ use Rattle.std.proofs.Common.{◌∙◌, ℕ, List, inl, inr, refl, subst}
 use Rattle.std.specs.Io.KnownBytes.{Appends}
 use Rattle.thes_base.specs.Pipe.{written_bytes}
 use Rattle.thes_command_line.specs.Printing.{PrintsPrefix}
-use Rattle.thes_cli.proofs.serving.serve_store.Goals as goal
+use Rattle.thes_cli.proofs.serving.serve_printed.Goals as goal
 
 pub returns-then-print : goal.returns-then-print
 returns-then-print g c =
@@ -10,7 +10,7 @@ returns-then-print g c =
     inl (
       subst (λ (text : List ℕ). Appends (written_bytes g.W.Write.contents c.args.output.now)
           (written_bytes g.W.Write.contents c.print.new.writer) text)
-          (c.as_bytes.ensures ∙ c.listening_line.ensures) prints.0,
+          (c.as_bytes.ensures.text ∙ c.listening_line.ensures) prints.0,
       c.serve_all.ensures,
     )
 
@@ -20,7 +20,7 @@ returns-else-print g c =
     let prints = rw c.if-print.false at c.print.ensures in
     inr (
       subst (λ (text : List ℕ). PrintsPrefix g.W.Write.contents c.args.output.now c.print.new.writer text)
-          (c.as_bytes.ensures ∙ c.listening_line.ensures) prints,
+          (c.as_bytes.ensures.text ∙ c.listening_line.ensures) prints,
       c.report_fault.ensures.line,
       refl,
       c.report_fault.ensures.status,

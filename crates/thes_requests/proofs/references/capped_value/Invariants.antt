@@ -1,0 +1,7 @@
+use Rattle.std.proofs.Common.{◌≡◌, min, take}
+use Rattle.std.specs.Str.Parse.{digits_value}
+use Rattle.thes_requests.specs.References.{greatest_place}
+use Rattle.thes_requests.proofs.references.capped_value.Given as goal
+
+abbrev pub invariant-loop-digit : goal.invariant-loop-digit
+invariant-loop-digit l = l.value ≡ min (digits_value 10 (take l.digit-index l.digits)) greatest_place

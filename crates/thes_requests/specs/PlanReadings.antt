@@ -1,0 +1,169 @@
+-- The meaning of the bytes of a plan: its requests, or the first fault. Four rules are checked in order. The bytes are
+-- JSON. The value is an array of 1 to 128 values. Each of them is a request, the first one first. Each reference is to
+-- an earlier request that makes what is referred to.
+use Rattle.std.specs.Prelude.{◌≡◌, ◌<◌, ◌≤◌, ◌+◌, ◌++◌, ℕ, Bool, true, false, List, [], ◌∷◌, length, codes, Option, None}
+use Rattle.std.specs.Prelude.{Some, option_and_then, Result, Ok, Err, Vec}
+use Rattle.std.specs.declared.alloc.Global.{Global}
+use Rattle.serde_json.specs.Data.{Data, array, Items, no_items, item}
+use Rattle.serde_json.specs.Find.{get, as_str, as_array}
+use Rattle.serde_json.specs.View.{items_of}
+use Rattle.thes_base.specs.declared.fault.FormFault.{FormFault}
+use Rattle.thes_base.specs.declared.fault.FormFault.TheVariants.{NotJson, BadShape}
+use Rattle.thes_base.specs.declared.fault.ReadStop.{ReadStop}
+use Rattle.thes_base.specs.declared.fault.ReadStop.TheVariants as stop
+use Rattle.thes_base.specs.declared.request.Command.{Command}
+use Rattle.thes_plans.specs.References.{AreGoodReferences, IsFirstBadReference}
+use Rattle.thes_plans.specs.declared.plan.PlanRequest.{PlanRequest}
+use Rattle.thes_requests.specs.Keywords.{verb_named}
+use Rattle.thes_requests.specs.Readings.{RequestReading, ReadsAs, ◌>>=◌, present_or_bad_shape}
+use Rattle.thes_requests.specs.References.{reference_in, without_references}
+use Rattle.thes_requests.specs.Requests.{command_in, json_in}
+use Rattle.thes_requests.specs.declared.keywords.CommandKeyword.{CommandKeyword}
+use Rattle.thes_requests.specs.declared.keywords.CommandKeyword.TheVariants as does
+use Rattle.thes_requests.specs.declared.plan.PlanFault.{PlanFault}
+use Rattle.thes_requests.specs.declared.plan.PlanFault.TheVariants.{Whole, Request, Reference}
+use Rattle.thes_requests.specs.declared.plan.PlanStop.{PlanStop}
+use Rattle.thes_requests.specs.declared.plan.PlanStop.TheVariants.{Bad, OutOfMemory}
+
+-- The greatest number of requests in a plan.
+abbrev pub request_limit : ℕ
+request_limit = 128
+
+-- The name of the member that is the command's first number, if it has one.
+abbrev pub first_name : CommandKeyword → Option (List ℕ)
+first_name does.Scheme = None
+first_name does.Concept = Some (codes "scheme")
+first_name does.Collection = Some (codes "scheme")
+first_name does.Outside = None
+first_name does.AddLabel = Some (codes "owner")
+first_name does.DropLabel = Some (codes "owner")
+first_name does.Relabel = Some (codes "owner")
+first_name does.Link = Some (codes "a")
+first_name does.Unlink = Some (codes "a")
+first_name does.Deprecate = Some (codes "concept")
+first_name does.Merge = Some (codes "source")
+first_name does.Split = Some (codes "source")
+first_name does.Post = Some (codes "concept")
+first_name does.Withdraw = Some (codes "posting")
+
+-- The name of the member that is the command's second number, if it has one.
+abbrev pub second_name : CommandKeyword → Option (List ℕ)
+second_name does.Link = Some (codes "b")
+second_name does.Unlink = Some (codes "b")
+second_name does.Merge = Some (codes "target")
+second_name _ = None
+
+-- The reference in the member with this name, if there is a name and a reference.
+abbrev pub reference_at : Option (List ℕ) → Data → Option ℕ
+reference_at name d = option_and_then (λ n. option_and_then reference_in (get n d)) name
+
+-- The reference of each item, if it is one.
+abbrev pub item_references : Items → List (Option ℕ)
+item_references no_items = []
+item_references (item d ds) = reference_in d ∷ item_references ds
+
+-- The references of the items, if there are any.
+abbrev pub array_references : Option Items → List (Option ℕ)
+array_references None = []
+array_references (Some ds) = item_references ds
+
+-- The reference, if it is one, of each posting that a split lists; nothing for other commands.
+abbrev pub listed_references : CommandKeyword → Data → List (Option ℕ)
+listed_references does.Split d = array_references (option_and_then as_array (get (codes "postings") d))
+listed_references _ d = []
+
+-- The command that the member `do` names, if there is one.
+abbrev pub keyword_in : Data → Option CommandKeyword
+keyword_in d = option_and_then verb_named (option_and_then as_str (get (codes "do") d))
+
+-- Reads the command of a plan's request: as a request alone, with 1 in place of each reference that stands for a
+-- number. A query is `BadShape`.
+abbrev pub plan_command_in : Data → RequestReading Command
+plan_command_in d = do
+  verb ← present_or_bad_shape (keyword_in d)
+  command_in verb (without_references d)
+
+-- The value is this request of a plan: its command, and its references.
+pub record IsPlanRequest (d : Data) (asked : PlanRequest) : Type 0 where
+  pub verb : CommandKeyword
+  pub keyword : keyword_in d ≡ Some verb
+  pub command : ReadsAs (command_in verb (without_references d)) (Ok asked.command)
+  pub first : asked.first ≡ reference_at (first_name verb) d
+  pub second : asked.second ≡ reference_at (second_name verb) d
+  pub postings : asked.postings.items ≡ listed_references verb d
+
+-- The value isn't a request of a plan, for this fault.
+abbrev pub IsNoPlanRequest : Data → FormFault → Type 0
+IsNoPlanRequest d f = ReadsAs (plan_command_in d) (Err f)
+
+-- The values are these requests, in order.
+abbrev pub AreRequests : List Data → List PlanRequest → Type 0
+AreRequests [] [] = Unit {0}
+AreRequests [] (asked ∷ plan) = ⊥
+AreRequests (d ∷ ds) [] = ⊥
+AreRequests (d ∷ ds) (asked ∷ plan) = IsPlanRequest d asked × AreRequests ds plan
+
+-- The value at this place, from 1, isn't a request, for this fault, and those before it are.
+pub record IsFirstMalformed (ds : List Data) (place : ℕ) (f : FormFault) : Type 0 where
+  pub before : List Data
+  pub d : Data
+  pub rest : List Data
+  pub all : ds ≡ before ++ d ∷ rest
+  pub place_is : place ≡ length before + 1
+  pub plan : List PlanRequest
+  pub requests : AreRequests before plan
+  pub bad : IsNoPlanRequest d f
+
+-- The value is an array of these values, of which there are 1 to 128.
+pub record IsPlanArray (d : Data) (ds : List Data) : Type 0 where
+  pub is_array : d ≡ array (items_of ds)
+  pub some : 0 < length ds
+  pub few : length ds ≤ request_limit
+
+-- The value is an array of these requests, whose references aren't checked yet.
+pub record IsPlanOfRequests (d : Data) (plan : List PlanRequest) : Type 0 where
+  pub values : List Data
+  pub is_array : IsPlanArray d values
+  pub requests : AreRequests values plan
+
+-- The value, read as a plan, has this outcome: the requests, or the first fault.
+abbrev pub PlanValueReadsAs : Data → Result (List PlanRequest) PlanFault → Type 0
+PlanValueReadsAs d (Ok plan) = IsPlanOfRequests d plan × AreGoodReferences plan
+PlanValueReadsAs d (Err (Whole f)) = (f ≡ BadShape) × ((ds : List Data) → ¬ IsPlanArray d ds)
+PlanValueReadsAs d (Err (Request place f)) =
+    (ds : List Data) × IsPlanArray d ds × IsFirstMalformed ds place f
+PlanValueReadsAs d (Err (Reference place)) =
+    (plan : List PlanRequest) × IsPlanOfRequests d plan × IsFirstBadReference plan place
+
+-- The outcome of the value, or `NotJson` if there is none.
+abbrev pub OptionReadsAs : Option Data → Result (List PlanRequest) PlanFault → Type 0
+OptionReadsAs None outcome = outcome ≡ Err (Whole NotJson)
+OptionReadsAs (Some d) outcome = PlanValueReadsAs d outcome
+
+-- The bytes, read as a plan, have this outcome: the requests, or the first fault.
+abbrev pub PlanReadsAs : List ℕ → Result (List PlanRequest) PlanFault → Type 0
+PlanReadsAs bytes outcome = OptionReadsAs (json_in bytes) outcome
+
+-- Whether there is a value, and it is an array.
+abbrev pub is_array_value : Option Data → Bool
+is_array_value (Some (array ds)) = true
+is_array_value _ = false
+
+-- The result of a call is such an outcome, or memory ran out.
+abbrev pub GivesPlan : (Result (List PlanRequest) PlanFault → Type 0) → Result (Vec PlanRequest Global) PlanStop
+    → Type 0
+GivesPlan Reads (Ok plan) = Reads (Ok plan.items)
+GivesPlan Reads (Err (Bad f)) = Reads (Err f)
+GivesPlan Reads (Err OutOfMemory) = Unit {0}
+
+-- The result of reading a request of a plan.
+abbrev pub GivesPlanRequest : Data → Result PlanRequest ReadStop → Type 0
+GivesPlanRequest d (Ok asked) = IsPlanRequest d asked
+GivesPlanRequest d (Err (stop.Form f)) = IsNoPlanRequest d f
+GivesPlanRequest d (Err stop.OutOfMemory) = Unit {0}
+
+-- Values, read as requests, have this outcome: the requests, or the fault of the first that isn't one.
+abbrev pub RequestsReadAs : List Data → Result (List PlanRequest) PlanFault → Type 0
+RequestsReadAs ds (Ok plan) = AreRequests ds plan
+RequestsReadAs ds (Err (Request place f)) = IsFirstMalformed ds place f
+RequestsReadAs ds (Err f) = ⊥

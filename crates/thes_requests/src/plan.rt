@@ -1,0 +1,201 @@
+//! Reads a plan from JSON: an array of requests, in which numbers may be references.
+ghost use Rattle.std.specs.Prelude.{◌≡◌, ◌≤◌, length, map, option_map, IfOk};
+ghost use Rattle.serde_json.specs.Data.{Data, array};
+ghost use Rattle.thes_requests.specs.PlanReadings as plan;
+ghost use Rattle.thes_requests.specs.PlanReadings.{GivesPlan, GivesPlanRequest, IsPlanOfRequests, PlanReadsAs, PlanValueReadsAs, RequestsReadAs};
+ghost use Rattle.thes_requests.specs.Tree.{view, items_view};
+
+use crate::keywords::CommandKeyword;
+use crate::members::{BAD_SHAPE, command_keyword_at};
+use crate::references::{reference_in, without_references};
+use crate::request::{RequestScratch, command_in, json_in};
+use crate::tree::Value;
+use std::alloc::{AllocError, Global};
+use thes_base::fault::{FormFault, ReadStop};
+use thes_plans::plan::{PlanRequest, REQUEST_LIMIT};
+use thes_plans::references::first_bad_reference;
+
+/// The reason why a text isn't a plan. The first fault of this order counts: that of the whole text, then those of the
+/// requests in their order, and then those of references.
+#[derive(Clone, Copy, Debug, PartialEq, Eq)]
+pub enum PlanFault {
+    /// The text isn't JSON (`NotJson`), or not an array of 1 to 128 values (`BadShape`).
+    Whole(FormFault),
+    /// The request at this place, from 1, has this form fault; a query has `BadShape`.
+    Request(usize, FormFault),
+    /// The request at this place, from 1, has a reference to no earlier request, or to one that doesn't make what is
+    /// referred to.
+    Reference(usize),
+}
+
+/// The reason why reading a plan failed.
+#[derive(Clone, Copy, Debug, PartialEq, Eq)]
+pub enum PlanStop {
+    /// The text isn't a plan.
+    Bad(PlanFault),
+    /// Memory ran out.
+    OutOfMemory,
+}
+
+/// Reports a failed allocation as `OutOfMemory`.
+impl From<AllocError> for PlanStop {
+    ghost use Rattle.thes_requests.specs.declared.plan.PlanStop.TheVariants.{OutOfMemory};
+
+    ghost from_gives = { λ _ stop. stop ≡ OutOfMemory };
+
+    fn from(_error: AllocError) -> PlanStop {
+        PlanStop::OutOfMemory
+    }
+}
+
+/// Wraps the fault of a text that isn't a plan.
+impl From<PlanFault> for PlanStop {
+    ghost use Rattle.thes_requests.specs.declared.plan.PlanStop.TheVariants.{Bad};
+
+    ghost from_gives = { λ fault stop. stop ≡ Bad fault };
+
+    fn from(fault: PlanFault) -> PlanStop {
+        PlanStop::Bad(fault)
+    }
+}
+
+// Returns the name of the member that is the command's first number, if it has one.
+fn first_name(verb: CommandKeyword) -> Option<&'static str>
+    ensures { option_map (λ s. s.now) result ≡ plan.first_name verb }
+{
+    match verb {
+        CommandKeyword::Concept | CommandKeyword::Collection => Some("scheme"),
+        CommandKeyword::AddLabel | CommandKeyword::DropLabel | CommandKeyword::Relabel => {
+            Some("owner")
+        }
+        CommandKeyword::Link | CommandKeyword::Unlink => Some("a"),
+        CommandKeyword::Deprecate | CommandKeyword::Post => Some("concept"),
+        CommandKeyword::Merge | CommandKeyword::Split => Some("source"),
+        CommandKeyword::Withdraw => Some("posting"),
+        CommandKeyword::Scheme | CommandKeyword::Outside => None,
+    }
+}
+
+// Returns the name of the member that is the command's second number, if it has one.
+fn second_name(verb: CommandKeyword) -> Option<&'static str>
+    ensures { option_map (λ s. s.now) result ≡ plan.second_name verb }
+{
+    match verb {
+        CommandKeyword::Link | CommandKeyword::Unlink => Some("b"),
+        CommandKeyword::Merge => Some("target"),
+        _ => None,
+    }
+}
+
+// Returns the reference in the member with this name, if there is a name and a reference.
+fn reference_at(name: Option<&str>, value: &Value<'_>) -> Option<u32>
+    ensures { result ≡ plan.reference_at (option_map (λ s. s.now) name.entry) (view value.now) }
+{
+    reference_in(value.get(name?)?)
+}
+
+// Returns the reference, if it is one, of each posting that a split lists; nothing for other commands.
+fn listed_references(
+    alloc: Global,
+    verb: CommandKeyword,
+    value: &Value<'_>,
+) -> Result<Vec<Option<u32>>, AllocError>
+    ensures { IfOk result (λ v. v.items ≡ plan.listed_references verb (view value.now)) }
+{
+    match (verb, value.get("postings").and_then(Value::as_array)) {
+        (CommandKeyword::Split, Some(items)) => references_in(alloc, items),
+        _ => Ok(Vec::new(alloc)),
+    }
+}
+
+// Returns the reference of each item, if it is one.
+#[tactic(auto, using(crate::proofs::ReferenceLemmas::references_next))]
+fn references_in(alloc: Global, items: &[Value<'_>]) -> Result<Vec<Option<u32>>, AllocError>
+    ensures { IfOk result (λ v. v.items ≡ plan.item_references (items_view items.now)) }
+{
+    let mut found = Vec::new(alloc);
+    for item in items {
+        found.push(reference_in(item))?;
+    }
+    Ok(found)
+}
+
+// Reads a request of a plan: a command, in which a reference may stand for each number.
+fn plan_request_in(alloc: Global, value: Value<'_>) -> Result<PlanRequest, ReadStop>
+    ensures { GivesPlanRequest (view value.entry) result }
+{
+    let Some(verb) = value.get("do").and_then(command_keyword_at) else {
+        return Err(BAD_SHAPE);
+    };
+    let first = reference_at(first_name(verb), &value);
+    let second = reference_at(second_name(verb), &value);
+    let postings = listed_references(alloc, verb, &value)?;
+    let value = without_references(alloc, value)?;
+    Ok(PlanRequest {
+        command: command_in(alloc, verb, &value)?,
+        first,
+        second,
+        postings,
+    })
+}
+
+// Reads the requests of a plan in their order, up to the first form fault.
+fn requests_in(alloc: Global, items: Vec<Value<'_>>) -> Result<Vec<PlanRequest>, PlanStop>
+    requires { length items.items ≤ plan.request_limit }
+    ensures { GivesPlan (RequestsReadAs (map view items.entry.items)) result }
+{
+    let mut plan = Vec::new(alloc);
+    for item in items {
+        match plan_request_in(alloc, item) {
+            Ok(asked) => plan.push(asked).map_err(AllocError::from)?,
+            Err(ReadStop::Form(fault)) => {
+                return Err(PlanStop::Bad(PlanFault::Request(plan.len() + 1, fault)));
+            }
+            Err(ReadStop::OutOfMemory) => return Err(PlanStop::OutOfMemory),
+        }
+    }
+    Ok(plan)
+}
+
+// Returns the plan if all its references are good, or the fault of the first that isn't.
+fn with_good_references(plan: Vec<PlanRequest>) -> Result<Vec<PlanRequest>, PlanStop>
+    ensures { (d : Data) → IsPlanOfRequests d plan.items
+        → GivesPlan (PlanValueReadsAs d) result }
+{
+    match first_bad_reference(&plan) {
+        None => Ok(plan),
+        Some(place) => Err(PlanStop::Bad(PlanFault::Reference(place))),
+    }
+}
+
+// Reads a plan from the items of an array.
+#[tactic(auto, using(crate::proofs::ReferenceLemmas::plan_array_length))]
+fn plan_of_items(alloc: Global, items: Vec<Value<'_>>) -> Result<Vec<PlanRequest>, PlanStop>
+    ensures { GivesPlan (PlanValueReadsAs (array (items_view items.entry.items))) result }
+{
+    if items.is_empty() || items.len() > REQUEST_LIMIT {
+        return Err(PlanStop::Bad(PlanFault::Whole(FormFault::BadShape)));
+    }
+    with_good_references(requests_in(alloc, items)?)
+}
+
+/// Reads a plan from a JSON value.
+pub fn plan_in(alloc: Global, value: Value<'_>) -> Result<Vec<PlanRequest>, PlanStop>
+    ensures { GivesPlan (PlanValueReadsAs (view value.entry)) result }
+{
+    match value {
+        Value::Array(items) => plan_of_items(alloc, items),
+        _ => Err(PlanStop::Bad(PlanFault::Whole(FormFault::BadShape))),
+    }
+}
+
+/// Reads a plan from the bytes of a text, or returns the first fault, or OutOfMemory.
+pub fn read_plan(memory: &mut RequestScratch, bytes: &[u8]) -> Result<Vec<PlanRequest>, PlanStop>
+    ensures { GivesPlan (PlanReadsAs bytes.now) result }
+{
+    match json_in(memory.alloc, bytes, &mut memory.scratch) {
+        Ok(value) => plan_in(memory.alloc, value),
+        Err(ReadStop::Form(fault)) => Err(PlanStop::Bad(PlanFault::Whole(fault))),
+        Err(ReadStop::OutOfMemory) => Err(PlanStop::OutOfMemory),
+    }
+}

@@ -1,0 +1,167 @@
+//! References in the requests of a plan: strings such as `"$3"` in place of numbers.
+ghost use Rattle.std.specs.Prelude.{◌≡◌, ◌+◌, ◌*◌, ◌-◌, min, true, IfOk};
+ghost use Rattle.std.specs.Char.{is_ascii_digit};
+ghost use Rattle.std.specs.List.{list_all};
+ghost use Rattle.std.specs.Str.Parse.{digits_value};
+ghost use Rattle.thes_requests.specs.References as plan;
+ghost use Rattle.thes_requests.specs.Tree.{view, items_view, members_view};
+
+use crate::tree::{Value, push_member};
+use serde_json::Number;
+use std::alloc::{AllocError, Global};
+
+// Returns whether the bytes are decimal digits without a leading zero.
+fn is_place(digits: &[u8]) -> bool
+    ensures { result ≡ plan.is_place digits.now }
+{
+    all_digits(digits) && begins_place(digits)
+}
+
+// Returns whether each byte is an ASCII digit.
+fn all_digits(digits: &[u8]) -> bool
+    ensures { result ≡ list_all is_ascii_digit digits.now }
+{
+    digits.iter().all(|byte| byte.is_ascii_digit())
+}
+
+// Returns whether there are bytes, of which the first is a zero only if it is the only one.
+fn begins_place(digits: &[u8]) -> bool
+    ensures { result ≡ plan.begins_place digits.now }
+{
+    match digits {
+        [] => false,
+        [_] => true,
+        [first, ..] => *first != b'0',
+    }
+}
+
+// Returns the value with one more decimal digit, at most `u32::MAX`.
+fn with_digit(value: u32, digit: &u8) -> u32
+    ensures { result ≡ min (value * 10 + (digit.now - 48)) plan.greatest_place }
+{
+    value
+        .saturating_mul(10)
+        .saturating_add(digit.saturating_sub(b'0') as u32)
+}
+
+// Returns the value of decimal digits, at most that of `u32::MAX`.
+fn capped_value(digits: &[u8]) -> u32
+    requires { plan.is_place digits.now ≡ true }
+    ensures { result ≡ min (digits_value 10 digits.now) plan.greatest_place }
+{
+    let mut value: u32 = 0;
+    for digit in digits {
+        value = with_digit(value, digit);
+    }
+    value
+}
+
+// Returns the place to which a text refers, if it is a reference.
+fn place_in(text: &str) -> Option<u32>
+    ensures { result ≡ plan.place_in text.now }
+{
+    match text.as_bytes() {
+        [b'$', digits @ ..] if is_place(digits) => Some(capped_value(digits)),
+        _ => None,
+    }
+}
+
+/// Returns the place to which a value refers, if it is a reference; at most `u32::MAX`.
+pub fn reference_in(value: &Value<'_>) -> Option<u32>
+    ensures { result ≡ plan.reference_in (view value.now) }
+{
+    place_in(value.as_str()?)
+}
+
+// Returns 1 in place of a reference, and any other value unchanged.
+fn without_reference(value: Value<'_>) -> Value<'_>
+    ensures { view result ≡ plan.without_reference (view value.entry) }
+{
+    match reference_in(&value) {
+        Some(_) => Value::Number(Number::from(1u64)),
+        None => value,
+    }
+}
+
+// Returns the items with 1 in place of each reference.
+#[tactic(auto, using(crate::proofs::ReferenceLemmas::items_without))]
+fn items_without_references<'a>(
+    alloc: Global,
+    items: Vec<Value<'a>>,
+) -> Result<Vec<Value<'a>>, AllocError>
+    ensures { IfOk result (λ v. items_view v.items
+        ≡ plan.items_without_references (items_view items.entry.items)) }
+{
+    let mut found = Vec::new(alloc);
+    for item in items {
+        found
+            .push(without_reference(item))
+            .map_err(AllocError::from)?;
+    }
+    Ok(found)
+}
+
+// Returns an array with 1 in place of each reference among its items, and any other value unchanged.
+fn list_without_references<'a>(alloc: Global, value: Value<'a>) -> Result<Value<'a>, AllocError>
+    ensures { IfOk result (λ v. view v ≡ plan.list_without_references (view value.entry)) }
+{
+    match value {
+        Value::Array(items) => Ok(Value::Array(items_without_references(alloc, items)?)),
+        other => Ok(other),
+    }
+}
+
+// Returns whether a member with this name is a number in some command.
+fn is_number_name(name: &str) -> bool
+    ensures { result ≡ plan.is_number_name name.now }
+{
+    matches!(
+        name,
+        "scheme" | "owner" | "a" | "b" | "concept" | "source" | "target" | "posting"
+    )
+}
+
+// Returns the value of a member with 1 in place of each reference that stands for a number.
+fn member_without_references<'a>(
+    alloc: Global,
+    name: &str,
+    value: Value<'a>,
+) -> Result<Value<'a>, AllocError>
+    ensures { IfOk result (λ v. view v
+        ≡ plan.member_without_references name.now (view value.entry)) }
+{
+    if is_number_name(name) {
+        return Ok(without_reference(value));
+    }
+    if name == "postings" {
+        return list_without_references(alloc, value);
+    }
+    Ok(value)
+}
+
+// Returns the members with 1 in place of each reference that stands for a number.
+fn members_without_references<'a>(
+    alloc: Global,
+    members: Vec<(&'a str, Value<'a>)>,
+) -> Result<Vec<(&'a str, Value<'a>)>, AllocError>
+    ensures { IfOk result (λ v. members_view v.items
+        ≡ plan.members_without_references (members_view members.entry.items)) }
+{
+    let mut found = Vec::new(alloc);
+    for (name, value) in members {
+        let value = member_without_references(alloc, name, value)?;
+        push_member(&mut found, name, value)?;
+    }
+    Ok(found)
+}
+
+/// Returns an object with 1 in place of each reference that stands for a number, and any other value
+/// unchanged.
+pub fn without_references<'a>(alloc: Global, value: Value<'a>) -> Result<Value<'a>, AllocError>
+    ensures { IfOk result (λ v. view v ≡ plan.without_references (view value.entry)) }
+{
+    match value {
+        Value::Object(members) => Ok(Value::Object(members_without_references(alloc, members)?)),
+        other => Ok(other),
+    }
+}

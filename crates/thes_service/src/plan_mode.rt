@@ -1,0 +1,35 @@
+//! Whether plans are among the requests of scripts and connections.
+ghost use Rattle.std.specs.Prelude.{◌≡◌, Bool, false, true};
+
+/// Whether an office takes plans from scripts and connections.
+pub trait PlanMode {
+    ghost takes: { Bool };
+
+    /// Returns whether plans are taken.
+    fn takes_plans(&self) -> bool
+        ensures { result ≡ takes };
+}
+
+/// No plans are taken: an array isn't a request, and there is no path for plans.
+#[derive(Clone, Copy, Debug)]
+pub struct NoPlans;
+
+impl PlanMode for NoPlans {
+    ghost takes = { false };
+
+    fn takes_plans(&self) -> bool {
+        false
+    }
+}
+
+/// Plans are taken: an array of requests is performed as one, and there is a path for plans.
+#[derive(Clone, Copy, Debug)]
+pub struct WithPlans;
+
+impl PlanMode for WithPlans {
+    ghost takes = { true };
+
+    fn takes_plans(&self) -> bool {
+        true
+    }
+}
