@@ -7,12 +7,23 @@
   vocabulary, link_rules, converting   what a converter makes of a vocabulary, and the rules that it may break
   script_writer                        the script that loads a vocabulary
   named_scripts, journal, loader,      such a script, and how it is loaded
-  recovery
-  backups, holding                     a folder of backups, and a program that waits while its store is copied
+  one_plan, recovery, progress
+  backups, copying, holding            a folder of backups, copies, and a program that waits while its store is copied
   store, opening, table_store,         a thesaurus as objects, and where it comes from
   export_store, served_store
+  spreadsheets, headings, table_plans, the rows of a table, what each asks for over a draft of the store, and how they
+  row_changes, exchanges, finding,     are performed
+  drafts, row_running, sentences
   reports, changes                     questions about a thesaurus
   site_export, site_terms, site_pages  the pages of a web site
+  headings, spreadsheets, table_plans, tables that change a store: their columns and cells, what their rows ask for and
+  row_changes, row_postings, drafts,   how that is performed; a table of concepts
+  finding, row_running, sentences,
+  table_writing
+  exporting, dates, rdf_writing,       the forms of other programs
+  marc, print_pages
+  feeding, triple_store, fed_state,    a triple store that is kept equal to a store
+  line_differences
 """
 import sys
 

@@ -3,7 +3,6 @@ from __future__ import annotations
 
 import contextlib
 import os
-import resource
 import signal
 import sys
 from collections.abc import Iterator
@@ -65,6 +64,11 @@ def watched(path: Path) -> Iterator[Watch]:
 @contextlib.contextmanager
 def limited(seconds: float, memory: int) -> Iterator[None]:
     """Raises TooMuch in the block after these seconds of a processor, and MemoryError at these bytes more of memory."""
+    try:
+        import resource
+    except ImportError:  # (Windows has no such bounds)
+        yield
+        return
 
     def stop(number: int, frame: FrameType | None) -> None:
         raise TooMuch

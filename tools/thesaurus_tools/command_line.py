@@ -37,12 +37,20 @@ def natural(text: str) -> int:
     return int(text)
 
 
+def language(text: str) -> str:
+    """Returns the language tag in an argument, such as en or de-at."""
+    tag = text.strip().lower()
+    if not re.fullmatch("[a-z]{1,8}(-[a-z0-9]{1,8})*", tag):
+        raise argparse.ArgumentTypeError(f"not a language tag: {text!r}")
+    return tag
+
+
 def languages(text: str) -> list[str]:
     """Returns the language tags in an argument as en,de, each once."""
-    found = list(dict.fromkeys(it.strip() for it in text.lower().split(",")))
-    if not all(re.fullmatch("[a-z]{1,8}(-[a-z0-9]{1,8})*", it) for it in found):
-        raise argparse.ArgumentTypeError(f"not language tags: {text!r}")
-    return found
+    try:
+        return list(dict.fromkeys(map(language, text.split(","))))
+    except argparse.ArgumentTypeError:
+        raise argparse.ArgumentTypeError(f"not language tags: {text!r}") from None
 
 
 def run(name: str, main: Callable[[], int]) -> NoReturn:

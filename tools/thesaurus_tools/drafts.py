@@ -117,3 +117,11 @@ class Draft:
     def drop_label(self, owner: Reference, kind: str, tag: str, text: str) -> None:
         self.labels_of(owner).discard((kind, tag, text))
         self.by_text[text].discard((owner, kind, tag))
+
+    def replace_labels(self, owner: Reference, labels: set[tuple[str, str, str]]) -> None:
+        """Gives a resource these labels in place of its own."""
+        own = self.labels_of(owner)
+        for it in own - labels:
+            self.drop_label(owner, *it)
+        for it in labels - own:
+            self.add_label(owner, *it)

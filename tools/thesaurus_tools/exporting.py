@@ -1,7 +1,6 @@
 """Gets the triples of a thesaurus: from an export, from a store that no program has open, or over HTTP."""
 from __future__ import annotations
 
-import shutil
 import tempfile
 from collections import defaultdict, deque
 from collections.abc import Iterable
@@ -12,8 +11,8 @@ from thesaurus_tools.export_store import ExportStore, Properties
 from thesaurus_tools.files import read_file
 from thesaurus_tools.kinds import BROADER
 from thesaurus_tools.ntriples import SKOS, Iri, Triple, parse_ntriples
-from thesaurus_tools.opening import open_file
-from thesaurus_tools.program import find_program, run_program
+from thesaurus_tools.opening import open_file, open_served
+from thesaurus_tools.program import copy_closed, find_program, run_program
 from thesaurus_tools.rdf_writing import ISO_THES
 
 SQLITE = b"SQLite format 3\0"
@@ -24,10 +23,9 @@ TYPES = {it: (ISO_THES + it, ISO_THES + it.replace("broader", "narrower")) for i
 def export_of_store(path: Path, program: str | None) -> bytes:
     """Returns the export of a store, made from a copy, so that nothing is written beside it."""
     with tempfile.TemporaryDirectory() as folder:
-        for end in ("", "-wal"):
-            if Path(f"{path}{end}").exists():
-                shutil.copyfile(f"{path}{end}", Path(folder, f"copy.db{end}"))
-        return run_program([find_program(program), "--db", str(Path(folder, "copy.db")), "export"])
+        copy = Path(folder, "copy.db")
+        copy_closed(path, copy)
+        return run_program([find_program(program), "--db", str(copy), "export"])
 
 
 def read_triples(path: Path, program: str | None = None) -> list[Triple]:
@@ -52,9 +50,9 @@ def base_of(triples: Iterable[Triple]) -> str:
     return ExportStore.find_base(properties)
 
 
-def type_triples(path: Path) -> list[Triple]:
-    """Returns the types of the hierarchical links of a store, in the words of ISO-THES."""
-    with open_file(path) as store:
+def type_triples(place: Path | str) -> list[Triple]:
+    """Returns the types of the hierarchical links of a store, or of one that is served, in the words of ISO-THES."""
+    with open_file(place) if isinstance(place, Path) else open_served(place) as store:
         links = [it for it in sorted(store.links, key=str) if it.kind in TYPES]
         iris = [(TYPES[it.kind], Iri(f"{store.base}{it.a}"), Iri(f"{store.base}{it.b}")) for it in links]
     return [it for (up, down), a, b in iris for it in (Triple(a, Iri(up), b), Triple(b, Iri(down), a))]

@@ -1,17 +1,20 @@
 """Keeps a triple store equal to a thesaurus: whole at first, and then by the differences after each change."""
 from __future__ import annotations
 
-import os
 from collections import defaultdict
 from collections.abc import Callable, Iterable
 from dataclasses import dataclass
 from pathlib import Path
 
+from thesaurus_tools.fed_state import FedState
+from thesaurus_tools.line_differences import Lines, differences
 from thesaurus_tools.ntriples import Node, Triple, parse_statement
 from thesaurus_tools.triple_store import TripleStore, plain
 
-# The most triples of an update, and the most changed resources that are compared one by one.
-MOST_TRIPLES, MOST_COMPARED = 500, 200
+# The most triples of an update, and the most changed resources that a query is about.
+MOST_TRIPLES, MOST_ASKED = 500, 20
+# As many subjects are found faster by the beginnings of lines.
+FEW = 4
 
 
 @dataclass(frozen=True)
@@ -24,47 +27,45 @@ class Fed:
 
 
 class Feed:
-    """Feeds a triple store. A file has the triples that it was last known to hold."""
+    """Feeds a triple store."""
 
     def __init__(self, target: TripleStore, state: Path, report: Callable[[str], object]):
-        self.target, self.state, self.report = target, state, report
-        # What was fed before; None while nobody knows what the store holds.
-        self.known: set[bytes] | None = None
-        if state.exists():
-            self.known = set(state.read_bytes().splitlines())
+        self.target, self.state, self.report = target, FedState(state), report
 
     def feed(self, export: bytes) -> Fed:
-        """Makes the triple store equal to an export.
+        """Makes the triple store equal to an export, in which no line stands twice.
 
         Raises ToolError if it can't be; then the next call puts all of it anew."""
-        now = set(filter(None, export.splitlines()))
-        if self.known is None or self.target.count() != len(self.known):
+        now = [it for it in export.splitlines() if it]
+        known = self.state.known
+        if known is None:
             return self.put_all(export, now)
-        gone, come = self.known - now, now - self.known
+        gone, come = differences(known, now)
         if not gone and not come:
-            return Fed(0, 0)
-        self.forget()
+            return Fed(0, 0) if self.target.count() == len(known) else self.put_all(export, now)
+        # (what others wrote meanwhile is found by the count after the update, too)
+        self.state.begin()
         self.send(gone, come)
         if not self.is_equal(now, subjects_of(gone | come)):
             self.report("the store differs after an update, so all of it is put anew")
             return self.put_all(export, now)
-        self.note(now)
+        self.state.note(now, gone, come)
         return Fed(len(gone), len(come))
 
-    def put_all(self, export: bytes, now: set[bytes]) -> Fed:
+    def put_all(self, export: bytes, now: Lines) -> Fed:
         """Puts all triples in place of those there."""
-        self.forget()
+        self.state.forget()
         if self.target.graph_store_url:
             self.target.put(export)
         else:
             self.target.update(f"CLEAR SILENT GRAPH <{self.target.graph}>")
-            self.send(set(), now)
+            self.send((), now)
         if self.target.count() != len(now):
             self.report(f"the store says that it has {self.target.count()} triples, and not {len(now)}")
-        self.note(now)
+        self.state.note_all(now)
         return Fed(0, len(now), True)
 
-    def send(self, gone: set[bytes], come: set[bytes]) -> None:
+    def send(self, gone: Iterable[bytes], come: Iterable[bytes]) -> None:
         """Sends differences, resource by resource: what goes of it and what comes are one update."""
         changes: dict[bytes, tuple[list[bytes], list[bytes]]] = defaultdict(lambda: ([], []))
         for place, lines in enumerate((gone, come)):
@@ -90,33 +91,25 @@ class Feed:
         ]
         return " ;\n".join(parts)
 
-    def is_equal(self, now: set[bytes], subjects: list[str]) -> bool:
+    def is_equal(self, now: Lines, subjects: list[str]) -> bool:
         """Whether the store has as many triples as it should, and says of what has changed what it should."""
         if self.target.count() != len(now):
             return False
-        wanted: dict[str, set[tuple[str, Node]]] = defaultdict(set)
-        chosen = {f"<{it}>".encode() for it in subjects[:MOST_COMPARED]}
-        for line in now:
-            if line.partition(b" ")[0] in chosen and (triple := parsed(line)):
-                wanted[str(triple.subject)].add((str(triple.predicate), plain(triple.object)))
-        return all(self.target.about(it) == wanted[it] for it in subjects[:MOST_COMPARED])
+        wanted: dict[str, set[tuple[str, str, Node]]] = defaultdict(set)
+        chosen = {f"<{it}>".encode() for it in subjects}
+        for triple in map(parsed, lines_about(chosen, now)):
+            if triple:
+                wanted[str(triple.subject)].add((str(triple.subject), str(triple.predicate), plain(triple.object)))
+        parts = (subjects[at : at + MOST_ASKED] for at in range(0, len(subjects), MOST_ASKED))
+        return all(self.target.about(part) == set().union(*(wanted[it] for it in part)) for part in parts)
 
-    # --- what is known ---
 
-    def forget(self) -> None:
-        """Notes that what the store holds isn't known until an update has ended."""
-        self.known = None
-        self.state.unlink(missing_ok=True)
-
-    def note(self, now: set[bytes]) -> None:
-        """Notes what the store holds."""
-        self.known = now
-        new = self.state.with_name(f"{self.state.name}.new")
-        with open(new, "wb") as file:
-            file.write(b"\n".join(now))
-            file.flush()
-            os.fsync(file.fileno())
-        os.replace(new, self.state)
+def lines_about(subjects: set[bytes], lines: Lines) -> Lines:
+    """Returns the triples of some subjects."""
+    if len(subjects) <= FEW:
+        starts = tuple(it + b" " for it in subjects)
+        return [it for it in lines if it.startswith(starts)]
+    return [it for it in lines if it.partition(b" ")[0] in subjects]
 
 
 def parsed(line: bytes) -> Triple | None:

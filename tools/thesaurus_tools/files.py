@@ -1,14 +1,23 @@
 """Reads files and tables of cells, and writes what a tool makes."""
 from __future__ import annotations
 
+import codecs
+import contextlib
 import csv
 import io
 import os
 import sys
-from collections.abc import Iterator
+from collections.abc import Iterable, Iterator
 from pathlib import Path
 
-from thesaurus_tools.command_line import REFUSED, ToolError
+from thesaurus_tools.command_line import REFUSED, USAGE, ToolError
+
+# The most bytes of a table.
+MOST_BYTES = 64 << 20
+BYTE_ORDER_MARKS = ((codecs.BOM_UTF8, "utf-8-sig"), (codecs.BOM_UTF16_LE, "utf-16"), (codecs.BOM_UTF16_BE, "utf-16"))
+SEPARATORS = ",;\t"
+# What an ODS or XLSX file begins with.
+ARCHIVE = b"PK\x03\x04"
 
 
 def read_file(path: Path | str) -> bytes:
@@ -19,30 +28,58 @@ def read_file(path: Path | str) -> bytes:
         raise ToolError(f"{path}: {error.strerror or error}") from None
 
 
-def read_cells(path: Path | str) -> Iterator[tuple[int, list[str]]]:
-    """Yields the line and the cells of each row of a table that isn't blank: the first row shows whether commas,
-    semicolons or tabs part them. Raises ToolError with `FILE:LINE` for what is no table."""
+def read_table_file(path: Path | str) -> bytes:
+    """Returns the bytes of a table. Raises ToolError for a file that is too large for one."""
+    with contextlib.suppress(OSError):
+        if os.stat(path).st_size > MOST_BYTES:
+            raise ToolError(f"{path}: more than {MOST_BYTES >> 20} megabytes; cut the table into parts", USAGE)
+    return read_file(path)
+
+
+def decode(path: Path | str, data: bytes, encoding: str = "", advice: str = "save the table as UTF-8") -> str:
+    """Returns the text of a table: UTF-8 or UTF-16 by its first bytes, or in the encoding that the caller names."""
+    found = next((name for mark, name in BYTE_ORDER_MARKS if data.startswith(mark)), encoding or "utf-8")
     try:
-        text = read_file(path).decode("utf-8-sig")
+        return data.decode(found)
+    except LookupError:
+        raise ToolError(f"no encoding is called {encoding}: latin-1, cp1252 and utf-16 are some", USAGE) from None
     except UnicodeDecodeError as error:
-        line = error.object[: error.start].count(b"\n") + 1
-        raise ToolError(f"{path}:{line}: no UTF-8; save the table as UTF-8", REFUSED) from None
+        line = data[: error.start].count(b"\n") + 1
+        raise ToolError(f"{path}:{line}: no {found.upper()}; {advice}", REFUSED) from None
+
+
+def rows_of_text(path: Path | str, text: str) -> Iterator[tuple[int, list[str]]]:
+    """Yields the line and the cells of each row of CSV: the first row shows whether commas, semicolons or tabs part
+    them. Raises ToolError with `FILE:LINE` for what is no table."""
+    if "\0" in text:
+        raise ToolError(f"{path}:{text[: text.index(chr(0))].count(chr(10)) + 1}: a NUL: no table of texts", REFUSED)
     first = text.partition("\n")[0]
-    reader, line, columns = (
-        csv.reader(io.StringIO(text, newline=""), delimiter=max(",;\t", key=first.count), strict=True),
-        1,
-        0,
-    )
+    reader = csv.reader(io.StringIO(text, newline=""), delimiter=max(SEPARATORS, key=first.count), strict=True)
+    line = 1
     try:
         for cells in reader:
-            if any(it.strip() for it in cells):
-                columns = columns or len(cells)
-                if any(it.strip() for it in cells[columns:]):
-                    raise ToolError(f"{path}:{line}: more values than columns", REFUSED)
-                yield line, cells
+            yield line, cells
             line = reader.line_num + 1
     except csv.Error as error:
         raise ToolError(f"{path}:{reader.line_num}: {error}", REFUSED) from None
+
+
+def read_cells(path: Path | str) -> Iterator[tuple[int, list[str]]]:
+    """Yields the line and the cells of each row of a table that isn't blank: of CSV, or of the first sheet of an ODS or
+    XLSX file. Raises ToolError with `FILE:LINE` for what is no table."""
+    data, columns = read_table_file(path), 0
+    if data.startswith(ARCHIVE):
+        from thesaurus_tools.spreadsheets import read_workbook  # (few tables are no CSV)
+
+        rows: Iterable[tuple[int, list[str]]] = read_workbook(Path(path), data, "")
+    else:
+        rows = rows_of_text(path, decode(path, data))
+    for line, cells in rows:
+        if any(it.strip() for it in cells):
+            columns = columns or len(cells)
+            if any(it.strip() for it in cells[columns:]):
+                raise ToolError(f"{path}:{line}: more values than columns", REFUSED)
+            yield line, cells
 
 
 def write_output(data: bytes, path: Path | None) -> None:

@@ -90,6 +90,12 @@ def find_columns(headings: Iterable[str], lang: str, choices: dict[str, str]) ->
         chosen = unused.pop(fold_heading(heading), "")
         role, _, tag = chosen.partition("@")
         columns.append(Column(heading, role, tag) if chosen else find_column(heading, lang))
+    if any(it.role == "record" for it in columns) and not any(it.role in REFERENCES for it in columns):
+        # (in a list of records, the place is the concept of each, and no broader term)
+        columns = [it._replace(role="concept") if fold_heading(it.heading) == "place" else it for it in columns]
+    if {"label", "text"} <= {it.role for it in columns}:
+        # (in a list of terms that are alike, the group is no collection)
+        columns = [it._replace(role="-") if fold_heading(it.heading) == "group" else it for it in columns]
     if any(it.role in REFERENCES for it in columns):
         # (a term beside a number, whose heading names no language, shows which concept is meant: it changes nothing)
         is_plain = [it.role == "pref" and fold_heading(it.heading) in BY_LABEL for it in columns]

@@ -43,8 +43,12 @@ class Journal:
         self.records: list[str] = []
         self.file: int | None = None
         if path:
-            import fcntl  # (a journal needs locks, which Windows hasn't)
-
+            try:
+                import fcntl  # (Windows has none)
+            except ImportError:
+                raise ToolError(
+                    f"{path}: a journal needs locks, which this system lacks: leave out --journal"
+                ) from None
             self.file = os.open(path, os.O_RDWR | os.O_CREAT | os.O_CLOEXEC, 0o644)
             with contextlib.suppress(BlockingIOError):
                 fcntl.flock(self.file, fcntl.LOCK_EX | fcntl.LOCK_NB)

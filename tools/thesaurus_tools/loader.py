@@ -1,23 +1,23 @@
-"""Loads a script with names: sends its lines, some of them ahead of their answers, and takes note of the answers."""
+"""Loads a script with names: sends its lines, in plans where the program has them, and takes note of the answers."""
 from __future__ import annotations
 
 import argparse
-import math
-import re
+import itertools
+import json
 import sys
-import time
 from collections import Counter, deque
 
 from thesaurus_tools.command_line import DONE, FAULT, REFUSED, ToolError
 from thesaurus_tools.journal import Journal, match
 from thesaurus_tools.named_scripts import Block, Line
+from thesaurus_tools.one_plan import MOST_BYTES, MOST_REQUESTS, encode_plan
 from thesaurus_tools.program import Performer, count_resources
+from thesaurus_tools.progress import Progress
 from thesaurus_tools.recovery import CLASSES, recover
 from thesaurus_tools.requests import parse_json
 from thesaurus_tools.shapes import shape_fault
 
-# Requests that only add, so that what they did can be seen later. All others are sent alone, after all before are
-# answered.
+# Requests that only add, so that what each of them did can be seen later, also if nobody saw the answer to their plan.
 ADDITIONS = {"concept", "outside", "addLabel", "link", "post"}
 # What a request is answered that is sent a second time, since nobody saw its first answer.
 AGAIN = {
@@ -30,30 +30,11 @@ AGAIN = {
     "merge": "NotLive",
     "withdraw": "Withdrawn",
 }
-# The most lines that are under way; a block has half of it.
-AHEAD = 128
-# The answers to lines that were done: of those that make something, and of any.
-MADE_ALL = re.compile(rb'(?:\{"ok":[0-9]+\}(?:\n|\Z))+')
-DONE_ALL = re.compile(rb'(?:\{"(?:done":true|ok":[0-9]+|again":[0-9]+)\}(?:\n|\Z))+')
-
-
-class Progress:
-    """A line on a terminal that says how many requests were sent; nothing elsewhere."""
-
-    def __init__(self, count: int):
-        self.count, self.is_shown, self.next = count, False, time.monotonic() + 1 if sys.stderr.isatty() else math.inf
-
-    def show(self, left: int) -> None:
-        """Writes the line anew, at most once a second."""
-        if time.monotonic() >= self.next:
-            self.is_shown, self.next = True, time.monotonic() + 1
-            print(f"\r\033[Kload: {self.count - left} of {self.count} requests", end="", file=sys.stderr, flush=True)
-
-    def end(self) -> None:
-        """Clears the line."""
-        if self.is_shown:
-            self.is_shown = False
-            print("\r\033[K", end="", file=sys.stderr, flush=True)
+# How many lines are sent one by one behind the first refused plan, and at most behind one; each refused plan doubles
+# the number, and each that is done halves it.
+CAUTION, MOST_CAUTION = 8, 4096
+# The parts of a plan under way, each with the number of its first entry in the journal.
+Sent = list[tuple[Line | Block, int]]
 
 
 class Loader:
@@ -64,13 +45,11 @@ class Loader:
         self.numbers: dict[str, int] = {}
         self.counts: Counter[str] = Counter()
         self.status, self.is_stopped = DONE, False
-        self.ahead = AHEAD if may_send_ahead(given) else 1
-        # What is sent, with the number of its first entry; the answers that nobody took note of; and what is to be
-        # sent.
-        self.flight: deque[tuple[Line | Block, int]] = deque()
-        self.unread: deque[bytes] = deque()
+        # The lines of a refused plan before the refused one, which are the next plan; how many lines are sent one by
+        # one behind it; and how many will be behind the next one.
+        self.before, self.singly, self.caution = 0, 0, CAUTION
         self.pending = deque(self.take_up(parts))
-        self.under_way, self.left = 0, sum(it.count for it in self.pending)
+        self.left = sum(it.count for it in self.pending)
         self.progress = Progress(sum(it.count for it in parts))
 
     def take_up(self, parts: list[Line | Block]) -> list[Line | Block]:
@@ -110,18 +89,20 @@ class Loader:
 
     def run(self) -> int:
         """Sends all lines, or those up to the first unexpected refusal, and returns the exit status."""
+        number: int | str = "end"
         try:
-            while self.flight or self.pending and not self.is_stopped:
-                if not self.is_stopped:
-                    self.send_more()
-                if self.flight:
-                    self.unread += self.target.answers(self.wanted())
-                    self.receive()
+            while self.pending and not self.is_stopped:
+                number = self.pending[0].number
+                if self.target.is_worn():
+                    self.target.reopen()
+                parts = self.next_parts()
                 self.progress.show(self.left)
+                if isinstance(parts[0], Line) and len(parts) == 1:
+                    self.send_line(parts[0])
+                else:
+                    self.send_plan(parts)
         except ToolError as error:
-            self.receive(is_last=True)
-            part = next((it for it in (*(part for part, _ in self.flight), *self.pending)), None)
-            raise ToolError(f"{self.given.script}:{part.number if part else 'end'}: {error}") from None
+            raise ToolError(f"{self.given.script}:{number}: {error}") from None
         finally:
             self.progress.end()
             self.journal.write()
@@ -129,84 +110,105 @@ class Loader:
 
     # --- Sending ---
 
-    def is_alone(self, part: Line | Block) -> bool:
-        """Whether a line is sent only after all before it are answered, and answered before the next is sent."""
-        return isinstance(part, Line) and (part.kind not in ADDITIONS or part.greatest > self.journal.resources)
+    def goes_singly(self) -> bool:
+        """Whether lines are sent one by one now."""
+        return self.singly > 0 and not self.before or not self.target.takes_plans()
 
-    def next_part(self) -> Line | Block:
-        """Returns what is to be sent next. A block with a resource that may not be there yet, or with a name without a
-        number, becomes lines."""
-        part = self.pending[0]
-        if isinstance(part, Block) and (
-            part.greatest > self.journal.resources or not self.flight and not part.uses <= self.numbers.keys()
-        ):
-            self.pending.popleft()
-            self.pending.extendleft(reversed(part.lines()))
-        return self.pending[0]
+    def is_single(self, line: Line) -> bool:
+        """Whether a line is never in a plan: a query; one that an earlier run sent; and, if there is a journal, what
+        can't be seen later, since a later run may have to find out whether it was performed."""
+        is_kept = self.journal.file is not None
+        return "do" not in line.request or line.entry is not None or is_kept and line.kind not in ADDITIONS
 
-    def wanted(self) -> int:
-        """Returns the number of answers after which more is sent."""
-        return self.under_way - (self.ahead // 2 if self.pending and not self.is_stopped else 0)
-
-    def send_more(self) -> None:
-        """Sends the next lines, as many as may be under way."""
-        if self.flight and (
-            self.under_way > self.ahead // 2 or self.is_alone(self.flight[0][0]) or self.target.is_worn()
-        ):
-            return
-        if self.target.is_worn():
-            self.target.reopen()
-        batch, before = bytearray(), self.under_way
-        while self.pending and not self.is_stopped:
-            part, is_first = self.next_part(), not self.flight
-            lacks_number = not part.uses <= self.numbers.keys()
-            if not is_first and (lacks_number or self.is_alone(part)) or self.under_way + part.count > self.ahead:
-                break
-            self.pending.popleft()
-            self.left -= part.count
-            number = self.journal.note_sent(part)
-            if lacks_number and isinstance(part, Line):
-                self.refuse(part, number, {"no": "NoNumber"})
+    def next_parts(self) -> list[Line | Block]:
+        """Takes what is sent next: the parts of a plan, or one line."""
+        parts: list[Line | Block] = []
+        names: set[str] = set()
+        count, size, most, is_singly = 0, 0, self.before or MOST_REQUESTS, self.goes_singly()
+        while self.pending and not (parts and is_singly):
+            part = self.pending[0]
+            lacks_number = not part.uses <= self.numbers.keys() and not part.uses <= self.numbers.keys() | names
+            if isinstance(part, Block) and (is_singly or lacks_number and not parts):
+                self.pending.popleft()
+                self.pending.extendleft(reversed(part.lines()))
                 continue
-            self.flight.append((part, number))
-            self.under_way += part.count
-            batch += part.encoded(self.numbers)
-            if self.is_alone(part):
+            is_single = isinstance(part, Line) and self.is_single(part)
+            # (a character has at most four bytes)
+            size += 4 * len(part.text)
+            if parts and (is_single or lacks_number or count + part.count > most or size > MOST_BYTES):
                 break
+            self.pending.popleft()
+            parts.append(part)
+            names.update(part.names)
+            count += part.count
+            if is_single or lacks_number:
+                break
+        self.left -= count
+        return parts
+
+    def send_line(self, line: Line) -> None:
+        """Sends one line, unless a name in it has no number."""
+        if not self.before:
+            self.singly = max(0, self.singly - 1)
+        self.before = 0
+        number = self.journal.note_sent(line)
+        if not line.uses <= self.numbers.keys():
+            self.refuse(line, number, {"no": "NoNumber"})
+            return
         self.journal.write()
-        if batch:
-            self.target.send(bytes(batch), self.under_way - before)
+        self.receive(line, number, self.target.perform(line.encoded(self.numbers)))
+
+    def send_plan(self, parts: list[Line | Block]) -> None:
+        """Sends lines as one plan. If it is refused, those before the refused one are the next plan."""
+        self.before = 0
+        sent = [(it, self.journal.note_sent(it)) for it in parts]
+        self.journal.write()
+        names: dict[str, int | str] = {}
+        places, texts = itertools.count(1), []
+        for part in parts:
+            used = part.uses
+            texts.append(part.encoded({it: names.get(it) or self.numbers[it] for it in used} if used else {}))
+            names.update((name, f"${place}") for name, place in zip(part.names or [""] * part.count, places))
+        answer = json.loads(self.target.perform_plan(encode_plan(texts)))
+        if "done" in answer:
+            self.caution = max(CAUTION, self.caution // 2)
+            self.note_done(sent, answer["done"])
+        elif "fault" in answer:
+            # (the next run finds out whether it was performed)
+            self.stop(parts[0].lines()[0], answer)
+        else:
+            self.take_back(sent, answer.get("at", 1))
+
+    def take_back(self, sent: Sent, place: int) -> None:
+        """Takes the lines of a refused plan up again."""
+        lines = [it for part, _ in sent for it in part.lines()]
+        for part, number in sent:
+            for entry in range(number, number + part.count):
+                self.journal.note_refusal(entry)
+        self.pending.extendleft(reversed(lines))
+        self.left += len(lines)
+        self.before, self.singly, self.caution = place - 1, self.caution, min(2 * self.caution, MOST_CAUTION)
 
     # --- Receiving ---
 
-    def receive(self, is_last: bool = False) -> None:
-        """Takes note of the answers that have come; of a block, once all are there, or if no more will come."""
-        while self.unread and self.flight and (is_last or self.flight[0][0].count <= len(self.unread)):
-            part, number = self.flight.popleft()
-            answers = [self.unread.popleft() for _ in range(min(part.count, len(self.unread)))]
+    def note_done(self, sent: Sent, answers: list[dict]) -> None:
+        """Takes note of the answers to a plan that was done."""
+        left = iter(answers)
+        for part, number in sent:
+            its = list(itertools.islice(left, part.count))
             if isinstance(part, Line):
-                self.under_way -= 1
-                self.receive_one(part, number, answers[0])
-            elif part.count == len(answers) and self.receive_all(part, number, b"\n".join(answers)):
-                self.under_way -= part.count
+                self.note_final(part, number, final_of(part, its[0]))
+                continue
+            made = [it["ok"] for it in its] if part.names else [0]
+            self.numbers.update(zip(part.names, made))
+            self.counts["done"] += part.count
+            if part.names and made[-1] - made[0] + 1 != part.count:
+                for entry, it in enumerate(its, number):
+                    self.journal.note_answer(entry, it)
             else:
-                self.unread.extendleft(reversed(answers))
-                self.flight.extendleft(reversed([(line, entry) for entry, line in enumerate(part.lines(), number)]))
+                self.journal.note_done(number, part.count, made[0])
 
-    def receive_all(self, block: Block, number: int, data: bytes) -> bool:
-        """Takes note of the answers to a block, if all its lines were done, and returns whether they were."""
-        if not (MADE_ALL if block.names else DONE_ALL).fullmatch(data):
-            return False
-        made = list(map(int, re.findall(rb"[0-9]+", data))) if block.names else [0]
-        if block.names and made != list(range(made[0], made[0] + block.count)):
-            return False
-        self.numbers.update(zip(block.names, made))
-        self.journal.note_done(number, block.count, made[0])
-        self.counts["done"] += block.count
-        self.counts["behind"] += block.count * self.is_stopped
-        return True
-
-    def receive_one(self, line: Line, number: int, data: bytes) -> None:
+    def receive(self, line: Line, number: int, data: bytes) -> None:
         """Takes note of the answer to a line."""
         answer = parse_json(data.decode())
         final = self.final_answer(line, answer)
@@ -215,9 +217,11 @@ class Loader:
             return
         if "get" in line.request:
             print(data.decode())
+        self.note_final(line, number, final)
+
+    def note_final(self, line: Line, number: int, final: dict) -> None:
         self.journal.note_answer(number, final)
         self.learn(line, final)
-        self.counts["behind"] += self.is_stopped
 
     def final_answer(self, line: Line, answer: dict) -> dict | None:
         """Returns what the journal keeps of an answer, or None for a refusal or a fault."""
@@ -225,11 +229,7 @@ class Loader:
             return {"ok": answer["number"]}
         if line.entry is not None and "no" in answer and answer["no"] == AGAIN.get(line.kind) and self.was_done(line):
             return {"done": True}
-        if {"no", "bad", "fault"} & answer.keys():
-            return None
-        if line.kind == "post":
-            return {"posting": answer.get("ok") or answer["again"]}
-        return {"ok": answer["ok"]} if "ok" in answer else {"done": True}
+        return None if {"no", "bad", "fault"} & answer.keys() else final_of(line, answer)
 
     def was_done(self, line: Line) -> bool:
         """Whether a request that is refused the second time was performed the first time."""
@@ -251,22 +251,40 @@ class Loader:
 
     def refuse(self, line: Line, number: int, answer: dict) -> None:
         """Takes note of a refusal or a fault, and stops the run unless it may go on."""
-        why, is_fault = next(iter(answer[it] for it in ("no", "bad", "fault") if it in answer)), "fault" in answer
-        if not is_fault and (why in self.given.ok or self.given.keep_going) and not self.is_stopped:
+        why = reason_of(answer)
+        if "fault" not in answer and (why in self.given.ok or self.given.keep_going):
             self.journal.note_answer(number, {"no": why})
             self.learn(line, {"no": why})
         else:
             self.journal.note_refusal(number)
+        if why not in self.given.ok:
+            self.stop(line, answer)
+
+    def stop(self, line: Line, answer: dict) -> None:
+        """Reports a refusal or a fault, and stops the run unless it goes on."""
+        is_fault = "fault" in answer
+        self.is_stopped = is_fault or not self.given.keep_going
+        if self.is_stopped:
             self.status = max(self.status, FAULT if is_fault else REFUSED)
-            self.counts["refused"] += not self.is_stopped
-        if why not in self.given.ok and not self.is_stopped:
-            self.progress.end()
-            shape = shape_fault(line.request) if why == "BadShape" else ""
-            said = f"{why} ({shape})" if shape else why
-            print(f"{self.given.script}:{line.number}: {said}: {line.text}", file=sys.stderr)
-            self.is_stopped = is_fault or not self.given.keep_going
+            self.counts["refused"] += 1
+        self.progress.end()
+        say_refused(self.given.script, line, answer)
 
 
-def may_send_ahead(given: argparse.Namespace) -> bool:
-    """Whether lines may be sent ahead of answers: a journal knows what was done of them, or nothing of it is kept."""
-    return not given.http and (given.journal is not None or given.dry)
+def say_refused(script: str, line: Line, answer: dict) -> None:
+    """Reports a line that is refused, and which member of it has a wrong shape."""
+    why = reason_of(answer)
+    shape = shape_fault(line.request) if why == "BadShape" else ""
+    print(f"{script}:{line.number}: {why}{f' ({shape})' if shape else ''}: {line.text}", file=sys.stderr)
+
+
+def reason_of(answer: dict) -> str:
+    """Returns the name of a refusal or a fault."""
+    return next(answer[it] for it in ("no", "bad", "fault") if it in answer)
+
+
+def final_of(line: Line, answer: dict) -> dict:
+    """Returns what the journal keeps of an answer to a line that was done."""
+    if line.kind == "post":
+        return {"posting": answer.get("ok") or answer["again"]}
+    return {"ok": answer["ok"]} if "ok" in answer else {"done": True}

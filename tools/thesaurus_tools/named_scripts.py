@@ -3,6 +3,7 @@
 from __future__ import annotations
 
 import re
+from collections.abc import Mapping
 from hashlib import sha256
 
 from thesaurus_tools.command_line import REFUSED, ToolError
@@ -34,7 +35,6 @@ ADDING_LINE = rf'\{{"do": ?"(?:addLabel|link|post)"(?:{MEMBER})+\}}\n'
 BLOCK = re.compile(rf"(?:{CONCEPT_LINE}){{2,{MOST_LINES}}}|(?:{ADDING_LINE}){{2,{MOST_LINES}}}")
 NAME_MADE = re.compile(r'^\{"as": ?"([^"]*)", ?', re.M)
 NAME_USED = re.compile(r'(": ?)"\$([^"]*)"')
-NUMBER_USED = re.compile('": ?([0-9]+)')
 BLANKS = " \t\r\v\f"
 
 
@@ -46,28 +46,23 @@ def digest_of(line: bytes) -> str:
 class Line:
     """A request of the script."""
 
-    __slots__ = ("number", "text", "request", "name", "digest", "kind", "greatest", "uses", "members", "entry")
+    __slots__ = ("number", "text", "request", "name", "digest", "kind", "uses", "members", "entry")
     count = 1
 
     def __init__(self, number: int, text: str, request: dict):
         self.number, self.text, self.request = number, text, request
         self.name, self.kind = request.pop("as", ""), str(request.get("do"))
         self.digest = digest_of(text.encode())
-        # The greatest number of a resource in it, or 0; the names that it uses, and the members that have them.
-        self.greatest: int = 0
+        # The names that it uses, and the members that have them.
         self.uses: frozenset[str] = NO_NAMES
         self.members: frozenset[str] = NO_NAMES
         # That of an earlier run, which sent the line and didn't see its answer.
         self.entry: int | None = None
 
-    def note_numbers(self, kinds: dict[str, str]) -> None:
-        """Notes the greatest number of a resource, and the names that are used. Raises ValueError for a name that
-        nothing has, or another kind of thing."""
+    def note_names(self, kinds: dict[str, str]) -> None:
+        """Notes the names that are used. Raises ValueError for a name that nothing has, or another kind of thing."""
         for member, value in self.request.items():
             if member in NUMBERED_MEMBERS:
-                if type(value) is int:
-                    self.greatest = max(self.greatest, value if member in RESOURCE_MEMBERS else 0)
-                    continue
                 is_posting = member in POSTING_MEMBERS or member == "number" and self.request.get("get") == "posting"
                 names = [
                     it[1:]
@@ -88,12 +83,21 @@ class Line:
     def digests(self) -> list[str]:
         return [self.digest]
 
-    def encoded(self, numbers: dict[str, int]) -> bytes:
+    def lines(self) -> list[Line]:
+        """Returns the line alone."""
+        return [self]
+
+    @property
+    def names(self) -> list[str]:
+        """The name of what the line makes, or an empty one."""
+        return [self.name]
+
+    def encoded(self, numbers: Mapping[str, int | str]) -> bytes:
         """Returns the request as the program reads it."""
         return encode(self.resolved(numbers))
 
-    def resolved(self, numbers: dict[str, int]) -> dict:
-        """Returns the request with numbers in place of names."""
+    def resolved(self, numbers: Mapping[str, int | str]) -> dict:
+        """Returns the request with numbers, or references within a plan, in place of names."""
         if not self.members:
             return self.request
 
@@ -121,11 +125,6 @@ class Block:
             frozenset([name for _, name in NAME_USED.findall(text)]) if '"$' in text else NO_NAMES
         )
 
-    @property
-    def greatest(self) -> int:
-        """The greatest number of a resource in the lines, or 0."""
-        return max(map(int, NUMBER_USED.findall(self.text)), default=0)
-
     def claim_names(self, kinds: dict[str, str]) -> bool:
         """Notes in `kinds` what has names, unless a name is given twice, or one is used that no line before the block
         gives to a resource."""
@@ -143,10 +142,15 @@ class Block:
         kinds = dict.fromkeys(self.uses, "resource")
         return [parse_line(number, it, kinds) for number, it in enumerate(self.text.split("\n")[:-1], self.number)]
 
-    def encoded(self, numbers: dict[str, int]) -> bytes:
-        """Returns the requests as the program reads them."""
+    def encoded(self, numbers: Mapping[str, int | str]) -> bytes:
+        """Returns the requests as a plan has them, with numbers or references in place of names."""
         text = NAME_MADE.sub("{", self.text) if self.names else self.text
-        return (NAME_USED.sub(lambda it: f"{it[1]}{numbers[it[2]]}", text) if self.uses else text).encode()
+        if self.uses:
+            shown = {
+                it: number if type(number) is int else f'"{number}"' for it in self.uses for number in [numbers[it]]
+            }
+            text = NAME_USED.sub(lambda it: f"{it[1]}{shown[it[2]]}", text)
+        return text[:-1].replace("\n", ",").encode()
 
 
 def parse_line(number: int, text: str, kinds: dict[str, str]) -> Line:
@@ -161,7 +165,7 @@ def parse_line(number: int, text: str, kinds: dict[str, str]) -> Line:
     if not isinstance(request, dict):
         raise ValueError("no JSON object")
     line = Line(number, text, request)
-    line.note_numbers(kinds)
+    line.note_names(kinds)
     if line.name != "":
         if not isinstance(line.name, str) or line.kind not in MAKES:
             raise ValueError('"as" needs a text, and a request that makes something')

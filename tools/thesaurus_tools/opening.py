@@ -44,10 +44,17 @@ def open_store(given: argparse.Namespace) -> Iterator[Store]:
     """Opens the store that the options name."""
     if bool(given.http) == bool(given.db):
         raise ToolError("one of --db FILE and --http URL is needed, and not both", USAGE)
-    if given.http:
-        from thesaurus_tools.served_store import ServedStore  # (a tool starts faster without what talks HTTP)
+    with open_served(given.http) if given.http else open_file(given.db) as store:
+        yield store
 
-        yield ServedStore(given.http)
-    else:
-        with open_file(given.db) as store:
-            yield store
+
+@contextlib.contextmanager
+def open_served(url: str) -> Iterator[Store]:
+    """Opens the store of a program that serves: a copy where that can be had, which takes far less time; or else by
+    asking it for each thing."""
+    from thesaurus_tools.copying import open_copy_of_served  # (a tool starts faster without what talks HTTP)
+    from thesaurus_tools.served_store import ServedStore
+    from thesaurus_tools.server import Server
+
+    with open_copy_of_served(Server(url)) as copy:
+        yield copy or ServedStore(url)

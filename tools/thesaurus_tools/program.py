@@ -4,7 +4,6 @@ from __future__ import annotations
 import contextlib
 import json
 import os
-import select
 import shutil
 import subprocess
 import sys
@@ -22,10 +21,8 @@ MOST_LINES = 900_000
 MOST_RESOURCES = (1 << 32) - 1
 # How many seconds a store may stay locked by a run that is about to end.
 PATIENCE = 20
-# The most seconds to sleep while answers come.
-LONGEST_SLEEP = 0.02
 LOCKED = b"thesaurus: fault Store\n"
-IN_USE = "another program has it open: end that program, or use --http URL if it serves"
+IN_USE = "another program has it open: end that program, or ask it by a tool with --http URL if it serves"
 # The bytes of a store that SQLite locks for reading.
 LOCK_START, LOCK_SIZE = 0x40000002, 510
 
@@ -40,6 +37,15 @@ def lock_file(file: IO[bytes], path: Path | str) -> None:
         fcntl.lockf(file, fcntl.LOCK_SH | fcntl.LOCK_NB, LOCK_SIZE, LOCK_START)
     except (BlockingIOError, PermissionError):
         raise ToolError(f"{path}: {IN_USE}") from None
+
+
+def copy_closed(store: Path, copy: Path) -> None:
+    """Copies both files of a store. Raises ToolError if a program has it open."""
+    with open(store, "rb") as file, open(copy, "wb") as target:
+        lock_file(file, store)
+        shutil.copyfileobj(file, target)
+        if Path(f"{store}-wal").exists():
+            shutil.copyfile(f"{store}-wal", f"{copy}-wal")
 
 
 def is_in_use(path: Path) -> bool:
@@ -69,7 +75,11 @@ def find_program(given: str | None = None) -> str:
 
 
 class Performer:
-    """What performs requests: a run of the program, or a server."""
+    """What performs requests, one after another: a run of the program, or a server."""
+
+    def takes_plans(self) -> bool:
+        """Whether it performs several requests as one."""
+        return False
 
     def is_worn(self) -> bool:
         """Whether it has had as many requests as it takes."""
@@ -78,19 +88,17 @@ class Performer:
     def reopen(self) -> None:
         """Begins anew."""
 
-    def send(self, requests: bytes, count: int) -> None:
-        """Sends this number of requests, a line each."""
+    def perform(self, request: bytes) -> bytes:
+        """Sends a request, which is a line, and returns the answer without its end. Raises ToolError if none comes."""
         raise NotImplementedError
 
-    def answers(self, wanted: int = 1) -> list[bytes]:
-        """Waits for answers, of which the wanted number will come, and returns those that have come. Raises ToolError
-        if none will."""
+    def perform_plan(self, plan: bytes) -> bytes:
+        """Sends several requests as one, and returns the answer, as `perform` does."""
         raise NotImplementedError
 
     def ask(self, request: dict) -> dict:
-        """Returns the answer to a request, while no other is under way."""
-        self.send(encode(request), 1)
-        return json.loads(self.answers()[0])
+        """Returns the answer to a request."""
+        return json.loads(self.perform(encode(request)))
 
     def export(self) -> bytes:
         """Returns the vocabulary as N-Triples."""
@@ -102,31 +110,35 @@ class Performer:
 
 
 class Script(Performer):
-    """A run of `thesaurus script` over a store. Requests may be sent ahead of their answers."""
+    """A run of `thesaurus script` over a store, with plans if the program has them."""
 
     def __init__(self, program: str, db: Path | None, base: str | None = None, options: Sequence[str] = ()):
         self.words = [program, *(["--db", str(db)] if db else []), *(["--base", base] if base else []), *options]
         self.db = db
+        self.has_plans = True
         self.open()
+
+    def start(self) -> None:
+        """Starts the program, and asks it something."""
+        self.errors = open(os.memfd_create("errors"), "w+b")
+        words = [*self.words, "script", *(["--plans"] if self.has_plans else [])]
+        self.run = subprocess.Popen(words, stdin=subprocess.PIPE, stdout=subprocess.PIPE, stderr=self.errors)
+        assert self.run.stdin and self.run.stdout
+        self.stdin, self.stdout, self.lines = self.run.stdin, self.run.stdout, 0
+        self.ask({"get": "totals"})
 
     def open(self) -> None:
         """Starts the program, and waits while another run has the store."""
         end, waits, tries = time.monotonic() + PATIENCE, 0, 0
         while True:
-            self.errors = open(os.memfd_create("errors"), "w+b")
-            self.run = subprocess.Popen(
-                [*self.words, "script"], stdin=subprocess.PIPE, stdout=subprocess.PIPE, stderr=self.errors, bufsize=0
-            )
-            assert self.run.stdin and self.run.stdout
-            self.stdin, self.stdout = self.run.stdin, self.run.stdout
-            os.set_blocking(self.stdin.fileno(), False)
-            self.unsent, self.partial, self.lines = bytearray(), b"", 0
-            # The number of requests under way, the seconds that an answer takes, and when the last ones came.
-            self.under_way, self.pace, self.since = 0, LONGEST_SLEEP, 0.0
             try:
-                self.ask({"get": "totals"})
+                self.start()
                 return
             except ToolError:
+                if self.run.returncode == USAGE and self.has_plans:
+                    # (an older program has no plans)
+                    self.has_plans = False
+                    continue
                 # (the other run may have ended since)
                 is_used, tries = self.db and is_in_use(self.db), tries + 1
                 if not self.said().endswith(LOCKED) or not is_used and tries > waits + 1:
@@ -143,6 +155,9 @@ class Script(Performer):
         self.errors.seek(0)
         return self.errors.read()
 
+    def takes_plans(self) -> bool:
+        return self.has_plans
+
     def is_worn(self) -> bool:
         return self.lines >= MOST_LINES
 
@@ -150,50 +165,18 @@ class Script(Performer):
         self.close()
         self.open()
 
-    def send(self, requests: bytes, count: int) -> None:
-        if not self.under_way:
-            self.since = time.monotonic()
-        self.unsent += requests
-        self.lines += count
-        self.under_way += count
-        self.write()
+    def perform(self, request: bytes) -> bytes:
+        self.lines += 1
+        with contextlib.suppress(BrokenPipeError):
+            self.stdin.write(request)
+            self.stdin.flush()
+        answer = self.stdout.readline()
+        if not answer.endswith(b"\n"):
+            raise ToolError(f"the program ended with status {self.close()}{self.reason()}")
+        return answer[:-1]
 
-    def write(self) -> None:
-        """Writes as much as the pipe takes now."""
-        with contextlib.suppress(BlockingIOError):
-            while self.unsent:
-                try:
-                    del self.unsent[: os.write(self.stdin.fileno(), self.unsent[:65536])]
-                except BrokenPipeError:
-                    self.unsent.clear()
-
-    def answers(self, wanted: int = 1) -> list[bytes]:
-        # The program writes answers one by one. So this sleeps while most of the wanted ones come, since to wake up for
-        # each takes as long as a request.
-        rest = self.since + wanted * self.pace - time.monotonic()
-        if wanted > 1 and rest > 0 and not self.unsent:
-            time.sleep(min(rest, LONGEST_SLEEP))
-        out = self.stdout.fileno()
-        while True:
-            waiting = [self.stdin.fileno()] if self.unsent else []
-            readable, writable, _ = select.select([out], waiting, [])
-            if writable:
-                self.write()
-            if readable:
-                data = os.read(out, 1 << 16)
-                if not data:
-                    raise ToolError(f"the program ended with status {self.close()}{self.reason()}")
-                *whole, self.partial = (self.partial + data).split(b"\n")
-                if whole:
-                    self.note_pace(len(whole))
-                    return whole
-
-    def note_pace(self, count: int) -> None:
-        """Notes that this number of answers have come. The pace is the best of the last ones, as they may have waited
-        to be read."""
-        before, self.since = self.since, time.monotonic()
-        self.under_way -= count
-        self.pace = min((self.since - before) / count, 1.2 * self.pace)
+    def perform_plan(self, plan: bytes) -> bytes:
+        return self.perform(plan)
 
     def reason(self) -> str:
         said = self.said().decode(errors="replace").strip()
@@ -207,7 +190,8 @@ class Script(Performer):
         return data
 
     def close(self) -> int:
-        self.stdin.close()
+        with contextlib.suppress(BrokenPipeError):
+            self.stdin.close()
         self.stdout.close()
         return self.run.wait()
 

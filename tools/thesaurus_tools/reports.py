@@ -56,8 +56,12 @@ def missing(store: Store, given: argparse.Namespace) -> Table:
 
 def orphans(store: Store, given: argparse.Namespace) -> Table:
     """Live concepts without broader, narrower and related ones."""
-    linked = {end for link in store.links if link.kind in (*BROADER, "related") for end in link[1:]}
-    rows = ((it.number, store.term(it.number, given.langs)) for it in store.live_concepts() if it.number not in linked)
+    kinds = (*BROADER, "related")
+    rows = (
+        (it.number, store.term(it.number, given.langs))
+        for it in store.live_concepts()
+        if not store.others(it.number, kinds, at_a=True, at_b=True)
+    )
     return Table(("number", "term"), rows)
 
 
@@ -201,11 +205,8 @@ def records(store: Store, given: argparse.Namespace) -> Table:
     """Postings at a concept; with --below also at all concepts below it."""
     store.live_concept(given.number)
     places = {it for _, it in walk_down(store, given.number)} if given.below else {given.number}
-    rows = (
-        (it.number, it.key, it.record, it.place, store.term(it.place, given.langs))
-        for it in store.each_posting()
-        if it.place in places and not it.is_withdrawn
-    )
+    terms = {it: store.term(it, given.langs) for it in places}
+    rows = ((it.number, it.key, it.record, it.place, terms[it.place]) for it in store.postings_at(places))
     return Table(("posting", "key", "record", "place", "term"), rows)
 
 

@@ -1,15 +1,16 @@
 """Turns the rows of a table into requests: new concepts, terms, links, moves, merges, ends and postings."""
 from __future__ import annotations
 
-import hashlib
 from collections.abc import Callable, Iterator
 from typing import Protocol
 
 from thesaurus_tools.drafts import Draft, Reference
+from thesaurus_tools.exchanges import Rename
 from thesaurus_tools.finding import ConceptFinder, RowError
 from thesaurus_tools.headings import LINKS, Column
 from thesaurus_tools.kinds import BROADER, LABEL_KINDS, MAPPINGS
 from thesaurus_tools.link_rules import IRI_FORM
+from thesaurus_tools.row_postings import PostingRows
 
 # What a row can ask for, with other words for it in the column `do`.
 DEEDS = {
@@ -27,6 +28,8 @@ DEEDS = {
 }
 BY_DEED = {word: deed for deed, words in DEEDS.items() for word in words.split("|")}
 OUTSIDE = "outside "
+# What is one value of a cell, also with a | in it.
+WHOLE = ("scope", "record", "key")
 
 
 class Options(Protocol):
@@ -35,6 +38,7 @@ class Options(Protocol):
     lang: str
     scheme: int | None
     forget: bool
+    replace: bool
 
 
 class RowReader:
@@ -45,18 +49,22 @@ class RowReader:
         self.finder = ConceptFinder(draft, given.lang, given.scheme)
         self.roles = {it.role for it in columns}
         self.outside: dict[str, Reference] = {**draft.store.outside}
+        postings = PostingRows(self)
         self.deeds: dict[str, Callable[[str, list[str]], Iterator[dict]]] = {
             "new": self.add_concept, "change": self.change, "translate": self.change, "rename": self.rename,
-            "move": self.move, "merge": self.merge, "deprecate": self.deprecate, "post": self.post,
-            "withdraw": self.withdraw,
+            "move": self.move, "merge": self.merge, "deprecate": self.deprecate, "post": postings.post,
+            "withdraw": postings.withdraw, "split": postings.split,
         }  # fmt: skip
-        self.deed = ""
+        self.deed, self.line, self.part_of = "", 0, 0
+        # The concept that the row is about, if it was found before.
+        self.known: Reference | None = None
 
-    def read(self, name: str, deed: str, cells: list[str]) -> list[dict]:
-        """Returns the requests of a row; `name` is the name of what it makes. Raises RowError if it can't be done."""
-        self.deed = deed
+    def read(self, line: int, deed: str, cells: list[str]) -> list[dict]:
+        """Returns the requests of a row. `part_of` is then the line of an earlier one with which it is done, or 0.
+        Raises RowError if it can't be done."""
+        self.deed, self.line, self.part_of = deed, line, 0
         requests = []
-        for it in self.deeds[deed](name, cells) if deed else ():
+        for it in self.deeds[deed](f"row {line}", cells) if deed else ():
             self.draft.apply(it)
             requests.append(it)
         return requests
@@ -64,11 +72,11 @@ class RowReader:
     # --- cells ---
 
     def values(self, role: str, cells: list[str]) -> list[tuple[Column, str]]:
-        """Returns the values of columns with a role: | parts several values of a cell, but for a scope note."""
+        """Returns the values of columns with a role: | parts several values of a cell, but not in notes and records."""
         found = []
         for column, cell in zip(self.columns, cells):
             if column.role == role:
-                parts = [cell] if role == "scope" else cell.split("|")
+                parts = [cell] if role in WHOLE else cell.split("|")
                 found += [(column, it.strip()) for it in parts if it.strip()]
         return found
 
@@ -79,8 +87,14 @@ class RowReader:
             raise RowError("several_values", role=role, values=", ".join(found))
         return found[0] if found else ""
 
+    def language(self, cells: list[str]) -> str:
+        """Returns the language of a row's new term."""
+        return self.value("lang", cells).lower() or self.given.lang
+
     def concept(self, cells: list[str]) -> Reference:
         """Returns the concept that a row is about, by its columns concept, iri, code or old, or its preferred term."""
+        if self.known is not None:
+            return self.known
         for role in ("concept", "iri", "code", "old"):
             if name := self.value(role, cells):
                 return self.finder.find(name)
@@ -102,32 +116,56 @@ class RowReader:
         if there:
             raise RowError("there", text=text, concepts=self.finder.candidates(set(there)))
         yield {"as": name, "do": "concept", "scheme": self.given.scheme, "tag": tag, "text": text}
+        self.check_terms(f"${name}", cells)
         yield from self.add_labels(f"${name}", cells)
         yield from self.add_links(f"${name}", cells)
 
     def change(self, name: str, cells: list[str]) -> Iterator[dict]:
-        concept = self.concept(cells)
+        concept = self.checked_concept(cells)
+        if self.given.replace:
+            yield from self.drop_replaced(concept, cells)
         yield from self.add_labels(concept, cells)
         yield from self.add_links(concept, cells)
 
+    def labels(self, cells: list[str]) -> list[tuple[str, str, str]]:
+        """Returns the terms and notes of a row, as kind, language and text."""
+        found = [(it.role, it.tag, text) for kind in LABEL_KINDS for it, text in self.values(kind, cells)]
+        kind, tag, text = (self.value(it, cells) for it in ("label", "lang", "text"))
+        return [*found, (kind, tag.lower(), text)] if text and kind in LABEL_KINDS else found
+
     def add_labels(self, owner: Reference, cells: list[str]) -> Iterator[dict]:
         """Yields the requests for terms and notes that a concept lacks."""
-        wanted = [(it.role, it.tag, text) for kind in LABEL_KINDS for it, text in self.values(kind, cells)]
-        kind, tag, text = (self.value(it, cells) for it in ("label", "lang", "text"))
-        if text and kind in LABEL_KINDS:
-            wanted.append((kind, tag.lower(), text))
-        for kind, tag, text in wanted:
-            if not tag:
-                self.check_term(owner, text)
-            elif kind == "pref":
+        for kind, tag, text in self.labels(cells):
+            if tag and kind == "pref":
                 yield from self.set_preferred(owner, tag, text)
-            elif (kind, tag, text) not in self.draft.labels_of(owner):
+            elif tag and (kind, tag, text) not in self.draft.labels_of(owner):
                 yield {"do": "addLabel", "owner": owner, "kind": kind, "tag": tag, "text": text}
 
-    def check_term(self, owner: Reference, text: str) -> None:
+    def drop_replaced(self, owner: Reference, cells: list[str]) -> Iterator[dict]:
+        """Yields the requests that remove the terms and the note in whose place filled cells have others: but not of
+        several notes, of which a cell shows one, and no term with the sign that parts terms."""
+        for kind in ("alt", "hidden", "scope"):
+            wanted: dict[str, list[str]] = {}
+            for column, text in self.values(kind, cells):
+                wanted.setdefault(column.tag, []).append(text)
+            for tag, texts in wanted.items():
+                there = self.draft.texts(owner, kind, tag)
+                for text in there if kind != "scope" or len(there) == 1 else ():
+                    if text not in texts and (kind == "scope" or "|" not in text):
+                        yield {"do": "dropLabel", "owner": owner, "kind": kind, "tag": tag, "text": text}
+
+    def checked_concept(self, cells: list[str]) -> Reference:
+        """Returns the concept that a row is about, of which it may have terms that are only compared."""
+        if self.known is None:
+            self.check_terms(self.concept(cells), cells)
+        return self.concept(cells)
+
+    def check_terms(self, owner: Reference, cells: list[str]) -> None:
         """Checks that a term without a language is one of the concept's: a row may be about another one."""
-        if not any(text == it for _, _, it in self.draft.labels_of(owner)) and text != f"[{owner}]":
-            raise RowError("other_term", number=owner, term=self.draft.term(owner), text=text)
+        own = {text for _, _, text in self.draft.labels_of(owner)}
+        for text in [text for _, tag, text in self.labels(cells) if not tag]:
+            if text not in own and text != f"[{owner}]":
+                raise RowError("other_term", number=owner, term=self.draft.term(owner), text=text)
 
     def set_preferred(self, owner: Reference, tag: str, text: str) -> Iterator[dict]:
         """Yields the requests that make a term the preferred one of its language, also if it is an alternative one."""
@@ -145,13 +183,28 @@ class RowReader:
             yield {"do": "addLabel", "owner": owner, "kind": "pref", "tag": tag, "text": text}
 
     def rename(self, name: str, cells: list[str]) -> Iterator[dict]:
-        concept, text = self.concept(cells), self.value("new", cells)
+        concept = self.checked_concept(cells)
+        tag, text = self.new_term(cells)
         if text:
-            tag = self.value("lang", cells).lower() or self.given.lang
             if not self.draft.texts(concept, "pref", tag):
                 raise RowError("lacks_preferred" if tag else "no_language", term=self.draft.term(concept), tag=tag)
             yield from self.set_preferred(concept, tag, text)
         yield from self.add_labels(concept, cells)
+
+    def new_term(self, cells: list[str]) -> tuple[str, str]:
+        """Returns the language and the text of the term that a row of renames gives."""
+        return self.language(cells), self.value("new", cells)
+
+    def renames(self, place: int, deed: str, cells: list[str]) -> Iterator[Rename]:
+        """Yields the preferred terms that the row at a place would change, as the store is before the table."""
+        self.deed = deed
+        concept = self.checked_concept(cells)
+        scheme = self.draft.scheme_of(concept)
+        wanted = [self.new_term(cells)] if deed == "rename" else []
+        for tag, text in [*wanted, *((tag, text) for kind, tag, text in self.labels(cells) if kind == "pref" and tag)]:
+            for old in self.draft.texts(concept, "pref", tag):
+                if text and text != old:
+                    yield Rename(place, concept, (scheme, tag, old), (scheme, tag, text))
 
     # --- links ---
 
@@ -218,28 +271,3 @@ class RowReader:
 
     def deprecate(self, name: str, cells: list[str]) -> Iterator[dict]:
         yield {"do": "deprecate", "concept": self.concept(cells)}
-
-    # --- postings ---
-
-    def post(self, name: str, cells: list[str]) -> Iterator[dict]:
-        record, key = self.value("record", cells), self.value("key", cells)
-        if not record:
-            raise RowError("no_record")
-        into = self.value("into", cells)
-        named = [(role, text) for role in ("concept", "iri", "code", "pref") for _, text in self.values(role, cells)]
-        if not into and not named:
-            raise RowError("no_concept")
-        concept = self.finder.find(into or named[0][1])
-        made = key or hashlib.sha256(f"{record}\0{into or named[0][1]}".encode()).hexdigest()[:32]
-        yield {"do": "post", "key": made, "record": record, "concept": concept}
-
-    def withdraw(self, name: str, cells: list[str]) -> Iterator[dict]:
-        record, concept = self.value("record", cells), self.concept(cells)
-        there = [
-            it
-            for it in self.draft.store.each_posting()
-            if it.record == record and it.place == concept and not it.is_withdrawn
-        ]
-        if not there:
-            raise RowError("not_indexed", record=record, term=self.draft.term(concept))
-        yield from ({"do": "withdraw", "posting": it.number} for it in there)

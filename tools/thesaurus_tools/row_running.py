@@ -1,10 +1,13 @@
-"""Performs the requests of a table row by row: a row is done whole, or what was done of it is taken back."""
+"""Performs the requests of a table row by row: a row is done whole, as one plan; or, by a program without plans, what
+was done of it is taken back."""
 from __future__ import annotations
 
-from collections.abc import Iterator
+from collections import defaultdict
+from collections.abc import Iterator, Sequence
 from typing import NamedTuple
 
 from thesaurus_tools.finding import RowError
+from thesaurus_tools.one_plan import MOST_REQUESTS, OnePlan, resolved
 from thesaurus_tools.program import Performer
 from thesaurus_tools.sentences import reason_of
 
@@ -21,6 +24,19 @@ class RowPlan(NamedTuple):
     reason: str = ""
     # What the reason says, if the row itself is at fault.
     error: RowError | None = None
+    # Of rows that are done together: what the row itself asks for, and the line of the row with the requests of all.
+    asked: Sequence[dict] = ()
+    by: int = 0
+
+    @property
+    def changes(self) -> Sequence[dict]:
+        """What the row asks for."""
+        return self.asked or self.requests
+
+    @property
+    def does_something(self) -> bool:
+        """Whether something is done for the row, be it by another one."""
+        return bool(self.changes or self.by)
 
 
 class RowRunner:
@@ -30,28 +46,28 @@ class RowRunner:
         self.performer = performer
         self.numbers: dict[str, int] = {}
 
-    def resolved(self, request: dict) -> dict:
-        """Returns a request with numbers in place of names. Raises KeyError for one that no row made."""
-        return {
-            name: self.numbers[it[1:]]
-            if isinstance(it, str) and it.startswith("$") and name not in ("text", "record", "key")
-            else it
-            for name, it in request.items()
-            if name != "as"
-        }
-
     def run(self, plan: RowPlan) -> str:
         """Performs the requests of a row. Returns why the row is refused, or nothing."""
+        if 1 < len(plan.requests) <= MOST_REQUESTS and self.performer.takes_plans():
+            try:
+                place, answer = OnePlan(self.performer, plan.requests, self.numbers).perform()
+            except KeyError as error:
+                return lacking(error)
+            return reason_of(answer, plan.requests[place - 1]) if place else ""
+        return self.run_singly(plan)
+
+    def run_singly(self, plan: RowPlan) -> str:
+        """Performs the requests of a row one after another, and takes them back after a refusal."""
         done: list[dict] = []
         for request in plan.requests:
             try:
-                sent = self.resolved(request)
+                sent = resolved(request, self.numbers)
             except KeyError as error:
-                return self.take_back(done, f"it needs {error.args[0]}, which was refused")
+                return self.take_back(done, lacking(error))
             answer = self.performer.ask(sent)
             known: int = answer["number"] if answer.get("no") == "OutsideKnown" else 0
             if not known and not any(it in answer for it in ACCEPTED):
-                return self.take_back(done, reason_of(answer))
+                return self.take_back(done, reason_of(answer, request))
             if "as" in request:
                 self.numbers[request["as"]] = known or answer["ok"]
             done.append(sent)
@@ -67,10 +83,25 @@ class RowRunner:
         return f"{reason}; {stays} of its {len(done)} changes stay" if stays else reason
 
 
+def lacking(error: KeyError) -> str:
+    """Returns why a row is refused that needs what another row would have made."""
+    return f"it needs {error.args[0]}, which was refused"
+
+
+def with_others(plans: Sequence[RowPlan]) -> Iterator[list[RowPlan]]:
+    """Yields the rows in the order in which they are done: each behind the others that its requests do."""
+    others = defaultdict[int, list[RowPlan]](list)
+    for plan in plans:
+        others[plan.by or plan.line].append(plan)
+    for plan in plans:
+        if plan.by in (0, plan.line):
+            yield [*(it for it in others[plan.line] if it.line != plan.line), plan]
+
+
 def run_rows(runner: RowRunner, plans: list[RowPlan], keep_going: bool) -> Iterator[RowPlan]:
     """Performs rows in their order, up to a refused one unless it keeps going, and yields each, with the reason."""
-    for plan in plans:
-        reason = plan.reason or runner.run(plan)
-        yield plan._replace(reason=reason)
+    for rows in with_others(plans):
+        reason = rows[-1].reason or runner.run(rows[-1])
+        yield from (it._replace(reason=reason) for it in rows)
         if reason and not keep_going:
             return

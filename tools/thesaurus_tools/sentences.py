@@ -3,6 +3,8 @@ from __future__ import annotations
 
 from collections.abc import Callable
 
+from thesaurus_tools.shapes import shape_fault
+
 KINDS = {"pref": "preferred term", "alt": "alternative term", "hidden": "hidden term", "scope": "scope note"}
 LINKS = {
     "broader": "broader term",
@@ -46,7 +48,8 @@ REASONS = {
 
 # Why a row of a table can't be done. The desk has the same in its languages.
 ROWS = {
-    "no_deed": "nothing is called {cell}: new, change, translate, rename, move, merge, deprecate, post, withdraw",
+    "no_deed": "nothing is called {cell}; there are new, change, translate, rename, move, merge, deprecate, post, "
+    "withdraw and split",
     "no_concept": "the row names no concept",
     "no_record": "the row names no record",
     "no_preferred": "the row has no preferred term",
@@ -67,10 +70,11 @@ ROWS = {
 }
 
 
-def reason_of(answer: dict) -> str:
-    """Returns why an answer isn't what was wanted."""
+def reason_of(answer: dict, request: dict) -> str:
+    """Returns why the answer to a request isn't what was wanted; of a wrong shape, which member is wrong."""
     name = str(answer.get("no") or answer.get("bad") or answer.get("fault") or answer)
-    return f"{name}: {REASONS[name]}" if name in REASONS else name
+    why = name == "BadShape" and shape_fault({it: value for it, value in request.items() if it != "as"})
+    return f"{name}: {why or REASONS[name]}" if name in REASONS else name
 
 
 def sentence_of(request: dict, term: Callable[[int | str], str]) -> str:

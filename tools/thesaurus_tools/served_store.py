@@ -1,7 +1,7 @@
-"""A thesaurus read from a program that serves it."""
+"""A thesaurus read from a program that serves it, elsewhere or where this user doesn't see its files."""
 from __future__ import annotations
 
-from collections.abc import Iterator
+from collections.abc import Collection, Iterator, Mapping
 from functools import cached_property
 
 from thesaurus_tools.command_line import REFUSED, ToolError
@@ -9,7 +9,7 @@ from thesaurus_tools.export_store import ExportStore
 from thesaurus_tools.kinds import BROADER
 from thesaurus_tools.ntriples import parse_ntriples
 from thesaurus_tools.server import Server
-from thesaurus_tools.store import Link, Move, Posting
+from thesaurus_tools.store import End, Link, Move, Posting, by_ends
 
 
 class ServedStore(ExportStore):
@@ -50,6 +50,16 @@ class ServedStore(ExportStore):
         pairs = {(it.a, it.b) for it in typed}
         return typed | {it for it in self.untyped if it.kind != "broader" or (it.a, it.b) not in pairs}
 
+    @cached_property
+    def untyped_of(self) -> dict[End, list[Link]]:
+        """The links of each resource, with broader ones as if they had no types."""
+        return by_ends(self.untyped)
+
+    def links_for(self, kinds: Collection[str]) -> Mapping[End, list[Link]]:
+        # (for types each concept is asked, so they are left out where they make no difference)
+        asks_types = not set(kinds).isdisjoint(BROADER) and not set(kinds).issuperset(BROADER)
+        return self.links_of if asks_types else self.untyped_of
+
     def each_history(self) -> Iterator[dict]:
         """Yields the program's view of each posting."""
         return (self.look("posting", number) for number in range(1, self.totals()["accepted"] + 1))
@@ -59,6 +69,10 @@ class ServedStore(ExportStore):
 
     def each_move(self) -> Iterator[Move]:
         return iter(sorted(move for it in self.each_history() for move in moves_in(it)))
+
+    def postings_at(self, places: Collection[int]) -> Iterator[Posting]:
+        answers = (self.server.ask({"get": "postings", "concept": it}) for it in places)
+        return map(self.posting, sorted(number for it in answers for number, _, _ in it["postings"]))
 
     def posting(self, number: int) -> Posting:
         found = self.look("posting", number)

@@ -45,9 +45,13 @@ def without_password(url: str) -> str:
 
 
 def is_answer(request: object, answer: object) -> bool:
-    """Returns whether a value is one that the program gives as the answer to a request."""
+    """Returns whether a value is one that the program gives as the answer to a request, or to a plan, which is a
+    list."""
     if not isinstance(answer, dict):
         return False
+    done = answer.get("done")
+    if isinstance(request, list) and isinstance(done, list):
+        return len(done) == len(request) and all(map(is_answer, request, done))
     refusal = next((answer[it] for it in ("no", "bad", "fault") if it in answer), None)
     if refusal is not None:
         return isinstance(refusal, str) and (refusal != "OutsideKnown" or type(answer.get("number")) is int)
@@ -74,7 +78,8 @@ class Server(Performer):
             raise ToolError(f"{self.name} is no URL of a server", USAGE)
         self.host, self.port, self.is_secret = host, port, parts.scheme == "https"
         self.path = parts.path.rstrip("/")
-        self.queue: list[bytes] = []
+        # Whether it takes plans, once that is known.
+        self.has_plans: bool | None = None
         self.headers = {}
         if parts.username:
             user = f"{urllib.parse.unquote(parts.username)}:{urllib.parse.unquote(parts.password or '')}"
@@ -107,18 +112,26 @@ class Server(Performer):
             raise http.client.IncompleteRead(bytes(data), answer.length)
         return bytes(data)
 
-    def send(self, requests: bytes, count: int) -> None:
-        self.queue.append(requests)
+    def takes_plans(self) -> bool:
+        if self.has_plans is None:
+            # (this is no plan, so nothing is performed)
+            self.has_plans = b"BadShape" in self.call("POST", "/plans", b"[]")
+        return self.has_plans
 
-    def answers(self, wanted: int = 1) -> list[bytes]:
-        body = self.queue.pop(0)
-        request = json.loads(body)
-        path = PATHS.get(str(request.get("get"))) if isinstance(request, dict) else None
+    def perform(self, request: bytes) -> bytes:
+        value = json.loads(request)
+        path = PATHS.get(str(value.get("get"))) if isinstance(value, dict) else None
         try:
-            found = path and path.format(**{name: int(it) for name, it in request.items() if name != "get"})
+            found = path and path.format(**{name: int(it) for name, it in value.items() if name != "get"})
         except (KeyError, ValueError, TypeError):
             found = None
-        data = self.call("GET", found) if found else self.call("POST", "/requests", body)
+        return self.checked(value, self.call("GET", found) if found else self.call("POST", "/requests", request))
+
+    def perform_plan(self, plan: bytes) -> bytes:
+        return self.checked(json.loads(plan), self.call("POST", "/plans", plan))
+
+    def checked(self, request: object, data: bytes) -> bytes:
+        """Returns an answer without its end. Raises ToolError for what the program doesn't answer."""
         try:
             is_right = is_answer(request, json.loads(data))
         except (ValueError, RecursionError):
@@ -126,7 +139,7 @@ class Server(Performer):
         if not is_right:
             shown = data[:SHOWN].decode(errors="replace")
             raise ToolError(f"{self.name} isn't the program, or another version of it: it answers {shown!r}")
-        return [data.rstrip(b"\n")]
+        return data.rstrip(b"\n")
 
     def export(self) -> bytes:
         return self.call("GET", "/export")

@@ -16,6 +16,8 @@ NAMES = ("prefLabel", "altLabel", "hiddenLabel")
 # The tags of labels in no language, or in several or unknown ones, such as codes: the search finds them in each
 # language.
 OF_NO_LANGUAGE = ("zxx", "mul", "und", "mis")
+# What abbreviations stand for, as keys of the words.
+WORDS_OF = {"SN": "scope", "UF": "used_for", "USE": "use", "BT": "broader", "NT": "narrower", "RT": "related"}
 MAPPINGS = ("exactMatch", "closeMatch", "broadMatch", "narrowMatch", "relatedMatch")
 FROM_RIGHT = ("ar", "fa", "he", "ur", "yi")
 SCRIPT = '<script src="../site.js" defer></script>\n'
@@ -271,9 +273,10 @@ class Edition:
         for entry in (it for of in self.letters.values() for it in of):
             use = [", ".join(self.names[it.iri][0] for it in entry.use)] if entry.use else []
             terms.append((entry.key, [entry.text, entry.page, *use]))
+        tags = dict.fromkeys((*OF_NO_LANGUAGE, *filter(None, [self.thesaurus.codes])))
         for it in self.concepts:
             hidden = it.texts("hiddenLabel", self.lang) + [
-                text for tag in OF_NO_LANGUAGE if tag != self.lang for kind in NAMES for text in it.texts(kind, tag)
+                text for tag in tags if tag != self.lang for kind in NAMES for text in it.texts(kind, tag)
             ]
             if it.is_live:
                 terms += [(sort_key(text), [text, it.page, self.names[it.iri][0], 1]) for text in hidden]
@@ -306,22 +309,25 @@ class Edition:
 
     def printed(self, entry: Entry) -> str:
         """An entry of the edition to print, as the program's alphabetical display has it."""
-        it, short = entry.concept, self.words
+        it = entry.concept
         if it is None:
-            rows = [(short["USE"], self.link(other)) for other in entry.use]
+            rows = [("USE", "", self.link(other)) for other in entry.use]
             return (
                 '<dl class="entry"><dt '
                 f'class="use-for">{escape(entry.text)}</dt>{"".join(map(self.printed_row, rows))}</dl>\n'
             )
-        rows = [(short["SN"], escape(text)) for text in it.texts("scopeNote", self.lang)]
-        rows += [(short["UF"], escape(text)) for text in sorted(it.texts("altLabel", self.lang), key=sort_key)]
-        rows += [(short["BT"] + types, self.link(other)) for types, other in self.typed(it, "broader")]
-        rows += [(short["NT"] + types, self.link(other)) for types, other in self.typed(it, "narrower")]
-        rows += [(short["RT"], link) for link in self.links(it, "related")]
+        rows = [("SN", "", escape(text)) for text in it.texts("scopeNote", self.lang)]
+        rows += [("UF", "", escape(text)) for text in sorted(it.texts("altLabel", self.lang), key=sort_key)]
+        rows += [("BT", types, self.link(other)) for types, other in self.typed(it, "broader")]
+        rows += [("NT", types, self.link(other)) for types, other in self.typed(it, "narrower")]
+        rows += [("RT", "", link) for link in self.links(it, "related")]
         return f'<dl class="entry"><dt>{self.link(it)}</dt>{"".join(map(self.printed_row, rows))}</dl>\n'
 
-    def printed_row(self, row: tuple[str, str]) -> str:
-        return f"<dd><abbr>{row[0]}</abbr> {row[1]}</dd>"
+    def printed_row(self, row: tuple[str, str, str]) -> str:
+        """A line of an entry: an abbreviation with the letters of types, and what it is about."""
+        short, types, text = row
+        title = ", ".join([self.words[WORDS_OF[short]], *(self.words[it] for it in types)])
+        return f'<dd><abbr title="{escape(title)}">{self.words[short]}{types}</abbr> {text}</dd>'
 
     def tree_page(self) -> None:
         """Writes the tree of each scheme."""

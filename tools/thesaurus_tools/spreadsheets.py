@@ -1,23 +1,21 @@
 """Reads tables of cells from what spreadsheets save: CSV in its encodings, OpenDocument (ODS) and Excel (XLSX)."""
 from __future__ import annotations
 
-import codecs
-import csv
 import io
+import re
 import zipfile
 from collections.abc import Iterable, Iterator
 from pathlib import Path
 from typing import Any, NamedTuple
 
 from thesaurus_tools.command_line import REFUSED, USAGE, ToolError
-from thesaurus_tools.files import read_file
+from thesaurus_tools.files import ARCHIVE, decode, read_table_file, rows_of_text
 
-# The most bytes of a file, of what a compressed one unpacks to, and the most rows and columns that are read.
-MOST_BYTES, MOST_UNPACKED, MOST_ROWS, MOST_COLUMNS = 64 << 20, 256 << 20, 200_000, 1_000
-BYTE_ORDER_MARKS = ((codecs.BOM_UTF8, "utf-8-sig"), (codecs.BOM_UTF16_LE, "utf-16"), (codecs.BOM_UTF16_BE, "utf-16"))
-SEPARATORS = ",;\t"
-# What a formula begins with.
-FORMULAS = "=+-@"
+# The most bytes that a compressed file unpacks to, and the most rows and columns that are read.
+MOST_UNPACKED, MOST_ROWS, MOST_COLUMNS = 256 << 20, 200_000, 1_000
+# A cell that would be a formula, had it no apostrophe before it; and what a formula that failed leaves in its cell.
+GUARDED = re.compile(r"'+[=+\-@]")
+FAILED = frozenset(("#REF!", "#NAME?", "#VALUE!", "#DIV/0!", "#N/A", "#NUM!", "#NULL!"))
 
 
 class Row(NamedTuple):
@@ -29,62 +27,47 @@ class Row(NamedTuple):
 
 def read_table(path: Path, encoding: str = "", sheet: str = "") -> list[Row]:
     """Returns the rows of a table that aren't blank, the heading first. Raises ToolError for what is no table."""
-    if path.exists() and path.stat().st_size > MOST_BYTES:
-        raise ToolError(f"{path}: more than {MOST_BYTES >> 20} megabytes; cut the table into parts", REFUSED)
-    data = read_file(path)
-    if data.startswith(b"PK\x03\x04"):
+    try:
+        return rows_of_table(path, encoding, sheet)
+    except ToolError as error:
+        raise ToolError(str(error), USAGE if error.status == REFUSED else error.status) from None
+
+
+def rows_of_table(path: Path, encoding: str, sheet: str) -> list[Row]:
+    """Returns the rows of a table that aren't blank, each as long as the first."""
+    data = read_table_file(path)
+    if data.startswith(ARCHIVE):
         cells = read_workbook(path, data, sheet)
     elif sheet:
         raise ToolError(f"{path}: --sheet is for ODS and XLSX files", USAGE)
     else:
-        cells = read_text(path, data, encoding)
-    rows = []
+        advice = "save the table as UTF-8, or name its encoding by --encoding, as latin-1"
+        texts = rows_of_text(path, decode(path, data, encoding, advice))
+        cells = ((line, [without_guard(it.strip()) for it in row]) for line, row in texts)
+    rows: list[Row] = []
     for line, row in cells:
         if any(row):
             rows.append(Row(line, row))
+            check_row(path, rows[-1], len(rows[0].cells))
         if len(rows) > MOST_ROWS or len(row) > MOST_COLUMNS:
             raise ToolError(f"{path}:{line}: more than {MOST_ROWS} rows or {MOST_COLUMNS} columns", REFUSED)
     if not rows:
         raise ToolError(f"{path}: no row: the first one names the columns", REFUSED)
     width = len(rows[0].cells)
-    for it in rows[1:]:
-        if any(it.cells[width:]):
-            raise ToolError(f"{path}:{it.line}: more values than columns", REFUSED)
     return [Row(it.line, (it.cells + [""] * width)[:width]) for it in rows]
 
 
-def read_text(path: Path, data: bytes, encoding: str) -> Iterator[tuple[int, list[str]]]:
-    """Yields the rows of a CSV file: commas, semicolons or tabs part the cells, as its first row shows."""
-    text = decode(path, data, encoding)
-    if "\0" in text:
-        raise ToolError(f"{path}:{text[: text.index(chr(0))].count(chr(10)) + 1}: a NUL: no table of texts", REFUSED)
-    first = text.partition("\n")[0]
-    reader = csv.reader(io.StringIO(text, newline=""), delimiter=max(SEPARATORS, key=first.count), strict=True)
-    line = 1
-    try:
-        for cells in reader:
-            yield line, [without_guard(it.strip()) for it in cells]
-            line = reader.line_num + 1
-    except csv.Error as error:
-        raise ToolError(f"{path}:{reader.line_num}: {error}", REFUSED) from None
+def check_row(path: Path, row: Row, width: int) -> None:
+    """Refuses a row with more cells than columns, or with a formula that failed."""
+    if any(row.cells[width:]):
+        raise ToolError(f"{path}:{row.line}: more values than columns", REFUSED)
+    if failed := next((it for it in row.cells if it in FAILED), ""):
+        raise ToolError(f"{path}:{row.line}: {failed}: a formula that failed", REFUSED)
 
 
 def without_guard(text: str) -> str:
     """Returns a cell without the apostrophe that keeps a spreadsheet from taking it for a formula."""
-    return text[1:] if text[:1] == "'" and text[1:2] and text[1] in FORMULAS else text
-
-
-def decode(path: Path, data: bytes, encoding: str) -> str:
-    """Returns the text of a file: UTF-8 or UTF-16 by its first bytes, or in the encoding that the caller names."""
-    found = next((name for mark, name in BYTE_ORDER_MARKS if data.startswith(mark)), encoding or "utf-8")
-    try:
-        return data.decode(found)
-    except LookupError:
-        raise ToolError(f"no encoding is called {encoding}: latin-1, cp1252 and utf-16 are some", USAGE) from None
-    except UnicodeDecodeError as error:
-        line = data[: error.start].count(b"\n") + 1
-        advice = "save the table as UTF-8, or name its encoding by --encoding, as latin-1"
-        raise ToolError(f"{path}:{line}: no {found.upper()}: {advice}", REFUSED) from None
+    return text[1:] if GUARDED.match(text) else text
 
 
 def read_workbook(path: Path, data: bytes, sheet: str) -> Iterable[tuple[int, list[str]]]:
@@ -122,10 +105,14 @@ def read_xlsx(path: Path, data: bytes, sheet: str) -> Iterator[tuple[int, list[s
     except ImportError:
         raise ToolError(f"{path}: XLSX needs Debian's python3-openpyxl; or save the table as CSV", USAGE) from None
     try:
-        book = openpyxl.load_workbook(io.BytesIO(data), read_only=True, data_only=True)
-        page = book[choose_sheet(path, sheet, book.sheetnames)]
-        for line, cells in enumerate(page.iter_rows(values_only=True), 1):
-            yield line, [cell_text(it) for it in cells]
+        # (once for the values, and once for the formulas, which may lack their values)
+        books = [openpyxl.load_workbook(io.BytesIO(data), read_only=True, data_only=it) for it in (True, False)]
+        name = choose_sheet(path, sheet, books[0].sheetnames)
+        rows = zip(*(it[name].iter_rows(values_only=True) for it in books))
+        for line, (values, written) in enumerate(rows, 1):
+            if any(value is None and it is not None for value, it in zip(values, written)):
+                raise no_value(path, line)
+            yield line, [cell_text(it) for it in values]
     except ToolError:
         raise
     except Exception as error:  # (openpyxl has no class of its own for damaged files)
@@ -150,6 +137,8 @@ def read_ods(path: Path, data: bytes, sheet: str) -> Iterator[tuple[int, list[st
         cells: list[str] = []
         for cell in row.getElementsByType(table.TableCell):
             text = " ".join(teletype.extractText(it) for it in cell.childNodes if it.qname[1] == "p").strip()
+            if not text and cell.getAttribute("formula") and not cell.getAttribute("valuetype"):
+                raise no_value(path, line)
             room = MOST_COLUMNS + bool(text) - len(cells)
             cells += [text] * min(repeats(path, cell, "numbercolumnsrepeated"), max(0, room))
         while cells and not cells[-1]:
@@ -158,6 +147,11 @@ def read_ods(path: Path, data: bytes, sheet: str) -> Iterator[tuple[int, list[st
         for at in range(times if cells else 0):
             yield line + at, list(cells)
         line += times
+
+
+def no_value(path: Path, line: int) -> ToolError:
+    """Returns the error of a formula without a value: no spreadsheet has worked it out."""
+    return ToolError(f"{path}:{line}: a formula without its value: save the table in a spreadsheet first", REFUSED)
 
 
 def repeats(path: Path, element: Any, name: str) -> int:

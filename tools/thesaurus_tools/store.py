@@ -2,7 +2,7 @@
 from __future__ import annotations
 
 from collections import Counter, defaultdict
-from collections.abc import Iterable, Iterator
+from collections.abc import Collection, Iterable, Iterator, Mapping
 from functools import cached_property
 from typing import NamedTuple
 
@@ -76,6 +76,15 @@ def link_order(link: Link) -> tuple:
     return link.kind, end_order(link.a), end_order(link.b)
 
 
+def by_ends(links: Iterable[Link]) -> dict[End, list[Link]]:
+    """Returns the links of each resource, at either end."""
+    found = defaultdict(list)
+    for link in sorted(links, key=link_order):
+        found[link.a].append(link)
+        found[link.b].append(link)
+    return found
+
+
 class Store:
     """A thesaurus. A subclass says where its resources, labels, links and postings come from."""
 
@@ -109,6 +118,10 @@ class Store:
         """Returns the moves of a posting in their order."""
         return [it for it in self.each_move() if it.posting == number]
 
+    def postings_at(self, places: Collection[int]) -> Iterator[Posting]:
+        """Yields the postings at these concepts in the order of their numbers."""
+        return (it for it in self.each_posting() if it.place in places and not it.is_withdrawn)
+
     def count_postings(self) -> dict[int, int]:
         """Returns the number of postings at each concept that has any."""
         return Counter(it.place for it in self.each_posting() if not it.is_withdrawn)
@@ -129,15 +142,15 @@ class Store:
     @cached_property
     def links_of(self) -> dict[End, list[Link]]:
         """The links of each resource, at either end."""
-        found = defaultdict(list)
-        for link in sorted(self.links, key=link_order):
-            found[link.a].append(link)
-            found[link.b].append(link)
-        return found
+        return by_ends(self.links)
 
-    def others(self, number: int, kinds: Iterable[str], *, at_a: bool = False, at_b: bool = False) -> list[End]:
+    def links_for(self, kinds: Collection[str]) -> Mapping[End, list[Link]]:
+        """Returns links of each resource, all those of these kinds among them."""
+        return self.links_of
+
+    def others(self, number: int, kinds: Collection[str], *, at_a: bool = False, at_b: bool = False) -> list[End]:
         """Returns the other ends of links of these kinds whose end a, or b, is the resource."""
-        links = [it for it in self.links_of.get(number, ()) if it.kind in kinds]
+        links = [it for it in self.links_for(kinds).get(number, ()) if it.kind in kinds]
         found = {it.b for it in links if at_a and it.a == number} | {it.a for it in links if at_b and it.b == number}
         return sorted(found, key=end_order)
 

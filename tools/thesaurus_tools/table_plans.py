@@ -1,10 +1,13 @@
 """Plans what the rows of a table ask for, over a draft of the store."""
 from __future__ import annotations
 
+import contextlib
+from collections.abc import Iterator
 from dataclasses import dataclass
 
 from thesaurus_tools.command_line import USAGE, ToolError
-from thesaurus_tools.drafts import Draft
+from thesaurus_tools.drafts import Draft, Reference
+from thesaurus_tools.exchanges import Rename, Term, groups_of, ordered_renames, relabel
 from thesaurus_tools.finding import RowError
 from thesaurus_tools.headings import Column, fold_heading
 from thesaurus_tools.row_changes import BY_DEED, RowReader
@@ -20,6 +23,7 @@ KINDS = {
     "moves": ("move", "concept and broader: the new places; all others are left"),
     "merges": ("merge", "concept and into"),
     "postings": ("post", "record and concept; perhaps key"),
+    "splits": ("split", "record, concept and new: rows with one concept and one new term are a split"),
 }
 
 
@@ -30,8 +34,9 @@ class TableOptions:
     kind: str = ""
     lang: str = ""
     scheme: int | None = None
-    # Whether renames drop the old term.
+    # Whether renames drop the old term; and whether a filled cell replaces other terms and the note of its language.
     forget: bool = False
+    replace: bool = False
 
 
 def plan_table(
@@ -42,7 +47,7 @@ def plan_table(
     schemes = [it.number for it in store.resources.values() if it.kind == "scheme"]
     if options.scheme is None and len(schemes) == 1:
         options.scheme = schemes[0]
-    return draft, read_rows(RowReader(draft, columns, options), rows, options)
+    return draft, TableReader(RowReader(draft, columns, options), rows, options).read()
 
 
 def deed_of(columns: list[Column], cells: list[str], options: TableOptions) -> str:
@@ -66,15 +71,89 @@ def deed_of(columns: list[Column], cells: list[str], options: TableOptions) -> s
     return next((deed for role, deed in by_columns if role in roles), "new")
 
 
-def read_rows(reader: RowReader, rows: list[Row], options: TableOptions) -> list[RowPlan]:
-    """Returns each row with its requests, or with the reason why it can't be done."""
-    plans = []
-    for row in rows:
+class TableReader:
+    """Turns the rows of a table into requests, in their order: those that exchange terms together, at the last one."""
+
+    def __init__(self, reader: RowReader, rows: list[Row], options: TableOptions):
+        self.reader, self.rows, self.options = reader, rows, options
+        self.plans: dict[int, RowPlan] = {}
+
+    def read(self) -> list[RowPlan]:
+        """Returns each row with its requests, or with the reason why it can't be done."""
+        groups = {its[-1].place: its for its in groups_of(self.renames())}
+        grouped = {it.place for its in groups.values() for it in its}
+        for place in range(len(self.rows)):
+            if place in groups:
+                self.read_group(groups[place])
+            elif place not in grouped:
+                self.read_row(place)
+        return [self.plans[it] for it in range(len(self.rows))]
+
+    def renames(self) -> Iterator[Rename]:
+        """Yields the preferred terms that rows change, as the store is before the table."""
+        for place, row in enumerate(self.rows):
+            with contextlib.suppress(RowError):
+                deed = deed_of(self.reader.columns, row.cells, self.options)
+                if deed in ("rename", "change"):
+                    yield from self.reader.renames(place, deed, row.cells)
+
+    def requests_of(self, place: int) -> list[dict]:
+        """Returns the requests of a row. Raises RowError if it can't be done."""
+        row = self.rows[place]
+        deed = deed_of(self.reader.columns, row.cells, self.options)
+        if deed == "new" and not (self.options.scheme and self.options.lang):
+            raise ToolError("new concepts need --scheme N and --lang TAG", USAGE)
+        return self.reader.read(row.line, deed, row.cells)
+
+    def read_row(self, place: int) -> None:
+        """Notes the requests of a row, or the reason why it can't be done."""
         try:
-            deed = deed_of(reader.columns, row.cells, options)
-            if deed == "new" and not (options.scheme and options.lang):
-                raise ToolError("new concepts need --scheme N and --lang TAG", USAGE)
-            plans.append(RowPlan(row.line, row.cells, reader.read(f"row {row.line}", deed, row.cells)))
+            self.note(place, self.requests_of(place))
         except RowError as error:
-            plans.append(RowPlan(row.line, row.cells, [], str(error), error))
-    return plans
+            self.note(place, [], error)
+
+    def note(self, place: int, requests: list[dict], error: RowError | None = None) -> None:
+        row = self.rows[place]
+        self.plans[place] = RowPlan(
+            row.line, row.cells, requests, str(error or ""), error, by=0 if error else self.reader.part_of
+        )
+
+    def read_group(self, renames: list[Rename]) -> None:
+        """Notes what rows that exchange terms do, one by one if an earlier row has changed such a term."""
+        places, draft = sorted({it.place for it in renames}), self.reader.draft
+        if not all(draft.is_live(it.concept) and it.old in preferred_terms(draft, it.concept) for it in renames):
+            for place in places:
+                self.read_row(place)
+            return
+        before = {it.concept: {*draft.labels_of(it.concept)} for it in renames}
+        try:
+            self.read_exchange(places, renames)
+        except RowError as error:
+            for concept, labels in before.items():
+                draft.replace_labels(concept, labels)
+            for place in places:
+                self.note(place, [], error)
+        finally:
+            self.reader.known = None
+
+    def read_exchange(self, places: list[int], renames: list[Rename]) -> None:
+        """Notes what rows that exchange terms do: the last one has the requests of all. Raises RowError."""
+        draft, keep = self.reader.draft, not self.options.forget
+        requests = ordered_renames(draft, renames, keep)
+        for request in requests:
+            draft.apply(request)
+        last = self.rows[places[-1]].line
+        for place in places:
+            own = [it for it in renames if it.place == place]
+            self.reader.known = own[0].concept
+            more = self.requests_of(place)
+            requests += more
+            asked = [*(relabel(it, it.new[2], keep) for it in own), *more]
+            row = self.rows[place]
+            is_last = row.line == last
+            self.plans[place] = RowPlan(row.line, row.cells, requests if is_last else [], asked=asked, by=last)
+
+
+def preferred_terms(draft: Draft, concept: Reference) -> set[Term]:
+    """Returns the preferred terms of a concept."""
+    return {(draft.scheme_of(concept), tag, text) for kind, tag, text in draft.labels_of(concept) if kind == "pref"}

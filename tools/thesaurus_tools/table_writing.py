@@ -3,6 +3,7 @@ from __future__ import annotations
 
 import csv
 import io
+import re
 from collections import Counter
 from collections.abc import Iterable, Iterator
 
@@ -17,6 +18,8 @@ LINKED = (*BROADER, "narrower", "related", *MAPPINGS, "member")
 TURNED = {"broad": "narrow", "narrow": "broad"}
 # What parts several values of a cell.
 JOINT = "|"
+# What a spreadsheet takes for a formula, or would without the apostrophe.
+NEEDS_GUARD = re.compile(r"'*[=+\-@]")
 
 
 def read_column_names(text: str) -> list[str]:
@@ -95,7 +98,14 @@ class TableWriter:
 
 
 def table_text(rows: Iterable[list[str]], for_excel: bool) -> str:
-    """Returns rows as CSV; for Excel with semicolons, and a mark by which it knows UTF-8."""
+    """Returns rows as CSV; for Excel with semicolons, a mark by which it knows UTF-8, and an apostrophe before what it
+    would take for a formula, which goes when the table is read."""
     out = io.StringIO()
-    csv.writer(out, delimiter=";" if for_excel else ",", lineterminator="\r\n" if for_excel else "\n").writerows(rows)
+    writer = csv.writer(out, delimiter=";" if for_excel else ",", lineterminator="\r\n" if for_excel else "\n")
+    writer.writerows([guarded(it) for it in row] if for_excel else row for row in rows)
     return ("\ufeff" if for_excel else "") + out.getvalue()
+
+
+def guarded(cell: str) -> str:
+    """Returns a cell that no spreadsheet takes for a formula."""
+    return f"'{cell}" if NEEDS_GUARD.match(cell) else cell

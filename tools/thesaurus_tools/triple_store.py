@@ -5,6 +5,7 @@ import json
 import urllib.error
 import urllib.parse
 import urllib.request
+from collections.abc import Iterable
 from dataclasses import dataclass
 from typing import Any
 
@@ -77,10 +78,11 @@ class TripleStore:
         found = row["n"]
         return int(found.text if isinstance(found, Literal) else found)
 
-    def about(self, subject: str) -> set[tuple[str, Node]]:
-        """Returns what the graph says of a subject."""
-        rows = self.select(f"SELECT ?p ?o WHERE {{ GRAPH <{self.graph}> {{ <{subject}> ?p ?o }} }}")
-        return {(str(row["p"]), plain(row["o"])) for row in rows}
+    def about(self, subjects: Iterable[str]) -> set[tuple[str, str, Node]]:
+        """Returns what the graph says of some subjects."""
+        names = " ".join(f"<{it}>" for it in subjects)
+        rows = self.select(f"SELECT ?s ?p ?o WHERE {{ GRAPH <{self.graph}> {{ ?s ?p ?o VALUES ?s {{ {names} }} }} }}")
+        return {(str(row["s"]), str(row["p"]), plain(row["o"])) for row in rows}
 
 
 def node_of(value: dict[str, Any]) -> Node:
