@@ -11,11 +11,12 @@ from thesaurus_desk.mirror import Mirror
 from thesaurus_desk.mirror.as_store import MirrorStore
 from thesaurus_desk.named import LONGEST_PLAN, NamedRun
 from thesaurus_desk.performing import Desk, Outcome
+from thesaurus_desk.row_checks import RowChecks
 from thesaurus_desk.words import Words
 from thesaurus_tools.command_line import ToolError
 from thesaurus_tools.finding import RowError
 from thesaurus_tools.headings import Column, find_columns, read_choices
-from thesaurus_tools.row_running import RowPlan
+from thesaurus_tools.row_running import RowPlan, with_others
 from thesaurus_tools.spreadsheets import Row, read_table
 from thesaurus_tools.table_plans import TableOptions, plan_table
 
@@ -65,10 +66,20 @@ def read_sent_table(name: str, data: bytes, columns: str, options: TableOptions)
 def plan_rows(run: TableRun, mirror: Mirror, bringer: Bringer) -> None:
     """Notes what the rows ask for, by the store as it is now, and why some can't be done."""
     _, plans = plan_table(MirrorStore(mirror), run.columns, run.rows, run.options)
-    run.plans = [it._replace(reason=reason_of(it, bringer)) for it in plans]
+    checks = RowChecks(mirror)
+    run.plans = with_reasons(plans, lambda it: reason_of(it, bringer, checks))
 
 
-def reason_of(row: RowPlan, bringer: Bringer) -> str:
+def with_reasons(plans: list[RowPlan], reason_of_row: Callable[[RowPlan], str]) -> list[RowPlan]:
+    """Returns the rows with the reasons why they can't be done or weren't: those that are done together have one."""
+    found = []
+    for rows in with_others(plans):
+        reason = reason_of_row(rows[-1])
+        found += [it._replace(reason=reason) for it in rows]
+    return sorted(found, key=lambda it: it.line)
+
+
+def reason_of(row: RowPlan, bringer: Bringer, checks: RowChecks) -> str:
     """Returns why a row can't be done, or nothing."""
     if row.error:
         return reason_in_words(row.error, bringer.words)
@@ -76,7 +87,8 @@ def reason_of(row: RowPlan, bringer: Bringer) -> str:
         return bringer.words("bring_in.of_heads")
     if len(row.requests) > LONGEST_PLAN:
         return bringer.words("bring_in.long_row", n=len(row.requests), more=LONGEST_PLAN)
-    return ""
+    refusal = checks.refusal(row.requests)
+    return bringer.tell(refusal) if refusal else ""
 
 
 def reason_in_words(error: RowError, words: Words) -> str:
@@ -92,11 +104,14 @@ def run_table(desk: Desk, run: TableRun, bringer: Bringer) -> None:
     shown = {it.line: it.requests for it in run.plans}
     plan_rows(run, desk.mirror, bringer)
     names = NamedRun(desk, bringer.name, "table")
-    for place, it in enumerate(run.plans):
-        if it.requests and not it.reason:
-            is_as_shown = it.requests == shown[it.line]
-            reason = perform_row(names, it, bringer) if is_as_shown else bringer.words("bring_in.changed")
-            run.plans[place] = it._replace(reason=reason)
+
+    def done(row: RowPlan) -> str:
+        if row.reason or not row.requests:
+            return row.reason
+        is_as_shown = row.requests == shown[row.line]
+        return perform_row(names, row, bringer) if is_as_shown else bringer.words("bring_in.changed")
+
+    run.plans = with_reasons(run.plans, done)
     run.is_done = True
 
 

@@ -70,7 +70,7 @@ def read_skos(desk: Desk, name: str, data: bytes, options: SkosOptions) -> SkosR
         path = Path(folder, f"vocabulary{suffix}")
         path.write_bytes(data)
         ran = run_tool("from-skos", str(path), *options.words())
-        report = ran.stderr.replace(str(path), name).splitlines()
+        report = [in_page(it) for it in ran.stderr.replace(str(path), name).splitlines()]
         if ran.returncode or not ran.stdout:
             raise ToolError("\n".join(report[-SHOWN:]) or "the converter failed", REFUSED)
         script = Path(folder, "script.jsonl")
@@ -78,6 +78,11 @@ def read_skos(desk: Desk, name: str, data: bytes, options: SkosOptions) -> SkosR
         run = SkosRun(name, [json.loads(it) for it in ran.stdout.splitlines()], report[:SHOWN])
         run.refused = try_on_copy(desk, Path(folder), script)
     return run
+
+
+def in_page(line: str) -> str:
+    """Returns a line of a converter's report without the tool's name, and without its options, which a page hasn't."""
+    return line.removeprefix("from-skos: ").partition("; options that keep more: ")[0]
 
 
 def run_tool(tool: str, *words: str) -> subprocess.CompletedProcess[str]:

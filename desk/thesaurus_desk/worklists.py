@@ -15,12 +15,16 @@ WORD = re.compile(r"\w+")
 MOST_BUSY = 200
 
 
+# Of each concept of a group, its terms that are alike, with their languages.
+Group = dict[int, list[tuple[str, str]]]
+
+
 @dataclass(frozen=True)
 class WorkList:
     """A list: concepts in the order in which they are shown, or groups of them (of terms alike)."""
 
     numbers: list[int]
-    groups: list[list[int]]
+    groups: list[Group]
 
 
 def live_concepts(mirror: Mirror, scheme: int | None) -> list[Resource]:
@@ -69,16 +73,23 @@ def busiest(mirror: Mirror, scheme: int | None, lang: str) -> list[int]:
     return [number for _, number in found[:MOST_BUSY]]
 
 
-def alike(mirror: Mirror, scheme: int | None, lang: str) -> list[list[int]]:
-    """Returns groups of concepts of a scheme with terms in a language that differ only in case, accents and signs."""
-    same: dict[tuple[int | None, str, str], set[int]] = {}
+def alike(mirror: Mirror, scheme: int | None) -> list[Group]:
+    """Returns groups of concepts of a scheme with terms in a language that differ only in case, accents and signs.
+
+    Concepts that have several such terms are one group."""
+    same: dict[tuple[int | None, str, str], Group] = {}
     for it in live_concepts(mirror, scheme):
-        for kind, tag, text in it.labels:
+        for kind, tag, text in sorted(it.labels):
             if kind in ("pref", "alt"):
                 words = " ".join(WORD.findall(fold(text)))
-                same.setdefault((it.scheme, tag, words), set()).add(it.number)
-    groups = {tuple(sorted(them)): key for key, them in same.items() if len(them) > 1}
-    return [list(them) for them, _ in sorted(groups.items(), key=lambda pair: pair[1][1:])]
+                same.setdefault((it.scheme, tag, words), {}).setdefault(it.number, []).append((tag, text))
+    groups: dict[tuple[int, ...], Group] = {}
+    for _, them in sorted(same.items(), key=lambda pair: pair[0][1:]):
+        if len(them) > 1:
+            group = groups.setdefault(tuple(sorted(them)), {})
+            for number, terms in them.items():
+                group.setdefault(number, []).extend(terms)
+    return list(groups.values())
 
 
 LISTS: dict[str, Callable[[Mirror, int | None, str], list[int]]] = {
@@ -95,7 +106,7 @@ def make_list(mirror: Mirror, kind: str, scheme: int | None, lang: str, tags: Se
 
     def make() -> WorkList:
         if kind == "alike":
-            groups = [mirror.ordered(them, tags) for them in alike(mirror, scheme, lang)]
+            groups = [{it: them[it] for it in mirror.ordered(them, tags)} for them in alike(mirror, scheme)]
             return WorkList([number for them in groups for number in them], groups)
         numbers = LISTS[kind](mirror, scheme, lang)
         return WorkList(numbers if kind == "busiest" else mirror.ordered(numbers, tags), [])

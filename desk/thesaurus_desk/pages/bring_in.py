@@ -149,9 +149,9 @@ def the_bringer() -> Bringer:
 def table_page(run: TableRun, name: str, status: int) -> Any:
     """Returns the preview of a table, or what came of it."""
     links = PageLinks(run.made)
-    shown = [it for it in run.plans if it.reason or it.requests][:SHOWN]
+    shown = [it for it in run.plans if it.reason or it.changes][:SHOWN]
     lines = {
-        it.line: [sentence_of(one, None, the_mirror(), words(), links) for one in it.requests]
+        it.line: [sentence_of(one, None, the_mirror(), words(), links) for one in it.changes]
         for it in shown
         if not it.reason
     }
@@ -160,7 +160,7 @@ def table_page(run: TableRun, name: str, status: int) -> Any:
         run=run,
         rows=shown,
         lines=lines,
-        changing=sum(bool(it.requests) and not it.reason for it in run.plans),
+        changing=sum(it.does_something and not it.reason for it in run.plans),
         failed=sum(bool(it.reason) for it in run.plans),
         name=name,
         count=len(run.plans),

@@ -48,6 +48,13 @@ def given_tag() -> str:
     return given("tag").lower()
 
 
+def is_slip(tag: str) -> bool:
+    """Whether a language tag has the form of one, and is rather the name of a language, as `english`.
+
+    All that are registered have two or three letters first. Those that are in use stay."""
+    return len(tag.partition("-")[0]) > 3 and tag not in the_mirror().tags
+
+
 def given_number(name: str) -> int:
     """Returns a number that a page put into its form."""
     value = given(name)
@@ -70,6 +77,8 @@ def add_term(number: int) -> Any:
     """Adds a term or a note."""
     resource(number)
     kind, tag = given("kind", LABEL_KINDS), given_tag()
+    if is_slip(tag):
+        return show_again(number, problem_in(given("form"), "tag", say("refusals.BadTag.text", tag=tag)), 409)
     label = {"do": "addLabel", "owner": number, "kind": kind, "tag": tag, "text": given_text()}
     return submit("add_term", [label], then=f"/c/{number}#at-add-term", show=partial(show_again, number))
 
@@ -130,6 +139,8 @@ def add_link(number: int) -> Any:
         return submit("add_link", match_requests(number, kind, iri), then=f"/c/{number}#at-{form}", show=again)
     chosen = choose_end(view, kind)
     if chosen.number is None:
+        if kind in MAPPINGS and iri and not chosen.choices:
+            chosen = Chosen(None, say("refusals.Choice.match", text=iri))
         return again(undecided(form, request.form, chosen), 409)
     return submit(
         "add_link", [link_request("link", number, kind, chosen.number)], then=f"/c/{number}#at-{form}", show=again

@@ -19,7 +19,8 @@ LIST_PAGE, GROUP_PAGE = 500, 200
 def lists() -> Any:
     """Shows which lists there are, and how long each is."""
     mirror = the_mirror()
-    counts = {it: len(make_list(mirror, it, None, tags()[0], tags()).numbers) for it in KINDS if it != "untranslated"}
+    made = {it: make_list(mirror, it, None, tags()[0], tags()) for it in KINDS if it != "untranslated"}
+    counts = {kind: len(it.groups) if kind == "alike" else len(it.numbers) for kind, it in made.items()}
     return render_template("lists.html", counts=counts, lacking=count_untranslated(mirror, sorted(tags())))
 
 

@@ -12,7 +12,7 @@ from thesaurus_desk.entry.guard import role
 from thesaurus_desk.forms import FormState, Problem
 from thesaurus_desk.mirror.search import fold
 from thesaurus_desk.pages.choosing import choose, is_number, scheme_of, undecided
-from thesaurus_desk.pages.edit import given, given_tag, given_text
+from thesaurus_desk.pages.edit import given, given_tag, given_text, is_slip
 from thesaurus_desk.pages.submitting import submit
 from thesaurus_desk.journal.entries import Request
 from thesaurus_desk.performing import Outcome
@@ -51,6 +51,9 @@ def new_concept() -> Any:
     again = partial(concept_page, scheme, parent)
     if request.method == "GET":
         return again(FormState(), 200)
+    if is_slip(given_tag()):
+        problem = Problem("tag", say("refusals.BadTag.text", tag=given_tag()))
+        return again(FormState(FORM, request.form, [problem]), 409)
     above = None
     if given("other"):
         chosen = choose(request.form, scheme=scheme)
@@ -75,6 +78,7 @@ def concept_page(scheme: int, parent: int | None, state: FormState, status: int,
         scheme=scheme,
         schemes=mirror.ordered(mirror.numbers("scheme"), tags()),
         alike=alike or [],
+        has_more=has_more(),
         text=request.args.get("text", ""),
         kind=request.args.get("kind", "broaderGeneric"),
         kinds=[(it, say(f"kinds.link.{it}")) for it in (*BROADER[1:], BROADER[0])],
@@ -124,9 +128,16 @@ def page_after(above: int | None, scheme: int) -> Any:
     def path(outcome: Outcome) -> str:
         if given("then") != "another":
             return f"/c/{outcome.made}"
-        return f"/new?scheme={scheme}&kind={given('kind', BROADER)}" + (f"&parent={above}" if above else "")
+        more = "&more=1" if has_more() else ""
+        return f"/new?scheme={scheme}&kind={given('kind', BROADER)}{more}" + (f"&parent={above}" if above else "")
 
     return path
+
+
+def has_more() -> bool:
+    """Whether the form has more than a preferred term and a place: the one after it then opens these fields, too."""
+    names = ("alt", "scope", *(f"text-{it}" for it in tags()))
+    return "more" in request.args or any(given(it) for it in names)
 
 
 # --- collections and schemes ---

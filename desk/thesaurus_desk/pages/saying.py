@@ -4,13 +4,20 @@ from __future__ import annotations
 from dataclasses import dataclass
 
 from flask import request, url_for
+from markupsafe import Markup, escape
 
-from thesaurus_desk.context import person, the_desk
+from thesaurus_desk.context import link, person, say, tags, the_desk, the_mirror, words
+from thesaurus_desk.journal import Step
+from thesaurus_desk.mirror import View
+from thesaurus_desk.mirror.search import fold
 from thesaurus_desk.pages.changes import may_take_back
 from thesaurus_desk.pages.telling import ToldPlan, tell_plan
+from thesaurus_desk.refusals import label_of
 
 # How many steps of a plan a page says.
 MOST_STEPS = 4
+# The requests that give a term to a concept.
+GIVE_TERMS = ("concept", "split", "addLabel", "relabel")
 
 
 @dataclass(frozen=True)
@@ -20,6 +27,8 @@ class Said:
     told: ToldPlan
     more: int
     take_back: str
+    # Of each term that it gave to a concept, which others have it, too.
+    elsewhere: list[Markup]
 
 
 def said() -> Said | None:
@@ -33,7 +42,33 @@ def said() -> Said | None:
     path = url_for("changes.take_back", number=plan.id) if may_take_back(plan) else ""
     more = max(0, len(plan.steps) - MOST_STEPS)
     plan.steps = plan.steps[:MOST_STEPS]
-    return Said(tell_plan(plan), more, path)
+    found = [terms_elsewhere(it) for it in plan.steps if it.state == "done"]
+    return Said(tell_plan(plan), more, path, [it for it in found if it])
+
+
+def terms_elsewhere(step: Step) -> Markup:
+    """Returns which other concepts of its thesaurus have the term that a step gave to a concept, or nothing."""
+    asked, mirror = step.request, the_mirror()
+    owner = asked.get("owner") or (step.answer or {}).get("ok")
+    view = mirror.view(owner) if isinstance(owner, int) and asked["do"] in GIVE_TERMS else None
+    if view is None or view.kind != "concept" or asked.get("kind", "pref") not in ("pref", "alt"):
+        return Markup()
+    tag, text = str(asked["tag"]).lower(), asked["text"]
+    others = [it for it in having_term(tag, text) if it.scheme == view.scheme and it.number != owner]
+    if not others:
+        return Markup()
+    concepts = Markup(", ").join(link(it) for it in mirror.ordered([it.number for it in others], tags()))
+    return escape(say("home.elsewhere", label=label_of(words(), text, tag), concepts=concepts))
+
+
+def having_term(tag: str, text: str) -> list[View]:
+    """Returns the live concepts with a preferred or alternative term in a language but for case and accents."""
+    views = (the_mirror().view(it.number) for it in the_mirror().named(text, ("concept",), True))
+    return [
+        it
+        for it in views
+        if it is not None and any(tag == its and fold(text) == fold(one) for its, one in (*it.pref, *it.alt))
+    ]
 
 
 def warnings() -> list[str]:

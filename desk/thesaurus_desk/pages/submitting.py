@@ -8,7 +8,8 @@ from flask import render_template, request
 
 from thesaurus_desk.context import go, person, the_desk
 from thesaurus_desk.forms import FormState, Problem
-from thesaurus_desk.pages.telling import tell_changes, tell_outcome, tell_plans
+from thesaurus_desk.pages.telling import MOST_STEPS, tell_changes, tell_outcome, tell_plans, tell_step
+from thesaurus_desk.journal import Step
 from thesaurus_desk.journal.entries import Request
 from thesaurus_desk.performing import Outcome
 from thesaurus_desk.refusals import blamed_field
@@ -33,7 +34,7 @@ def submit(
     """
     outcome = the_desk().perform(person().name, action, requests, seen=request.form.getlist("seen"), may_cut=may_cut)
     if outcome.state == "conflict":
-        return conflict_page(outcome)
+        return conflict_page(outcome, requests)
     if not outcome.is_done:
         return show(refused_form(outcome, blame), 409)
     return go(then if isinstance(then, str) else then(outcome), outcome.plan)
@@ -53,8 +54,8 @@ def problem_in(form: str, field: str, text: str, choices: Sequence[int] = ()) ->
     return FormState(form, request.form, [Problem(field, text)], list(choices))
 
 
-def conflict_page(outcome: Outcome) -> Any:
-    """Shows what others changed since the form was opened: the difference, who and when; and asks again."""
+def conflict_page(outcome: Outcome, requests: Sequence[Request]) -> Any:
+    """Shows what was changed since the form was opened, who and when, and what the form wants; and asks again."""
     conflict = outcome.conflict
     assert conflict is not None
     stale = f"{conflict.number}.{conflict.part}."
@@ -66,6 +67,9 @@ def conflict_page(outcome: Outcome) -> Any:
             conflict=conflict,
             changes=tell_changes(conflict.changes),
             plans=tell_plans(conflict.plans),
+            is_own={it.user for it in conflict.plans} == {person().name},
+            wanted=[tell_step(Step(it)) for it in requests[:MOST_STEPS]],
+            more=max(0, len(requests) - MOST_STEPS),
             fields=[*fields, *(("seen", it) for it in marks)],
             path=request.path,
         ),

@@ -32,6 +32,11 @@ class TickList:
     kept: str
     shown: str
 
+    @property
+    def elsewhere(self) -> int:
+        """The number of postings that are ticked on other pages."""
+        return len(self.ticked - {it.number for it in self.rows})
+
 
 def is_looking() -> bool:
     """Whether the form asks for another part of its list: by a button, or because its filter was changed."""

@@ -9,41 +9,47 @@
   });
   window.addEventListener("pageshow", () => document.querySelectorAll("form[data-sent]").forEach((it) => delete it.dataset.sent));
 
-  // A form that opens gives the focus to what is wrong in it, or to its first field.
+  // A form that opens gives the focus to what is wrong in it, to its text, or to its first field; never to what it does.
+  const FIELDS = ["[aria-invalid]", "input[type=text], textarea", "input:not([type=hidden]), select"];
   document.addEventListener("toggle", (event) => {
     if (!event.target.matches("details.act[open]") || !event.isTrusted) return;
-    (event.target.querySelector("[aria-invalid]") || event.target.querySelector("input:not([type=hidden]), select, textarea, button"))?.focus();
+    FIELDS.map((it) => event.target.querySelector(it)).find((it) => it)?.focus();
   }, true);
 
-  // A list with a filter: `data-filter="ID"` on the field, `data-tick="all|none"` on buttons, `data-ticked` on the count ("# / #").
-  function ticksOn(filter) {
+  // A list with a filter: `data-filter="ID"` on the field.
+  function filterBy(filter) {
     const list = document.getElementById(filter.dataset.filter);
-    const room = filter.closest("fieldset") || document;
-    const boxes = [...list.querySelectorAll("input[type=checkbox]")];
-    const count = room.querySelector("[data-ticked]");
-    const report = () => { if (count) count.textContent = `${boxes.filter((it) => it.checked).length} / ${boxes.length}`; };
     filter.addEventListener("input", () => {
       const text = filter.value.toLowerCase();
       [...list.children].forEach((it) => { it.hidden = !it.textContent.toLowerCase().includes(text); });
     });
     filter.addEventListener("keydown", (event) => { if (event.key === "Enter") event.preventDefault(); });
-    room.querySelectorAll("[data-tick]").forEach((button) => button.addEventListener("click", () => {
-      boxes.filter((it) => button.dataset.tick === "none" || !it.closest("li").hidden).forEach((it) => { it.checked = button.dataset.tick === "all"; });
-      report();
-    }));
+  }
+
+  // The number of ticks in a list: `data-ticks="ID"`, with what is said of none, of one and of `#`, and those on other pages.
+  function countTicks(count) {
+    const list = document.getElementById(count.dataset.ticks);
+    const texts = JSON.parse(count.dataset.texts);
+    const report = () => {
+      const ticked = Number(count.dataset.elsewhere) + list.querySelectorAll("input:checked").length;
+      count.textContent = texts[Math.min(ticked, 2)].replace("#", ticked);
+    };
     list.addEventListener("change", report);
-    report();
+    // (a page that is shown again may have other boxes ticked than it was sent with)
+    window.addEventListener("pageshow", report);
   }
 
   function showTime(time) {
     const at = new Date(time.dateTime);
     if (Number.isNaN(at.getTime())) return;
-    const options = { year: "numeric", month: "2-digit", day: "2-digit", hour: "2-digit", minute: "2-digit" };
+    // (in English with the month's name: 11/12 is two days)
+    const options = { year: "numeric", month: "short", day: "2-digit", hour: "2-digit", minute: "2-digit" };
     time.textContent = new Intl.DateTimeFormat(document.documentElement.lang, options).format(at);
     time.title = time.dateTime;
   }
 
-  document.querySelectorAll("[data-filter]").forEach(ticksOn);
+  document.querySelectorAll("[data-filter]").forEach(filterBy);
+  document.querySelectorAll("[data-ticks]").forEach(countTicks);
   document.querySelectorAll("time[datetime]").forEach(showTime);
   document.querySelectorAll("[data-print]").forEach((it) => { it.hidden = false; it.addEventListener("click", () => window.print()); });
   (document.querySelector("[aria-invalid]") || document.querySelector(".why[role=alert]"))?.focus();

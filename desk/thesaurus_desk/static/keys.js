@@ -16,8 +16,8 @@
     if (!it) return;
     event.preventDefault();
     if (it.tagName === "SUMMARY") {
-      it.parentElement.open = true;
-      it.parentElement.querySelector("input:not([type=hidden]), select, textarea, button")?.focus();
+      it.parentElement.open = false;
+      it.click();
     } else if (it.tagName === "INPUT") {
       it.focus();
     } else {
