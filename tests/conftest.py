@@ -1,6 +1,6 @@
 """What all tests share: options, which items there are and in what order, which program they run, and when they end.
 
-Tests are files test_*.py and scripts (harness/script_items.py) in these folders, whose names are also markers:
+Tests are files test_*.py in these folders, whose names are also markers:
 
   program/    over the built program
   reference/  the plain program, and the machine compared with it
@@ -26,7 +26,6 @@ from pathlib import Path
 import pytest
 from _pytest.terminal import TerminalReporter
 from pluggy._result import _Result as Result
-from script_items import ScriptFile, is_script
 from xdist.scheduler import LoadScopeScheduling
 
 ROOT = Path(__file__).resolve().parents[1]
@@ -62,7 +61,6 @@ def pytest_addoption(parser: pytest.Parser) -> None:
     group.addoption("--minutes", type=float, default=24 * 60, help="end after this time; the tests that are left fail")
     group.addoption("--by-hand", action="store_true", help="also run the tests whose times depend on the machine")
     group.addoption("--write", action="store_true", help="have a test write the page or list that it would compare")
-    group.addoption("--word", action="append", default=[], help="a word for the scripts, as --word=--count")
     group.addoption("--no-skips", action="store_true", help="a test fails for which a tool isn't installed")
 
 
@@ -85,12 +83,6 @@ def pytest_configure(config: pytest.Config) -> None:
         os.environ["THESAURUS_BUILT"] = "1"
     if not hasattr(config, "workerinput"):
         os.environ["THESAURUS_TESTS_END"] = str(BEGAN + 60 * config.getoption("--minutes"))
-
-
-def pytest_collect_file(file_path: Path, parent: pytest.Collector) -> ScriptFile | None:
-    if file_path.parent.name in FOLDERS and is_script(file_path):
-        return ScriptFile.from_parent(parent, path=file_path)
-    return None
 
 
 def folder_of(item: pytest.Item) -> str:
@@ -209,15 +201,11 @@ def pytest_runtest_makereport(item: pytest.Item) -> Generator[None, Result, None
 
 
 def pytest_terminal_summary(terminalreporter: TerminalReporter) -> None:
-    """Prints how many cases the scripts count themselves, and what this machine doesn't allow."""
+    """Prints what this machine doesn't allow."""
     reports = [it for kind in ("passed", "skipped") for it in terminalreporter.stats.get(kind, [])]
-    noted = [pair for it in reports for pair in it.user_properties]
-    tried = [value for name, value in noted if name == "tried"]
-    for name, line in noted:
+    for name, line in (pair for it in reports for pair in it.user_properties):
         if name == "left out":
             terminalreporter.write_line(line)
-    if tried:
-        terminalreporter.write_line(f"{len(tried)} scripts tried {sum(tried):,} cases of their own")
 
 
 class Scheduler(LoadScopeScheduling):

@@ -105,6 +105,54 @@ def test_a_row_is_done_whole_or_not_at_all(site: Site, anna: Client) -> None:
     assert view and ("en", "String family") not in view.alt
 
 
+@pytest.mark.parametrize("is_refused", [False, True], ids=["done", "refused"])
+def test_rows_that_exchange_terms(is_refused: bool, site: Site, anna: Client) -> None:
+    """They are one plan: what one of them asks for beside refuses both. The row between them is done alone."""
+    violins, harps = number(site, "Violins"), number(site, "Harps")
+    above = harps if is_refused else ""
+    rows = ("concept,pref@en,broader,alt@en", "Violins,Harps,,", "Fiddles,,,Folk fiddles", f"Harps,Violins,{above},")
+    page = send(anna, "/bring-in/table", "\n".join(rows).encode())
+    assert "3 rows change something." in text_of(page), text_of(page)
+    done = perform(anna, page, "/bring-in/table/perform")
+    assert ("2 rows were refused." if is_refused else "3 rows were done.") in done.text, text_of(done)
+    views = [site.desk.mirror.view(it) for it in (violins, harps)]
+    terms = [dict(it.pref)["en"] for it in views if it]
+    assert terms == (["Violins", "Harps"] if is_refused else ["Harps", "Violins"])
+    (last,) = site.desk.history.recent(most=1)
+    assert (last.state, len(last.steps)) == (("refused", 4) if is_refused else ("done", 3))
+
+
+@pytest.mark.parametrize(
+    ("cells", "reason"),
+    [
+        ("Kotos,Kotos,", "would have two roles at one concept"),
+        ('"Ly\tres",,', "without control characters"),
+        (f"{'x' * 257},,", "has 257 bytes, and 256 is the limit"),
+        (f"Lyres,,{'x' * 2001}", "has 2,001 bytes"),
+        ("Violins,Violin,", "is there already"),
+    ],
+)
+def test_a_preview_promises_nothing_that_is_refused(site: Site, anna: Client, cells: str, reason: str) -> None:
+    before = len(site.desk.mirror.resources)
+    data = f"Term,Synonym,Note\n{cells}\nTheorbos,Theorbo,Plucked.\n".encode()
+    page = send(anna, "/bring-in/table", data, kind="new", tag="en")
+    assert reason in text_of(page) and "1 row changes something." in page.text, text_of(page)
+    done = perform(anna, page, "/bring-in/table/perform")
+    assert "1 row was done." in done.text and "1 row was refused." in done.text, text_of(done)
+    assert len(site.desk.mirror.resources) == before + 1
+
+
+def test_a_preview_sees_what_rows_before_do(site: Site, anna: Client) -> None:
+    harps = number(site, "Harps")
+    rows = f"{harps},rename,Fine harps,\n{harps},change,,Harps\n{harps},change,,Fine harps\n{harps},change,,Harp\n"
+    page = send(anna, "/bring-in/table", f"number,do,new,alt@en\n{rows}".encode(), tag="en")
+    assert text_of(page).count("would have two roles") == 1 and "1 row was refused." in page.text, text_of(page)
+    done = perform(anna, page, "/bring-in/table/perform")
+    assert "2 rows were done." in done.text, text_of(done)
+    view = site.desk.mirror.view(harps)
+    assert view and ("en", "Fine harps") in view.pref and {("en", "Harps"), ("en", "Harp")} <= {*view.alt}
+
+
 def test_an_editor_merges_by_no_table(site: Site) -> None:
     ben, data, violins = site.client("ben"), b"concept,into\nViolins,Harps\n", number(site, "Violins")
     page = send(ben, "/bring-in/table", data)
@@ -124,6 +172,22 @@ def test_a_table_is_performed_once(site: Site, anna: Client) -> None:
         done = perform(anna, page, "/bring-in/table/perform")
         assert done.status_code == expected
     assert "it was brought in already" in text_of(done) and len(site.desk.mirror.resources) == before + 1
+
+
+def test_a_split_by_a_table_of_records(site: Site, anna: Client) -> None:
+    """Rows with one concept and one new term are one split, which only a head may do; all are refused together."""
+    violins = number(site, "Violins")
+    posts = [{"do": "post", "key": f"s{it}", "record": f"Old violin {it}", "concept": violins} for it in range(3)]
+    assert site.desk.perform("anna", "index", posts).is_done
+    rows = "".join(f"Old violin {it},Violins,Old violins\n" for it in (0, 1, 9))
+    data = f"record,concept,new\n{rows}".encode()
+    page = send(site.client("ben"), "/bring-in/table", data, kind="splits", tag="en")
+    assert "3 rows were refused." in page.text and text_of(page).count("Only a head merges") == 2
+    page = send(anna, "/bring-in/table", data, kind="splits", tag="en")
+    assert "2 rows change something." in page.text and "1 row was refused." in page.text, text_of(page)
+    done = perform(anna, page, "/bring-in/table/perform")
+    assert "2 rows were done." in done.text, text_of(done)
+    assert site.desk.mirror.postings.count_at(number(site, "Old violins")) == 2
 
 
 def test_a_row_that_would_do_something_else_by_now(site: Site, anna: Client) -> None:
@@ -174,6 +238,7 @@ def test_a_vocabulary(site: Site, anna: Client) -> None:
     page = send(anna, "/bring-in/skos", SKOS.encode(), "places.ttl", tag="en", addresses="1")
     assert page.status_code == 200, text_of(page)
     assert "notation" in page.text and "The copy has taken all of it." in text_of(page)
+    assert "from-skos" not in page.text and " --" not in text_of(page), "words of the command line"
     assert not site.desk.mirror.named("Norway")
     answer = perform(anna, page, "/bring-in/skos/perform")
     assert answer.status_code == 303

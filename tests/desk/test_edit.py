@@ -34,6 +34,7 @@ def test_terms_and_notes_are_added(reader: Reader, desk: Desk) -> None:
         ("pref", "en", "Fine violins", "text", "already has the preferred term “Violins” (en)"),
         ("pref", "it", "", "text", "The field is empty"),
         ("alt", "x1y2z3w4q5", "Fine violins", "tag", "isn’t a language tag"),
+        ("alt", "english", "Fine violins", "tag", "“english” isn’t a language tag"),
         ("alt", "de", "Violinen", "text", "already has “Violinen” (de) as alternative term"),
         ("alt", "en", "x" * 257, "text", "has 257 bytes"),
     ],
@@ -46,6 +47,29 @@ def test_a_refused_term_is_shown_again(reader: Reader, kind: str, tag: str, text
     assert (form.value("kind"), form.value("tag"), form.value("text")) == (kind, tag, text)
     assert '<details class="act worded" id="at-add-term" open>' in page.html
     assert "Nothing was changed." in page.alerts
+
+
+def test_a_language_with_a_long_tag_that_is_in_use(reader: Reader, desk: Desk) -> None:
+    label = {"do": "addLabel", "owner": HARPS, "kind": "alt", "tag": "english", "text": "Harp"}
+    assert desk.perform("anna", "try", [label]).is_done
+    assert add(reader.get(f"/c/{VIOLINS}"), reader, "alt", "english", "Violin").status == 200
+
+
+@pytest.mark.parametrize(
+    ("number", "form", "fields", "is_said"),
+    [
+        (FIDDLES, "change-pref-de-1", {"text": "Violinen"}, True),
+        (FIDDLES, "change-pref-de-1", {"text": "Fideln"}, False),
+        (FIDDLES, "add-term", {"kind": "alt", "tag": "de", "text": "VIOLINEN"}, True),
+        (FIDDLES, "add-term", {"kind": "alt", "tag": "nl", "text": "Violinen"}, False),
+        (FIDDLES, "add-term", {"kind": "hidden", "tag": "de", "text": "Violinen"}, False),
+    ],
+)
+def test_a_term_of_another_concept_is_said(
+    reader: Reader, number: int, form: str, fields: dict[str, str], is_said: bool
+) -> None:
+    page = reader.send(reader.get(f"/c/{number}").form(form), **fields)
+    assert page.status == 200 and (" is also a term of Violins." in page.text) is is_said
 
 
 def test_a_term_that_another_concept_has(reader: Reader) -> None:
@@ -146,12 +170,17 @@ def test_a_concept_with_records_stays(reader: Reader, desk: Desk) -> None:
 # --- two editors ---
 
 
-def test_a_conflict_shows_the_difference_and_asks_again(reader: Reader, desk: Desk) -> None:
+@pytest.mark.parametrize(
+    ("user", "said"), [("ben", "Somebody changed Violins after you opened"), ("anna", "You changed Violins yourself")]
+)
+def test_a_conflict_shows_both_changes_and_asks_again(reader: Reader, desk: Desk, user: str, said: str) -> None:
     mine = reader.get(f"/c/{VIOLINS}").form("add-term")
-    add(reader.get(f"/c/{VIOLINS}"), reader, "alt", "en", "Fiddles too")
+    label = {"do": "addLabel", "owner": VIOLINS, "kind": "alt", "tag": "en", "text": "Fiddles too"}
+    assert desk.perform(user, "add_term", [label]).is_done
     page = reader.send(mine, kind="alt", tag="en", text="Fine violins")
-    assert page.status == 409 and "Your change hasn’t been made yet" in page.text
-    assert "alternative term “Fiddles too” (en)" in page.text and "anna" in page.text
+    assert page.status == 409 and said in page.text and "hasn’t been made yet" in page.text
+    assert "alternative term “Fiddles too” (en)" in page.text and user in page.text
+    assert "Your change Violins: alternative term “Fine violins” (en) added" in " ".join(page.text.split())
     assert ("en", "Fine violins") not in view(desk, VIOLINS).alt
     assert reader.send(page.form("add-term")).status == 200
     assert ("en", "Fine violins") in view(desk, VIOLINS).alt

@@ -9,6 +9,7 @@ from browsing import WIDE, Browser
 from hands import Hand, Keyboard, come_in
 from processes import Running, running
 from selenium.webdriver.chrome.webdriver import WebDriver
+from selenium.webdriver.common.action_chains import ActionChains
 from selenium.webdriver.common.keys import Keys
 
 pytestmark = pytest.mark.needs("chromedriver", "selenium")
@@ -76,6 +77,51 @@ def test_a_split_over_pages_without_script(plain_hand: Hand) -> None:
     plain_hand.sees("Harps: split, and 21 records given to the new concept Pedal harps")
 
 
+@pytest.mark.parametrize("sign", ["Change preferred term Violins (en)", "Another type for the link with String instru"])
+def test_a_double_click_on_a_sign_changes_nothing(driver: WebDriver, guide_desk: Running, sign: str) -> None:
+    hand = come_in("mouse", driver, guide_desk)
+    hand.open("/c/3")
+    hand.wait(lambda: driver.execute_script("return document.readyState") == "complete", "the whole page")
+    before = hand.text()
+    ActionChains(driver).double_click(hand.find(sign, "summary")).perform()
+    hand.wait(lambda: hand.focused().tag_name in ("input", "select"), "a field with the focus")
+    hand.open("/c/3")
+    assert hand.text() == before
+
+
+@pytest.mark.parametrize(
+    ("opener", "focused"),
+    [
+        ("Add a term or a note", "add-term-text"),
+        ("Add a broader term", "add-broader-other"),
+        ("Add a match", "add-match-other"),
+        ("Take out of use…", ""),
+    ],
+)
+def test_a_form_that_opens_waits_for_its_text(
+    driver: WebDriver, guide_desk: Running, opener: str, focused: str
+) -> None:
+    """What is typed next is the term, and neither its kind nor a press of the button."""
+    hand = come_in("mouse", driver, guide_desk)
+    hand.open("/c/7")
+    hand.press(opener)
+    hand.wait(lambda: driver.execute_script("return document.querySelector('details.act[open]')"), "the form")
+    hand.wait(lambda: hand.focused().get_attribute("id") == focused, f"the focus at {focused or 'no field'}")
+    assert hand.focused().tag_name != "button"
+
+
+def test_the_count_of_ticks_follows_the_boxes(driver: WebDriver, guide_desk: Running) -> None:
+    hand = come_in("mouse", driver, guide_desk)
+    hand.open("/c/3/split")
+    hand.sees("0 of 2 ticked")
+    hand.tick("Violin, Mittenwald, about 1780")
+    hand.sees("1 of 2 ticked")
+    hand.press("Tick all 2")
+    hand.sees("2 of 2 ticked")
+    hand.tick("Violin, Mittenwald, about 1780")
+    hand.sees("1 of 2 ticked")
+
+
 @pytest.mark.parametrize(
     ("key", "label"), [("a", "Text"), ("b", "Term"), ("r", "Term"), ("p", "Record, as in the catalogue")]
 )
@@ -112,8 +158,9 @@ def test_two_editors_at_once(driver: WebDriver, program: str, store: Path) -> No
             anna.press("Change preferred term Violins (en)")
             anna.fill("Preferred term (en)", "Old violins")
             anna.press("Rename")
-            anna.sees("Your change hasn’t been made yet.")
+            anna.sees("You changed Fine violins yourself after this page was opened")
             anna.sees("preferred term “Fine violins” (en)")
+            anna.sees("Your change Fine violins: renamed to “Old violins” (en)")
             anna.press("Make my change all the same")
             anna.sees("renamed to “Old violins” (en)")
             anna.sees("UF Fine violins")

@@ -157,7 +157,19 @@ def test_work_lists(site: Site, anna: Client) -> None:
         assert page.status_code == 200 and f'href="/c/{VIOLINS if kind == "busiest" else lonely}"' in page.text, kind
         assert anna.get(f"/lists/{kind}?scheme=1&page=9").status_code == 200
     assert "2 groups" not in text_of(anna.get("/lists/alike")) and "1 group" in text_of(anna.get("/lists/alike"))
+    assert "Terms alike 1 " in " ".join(text_of(anna.get("/lists")).split())
     assert anna.get("/lists").status_code == 200 and anna.get("/lists/other").status_code == 404
+
+
+def test_terms_alike_are_shown(site: Site, anna: Client) -> None:
+    """A concept's own term needn't be the one that is alike."""
+    for kind, tag, text in (("alt", "de", "Harfe"), ("alt", "en", "Harp"), ("alt", "fr", "Harpe")):
+        for owner, its in ((VIOLINS, text), (STRINGS, text.upper())):
+            label = {"do": "addLabel", "owner": owner, "kind": kind, "tag": tag, "text": its}
+            assert site.desk.perform("anna", "try", [label]).is_done
+    page = " ".join(text_of(anna.get("/lists/alike")).split())
+    assert "1 group" in page
+    assert "String instruments 3 : HARFE de , HARP en , HARPE fr Violins 5 : Harfe de , Harp en , Harpe fr" in page
 
 
 def test_tables(site: Site, anna: Client) -> None:

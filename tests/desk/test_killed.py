@@ -43,12 +43,11 @@ def run_killed(store: Path, program: str, plan: list[dict[str, Any]], point: str
 def test_killed_in_a_plan(name: str, point: str, store: Path, program: str, open_desk: Callable[[Path], Desk]) -> None:
     desk = open_desk(store)
     assert desk.perform("anna", "test", [{"do": "post", "key": "k-1", "record": "Violin 1700", "concept": 5}]).is_done
-    has_plans, counts = desk.program.has_plans, desk.mirror.counts()
+    assert desk.program.has_plans
+    counts = desk.mirror.counts()
     before = {it: desk.mirror.view(it) for it in desk.mirror.resources}
     desk.stop()
     plan = PLANS[name]
-    if len(plan) > 1 and not has_plans:
-        pytest.skip("the program takes no plans")
     run_killed(store, program, plan, point, 1)
     again = open_desk(store)
     (settled,) = again.found.settled

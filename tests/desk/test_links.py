@@ -64,7 +64,9 @@ def test_members_of_a_collection(reader: Reader, desk: Desk) -> None:
         (VIOLINS, "add-related", "Cello", "Did you mean one of these?", []),
         (VIOLINS, "add-related", "", "The field is empty", []),
         (VIOLINS, "add-match", "Cellos", "both belong to the thesaurus", [VIOLINS, CELLOS, 1]),
-        (VIOLINS, "add-match", "https:x y", "No concept has the term", []),
+        (VIOLINS, "add-match", "https:x y", "an address begins with https:// or http://", []),
+        (VIOLINS, "add-match", "www.wikidata.org/entity/Q8355", "an address begins with https:// or http://", []),
+        (VIOLINS, "add-match", "Cello", "Did you mean one of these?", []),
     ],
 )
 def test_a_refused_link_is_explained_beside_its_field(

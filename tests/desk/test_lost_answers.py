@@ -131,8 +131,7 @@ def assert_right(desk: Desk) -> None:
 @pytest.mark.parametrize("as_one", [True, False])
 @pytest.mark.parametrize("name", PLANS)
 def test_dropped(name: str, as_one: bool, how: str, desk: Desk, proxy: Proxy) -> None:
-    if as_one and not desk.program.has_plans:
-        pytest.skip("the program takes no plans")
+    assert desk.program.has_plans
     if not as_one and name == "changes nothing":
         pytest.skip("no page sends such requests singly")
     prepare(desk)

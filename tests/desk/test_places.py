@@ -35,6 +35,16 @@ def test_a_new_top_concept_and_another_one(reader: Reader, desk: Desk) -> None:
     assert page.form("new").value("other") == "Electronic instruments"
 
 
+def test_the_next_new_concept_asks_for_as_much(reader: Reader) -> None:
+    opened = '<details class="more" open>'
+    page = reader.send(reader.get(f"/new?parent={BOWED}").form("new"), ("then", "another"), text="Rebecs")
+    assert page.path == "/new" and opened not in page.html
+    page = reader.send(page.form("new"), ("then", "another"), **{"text": "Crwths", "text-de": "Crwths"})
+    assert opened in page.html and page.form("new").value("text-de") == ""
+    page = reader.send(page.form("new"), ("then", "another"), text="Viols")
+    assert opened not in page.html
+
+
 def test_a_new_concept_that_is_alike(reader: Reader, desk: Desk) -> None:
     page = reader.send(reader.get("/new").form("new"), ("then", "see"), text="VIOLÍNS")
     form = page.form("new")
@@ -50,6 +60,7 @@ def test_a_new_concept_that_is_alike(reader: Reader, desk: Desk) -> None:
         ({"text": "Violins"}, "text", "Use that concept, or add a qualifier"),
         ({"text": ""}, "text", "The field is empty"),
         ({"text": "Rebecs", "tag": "?"}, "tag", "isn’t a language tag"),
+        ({"text": "Rebecs", "tag": "english"}, "tag", "“english” isn’t a language tag"),
         ({"text": "Rebecs", "other": "Nowhere"}, "other", "No concept has the term “Nowhere”"),
         ({"text": "Rebecs", "alt": "Rebecs"}, "alt", "a text has one role in a language"),
         ({"text": "Rebecs", "text-de": "Geigen"}, "text-de", "Violins has the preferred term “Geigen” (de)"),

@@ -27,6 +27,16 @@ def propose(client: Client, **values: str) -> int:
     return int(found[1])
 
 
+def test_the_form_has_the_focus(site: Site, rita: Client) -> None:
+    violins = number(site, "Violins")
+    first = rita.get(f"/propose?concept={violins}").text
+    assert re.findall("<[^>]* autofocus[^>]*>", first) == re.findall('<select id="propose-kind"[^>]*>', first) != []
+    refused = rita.post("/propose", {"form": "propose", "concept": str(violins), "kind": "alt", "text": "Folk violins"})
+    assert re.findall("<[^>]* autofocus[^>]*>", refused.text) == re.findall(
+        '<textarea id="propose-reason"[^>]*>', refused.text
+    )
+
+
 def test_an_accepted_term_is_there_under_both_names(site: Site, rita: Client) -> None:
     violins = number(site, "Violins")
     made = propose(rita, concept=str(violins), kind="alt", text="Folk violins")

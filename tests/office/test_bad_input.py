@@ -38,7 +38,7 @@ def make_files(room: Path) -> str:
     (room / "folder").mkdir()
     (room / "empty").touch()
     for ending in ("nt", "ttl", "csv", "jsonl", "db", "txt"):
-        (room / f"other.{ending}").write_bytes(b"\xff\xfe\x00 no such form\n" * 20)
+        (room / f"other.{ending}").write_bytes(b"\xff\x00 no such form\n" * 20)
     for name, text in (
         ("a.ttl", TURTLE),
         ("a.nt", TURTLE),

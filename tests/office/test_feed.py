@@ -5,75 +5,19 @@ import json
 import subprocess
 import time
 from collections.abc import Iterator
-from dataclasses import dataclass
 from pathlib import Path
 
 import pytest
 from office import tool
 from ports import free_port
 from program import ROOT, Ended, built
+from thesaurus_tools.feeding import Feed
 from thesaurus_tools.ntriples import parse_ntriples
-from thesaurus_tools.triple_store import TripleStore, plain
+from thesaurus_tools.triple_store import plain
+from virtuoso import PASSWORD, Virtuoso
 
-GRAPH = "https://museum.example/id/"
-PASSWORD = "dba"
-SETTINGS = """
-[Database]
-DatabaseFile = {folder}/virtuoso.db
-ErrorLogFile = {folder}/virtuoso.log
-LockFile = {folder}/virtuoso.lck
-TransactionFile = {folder}/virtuoso.trx
-xa_persistent_file = {folder}/virtuoso.pxa
-[TempDatabase]
-DatabaseFile = {folder}/temp.db
-TransactionFile = {folder}/temp.trx
-[Parameters]
-ServerPort = {sql}
-NumberOfBuffers = 4000
-MaxDirtyBuffers = 3000
-DirsAllowed = {folder}
-[HTTPServer]
-ServerPort = 127.0.0.1:{http}
-ServerThreads = 4
-"""
+GRAPH = Virtuoso.graph
 pytestmark = pytest.mark.needs("virtuoso-t", "isql-vt")
-
-
-@dataclass
-class Virtuoso:
-    """A Virtuoso on this machine."""
-
-    folder: Path
-    sql: int
-    http: int
-    process: subprocess.Popen[bytes] | None = None
-
-    def start(self) -> None:
-        (self.folder / "virtuoso.ini").write_text(
-            SETTINGS.format(folder=self.folder, sql=f"127.0.0.1:{self.sql}", http=self.http), encoding="utf-8"
-        )
-        words = ["virtuoso-t", "+foreground", "+configfile", str(self.folder / "virtuoso.ini")]
-        self.process = subprocess.Popen(words, cwd=self.folder, stdout=subprocess.DEVNULL, stderr=subprocess.DEVNULL)
-        end = time.monotonic() + 90
-        while self.sql_says("SELECT 1;").returncode:
-            assert time.monotonic() < end and self.process.poll() is None, "Virtuoso didn't start"
-            time.sleep(0.5)
-
-    def sql_says(self, text: str) -> subprocess.CompletedProcess[bytes]:
-        words = ["isql-vt", f"127.0.0.1:{self.sql}", "dba", PASSWORD, "VERBOSE=OFF", "ERRORS=STDOUT", f"EXEC={text}"]
-        return subprocess.run(words, capture_output=True, check=False, timeout=60)
-
-    def stop(self) -> None:
-        if self.process:
-            self.process.terminate()
-            self.process.wait(60)
-            self.process = None
-
-    def url(self, path: str) -> str:
-        return f"http://127.0.0.1:{self.http}{path}"
-
-    def store(self) -> TripleStore:
-        return TripleStore(self.url("/sparql"), self.url("/sparql-auth"), GRAPH, user="dba", password=PASSWORD)
 
 
 @pytest.fixture(scope="module")
@@ -175,6 +119,39 @@ def test_a_store_that_refuses(virtuoso: Virtuoso, db: Path) -> None:
     assert ended.status == 3 and b"Traceback" not in ended.err
     ended = tool("feed", path, "--query", virtuoso.url("/"), "--update", virtuoso.url("/"), "--graph", GRAPH, *state)
     assert ended.status == 3 and b"Traceback" not in ended.err
+
+
+def test_the_example_of_the_page(virtuoso: Virtuoso, db: Path) -> None:
+    """The command in docs/OPERATING.md feeds what is exported."""
+    page = (ROOT / "docs" / "OPERATING.md").read_text(encoding="utf-8")
+    command = page[page.index("    tools/feed ") :].partition("\n\n")[0].replace(":8890", f":{virtuoso.http}")
+    (db.parent / "tools").symlink_to(ROOT / "tools")
+    (db.parent / "virtuoso.password").write_text(PASSWORD, encoding="utf-8")
+    export(db)
+    ran = subprocess.run(["sh", "-c", command], cwd=db.parent, capture_output=True, check=False)
+    assert ran.returncode == 0 and b"triples were put" in ran.stderr, ran.stderr
+    assert is_equal(virtuoso, db.with_suffix(".nt"))
+
+
+def test_a_whole_graph_is_put(virtuoso: Virtuoso, db: Path) -> None:
+    """By the Graph Store HTTP Protocol."""
+    path = export(db)
+    ended = feed(virtuoso, path, "--graph-store", virtuoso.url("/sparql-graph-crud-auth"))
+    assert ended.status == 0 and b"triples were put" in ended.err, ended.err
+    assert is_equal(virtuoso, path)
+
+
+def test_many_changes(virtuoso: Virtuoso, db: Path) -> None:
+    """Each resource that has changed is compared, however many there are."""
+    feed(virtuoso, export(db))
+    perform(db, "".join(json.dumps({**HOSTILE, "text": f"Concept {it}"}) + "\n" for it in range(300)).encode())
+    asked: list[list[str]] = []
+    store = virtuoso.store()
+    about = store.about
+    store.about = lambda subjects: asked.append(list(subjects)) or about(subjects)  # type: ignore
+    fed = Feed(store, db.parent / "fed", print).feed(export(db).read_bytes())
+    assert not fed.is_whole and fed.removed == 0 and is_equal(virtuoso, db.with_suffix(".nt"))
+    assert len({it for them in asked for it in them}) == 301 and max(map(len, asked)) <= 20
 
 
 def test_a_change_is_quick(virtuoso: Virtuoso, db: Path) -> None:

@@ -5,9 +5,12 @@ import csv
 import io
 import json
 import subprocess
+import time
 import zipfile
 from collections.abc import Sequence
+from dataclasses import dataclass
 from pathlib import Path
+from typing import Any
 
 import pytest
 from office import tool
@@ -122,6 +125,26 @@ def test_a_row_about_another_concept(store: Path, tmp_path: Path) -> None:
     assert ended.status == 1 and "3 is Violins, and not “Harps”" in ended.err.decode()
 
 
+def test_a_cell_replaces(store: Path, tmp_path: Path) -> None:
+    """The terms and the note in its place; what is in empty cells, and one of several notes, stays."""
+    notes = [("en", "Old note."), ("de", "Eins."), ("de", "Zwei.")]
+    more = [{"do": "addLabel", "owner": 3, "kind": "scope", "tag": tag, "text": text} for tag, text in notes]
+    other = {"do": "addLabel", "owner": 3, "kind": "alt", "tag": "en", "text": "Stays | as it is"}
+    perform(store, [*more, other])
+    rows = [
+        ("number", "alt@en", "scope@en", "scope@de", "hidden@zxx"),
+        ("3", "Best violins|New", "New note.", "Drei.", ""),
+    ]
+    path = table(tmp_path, *rows)
+    assert [it["do"] for it in script_of(from_table(path, store))] == ["addLabel"] * 4
+    assert from_table(path, store, "--replace", "--perform").status == 0
+    after = concept(store, 3)
+    assert after["alt"] == [["en", "Best violins"], ["en", "New"], ["en", "Stays | as it is"]]
+    assert after["scope"] == [["de", "Drei."], ["de", "Eins."], ["de", "Zwei."], ["en", "New note."]]
+    assert after["hidden"] == [["zxx", "V17"]]
+    assert script_of(from_table(path, store, "--replace")) == []
+
+
 def test_rename_to_an_alternative_term(store: Path, tmp_path: Path) -> None:
     """The two terms are exchanged: one text can't be both (S13)."""
     path = table(tmp_path, ("old", "new"), ("Violins", "Fine violins"))
@@ -130,10 +153,111 @@ def test_rename_to_an_alternative_term(store: Path, tmp_path: Path) -> None:
     assert (concept(store, 3)["pref"], concept(store, 3)["alt"]) == ([["en", "Fine violins"]], [["en", "Violins"]])
 
 
+# Rows that exchange the terms of Violins (3), Fiddles (4) and Harps (5), and the terms that those have then.
+EXCHANGES: dict[str, tuple[list[Sequence[str]], list[str]]] = {
+    "by number": ([("number", "new"), ("3", "Fiddles"), ("4", "Violins")], ["Fiddles", "Violins", "Harps"]),
+    "by term": ([("old", "new"), ("Violins", "Fiddles"), ("Fiddles", "Violins")], ["Fiddles", "Violins", "Harps"]),
+    "with an old term to compare": (
+        [("number", "term", "new"), ("3", "Violins", "Fiddles"), ("4", "Fiddles", "Violins")],
+        ["Fiddles", "Violins", "Harps"],
+    ),
+    "three": (
+        [("old", "new"), ("Harps", "Violins"), ("Violins", "Fiddles"), ("Fiddles", "Harps")],
+        ["Fiddles", "Harps", "Violins"],
+    ),
+    "three the other way": (
+        [("old", "new"), ("Violins", "Harps"), ("Fiddles", "Violins"), ("Harps", "Fiddles")],
+        ["Harps", "Violins", "Fiddles"],
+    ),
+    "a term that a later row gives up": (
+        [("old", "new"), ("Violins", "Fiddles"), ("Fiddles", "Harps"), ("Harps", "Lyres")],
+        ["Fiddles", "Harps", "Lyres"],
+    ),
+    "with rows between": (
+        [("old", "new", "alt@de"), ("Violins", "Fiddles", ""), ("Fiddles", "", "Fiedel"), ("Fiddles", "Violins", "")],
+        ["Fiddles", "Violins", "Harps"],
+    ),
+}
+
+
+@dataclass(frozen=True)
+class Terms:
+    """The English preferred terms of Violins, Fiddles and Harps by their numbers, and their other terms."""
+
+    preferred: list[str]
+    others: list[set[str]]
+
+
+def terms(store: Path) -> Terms:
+    """Returns the terms of the three concepts as the program shows them."""
+    views: list[Any] = perform(store, [{"get": "concept", "number": it} for it in (3, 4, 5)])
+    others = [{text for kind in ("alt", "hidden") for _, text in it[kind]} for it in views]
+    return Terms([dict(it["pref"])["en"] for it in views], others)
+
+
+@pytest.mark.parametrize("words", [(), ("--forget",)], ids=["keep", "forget"])
+@pytest.mark.parametrize("name", EXCHANGES)
+def test_rows_that_exchange_terms(name: str, words: tuple[str, ...], store: Path, tmp_path: Path) -> None:
+    """Performed, and as a script: the rows are done together, and no term is left from between."""
+    rows, wanted = EXCHANGES[name]
+    path, count = table(tmp_path, *rows), len(rows) - 1
+    options = ("--renames", "--lang", "en", *words)
+    script, loaded = tmp_path / "script.jsonl", tmp_path / "loaded.db"
+    script.write_bytes(from_table(path, store, *options).out)
+    loaded.write_bytes(store.read_bytes())
+    assert tool("load", "--program", built(), "--db", loaded, script).status == 0
+    ended = from_table(path, store, *options, "--perform")
+    assert ended.status == 0, ended.err.decode()
+    assert f"{count} rows: {count} change something, 0 refused" in ended.err.decode()
+    found = terms(store)
+    assert found == terms(loaded) and found.preferred == wanted
+    others: list[set[str]] = [{"Fine violins", "V17"}, {"Fiedel"} if "alt@de" in rows[0] else set(), set()]
+    before = ("Violins", "Fiddles", "Harps")
+    kept = [{old} if old != new and not words else set[str]() for old, new in zip(before, wanted)]
+    assert found.others == [it | old for it, old in zip(others, kept)]
+
+
+def test_dry_run_of_rows_that_exchange_terms(store: Path, tmp_path: Path) -> None:
+    rows = [("old", "new"), ("Violins", "Fiddles"), ("Harps", "Lyres"), ("Fiddles", "Violins")]
+    ended = from_table(table(tmp_path, *rows), store, "--renames", "--lang", "en", "--forget", "--dry")
+    assert (ended.status, ended.out.decode()) == (
+        0,
+        "3: Harps: renames to “Lyres” (en)\n"
+        "2: Violins: renames to “Fiddles” (en)\n"
+        "4: Fiddles: renames to “Violins” (en)\n",
+    )
+
+
+def test_rows_that_exchange_terms_are_done_or_refused_together(store: Path, tmp_path: Path) -> None:
+    """One has a link that is refused; the row between them and the one behind them are done."""
+    rows = [
+        ("concept", "pref@en", "broader", "alt@en"),
+        ("Violins", "Fiddles", "", ""),
+        ("Harps", "", "", "Lyres"),
+        ("Fiddles", "Violins", "4", ""),
+        ("Strings", "", "", "Bowed"),
+    ]
+    rest = tmp_path / "rest.csv"
+    words = ("--perform", "--keep-going", "--rejected", str(rest))
+    ended = from_table(table(tmp_path, *rows), store, *words)
+    assert ended.status == 1 and "4 rows: 2 change something, 2 refused" in ended.err.decode(), ended
+    assert terms(store) == Terms(["Violins", "Fiddles", "Harps"], [{"Fine violins", "V17"}, set(), {"Lyres"}])
+    assert concept(store, 2)["alt"] == [["en", "Bowed"]]
+    refused = list(csv.reader(rest.open(encoding="utf-8")))
+    assert [it[0] for it in refused] == ["concept", "Violins", "Fiddles"]
+    assert refused[1][-1] == refused[2][-1] == "SameResource: both are the same concept"
+
+
 def test_rename_and_forget(store: Path, tmp_path: Path) -> None:
     path = table(tmp_path, ("number", "neue Benennung"), ("5", "Harp family"))
     assert from_table(path, store, "--renames", "--lang", "en", "--forget", "--perform").status == 0
     assert (concept(store, 5)["pref"], concept(store, 5)["alt"]) == ([["de", "Harfen"], ["en", "Harp family"]], [])
+
+
+def test_forgotten_term_is_compared_before(store: Path, tmp_path: Path) -> None:
+    path = table(tmp_path, ("number", "term", "new"), ("5", "Harps", "Harp family"))
+    (request,) = script_of(from_table(path, store, "--renames", "--lang", "en", "--forget"))
+    assert request == {"do": "relabel", "owner": 5, "tag": "en", "text": "Harp family", "keep": False}
 
 
 def test_moves(store: Path, tmp_path: Path) -> None:
@@ -163,7 +287,74 @@ def test_postings(store: Path, tmp_path: Path) -> None:
     assert (concept(store, 3)["postings"], concept(store, 5)["postings"]) == (2, 1)
 
 
+def test_a_posting_that_is_there_is_left(store: Path, tmp_path: Path) -> None:
+    """By its key, or by its record and concept; a withdrawn one isn't made again by its key."""
+    path = table(tmp_path, ("key", "record", "concept"), ("p1", "Violin 1668", "3"), ("", "Violin 1668", "Violins"))
+    assert script_of(from_table(path, store, "--postings")) == []
+    perform(store, [{"do": "withdraw", "posting": 1}])
+    (request,) = script_of(from_table(path, store, "--postings"))
+    assert (request["record"], request["concept"]) == ("Violin 1668", 3)
+
+
+def test_withdrawals_and_postings_of_one_table(store: Path, tmp_path: Path) -> None:
+    """These records to another concept: what a row withdraws isn't there for the next one."""
+    rows = [("do", "record", "concept"), ("post", "Violin 1668", "Fiddles"), ("withdraw", "Violin 1668", "V17")]
+    again = [*rows, ("post", "Violin 1668", "V17"), ("withdraw", "Violin 1668", "Harps")]
+    assert script_of(from_table(table(tmp_path, *rows), store))[1] == {"do": "withdraw", "posting": 1}
+    ended = from_table(table(tmp_path, *again), store, "--keep-going")
+    assert [json.loads(it)["do"] for it in ended.out.splitlines()] == ["post", "withdraw", "post"]
+    assert ":5: “Violin 1668” isn't indexed with Harps" in ended.err.decode()
+
+
+SPLIT = [
+    ("record", "concept", "new", "broader"),
+    ("Violin 1668", "Violins", "Old violins", "Violins"),
+    ("Violin 1700", "V17", "Old violins", ""),
+    ("Violin 1900", "3", "New violins", ""),
+    ("Harp", "3", "Old violins", ""),
+]
+
+
+def test_a_split_by_a_table_of_records(store: Path, tmp_path: Path) -> None:
+    """Rows with one concept and one new term are one split, in the place that the first of them gives it."""
+    more = [{"do": "post", "key": it, "record": f"Violin {it}", "concept": 3} for it in ("1700", "1900", "1950")]
+    perform(store, more)
+    path = table(tmp_path, *SPLIT)
+    shown = from_table(path, store, "--splits", "--lang", "en", "--dry").out.decode()
+    assert "2: splits “Old violins” (en) from Violins, with 2 records" in shown and "3: done by row 2" in shown
+    assert "5: refused: “Harp” isn't indexed with Violins" in shown
+    words = ("--splits", "--lang", "en", "--perform", "--keep-going")
+    ended = from_table(path, store, *words)
+    assert ended.status == 1 and b"4 rows: 3 change something, 1 refused" in ended.err
+    assert [concept(store, it)["postings"] for it in (3, 7, 8)] == [1, 2, 1]
+    assert (concept(store, 7)["pref"], concept(store, 7)["broader"]) == ([["en", "Old violins"]], [3])
+
+
+def test_rows_of_a_split_that_is_refused(store: Path, tmp_path: Path) -> None:
+    """The rows that are done by another one are refused with it."""
+    perform(store, [{"do": "post", "key": "1700", "record": "Violin 1700", "concept": 3}])
+    rows = [(*it[:2], "Harps", "") for it in SPLIT[1:3]]
+    rest = tmp_path / "rest.csv"
+    words = ("--splits", "--lang", "en", "--perform", "--keep-going", "--rejected", str(rest), "--excel")
+    assert from_table(table(tmp_path, SPLIT[0], *rows), store, *words).status == 1
+    assert rest.read_text(encoding="utf-8-sig").count("PreferredTaken") == 2
+    assert rest.read_bytes().startswith("\ufeffrecord;concept;new;broader;reason\r\n".encode())
+    assert script_of(from_table(rest, store, "--postings", "--keep-going")) == []
+
+
 # --- what goes out and comes back ---
+
+FOR_LISTS: list[dict[str, object]] = [
+    {"do": "addLabel", "owner": 4, "kind": "alt", "tag": "en", "text": "fine-violins"},
+    {"do": "addLabel", "owner": 4, "kind": "scope", "tag": "en", "text": "No violins; of folk music."},
+    {"do": "post", "key": "p2", "record": "Violin, of | two, 1700", "concept": 4},
+    {"do": "post", "key": "p3", "record": "=Violin 1701", "concept": 4},
+    {"do": "withdraw", "posting": 1},
+    {"do": "post", "key": "p4", "record": "Violin 1702", "concept": 3},
+    {"do": "concept", "scheme": 1, "tag": "en", "text": "Lutes"},
+    {"do": "post", "key": "p5", "record": "Lute with six strings", "concept": 7},
+    {"do": "merge", "source": 7, "target": 5},
+]
 
 
 @pytest.mark.parametrize(
@@ -177,14 +368,20 @@ def test_postings(store: Path, tmp_path: Path) -> None:
         ("find", "violin"),
         ("duplicates",),
         ("counts", "--concepts"),
+        ("records", "3"),
+        ("records", "2", "--below"),
+        ("record", "i", "--part"),
     ],
     ids=lambda it: it[0],
 )
-def test_a_list_comes_back_unchanged(store: Path, tmp_path: Path, words: tuple[str, ...]) -> None:
+@pytest.mark.parametrize("form", ["--csv", "--excel"])
+def test_a_list_comes_back_unchanged(store: Path, tmp_path: Path, words: tuple[str, ...], form: str) -> None:
+    """Each list that goes out for work; here with terms alike, a record with commas, and one that was withdrawn."""
+    perform(store, FOR_LISTS)
     path = tmp_path / "list.csv"
-    path.write_bytes(tool("report", "--db", store, *words, "--csv").out)
-    if path.read_bytes().count(b"\n") > 1:
-        assert script_of(from_table(path, store)) == []
+    path.write_bytes(tool("report", "--db", store, *words, form).out)
+    assert path.read_bytes().count(b"\n") > 1
+    assert script_of(from_table(path, store)) == []
 
 
 def test_a_list_of_gaps_has_a_column_to_fill_in(store: Path, tmp_path: Path) -> None:
@@ -231,8 +428,13 @@ def test_a_term_that_a_cell_cant_name(store: Path, tmp_path: Path) -> None:
 
 
 def test_a_cell_that_is_guarded_from_formulas(store: Path, tmp_path: Path) -> None:
-    path = table(tmp_path, ("number", "alt@fr"), ("3", "'-violon"), ("4", "'a"))
-    assert [it["text"] for it in script_of(from_table(path, store))] == ["-violon", "'a"]
+    path = table(tmp_path, ("number", "alt@fr"), ("3", "'-violon"), ("4", "'a"), ("5", "''=x"))
+    assert [it["text"] for it in script_of(from_table(path, store))] == ["-violon", "'a", "'=x"]
+    texts = ["=1+1", "'=1", "@x", "-"]
+    perform(store, [{"do": "addLabel", "owner": 5, "kind": "alt", "tag": "it", "text": it} for it in texts])
+    ended = tool("to-table", "--db", store, "--columns", "number,alt@it", "--below", "5", "--excel", "-o", path)
+    assert ended.status == 0 and b"''" in path.read_bytes()
+    assert script_of(from_table(path, store)) == []
 
 
 def test_columns_that_there_are_not(store: Path) -> None:
@@ -352,6 +554,7 @@ MANIFEST = {
         f'{ENTRY.format("/", SHEET)}{ENTRY.format("content.xml", "text/xml")}</m:manifest>'
     ).encode(),
 }
+FORMULA = '<table:table-cell table:formula="of:=1+1"/>'
 CELL = '<table:table-cell table:number-columns-repeated="{}"><text:p>x</text:p></table:table-cell>'
 BOMB = b'<?xml version="1.0"?><!DOCTYPE a [<!ENTITY b "x"><!ENTITY c "&b;&b;">]><a>&c;</a>'
 
@@ -369,14 +572,21 @@ BOMB = b'<?xml version="1.0"?><!DOCTYPE a [<!ENTITY b "x"><!ENTITY c "&b;&b;">]>
         ({"content.xml": BOMB.decode().replace("?>", ' encoding="utf-16"?>').encode("utf-16")}, "declares a document"),
         ({"content.xml": ods(CELL.format(10**12)), **MANIFEST}, "more than 200000 rows or 1000 columns"),
         ({"content.xml": ods(CELL.format("many")), **MANIFEST}, "damaged ODS"),
+        ({"content.xml": ods(FORMULA), **MANIFEST}, ":1: a formula without its value"),
+        ({"../../xl/workbook.xml": b"<a/>", "/etc/passwd": b"x"}, "neither ODS nor XLSX"),
+        ({"xl/workbook.xml": b"<a/>", "../../xl/worksheets/sheet1.xml": b"<a/>"}, "damaged XLSX"),
     ],
     ids=["xlsx entities", "ods entities", "zip bomb", "no workbook", "no document", "another archive"]
-    + ["entities after comments", "entities in UTF-16", "a cell a billion times", "a cell many times"],
+    + ["entities after comments", "entities in UTF-16", "a cell a billion times", "a cell many times"]
+    + ["a formula", "paths", "a path"],
 )
 def test_hostile_archives(store: Path, tmp_path: Path, parts: dict[str, bytes], says: str) -> None:
-    ended = from_table(archive(tmp_path / "table.xlsx", parts), store)
-    assert ended.status in (1, 2) and ended.out == b""
-    assert says in ended.err.decode() and "Traceback" not in ended.err.decode()
+    path = archive(tmp_path / "table.xlsx", parts)
+    before = sorted(it.name for it in tmp_path.iterdir())
+    ended = from_table(path, store, "-o", str(tmp_path / "script"))
+    assert (ended.status, ended.out) == (2, b"")
+    assert says in ended.err.decode() and ended.err.count(b"\n") == 1
+    assert sorted(it.name for it in tmp_path.iterdir()) == before
 
 
 @pytest.mark.parametrize(
@@ -388,15 +598,55 @@ def test_hostile_archives(store: Path, tmp_path: Path, parts: dict[str, bytes], 
         (b'number,pref@fr\n3,"open\n', "unexpected end of data"),
         (b"number,pref@fr\n3,a,b\n", ":2: more values than columns"),
         (b"PK\x03\x04broken", "damaged ODS or XLSX"),
+        (b"number,pref@fr\n3,#REF!\n", ":2: #REF!: a formula that failed"),
     ],
-    ids=["empty", "no UTF-8", "NUL", "open quote", "too many cells", "cut archive"],
+    ids=["empty", "no UTF-8", "NUL", "open quote", "too many cells", "cut archive", "formula"],
 )
 def test_hostile_texts(store: Path, tmp_path: Path, data: bytes, says: str) -> None:
     path = tmp_path / "table.csv"
     path.write_bytes(data)
     ended = from_table(path, store)
-    assert (ended.status, ended.out) == (1, b"")
-    assert says in ended.err.decode() and "Traceback" not in ended.err.decode()
+    assert (ended.status, ended.out) == (2, b"")
+    assert says in ended.err.decode() and ended.err.count(b"\n") == 1
+
+
+@pytest.mark.parametrize("name", ["from-table", "from-csv", "number-postings", "repost"])
+def test_a_gigabyte_of_nothing(store: Path, tmp_path: Path, name: str) -> None:
+    """It takes neither time nor memory."""
+    path = tmp_path / "nothing"
+    with open(path, "wb") as file:
+        file.truncate(1 << 30)
+    words = {
+        "from-table": (path, "--db", store),
+        "from-csv": (path, "--scheme", "S", "--lang", "en"),
+        "number-postings": (path, "--db", store),
+        "repost": ("--db", store, "--records", path, "--at", "3", "--to", "4"),
+    }
+    began = time.process_time()
+    ended = tool(name, *words[name])
+    assert (ended.status, ended.out) == (2, b"") and b"more than 64 megabytes" in ended.err
+    assert ended.err.count(b"\n") == 1 and time.process_time() - began < 5
+
+
+@pytest.mark.needs("openpyxl")
+def test_formulas_of_excel(store: Path, tmp_path: Path) -> None:
+    """A formula has the value that was saved with it; without one the table is refused."""
+    import openpyxl
+
+    book = openpyxl.Workbook()
+    book.active.append(["number", "pref@fr"])
+    book.active.append([3, '=HYPERLINK("http://x.example/","Violons")'])
+    path = tmp_path / "table.xlsx"
+    book.save(path)
+    ended = from_table(path, store)
+    assert (ended.status, ended.out) == (2, b"") and b":2: a formula without its value" in ended.err
+    sheet = "xl/worksheets/sheet1.xml"
+    with zipfile.ZipFile(path) as read:
+        parts = {it: read.read(it) for it in read.namelist()}
+    parts[sheet] = parts[sheet].replace(b"<v></v>", b"<v>Violons</v>").replace(b"<v/>", b"<v>Violons</v>")
+    parts[sheet] = parts[sheet].replace(b"<v />", b"<v>Violons</v>").replace(b'r="B2"', b'r="B2" t="str"')
+    (request,) = script_of(from_table(archive(path, parts), store))
+    assert request["text"] == "Violons"
 
 
 def test_columns_are_corrected(store: Path, tmp_path: Path) -> None:

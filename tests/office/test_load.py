@@ -11,7 +11,7 @@ import signal
 import subprocess
 import sys
 import time
-from collections.abc import Callable, Iterator
+from collections.abc import Callable, Iterator, Sequence
 from pathlib import Path
 from typing import Any, NamedTuple
 
@@ -100,6 +100,7 @@ def test_run_stops_at_a_refusal_and_goes_on_with_the_line_corrected(store: Store
     assert store.sizes() == SMALL
 
 
+ALONE = [*START, BROADER, ROUND, GERMAN, '{"do":"deprecate","concept":"$dogs"}']
 REFUSING = [*START, BROADER, ROUND, BROADER, GERMAN]
 
 
@@ -122,14 +123,19 @@ def test_name_without_a_number(store: Store) -> None:
     assert store.sizes() == ["resources=3", "labels=4", "links=0"]
 
 
-@pytest.mark.parametrize(("has_journal", "labels"), [(False, 3), (True, 4)], ids=["no journal", "a journal"])
-def test_nothing_behind_a_refused_line_is_sent_but_what_only_adds(has_journal: bool, labels: int, store: Store) -> None:
-    """Without a journal nothing at all is; with one, what only adds something."""
-    lines = [*START, BROADER, ROUND, GERMAN, '{"do":"deprecate","concept":"$dogs"}']
-    store.script.write_text("\n".join(lines), encoding="utf-8")
+@pytest.mark.parametrize("has_journal", [False, True], ids=["no journal", "a journal"])
+def test_all_lines_before_a_refused_one_are_done_and_none_behind_it(has_journal: bool, store: Store) -> None:
+    store.script.write_text("\n".join(ALONE), encoding="utf-8")
     words: list[str | Path] = ["--journal", store.journal] if has_journal else []
     assert load(store.script, "--db", store.db, *words).status == 1
-    assert store.sizes() == ["resources=3", f"labels={labels}", "links=1"]
+    assert store.sizes() == ["resources=3", "labels=3", "links=1"]
+
+
+def test_no_line_of_one_plan_is_done_if_one_is_refused(store: Store) -> None:
+    store.script.write_text("\n".join(ALONE), encoding="utf-8")
+    ended = load(store.script, "--db", store.db, "--as-one")
+    assert ended == (1, [], [f"{store.script}:5: Cycle: {ROUND}", "load: 7 requests: none done"])
+    assert store.sizes() == ["resources=0", "labels=0", "links=0"]
 
 
 def test_names_stand_for_numbers_and_texts_keep_a_dollar(store: Store, room: Path) -> None:
@@ -152,6 +158,62 @@ def test_names_stand_for_numbers_and_texts_keep_a_dollar(store: Store, room: Pat
     wanted = "name,number\ns,1\ncats,2\ndogs,3\nq,4\nq2,4\np,1\np2,1\nn,5\n"
     assert names.read_text(encoding="utf-8") == wanted
 
+
+# --- as one plan ---
+
+OUTSIDE, OTHER = ('{"as":"%s","do":"outside","iri":"http://example.org/%s"}' % (it, it) for it in "qr")
+ONE = [
+    *START,
+    "# a comment",
+    OUTSIDE,
+    OTHER,
+    OTHER.replace('"r"', '"r2"', 1),
+    *('{"do":"link","kind":"exact","a":"$%s","b":"$%s"}' % it for it in (("cats", "q"), ("dogs", "r2"))),
+    '{"as":"p","do":"post","key":"k","record":"r","concept":"$cats"}',
+    '{"as":"n","do":"split","source":"$cats","tag":"en","text":"$s","postings":["$p"]}',
+    '{"do":"merge","source":"$n","target":"$dogs"}',
+]
+
+
+@pytest.fixture
+def known(room: Path) -> Store:
+    """A store that has one of the outside concepts, and a script."""
+    store = Store(room, "known")
+    assert store.load([OUTSIDE]).status == 0
+    return store
+
+
+def load_as_one(store: Store, *more: str, words: Sequence[str | Path] = ()) -> Loaded:
+    store.script.write_text("".join(f"{it}\n" for it in [*ONE, *more]), encoding="utf-8")
+    return load(store.script, "--db", store.db, "--as-one", *words)
+
+
+def test_refused_line_of_a_plan_has_its_number(known: Store) -> None:
+    refused = '{"do":"withdraw","posting":9}'
+    said = [f"{known.script}:13: UnknownPosting: {refused}", "load: 12 requests: none done"]
+    assert load_as_one(known, refused) == (1, [], said)
+    assert known.sizes() == ["resources=1", "labels=0", "links=0"]
+
+
+def test_all_lines_are_done_as_one_with_names_and_known_outside_concepts(known: Store, room: Path) -> None:
+    names = room / "one.csv"
+    assert load_as_one(known, words=["--names", names]) == (0, [], ["load: 11 requests: 11 done as one"])
+    assert known.sizes() == ["resources=6", "labels=5", "links=2"]
+    wanted = "name,number\ns,2\ncats,3\ndogs,4\nq,1\nr,5\nr2,5\np,1\nn,6\n"
+    assert names.read_text(encoding="utf-8") == wanted
+
+
+def test_plan_that_is_too_long(known: Store) -> None:
+    more = [label("3", n) for n in range(129 - 11)]
+    wanted = 1, [f"load: {known.script}: it has 129 requests, and --as-one takes 128"]
+    assert load_as_one(known, *more)[::2] == wanted
+
+
+def test_plan_has_no_journal(known: Store) -> None:
+    assert load_as_one(known, words=["--journal", known.journal]).status == 2
+
+
+# --- lines that are none ---
 
 WRONG = {
     '{"do":"scheme","tag":"en"': "Expecting",
@@ -410,7 +472,7 @@ class Victim:
 
     def kill_unanswered(self) -> tuple[int, str]:
         """Kills the tool or the program when some requests were performed whose answers the tool didn't get."""
-        passed, withheld = self.dice.between(12, 12 + RECORDS), self.dice.between(1, 24)
+        passed, withheld = self.dice.between(6, 6 + RECORDS), self.dice.between(1, 24)
         self.start(f'"{sys.executable}" "{PROXY}" {passed} {withheld} {self.dice.pick(("client", "program"))}')
         return self.end()
 

@@ -3,13 +3,16 @@ from __future__ import annotations
 
 import json
 import os
+import shutil
 import subprocess
 import sys
 from pathlib import Path
 
 import pytest
+from forwarding import forwarding
 from office import TOOLS, tool
-from program import ROOT, built
+from program import ROOT, built, over
+from serving import serving
 from thesaurus_tools.shapes import CHANGES, QUERIES, shape_fault
 
 
@@ -33,10 +36,25 @@ def export(store: Path) -> Path:
 
 
 def test_each_tool_that_prints_writes_to_a_file(store: Path, export: Path, tmp_path: Path) -> None:
+    concepts, table, postings = (tmp_path / f"{it}.csv" for it in ("concepts", "table", "postings"))
+    concepts.write_text("pref@en\nHarps\n", encoding="utf-8")
+    table.write_text("number,alt@it\n5,Violini\n", encoding="utf-8")
+    postings.write_text("record,concept\nA violin,Violins\n", encoding="utf-8")
+    indexed, merged = (Path(shutil.copy(store, tmp_path / it)) for it in ("indexed.db", "merged.db"))
+    post, merge = b'{"do":"post","key":"k","record":"r","concept":5}\n', b'{"do":"merge","source":6,"target":5}\n'
+    over(indexed, "script", post)
+    over(merged, "script", post + merge)
     calls: list[list[object]] = [
         ["report", "--db", store, "tops"],
         ["report", "--db", store, "--csv", "tops"],
         ["picture", export, 5],
+        ["check-skos", export],
+        ["from-skos", export, "--lang", "en", "--drop"],
+        ["from-csv", concepts, "--scheme", "S", "--lang", "en"],
+        ["from-table", table, "--db", store],
+        ["number-postings", postings, "--db", store, "--terms", "en"],
+        ["repost", "--db", indexed, "--posting", 1, "--to", 6],
+        ["unmerge", "--db", merged, "--before", indexed, 6],
         ["to-rdf", export],
         ["to-marc", "--db", store, "--lang", "en"],
         ["to-table", "--db", store, "--columns", "number,pref@en"],
@@ -66,15 +84,16 @@ def test_names_of_options_agree(store: Path) -> None:
 # --- without locks, as on Windows ---
 
 WITHOUT = """
-import runpy, sys
-sys.modules["fcntl"] = None
+import os, runpy, sys
+sys.modules["fcntl"] = sys.modules["resource"] = None
+del os.fork, os.memfd_create, os.sendfile, os.sched_getaffinity
 sys.argv = sys.argv[1:]
 runpy.run_path(sys.argv[0], run_name="__main__")
 """
 
 
 def without_locks(name: str, *words: object) -> subprocess.CompletedProcess[str]:
-    """Runs a tool where there is no module fcntl."""
+    """Runs a tool where there are neither locks nor bounds, no forks, and no calls of Linux alone."""
     environment = {**os.environ, "PYTHONPATH": str(TOOLS)}
     command = [sys.executable, "-c", WITHOUT, str(TOOLS / name), *map(str, words)]
     return subprocess.run(command, capture_output=True, text=True, check=False, env=environment)
@@ -83,7 +102,7 @@ def without_locks(name: str, *words: object) -> subprocess.CompletedProcess[str]
 @pytest.mark.parametrize(
     "name",
     ["from-csv", "from-skos", "check-skos", "site", "picture", "report", "load", "to-rdf", "to-marc", "to-table"]
-    + ["from-table", "number-postings", "unmerge", "repost", "to-print"],
+    + ["from-table", "number-postings", "unmerge", "repost", "to-print", "feed", "publish"],
 )
 def test_each_tool_starts(name: str) -> None:
     ran = without_locks(name, "--help")
@@ -96,6 +115,39 @@ def test_what_reads_exports_runs(export: Path, tmp_path: Path) -> None:
         assert ran.returncode == 0, (name, ran.stderr)
     ran = without_locks("from-skos", export, "--lang", "en", "--drop", "-o", tmp_path / "script")
     assert ran.returncode == 0, ran.stderr
+    ran = without_locks("site", export, tmp_path / "site", "--langs", "en,de")
+    assert ran.returncode == 0 and (tmp_path / "site" / "de" / "index.html").exists(), ran.stderr
+
+
+@pytest.mark.needs("rdflib")
+def test_turtle_is_read(export: Path, tmp_path: Path) -> None:
+    path = tmp_path / "museum.ttl"
+    assert tool("to-rdf", export, "-o", path).status == 0
+    ran = without_locks("from-skos", path, "--lang", "en", "--drop")
+    assert ran.returncode == 0 and ran.stdout.count('"do":"concept"') == 30, ran.stderr
+
+
+def test_what_talks_http_runs(store: Path, tmp_path: Path) -> None:
+    """From another machine: behind another server, no tool sees what this one has."""
+    script, table = tmp_path / "script.jsonl", tmp_path / "table.csv"
+    script.write_text('{"do":"addLabel","owner":5,"kind":"alt","tag":"it","text":"Violino"}\n', encoding="utf-8")
+    table.write_text("number,alt@it\n5,Violini\n", encoding="utf-8")
+    copy = shutil.copy(store, tmp_path / "copy.db")
+    calls: list[list[object]] = [
+        ["report", "find", "violin"],
+        ["load", script],
+        ["from-table", table, "--perform"],
+        ["to-rdf"],
+        ["to-marc", "--lang", "en"],
+        ["to-table", "--columns", "number,pref@en"],
+        ["to-print", "--scheme", 1, "--lang", "en"],
+    ]
+    with serving(copy, 1_000_000) as served, forwarding(served.port) as front:
+        for name, *words in calls:
+            ran = without_locks(str(name), *words, "--http", front)
+            assert ran.returncode == 0, (name, ran.stderr)
+        ran = without_locks("load", script, "--http", front, "--journal", tmp_path / "journal")
+        assert ran.returncode == 3 and "leave out --journal" in ran.stderr and ran.stderr.count("\n") == 1
 
 
 def test_a_store_is_refused_in_words(store: Path) -> None:

@@ -1,6 +1,6 @@
-"""tools/report: each report on a store in a file and on the same store as the program serves it, and the objects of
-tools/thesaurus_tools against the plain program's state. Files stay as they are, also where a kill left a log; a store
-that is open, none, or a damaged one is refused."""
+"""tools/report: each report on a store in a file, and on the same store as the program serves it, by a copy and behind
+another server; and the objects of tools/thesaurus_tools against the plain program's state. Files stay as they are, also
+where a kill left a log; a store that is open, none, or a damaged one is refused."""
 from __future__ import annotations
 
 import contextlib
@@ -13,6 +13,7 @@ from pathlib import Path
 from typing import Any, NamedTuple
 
 import pytest
+from forwarding import forwarding
 from office import Request, generated, tool, write_store
 from plain import Plain
 from ports import free_port
@@ -187,6 +188,14 @@ posting,key,record,first,place,term,state
 5,p5,Record 2,10,10,Crème-brûlée Street,standing
 6,p6,"récord, ""6\""",4,3,Violins,standing
 """,
+    ("records", "3"): (
+        "posting,key,record,place,term\n1,p1,Record 1,3,Violins\n3,p3,Record 0,3,Violins\n"
+        '6,p6,"récord, ""6""",3,Violins\n'
+    ),
+    ("records", "2", "--below", "--langs", "de"): (
+        "posting,key,record,place,term\n1,p1,Record 1,3,Geigen\n3,p3,Record 0,3,Geigen\n"
+        '6,p6,"récord, ""6""",3,Geigen\n'
+    ),
     ("moves", "2"): "move,posting,from,term,to,its term\n3,2,3,Violins,12,Viols\n",
     ("moves", "1"): "move,posting,from,term,to,its term\n",
     (
@@ -290,11 +299,13 @@ ALL = {**REPORTS, ("counts",): COUNTS, ("changed", "--since", "{before}"): CHANG
 
 
 class Stores(NamedTuple):
-    """A store in a file, a copy from before its last changes, and each report of it over HTTP."""
+    """A store in a file, a copy from before its last changes, and each report over HTTP: by a copy of what the program
+    serves on this machine, and by asking alone."""
 
     store: Path
     before: Path
     served: dict[tuple[str, ...], Ended]
+    asked: dict[tuple[str, ...], Ended]
     while_served: Ended
 
     def call(self, words: tuple[str, ...], *more: object) -> Ended:
@@ -309,11 +320,13 @@ def made(shared_room: Path) -> Stores:
     shutil.copy(store, before)
     answers += values_of(over(store, "script", lines_of(SINCE)).out)
     assert not [it for it in answers if "no" in it or "bad" in it]
-    it = Stores(store, before, {}, Ended(0, b"", b""))
-    with serving(store, 1_000_000) as served:
+    it = Stores(store, before, {}, {}, Ended(0, b"", b""))
+    with serving(store, 1_000_000) as served, forwarding(served.port) as front:
         address = f"http://127.0.0.1:{served.port}"
-        found = {words: it.call(words, "--http", address, "--csv") for words in ALL}
-        return Stores(store, before, found, it.call(("counts",), "--db", store))
+        found, asked = (
+            {words: it.call(words, "--http", where, "--csv") for words in ALL} for where in (address, front)
+        )
+        return Stores(store, before, found, asked, it.call(("counts",), "--db", store))
 
 
 def digests(room: Path) -> dict[str, str]:
@@ -344,7 +357,13 @@ def untold(text: str) -> list[str]:
 
 @names(ALL)
 def test_report_over_http(words: tuple[str, ...], stores: Stores) -> None:
-    ended = stores.served[words]
+    """A copy of what is served on this machine tells everything."""
+    assert stores.served[words] == (0, ALL[words].encode(), b"")
+
+
+@names(ALL)
+def test_report_of_a_server_elsewhere(words: tuple[str, ...], stores: Stores) -> None:
+    ended = stores.asked[words]
     assert (ended.status, ended.err) == (0, b"")
     assert untold(ended.out.decode()) == untold(ALL[words])
 

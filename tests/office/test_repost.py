@@ -22,6 +22,7 @@ START: list[Request] = [
     {"do": "withdraw", "posting": 4},
     {"do": "post", "key": "k" * 63, "record": "Lute", "concept": 3},
     {"do": "merge", "source": 4, "target": 3},
+    {"do": "link", "kind": "broader", "a": 3, "b": 2},
 ]
 # What is refused, with words of the message.
 REFUSED: dict[str, tuple[list[object], int, bytes]] = {
@@ -36,6 +37,8 @@ REFUSED: dict[str, tuple[list[object], int, bytes]] = {
     "neither posting nor record": (["--to", 2], 2, b"give --posting N, or --record NAME with --at N"),
     "a record without its place": (["--record", "Violin", "--to", 2], 2, b"give --posting N"),
     "no target": (["--posting", 1], 2, b"--to"),
+    "below nothing": (["--posting", 1, "--below", "--to", 2], 2, b"give --posting N"),
+    "below a dead concept": (["--all", "--at", 4, "--below", "--to", 2], 1, b"concept 4 is dead"),
 }
 # Scripts that are printed, and the postings at Harps, Violins and Paris afterwards, as keys.
 PERFORMED: dict[str, tuple[list[object], list[list[str]]]] = {
@@ -44,6 +47,15 @@ PERFORMED: dict[str, tuple[list[object], list[list[str]]]] = {
     "a record that is there": (["--record", "Violin", "--at", 3, "--to", 2], [["p1.2"], ["p1", "k" * 63], []]),
     "two postings of one record": (["--posting", 2, "--posting", 3, "--to", 6], [[], ["p1", "k" * 63], ["p2.2"]]),
     "another scheme": (["--posting", 1, "--to", 6], [["p1.2"], ["p2", "k" * 63], ["p1.3"]]),
+    "a record of a branch": (
+        ["--record", "Violin", "--at", 2, "--below", "--to", 6],
+        [[], ["p1", "k" * 63], ["p2.2"]],
+    ),
+    "all of a branch, to within it": (["--all", "--at", 2, "--below", "--to", 3], [[], ["p1", "p2", "k" * 63], []]),
+    "all of a branch, with the keys": (
+        ["--all", "--at", 2, "--below", "--to", 3, "--keep-key"],
+        [[], ["p1", "p2", "p1.2", "k" * 63], []],
+    ),
     "with the key": (["--posting", 1, "--posting", 5, "--to", 2, "--keep-key"], [["p1", "p1.2", "k" * 63], ["p2"], []]),
     "a record, with the key": (
         ["--record", "Violin", "--at", 3, "--to", 2, "--keep-key"],

@@ -32,8 +32,10 @@ MOST_EXPOSED = 1.5
 CONNECTIONS = 1000
 # A call that the unit forbids, and what the program is asked under the unit's filter.
 FORBIDDEN = "import os, sys\ntry: os.chroot('/')\nexcept OSError as error: sys.exit(print(error, file=sys.stderr))"
+SERVE = ("serve", "--plans")
 FILTERED = (
     ("POST", "/requests", json.dumps(SCHEME)),
+    ("POST", "/plans", json.dumps([SCHEME])),
     ("POST", "/import", "key,record,concept\n"),
     ("GET", "/export", None),
 )
@@ -88,7 +90,7 @@ def ask(port: int, method: str, path: str, body: str | None = None) -> int:
 @pytest.mark.parametrize("command", ["check", "serve"])
 def test_unit_allows_the_calls_of_the_program(command: str, restored: Path, room: Path) -> None:
     trace, port = room / "trace", free_port()
-    words = [command] if command == "check" else ["serve", "--port", str(port), "--count", "1"]
+    words = [command] if command == "check" else [*SERVE, "--port", str(port), "--count", "1"]
     call = ["strace", "-f", "-o", trace, built(), "--db", restored, *words]
     with subprocess.Popen(call, stdout=subprocess.PIPE) as traced:
         if command == "serve":
@@ -118,7 +120,7 @@ def test_program_works_under_the_filter(command: str, restored: Path) -> None:
     """The filter is applied as systemd would."""
     port, sizes = free_port(), over(restored, "check").out
     Path(f"{restored}-wal").unlink(missing_ok=True)
-    words = [command] if command == "check" else ["serve", "--port", str(port), "--count", "3"]
+    words = [command] if command == "check" else [*SERVE, "--port", str(port), "--count", str(len(FILTERED))]
     call = [sys.executable, unit_filter.__file__, UNIT, built(), "--db", restored, *words]
     with subprocess.Popen(call, stdout=subprocess.PIPE, stderr=subprocess.PIPE) as program:
         assert program.stdout
@@ -133,7 +135,7 @@ def test_program_works_under_the_filter(command: str, restored: Path) -> None:
 # --- nginx ---
 
 needs_nginx = pytest.mark.needs("nginx", "openssl")
-CHANGE, POSTINGS = json.dumps(SCHEME), "key,record,concept\n"
+CHANGE, PLAN, POSTINGS = json.dumps(SCHEME), json.dumps([SCHEME, SCHEME]), "key,record,concept\n"
 OWN, OTHER = f"https://{HOST}", "https://evil.example"
 FORM = {"Origin": OTHER, "Content_Type": "text/plain"}
 READS: dict[str, Any] = {"user": READER}
@@ -174,6 +176,8 @@ ASKED: dict[str, Asked] = {
     "another method of a reader": ("DELETE", "/totals", None, READS, 401, b""),
     "a long head": ("GET", "/totals", None, {**READS, **{f"X_{n}": "x" * 100 for n in range(60)}}, 200, b"accepted"),
     "a body in pieces": ("POST", "/requests", [CHANGE.encode()], EDITS, 200, b'{"ok":3}'),
+    "an editor's plan": ("POST", "/plans", PLAN, EDITS, 200, b'{"done":[{"ok":4},{"ok":5}]}'),
+    "a reader's plan": ("POST", "/plans", PLAN, READS, 401, b""),
     "a body past nginx's own limit": (
         "POST",
         "/import",
@@ -209,7 +213,7 @@ def front(tmp_path_factory: pytest.TempPathFactory) -> Iterator[Fronted]:
     room = tmp_path_factory.mktemp("nginx")
     (room / "public").mkdir()
     (room / "public" / "index.html").write_text("<h1>Public</h1>", encoding="utf-8")
-    with serving(room / "store.db", CONNECTIONS) as served, fronted(room, served.port) as site:
+    with serving(room / "store.db", CONNECTIONS, after=["--plans"]) as served, fronted(room, served.port) as site:
         answers = {}
         for what, (method, path, given_body, how, _, _) in ASKED.items():
             body: Any = iter(given_body) if isinstance(given_body, list) else given_body

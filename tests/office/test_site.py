@@ -19,6 +19,7 @@ import pytest
 from browser import Page, browsing
 from office import TOOLS, Request
 from program import ROOT, lines_of, over, values_of
+from serving import serving
 
 TOOL = TOOLS / "site"
 LANGS = ("en", "de", "fr")
@@ -166,8 +167,8 @@ def sample(tmp_path_factory: pytest.TempPathFactory) -> Sample:
     answers = values_of(over(store, "script", SAMPLE + lines_of(MORE)).out)
     assert not any("no" in it or "bad" in it for it in answers), answers
     export.write_bytes(over(store, "export").out)
-    ran = make(export, out, "--langs", ",".join(LANGS), "--store", store)
-    assert ran.returncode == 0, ran
+    ran = make(export, out, "--langs", ",".join(LANGS), "--store", store, "--hidden-codes", "zxx")
+    assert ran.returncode == 0 and not ran.stderr, ran
     shown = values_of(over(store, "script", lines_of({"get": "concept", "number": n} for n in range(1, 60))).out)
     return Sample(store, {it["number"]: it for it in shown if "number" in it}, Site(out))
 
@@ -274,6 +275,119 @@ def test_each_language_has_all_words(lang: str) -> None:
     assert said()[lang].keys() == said()["en"].keys()
 
 
+def test_each_page_has_what_a_screen_reader_needs(sample: Sample) -> None:
+    """A way to the content, names of the navigations, and what the abbreviations stand for."""
+    for path in sample.site.documents:
+        text = path.read_text(encoding="utf-8")
+        if path.parent != sample.site.root:
+            assert text.index('<a class="skip" href="#main">') < text.index("<header>") < text.index('<main id="main">')
+        assert not re.search(r"<nav(?![^>]* aria-label=\"\w)", text), path
+        assert not re.search(r"<abbr(?! title=\"\w)", text), path
+
+
+def luminance(colour: str) -> float:
+    """The relative luminance of a colour such as #fdfcfa, as WCAG defines it."""
+    parts = [int(colour[at : at + 2], 16) / 255 for at in (1, 3, 5)]
+    red, green, blue = (it / 12.92 if it <= 0.04045 else ((it + 0.055) / 1.055) ** 2.4 for it in parts)
+    return 0.2126 * red + 0.7152 * green + 0.0722 * blue
+
+
+def contrast(one: str, other: str) -> float:
+    low, high = sorted((luminance(one), luminance(other)))
+    return (high + 0.05) / (low + 0.05)
+
+
+def test_borders_of_fields_and_buttons_are_seen() -> None:
+    """A contrast of 3 to 1, by day and by night."""
+    style = (ROOT / "share" / "site" / "style.css").read_text(encoding="utf-8")
+    looks = [dict(re.findall(r"--(\w+): (#[0-9a-f]{6})", it)) for it in re.findall(r":root \{(.*?)\}", style, re.S)[:2]]
+    assert len(looks) == 2
+    for look in looks:
+        assert contrast(look["edge"], look["paper"]) >= 3 and contrast(look["edge"], look["tint"]) >= 3
+    for what in ("input", "button", ".letters a, .letters span"):
+        (rule,) = re.findall(rf"^{re.escape(what)} \{{(.*?)\}}", style, re.M)
+        assert "border: 1px solid var(--edge)" in rule, what
+
+
+# --- what isn't for the public ---
+
+OLD = "http://old.example/museum#"
+
+
+@pytest.fixture(scope="module")
+def brought(tmp_path_factory: pytest.TempPathFactory) -> Path:
+    """The export of a vocabulary that came in with its old codes and addresses, and of a concept made since."""
+    room = tmp_path_factory.mktemp("brought")
+    names = ("Harps", "Lutes", "Lyres")
+    script: list[Request] = [
+        {"do": "scheme", "tag": "en", "text": "Brought"},
+        *({"do": "concept", "scheme": 1, "tag": "en", "text": it} for it in (*names, "Zithers")),
+        *({"do": "outside", "iri": f"{OLD}{it}"} for it in names),
+        *({"do": "link", "kind": "exact", "a": 2 + at, "b": 6 + at} for at in range(3)),
+        *({"do": "addLabel", "owner": 2 + at, "kind": "hidden", "tag": "zxx", "text": f"Q-{at}"} for at in range(3)),
+        {"do": "addLabel", "owner": 2, "kind": "hidden", "tag": "en", "text": "Hraps"},
+        {"do": "outside", "iri": "http://www.wikidata.org/entity/Q47369"},
+        {"do": "link", "kind": "exact", "a": 2, "b": 9},
+    ]
+    answers = values_of(over(room / "store.db", "script", lines_of(script)).out)
+    assert not any("no" in it or "bad" in it for it in answers), answers
+    (room / "export.nt").write_bytes(over(room / "store.db", "export").out)
+    return room / "export.nt"
+
+
+def text_of_site(out: Path) -> str:
+    return "".join(it.read_text(encoding="utf-8") for it in out.rglob("*") if it.suffix in (".html", ".js"))
+
+
+def test_old_codes_and_addresses_are_left_out(brought: Path, room: Path) -> None:
+    ran = make(brought, room / "out", "--langs", "en")
+    assert ran.returncode == 0
+    assert f"3 exact matches that begin with {OLD} are old addresses" in ran.stderr
+    assert "3 old codes (hidden labels in zxx) are left out" in ran.stderr
+    text = text_of_site(room / "out")
+    assert "old.example" not in text and "Q-1" not in text
+    assert "Q47369" in text and "Hraps" in text
+
+
+def test_old_codes_and_addresses_if_asked(brought: Path, room: Path) -> None:
+    ran = make(brought, room / "out", "--langs", "en", "--old-iris", "--hidden-codes", "zxx")
+    assert (ran.returncode, ran.stderr) == (0, "")
+    text = text_of_site(room / "out")
+    assert f"{OLD}Lutes" in text and "Q-1" in text
+
+
+# --- the types of links ---
+
+
+def test_types_of_a_store_that_is_served(sample: Sample, room: Path) -> None:
+    export = room / "sample.nt"
+    export.write_bytes(over(sample.store, "export").out)
+    with serving(sample.store, 1_000_000) as served:
+        ran = make(export, room / "out", "--langs", "en", "--store", sample.store)
+        assert ran.returncode == 3 and "another program has it open" in ran.stderr and "--http URL" in ran.stderr
+        words = ("--http", f"http://127.0.0.1:{served.port}", "--hidden-codes", "zxx")
+        ran = make(export, room / "out", "--langs", "en", *words)
+        assert (ran.returncode, ran.stderr) == (0, "")
+    wanted = (sample.site.root / "en" / "tree.html").read_text(encoding="utf-8").count("<small>generic</small>")
+    assert wanted and (room / "out" / "en" / "tree.html").read_text(encoding="utf-8").count("<small>generic") == wanted
+
+
+def test_an_older_copy_is_told(sample: Sample, room: Path) -> None:
+    older, export = room / "older.db", room / "sample.nt"
+    export.write_bytes(over(sample.store, "export").out)
+    over(older, "script", SAMPLE + lines_of(MORE[:4]))
+    over(older, "script", lines_of([{**next(links_of(SAMPLE)), "do": "unlink"}]))
+    ran = make(export, room / "out", "--langs", "en", "--db", older)
+    assert ran.returncode == 0 and "isn't as it was exported: 1 broader links" in ran.stderr, ran
+
+
+def links_of(script: bytes) -> Iterator[Request]:
+    """The hierarchical links of a script."""
+    for it in map(json.loads, script.splitlines()):
+        if it.get("do") == "link" and it["kind"].startswith("broader"):
+            yield it
+
+
 # --- in a browser ---
 
 
@@ -316,6 +430,23 @@ def test_search_finds(lang: str, text: str, wanted: list[str], page: Page, sampl
     page.open(f"{(sample.site.root / lang / 'index.html').as_uri()}?q={quote(text)}")
     page.wait("!document.getElementById('results').hidden && document.querySelector('#results .count').innerText")
     assert page.value("[...document.querySelectorAll('#results li')].map(it => it.innerText)") == wanted
+
+
+# The controls of a page that are less than 24 pixels high or wide, and so near another one that a circle of 24 pixels
+# around its middle meets that. A link within a sentence or a list of words is as high as its line.
+SMALL = """[...document.querySelectorAll('a, button, input, summary')].filter(it => it.checkVisibility())
+  .map(it => [it, it.getBoundingClientRect()]).filter(([it, at]) => at.left >= 0 && Math.min(at.width, at.height) < 24)
+  .filter(([it, at], _, all) => all.some(([other, near]) => other !== it && !other.contains(it) && !it.contains(other)
+    && Math.hypot((at.left + at.right - near.left - near.right) / 2, (at.top + at.bottom - near.top - near.bottom) / 2)
+    < 24)).map(([it]) => it.outerHTML)"""
+
+
+@pytest.mark.needs("chromium")
+@pytest.mark.parametrize("name", ["index", "5", "tree", "az-v", "collections"])
+def test_targets_are_large_or_apart(name: str, page: Page, sample: Sample) -> None:
+    page.open((sample.site.root / "en" / f"{name}.html").as_uri())
+    page.wait("document.readyState === 'complete'")
+    assert page.value(SMALL) == []
 
 
 @pytest.mark.needs("chromium")

@@ -9,6 +9,7 @@ from pathlib import Path
 import pytest
 from office import tool
 from program import ROOT, built
+from serving import serving
 
 BASE = "https://museum.example/id/"
 CHANGES = [
@@ -89,6 +90,11 @@ def test_types(newer: Path) -> None:
     text = to_rdf("--db", newer, "--types")
     assert "iso-thes:broaderGeneric" in text and "iso-thes:narrowerGeneric" in text
     assert "iso-thes:" not in to_rdf("--db", newer)
+    with serving(newer, 1_000_000) as served:
+        assert to_rdf("--http", f"http://127.0.0.1:{served.port}", "--types") == text
+        ended = tool("to-rdf", "--db", newer, "--program", built())
+        assert ended.status == 3 and b"another program has it open" in ended.err
+    assert tool("to-rdf", newer.parent / "none.nt", "--types").status == 2
 
 
 def test_the_store_is_left_alone(newer: Path) -> None:

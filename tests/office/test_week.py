@@ -380,7 +380,7 @@ def link(office: Office) -> None:
         ('"a":12', f'"a":{lutes}'),
         ('"b":3', f'"b":{there}'),
         ('"b":11', f'"b":{plucked}'),
-        wanted=lines('{"done":true}', '{"done":true}'),
+        wanted=lines('{"done":[{"done":true},{"done":true}]}'),
     )
     office.do(
         "its path",
@@ -555,7 +555,11 @@ def correct(office: Office) -> None:
         ("--to 11", f"--to {office.number(21)}"),
     )
     office.check("a wrong posting", "keeps its key desk-1" in text, text)
-    office.do("put right", "tools/load --db museum.db right.jsonl", wanted="load: 2 requests: 2 done\n")
+    office.do(
+        "put right",
+        "tools/load --db museum.db --as-one right.jsonl",
+        wanted="load: 2 requests: 2 done as one\n",
+    )
     office.check(
         "put right",
         [it[4:] for it in office.report("record --part desk")]
@@ -571,7 +575,9 @@ def correct(office: Office) -> None:
     text = office.do("unmerge", "tools/unmerge --db museum.db", (" 4 >", f" {source} >"))
     office.check("unmerge", f"{source} stays dead" in text and "moved on since" in text, text)
     office.do(
-        "taken back", "tools/load --db museum.db back.jsonl", wanted=re.compile(r"^load: (\d+) requests: \1 done\n$")
+        "taken back",
+        "tools/load --db museum.db --as-one back.jsonl",
+        wanted=re.compile(r"^load: (\d+) requests: \1 done as one\n$"),
     )
     again = office.report(f"find {word(16)} --kinds pref --lang en")
     back = office.view(int(again[-1][0]))

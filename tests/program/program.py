@@ -6,7 +6,6 @@ import functools
 import json
 import os
 import re
-import shutil
 import subprocess
 import sys
 from collections.abc import Iterable, Sequence
@@ -92,29 +91,3 @@ def answers_to(requests: Iterable[object]) -> list[str]:
 def version() -> str:
     """The version of the program, by the first heading of CHANGELOG.md that has a number."""
     return re.findall(r"^## \[?(\d+(?:\.\d+)+)", (ROOT / "CHANGELOG.md").read_text(encoding="utf-8"), re.M)[0]
-
-
-def skip(test: str, lacking: str, what: str) -> None:
-    """Reports a part that isn't tested, since a tool isn't installed. Its test then counts as skipped."""
-    print(f"{test}: skipped without {lacking}: {what}", flush=True)
-
-
-def leave_out(test: str, why: str, what: str) -> None:
-    """Reports a part that this machine doesn't allow. Such lines are listed at the end of a run, and fail nothing."""
-    print(f"{test}: left out, since {why}: {what}", flush=True)
-
-
-def has_tool(test: str, tool: str, what: str) -> bool:
-    """Whether a tool is installed; reports what is skipped if it isn't."""
-    if shutil.which(tool):
-        return True
-    skip(test, tool, what)
-    return False
-
-
-def report(name: str, failures: Sequence[object], tried: int) -> int:
-    """Prints the failures, and returns the exit status of the test."""
-    for it in failures:
-        print(f"{name}: {it}")
-    print(f"{name}: {tried} tried, {len(failures)} failed")
-    return 1 if failures or not tried else 0

@@ -4,7 +4,7 @@ from __future__ import annotations
 import contextlib
 import socket
 import subprocess
-from collections.abc import Iterator
+from collections.abc import Iterable, Iterator
 from pathlib import Path
 from typing import Any
 
@@ -40,10 +40,11 @@ class Served:
 
 
 @contextlib.contextmanager
-def serving(path: Path | str, count: int, *options: str, **how: Any) -> Iterator[Served]:
-    """Runs the program as it serves `count` connections over the store in a file; `how` goes to Popen."""
+def serving(path: Path | str, count: int, *options: str, after: Iterable[str] = (), **how: Any) -> Iterator[Served]:
+    """Runs the program as it serves `count` connections over the store in a file, with options before the command, or
+    after it; `how` goes to Popen."""
     port = free_port()
-    words = [built(), "--db", path, *options, "serve", "--port", str(port), "--count", str(count)]
+    words = [built(), "--db", path, *options, "serve", "--port", str(port), "--count", str(count), *after]
     with subprocess.Popen(words, stdout=subprocess.PIPE, stderr=subprocess.PIPE, **how) as program:
         try:
             assert program.stdout and program.stderr

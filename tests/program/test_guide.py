@@ -16,7 +16,7 @@ from program import MEMORY, ROOT, built
 
 PAGE, README, OPERATING = ROOT / "docs" / "GUIDE.md", ROOT / "README.md", ROOT / "docs" / "OPERATING.md"
 PORT = "8080"
-TOOLS = ("curl", "dot", "rapper", "thesaurus2htmls")
+TOOLS = ("curl", "dot", "rapper", "thesaurus2htmls", "yaz-marcdump")
 BLOCK = re.compile(r"^```sh\n(.*?)^```\n(?:\n```\n(.*?)^```\n)?", re.M | re.S)
 BLOCKS: list[tuple[str, str]] = BLOCK.findall(PAGE.read_text(encoding="utf-8"))
 
@@ -31,10 +31,10 @@ def make_room(room: Path) -> Path:
     return room
 
 
-def output_of(commands: str, room: Path, port: int) -> str:
-    """What a block of commands prints."""
+def output_of(commands: str, room: Path, port: int, path: str = "") -> str:
+    """What a block of commands prints, with these folders of programs or the usual ones."""
     words = ["sh", "-c", commands.replace(f":{PORT}", f":{port}").replace(f"--port {PORT}", f"--port {port}")]
-    environment = {**os.environ, "PATH": f"{room}:{os.environ['PATH']}"}
+    environment = {**os.environ, "PATH": f"{room}:{path or os.environ['PATH']}"}
     ran = subprocess.run(
         words,
         cwd=room,
@@ -76,6 +76,26 @@ def test_block_of_the_guide(place: int, outputs: list[str]) -> None:
     assert outputs[place] == BLOCKS[place][1]
 
 
+def path_without(name: str, room: Path) -> str:
+    """A folder with the system's programs but one."""
+    folder = room / "programs"
+    folder.mkdir()
+    for it in (path for place in ("/usr/local/bin", "/usr/bin", "/bin") for path in sorted(Path(place).iterdir())):
+        if it.name != name and not (folder / it.name).is_symlink():
+            (folder / it.name).symlink_to(it)
+    return str(folder)
+
+
+@pytest.mark.needs(*TOOLS)
+@pytest.mark.parametrize("name", ["dot", "rapper", "thesaurus2htmls", "thesaurus2tex", "yaz-marcdump"])
+def test_guide_hides_no_program_that_is_missing(name: str, outputs: list[str], room: Path, tmp_path: Path) -> None:
+    """Who follows it without a program sees that it isn't there."""
+    (commands,) = [it for it, _ in BLOCKS if name in it]
+    (room / "museum.tex").unlink(missing_ok=True)
+    printed = output_of(commands, room, int(PORT), path_without(name, tmp_path))
+    assert re.search(f"{name}: .*not found|museum.tex: No such file", printed)
+
+
 READ_ME: list[tuple[str, str]] = BLOCK.findall(README.read_text(encoding="utf-8"))
 
 
@@ -99,13 +119,12 @@ def test_tree_of_readme(tmp_path: Path) -> None:
 
 @pytest.fixture(scope="module")
 def operating_room(tmp_path_factory: pytest.TempPathFactory) -> Path:
-    place = make_room(tmp_path_factory.mktemp("operating"))
-    for name, sample in (("today.jsonl", "instruments.jsonl"), ("postings.csv", "postings.csv")):
-        (place / name).symlink_to(ROOT / "examples" / sample)
-    return place
+    return make_room(tmp_path_factory.mktemp("operating"))
 
 
 @pytest.mark.parametrize("commands", [it for it, _ in BLOCK.findall(OPERATING.read_text(encoding="utf-8"))])
 def test_block_of_operating_succeeds(commands: str, operating_room: Path) -> None:
-    printed = output_of(f"set -e\n{commands}echo succeeded", operating_room, int(PORT))
+    # (what is installed is the program that is tested, and not another build)
+    given = commands.replace("tools/install ", f'tools/install --program "{built()}" ')
+    printed = output_of(f"set -e\n{given}echo succeeded", operating_room, int(PORT))
     assert printed.endswith("succeeded\n")

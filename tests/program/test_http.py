@@ -34,7 +34,7 @@ EXAMPLES = examples()
 @pytest.fixture(scope="module")
 def served(tmp_path_factory: pytest.TempPathFactory) -> Iterator[Served]:
     """The program, which serves a connection for each command of the page."""
-    with serving(tmp_path_factory.mktemp("http") / "museum.db", len(EXAMPLES)) as program:
+    with serving(tmp_path_factory.mktemp("http") / "museum.db", len(EXAMPLES), after=["--plans"]) as program:
         yield program
 
 

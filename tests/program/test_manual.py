@@ -38,7 +38,7 @@ def usage_in(text: str) -> Usage:
     (usage,) = re.findall(r"^Usage: thesaurus (.*)$", text, re.M)
     required = re.sub(r"\[[^]]*\]", "", usage)
     listed = re.findall(r"^ +(?:-\w, +)?(--[\w-]+)(?: (<\w+>))?", text, re.M)
-    options = {name: value.strip("<>") for name, value in listed if value}
+    options = {name: value.strip("<>") for name, value in listed if name not in ("--help", "--version")}
     words = re.findall(r"<(\w+)>", re.sub(r"--[\w-]+ <\w+>", "", required))
     needed = {it for it in options if f"{it} <" in required}
     return Usage(words, options, needed)
@@ -62,7 +62,7 @@ def item(line: str) -> Usage:
         if part == "Fl" and parts[at + 1 : at + 2] not in ([], ["Fl"]) and parts[at - 1] == "Fl":
             name = f"--{parts[at + 1]}"
             options[name] = parts[at + 3] if parts[at + 2 : at + 3] == ["Ar"] else ""
-            if parts[at - 2] != "Op":
+            if parts[at - 2] not in ("Op", "Oo"):
                 needed.add(name)
         elif part == "Ar" and "Fl" not in parts[at - 2 : at]:
             words.append(parts[at + 1])

@@ -19,7 +19,7 @@ EXAMPLES: list[tuple[str, str]] = EXAMPLE.findall(PAGE.read_text(encoding="utf-8
 def answers(request: pytest.FixtureRequest) -> list[str]:
     """The answers to the requests of the page."""
     script = "".join(f"{it}\n" for it, _ in EXAMPLES)
-    found = run(["script"], script.encode(), built()).out.decode().splitlines()
+    found = run(["script", "--plans"], script.encode(), built()).out.decode().splitlines()
     if request.config.getoption("--write"):
         left = iter(found)
         page = PAGE.read_text(encoding="utf-8")
@@ -38,6 +38,7 @@ def test_each_request_has_one_answer(answers: list[str]) -> None:
 
 @pytest.mark.parametrize("heading", ["Requests that change something", "Queries"])
 def test_tables_have_examples(heading: str) -> None:
-    used = {value for it, _ in EXAMPLES for name, value in json.loads(it).items() if name in ("do", "get")}
+    requests = [it for text, _ in EXAMPLES if isinstance(it := json.loads(text), dict)]
+    used = {value for it in requests for name, value in it.items() if name in ("do", "get")}
     section = re.split(r"^##", PAGE.read_text(encoding="utf-8").split(f"## {heading}\n")[1], flags=re.M)[0]
     assert not set(ROW.findall(section)) - {"do", "get", *used}

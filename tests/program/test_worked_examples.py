@@ -11,6 +11,7 @@ from plain_store import LIMITS
 from program import ROOT, answers_to, text_of
 
 PAGE = (ROOT / "docs" / "DEFINITIONS.md").read_text(encoding="utf-8")
+GLOSSARY = (ROOT / "docs" / "GLOSSARY.md").read_text(encoding="utf-8")
 SECTION = re.split(r"^## ", PAGE.split("\n## Worked examples\n")[1], flags=re.M)[0]
 EXAMPLES: list[tuple[str, str]] = re.findall(r"^> (.*)\n(.*)\n", SECTION, re.M)
 each_example = pytest.mark.parametrize("place", range(len(EXAMPLES)), ids=[it for it, _ in EXAMPLES])
@@ -44,4 +45,4 @@ def test_plain_program_answers_as_the_page_says(place: int, plain_answers: list[
 def test_each_example_names_a_definition() -> None:
     named = re.findall(r"^\*\*`(\w+)`\*\*: ", SECTION, re.M)
     assert len(named) == 10
-    assert not [it for it in named if f"\n- `{it}`: " not in PAGE], "not in the glossary"
+    assert not [it for it in named if f"\n- `{it}`: " not in GLOSSARY]

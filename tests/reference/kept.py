@@ -8,6 +8,7 @@ from pathlib import Path
 from typing import Any
 
 from plain import Plain
+from plain_plans import perform_any
 from plain_store import LIMITS, judge, read_rows, rows_of
 from program import MEMORY, lines_of, over, values_of
 
@@ -18,12 +19,12 @@ START: list[Request] = [
 ]
 
 
-def performed(plain: Plain, requests: Iterable[Request]) -> tuple[list[Plain], list[Request]]:
-    """The states after each of the requests in turn, and the answers."""
+def performed(plain: Plain, requests: Iterable[Request | list[Request]]) -> tuple[list[Plain], list[Request]]:
+    """The states after each of the requests or plans in turn, and the answers."""
     states: list[Plain] = [plain]
     answers: list[Request] = []
     for request in requests:
-        plain, answer = plain.perform(request)
+        plain, answer = perform_any(plain, request)
         states.append(plain)
         answers.append(answer)
     return states, answers

@@ -1,8 +1,9 @@
-"""Checks documents against the sources. The glossary of docs/DEFINITIONS.md is what tools/list-definitions makes of the
-specs' comments, and its definitions named as `File.name` are there. The lists of promises in docs/PROOFS.md are what
-tools/list-promises makes of the comments of functions, each crate of the program is in them, and the functions, clauses
-and definitions that its tables name are there. The table of crates in docs/ARCHITECTURE.md is what tools/list-crates
-makes of crates.txt, and the files that it names are there. Each of the tools writes its page with --write."""
+"""Checks documents against the sources. docs/GLOSSARY.md is what tools/list-definitions makes of the specs' comments,
+and the definitions that docs/DEFINITIONS.md names as `File.name` are there. The lists of promises in docs/PROOFS.md are
+what tools/list-promises makes of the comments of functions, each crate of the program is in them, and the functions,
+clauses and definitions that its tables name are there. The table of crates in docs/ARCHITECTURE.md is what
+tools/list-crates makes of crates.txt, and the files that it names are there. Each of the tools writes its page with
+--write."""
 from __future__ import annotations
 
 import re

@@ -1,10 +1,14 @@
 """What the documents name is there: links and anchors, files, options of commands, requests with their refusals in
-order, names of refusals and faults, limits, and tests that aren't in the gate. Figures of speed are in bench/RESULTS.md
-alone, those of the gate in one table of CONTRIBUTING.md; and each document has its length. The sources say what there
-is; nothing is run."""
+order, names of refusals and faults, limits, tests that aren't in the gate, and the programs that blocks of commands
+call. What there is has its words: each option of a tool, and each refusal in the desk's languages. Figures of speed are
+in bench/RESULTS.md alone, those of the gate in one table of CONTRIBUTING.md; and each document has its length. The
+sources say what there is; nothing is run."""
 from __future__ import annotations
 
+import ast
 import re
+import shutil
+import tomllib
 from collections.abc import Callable, Iterator
 from pathlib import Path
 
@@ -21,7 +25,7 @@ DOCUMENTS = [
     ROOT / "examples" / "README.md",
 ]
 PROGRAM = ("./thesaurus", "thesaurus")
-# The most words of each document, by `wc -w`. WRONG_BODIES.md and RESULTS.md are made.
+# The most words of each document, by `wc -w`. GLOSSARY.md, WRONG_BODIES.md and RESULTS.md are made.
 LENGTHS: dict[tuple[str, ...], int] = {
     ("README.md",): 800,
     ("docs/GUIDE.md",): 4500,
@@ -30,12 +34,12 @@ LENGTHS: dict[tuple[str, ...], int] = {
     ("docs/HTTP.md",): 1200,
     ("SECURITY.md",): 800,
     ("docs/OPERATING.md",): 3500,
-    ("docs/PROOFS.md",): 5300,
+    ("docs/PROOFS.md",): 5000,
     ("docs/FAILURES.md",): 1000,
-    ("docs/ARCHITECTURE.md",): 5160,
+    ("docs/ARCHITECTURE.md",): 5000,
     ("CONTRIBUTING.md",): 2500,
-    ("docs/DECISIONS.md",): 5000,
-    ("docs/DEFINITIONS.md",): 6650,
+    ("docs/DECISIONS.md",): 4500,
+    ("docs/DEFINITIONS.md",): 6000,
     ("bench/README.md",): 1000,
 }
 FENCE = re.compile(r"^```(\w*)\n(.*?)^```$", re.M | re.S)
@@ -52,6 +56,19 @@ FIGURE = re.compile(
         r"(?:times|seconds|minutes)\b"
     )
 )
+# What blocks of commands may call without a word on where it is from: a shell has it, or each Debian.
+COMMON = set("[ cat cmp cp echo grep head kill ls mkdir mv printf sed tail test wait wc".split())
+# Other programs that they call, with the package of Debian that the document names. (`rt` is the toolchain.)
+PACKAGES = {
+    "curl": "curl",
+    "dot": "graphviz",
+    "rapper": "raptor2-utils",
+    "rt": "toolchain",
+    "sqlite3": "sqlite3",
+    "thesaurus2htmls": "libbiblio-thesaurus-perl",
+    "thesaurus2tex": "libbiblio-thesaurus-perl",
+    "yaz-marcdump": "yaz",
+}
 # The options that each command has, and those of pytest.
 ANYWHERE = ("--help", "--collect-only")
 RESULTS = ROOT / "bench" / "RESULTS.md"
@@ -148,6 +165,34 @@ def options(_: Path, text: str) -> Iterator[str]:
         for name in (it.partition("=")[0] for it in words if OPTION.match(it)):
             if has is not None and f'"{name}"' not in has and f"{name}\n" not in has and name not in ANYWHERE:
                 yield f"{command} has no option {name}"
+
+
+def blocks_of(text: str) -> Iterator[str]:
+    """The commands of each block, without what they read from the block itself."""
+    for kind, block in FENCE.findall(text):
+        lines = block.splitlines() if kind == "sh" else [it[2:] for it in block.splitlines() if it.startswith("$ ")]
+        yield re.sub(r"<<'(\w+)'(.*)\n(?:.*\n)*?\1\n", r"\2\n", "".join(f"{it}\n" for it in lines))
+
+
+def programs_of(block: str) -> Iterator[str]:
+    """The programs that a block calls, without those of this repository."""
+    plain = re.sub(r"'[^']*'|\"[^\"]*\"|\d?>+ ?&?\S+", " TEXT ", block.replace("\\\n", " "))
+    for call in re.split(r"[|;&()\n]+", plain):
+        words = [it for it in call.split() if not re.fullmatch(r"\w+=.*", it)]
+        if words and words[0] not in PROGRAM and "/" not in words[0]:
+            yield words[0]
+
+
+def programs(_: Path, text: str) -> Iterator[str]:
+    """Programs that blocks call, of which the document doesn't say where they are from; and blocks that hide that one
+    isn't there."""
+    for block in blocks_of(text):
+        for name in sorted({*programs_of(block)} - COMMON):
+            if PACKAGES.get(name, name).lower() not in text.lower() or name not in PACKAGES:
+                yield f"{name}, of {PACKAGES.get(name, 'no package that is known here')}, which isn't named"
+        for file in re.findall(r"(?:2|&)> ?(\S+)", block):
+            if block.count(file) < 2 or file in ("&1", "/dev/null"):
+                yield f"errors that go to {file}, so that nobody sees that a program is missing"
 
 
 def figures(path: Path, text: str) -> Iterator[str]:
@@ -274,8 +319,38 @@ def by_hand() -> Iterator[str]:
                 yield f"{name} without `, by hand`"
 
 
+def is_explained(option: ast.Call) -> bool:
+    """Whether the help of a tool has a text on an option."""
+    texts = [ast.unparse(it.value) for it in option.keywords if it.arg == "help"]
+    return bool(texts) and "SUPPRESS" not in texts[0] and texts[0] not in ("''", "None")
+
+
+def silent_options(path: Path) -> Iterator[str]:
+    """The options of a tool that its help doesn't explain: of a shell script, those that its first comment lacks."""
+    if not read(path).startswith("#!/usr/bin/env python3"):
+        head, _, code = read(path).partition("\nset -")
+        yield from (it for it in re.findall(r"^ *\w*(--[a-z][\w-]*)(?: \|.*)?\)", code, re.M) if it not in head)
+        return
+    for it in (it for file in with_modules(path) for it in ast.walk(ast.parse(read(file)))):
+        if isinstance(it, ast.Call) and ast.unparse(it.func).split(".")[-1] in ("add", "add_argument"):
+            names = [word.value for word in it.args if isinstance(word, ast.Constant) and isinstance(word.value, str)]
+            yield from (name for name in names if OPTION.fullmatch(name) and not is_explained(it))
+
+
+def refusals() -> Iterator[str]:
+    """Each refusal, malformed member and fault has its texts in the three languages of the desk."""
+    source = read(ROOT / "crates" / "thes_base" / "src" / "fault.rt")
+    names = {it for kind in ("Refusal", "FormFault", "Fault") for it in variants(source, kind)}
+    names.update(table(read(ROOT / "docs" / "REQUESTS.md"), "## What the names mean"))
+    for language in ("de", "en", "fr"):
+        texts = tomllib.loads(read(ROOT / "desk" / "thesaurus_desk" / "words" / language / "refusals.toml"))
+        yield from (
+            f"{name} has no text in {language}" for name in sorted(names) if not texts.get(name, {}).get("text")
+        )
+
+
 @pytest.mark.parametrize("path", DOCUMENTS, ids=lambda it: str(it.relative_to(ROOT)))
-@pytest.mark.parametrize("check", [links, paths, commands, options, figures], ids=lambda it: it.__name__)
+@pytest.mark.parametrize("check", [links, paths, commands, options, programs, figures], ids=lambda it: it.__name__)
 def test_document_names_what_is_there(path: Path, check: Check) -> None:
     assert not list(check(path, read(path)))
 
@@ -285,9 +360,29 @@ def test_manual_names_files_that_are_there() -> None:
     assert not list(paths(page, read(page)))
 
 
-@pytest.mark.parametrize("check", [requests, faults, trusted, by_hand, limits], ids=lambda it: it.__name__)
+@pytest.mark.parametrize("check", [requests, faults, trusted, by_hand, limits, refusals], ids=lambda it: it.__name__)
 def test_documents_say_what_the_sources_have(check: Callable[[], Iterator[str]]) -> None:
     assert not list(check())
+
+
+@pytest.mark.parametrize("name", [pytest.param(it, marks=pytest.mark.needs(it)) for it in PACKAGES])
+def test_program_of_a_block_is_there(name: str) -> None:
+    """Where it isn't, that is said: this is skipped, or fails where all tools are wanted."""
+    assert shutil.which(name)
+
+
+def test_programs_of_blocks_are_installed_for_checks() -> None:
+    packages = {*re.findall(r"[\w.-]+", read(ROOT / "tools" / "install-checks").split('packages="')[1].split('"')[0])}
+    assert {*PACKAGES.values()} - {"toolchain"} <= packages
+
+
+@pytest.mark.parametrize(
+    "path", [it for it in sorted((ROOT / "tools").iterdir()) if it.is_file()], ids=lambda it: it.name
+)
+def test_each_option_of_a_tool_is_named(path: Path) -> None:
+    """By its help, or else by a document."""
+    documents = "".join(map(read, (*DOCUMENTS, ROOT / "thesaurus.1")))
+    assert not [it for it in silent_options(path) if not re.search(rf"(?<![\w-]){it}(?![\w-])", documents)]
 
 
 @pytest.mark.parametrize("names", LENGTHS, ids=" and ".join)

@@ -15,7 +15,7 @@ FOLDERS = ("tools", "bench", "desk", "tests")
 CHECKED = ("tools", "bench", "desk", *(f"tests/{it.name}" for it in sorted((ROOT / "tests").iterdir()) if it.is_dir()))
 
 # In these each function has its types.
-TYPED = ("tools", "tests/builds", "tests/harness", "tests/office", "tests/reference", "tests/sources")
+TYPED = ("tools", "tests/builds", "tests/office", "tests/reference", "tests/sources")
 
 
 @cache
