@@ -13,7 +13,7 @@ use Rattle.thes_base.specs.Refusals.{Setting, IsSetting}
 use Rattle.thes_base.specs.Resources.{IsScheme}
 use Rattle.thes_base.specs.State.{State}
 use Rattle.thes_base.proofs.OutcomeLemmas.{one_outcome}
-use Rattle.thes_exchange.specs.Viewing.{IsQueryAnswer}
+use Rattle.thes_exchange.specs.QueryAnswers.{IsQueryAnswer}
 use Rattle.thes_exchange.proofs.OneViewLemmas.{one_view}
 use Rattle.thes_display.specs.DisplayWrites.{IsSchemeRefusal}
 use Rattle.thes_display.proofs.OneTextLemmas.{one_alphabetical, one_hierarchical}

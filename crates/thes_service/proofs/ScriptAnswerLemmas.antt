@@ -28,7 +28,7 @@ use Rattle.thes_requests.specs.Requests.{request_of}
 use Rattle.thes_requests.specs.Script.{RunLines, StepLine, is_blank}
 use Rattle.thes_requests.specs.Serving.{query_answer}
 use Rattle.thes_requests.proofs.ReadingLemmas.{one_outcome}
-use Rattle.thes_exchange.specs.Viewing.{IsQueryAnswer}
+use Rattle.thes_exchange.specs.QueryAnswers.{IsQueryAnswer}
 use Rattle.thes_exchange.proofs.OneViewLemmas.{one_view}
 use Rattle.thes_import.specs.OneImport.{EncodeOneState}
 use Rattle.thes_import.proofs.OneImportLemmas.{run_from_state}

@@ -46,8 +46,8 @@ pub use thes_plans::references::first_bad_reference;
 
 // Requests, answers and views as JSON, scripts, posting files and exports.
 pub use thes_exchange::concept::concept_view;
+pub use thes_exchange::query_answers::write_view;
 pub use thes_exchange::view::{ConceptView, PostingRows, View};
-pub use thes_exchange::viewing::write_view;
 pub use thes_export::writing::export;
 pub use thes_import::import::{ImportEnd as Imported, ImportStop, import};
 pub use thes_posting_files::report::Counts;

@@ -3,7 +3,7 @@ ghost use Rattle.std.specs.Prelude.{◌≡◌, IfErr, IfOk, Ok, OnOk};
 ghost use Rattle.std.specs.Io.KnownBytes.{Appends};
 ghost use Rattle.thes_base.specs.Pipe.{written_bytes, IsFresh, KeepsCallLimit};
 ghost use Rattle.thes_base.specs.State.{State};
-ghost use Rattle.thes_exchange.specs.Viewing.{IsQueryAnswer, IsViewStopped};
+ghost use Rattle.thes_exchange.specs.QueryAnswers.{IsQueryAnswer, IsViewStopped};
 ghost use Rattle.thes_exchange.specs.ViewOf.{IsView};
 ghost use Rattle.thes_exchange.specs.ViewTexts.{view_text};
 
