@@ -3,7 +3,7 @@ use Rattle.sqlite.specs.declared.types.Value.TheVariants.{Int}
 use Rattle.thes_sql.specs.Reads.{assigned_numbers_text}
 use Rattle.thes_sqlite.proofs.RowStreamLemmas.{Streams}
 use Rattle.thes_sqlite.proofs.TableStreamLemmas.{IsNumberRow, AppendsNumber}
-use Rattle.thes_sqlite.proofs.row_output.collect_numbers.Given as goal
+use Rattle.thes_sqlite.proofs.row_streams.collect_numbers.Given as goal
 
 abbrev pub invariant-numbers : goal.invariant-numbers
 invariant-numbers g l = (l.rows.conn.ghost_name ≡ l.initial.rows.conn.ghost_name)

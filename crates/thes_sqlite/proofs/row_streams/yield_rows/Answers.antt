@@ -14,7 +14,7 @@ use Rattle.thes_sqlite.proofs.FoundRowLemmas.{none_passed}
 use Rattle.thes_sqlite.proofs.RowStreamLemmas.{streams_begin, streams_next, streams_part, streams_refused, streams_end}
 use Rattle.thes_sqlite.proofs.RowStreamLemmas.{streams_whole}
 use Rattle.thes_sqlite.proofs.TableStreamLemmas.{IsTableRow, table_wants, table_passed, input_finds_none, never_input}
-use Rattle.thes_sqlite.proofs.row_output.yield_rows.Goals as goal
+use Rattle.thes_sqlite.proofs.row_streams.yield_rows.Goals as goal
 
 pub returns-in-Err-SqlInputError-clause-yields : goal.returns-in-Err-SqlInputError-clause-yields
 returns-in-Err-SqlInputError-clause-yields g c =

@@ -16,8 +16,8 @@ ghost use Rattle.sqlite.specs.Held.{state};
 ghost use Rattle.sqlite.specs.Order.{column};
 ghost use Rattle.sqlite.specs.declared.types.Value.TheVariants.{Int};
 
+use crate::any_cells::any_cells_of;
 use crate::faults::fault_of;
-use crate::found::any_cells_of;
 use crate::rows::{read_number, read_posting};
 use sqlite::{Alter, Connection, Error, Row, params};
 use std::alloc::Global;

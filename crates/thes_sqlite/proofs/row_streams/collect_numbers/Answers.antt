@@ -8,7 +8,7 @@ use Rattle.thes_sql.proofs.ReadFrameLemmas.{leaves_alone}
 use Rattle.thes_sql.proofs.SelectLemmas.{standing_numbers_is_query}
 use Rattle.thes_sqlite.proofs.RowStreamLemmas.{Streams, streams_begin, streams_next, streams_whole}
 use Rattle.thes_sqlite.proofs.TableStreamLemmas.{IsNumberRow, AppendsNumber, numbers_wanted, numbers_appended}
-use Rattle.thes_sqlite.proofs.row_output.collect_numbers.Goals as goal
+use Rattle.thes_sqlite.proofs.row_streams.collect_numbers.Goals as goal
 
 pub returns-in-Err-clause-frame : goal.returns-in-Err-clause-frame
 returns-in-Err-clause-frame g c =

@@ -2,7 +2,7 @@ use Rattle.std.proofs.Common.{◌≡◌, []}
 use Rattle.thes_sql.specs.Reads.{read_text}
 use Rattle.thes_sqlite.proofs.RowStreamLemmas.{Streams}
 use Rattle.thes_sqlite.proofs.TableStreamLemmas.{IsTableRow}
-use Rattle.thes_sqlite.proofs.row_output.yield_rows.Given as goal
+use Rattle.thes_sqlite.proofs.row_streams.yield_rows.Given as goal
 
 abbrev pub invariant-rows : goal.invariant-rows
 invariant-rows g l = (l.rows.conn.ghost_name ≡ l.initial.rows.conn.ghost_name)

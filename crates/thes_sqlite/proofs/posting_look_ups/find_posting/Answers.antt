@@ -1,6 +1,6 @@
 use Rattle.std.proofs.Common.{sym, ◌∙◌}
 use Rattle.thes_sqlite.proofs.PostingLookUpLemmas.{found_first, found_none}
-use Rattle.thes_sqlite.proofs.finding.find_posting.Goals as goal
+use Rattle.thes_sqlite.proofs.posting_look_ups.find_posting.Goals as goal
 
 pub returns-in_default-clause-ok : goal.returns-in_default-clause-ok
 returns-in_default-clause-ok g c clean t keeps = found_none c.args.key.now t.posting c.deref.result.now

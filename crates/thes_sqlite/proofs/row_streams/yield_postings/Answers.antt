@@ -11,7 +11,7 @@ use Rattle.thes_sql.proofs.SelectLemmas.{standing_is_query}
 use Rattle.thes_sqlite.proofs.RowStreamLemmas.{streams_begin, streams_next, streams_part, streams_refused}
 use Rattle.thes_sqlite.proofs.RowStreamLemmas.{streams_whole}
 use Rattle.thes_sqlite.proofs.TableStreamLemmas.{IsPostingRow, assigned_wants}
-use Rattle.thes_sqlite.proofs.row_output.yield_postings.Goals as goal
+use Rattle.thes_sqlite.proofs.row_streams.yield_postings.Goals as goal
 
 pub returns-in-Err-clause-yields : goal.returns-in-Err-clause-yields
 returns-in-Err-clause-yields g c = λ clean t keeps.
