@@ -7,9 +7,9 @@ use crate::office_example::{keeper_after, open};
 use crate::report::push;
 use std::alloc::Global;
 use std::io::{Read, Write};
+use test_keeper::fail_once::{FailOnce, Next};
 use thesaurus::{
-    Ended, FailOnce, Fault, Keeper, Next, OfficeHandler, Pipe, PipeFault, Query, QueryAnswer,
-    RequestHandler, script,
+    Ended, Fault, Keeper, OfficeHandler, Pipe, PipeFault, Query, QueryAnswer, RequestHandler, script,
 };
 
 // A posting, sent twice.

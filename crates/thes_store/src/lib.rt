@@ -2,7 +2,6 @@
 #![tactic(auto)]
 
 mod added_row;
-pub mod fail_once;
 pub mod keeper;
 mod keys;
 mod labels_and_links;

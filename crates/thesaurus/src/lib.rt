@@ -35,7 +35,6 @@ pub use thes_tables::rows::{HierRow, HierType, LabelRow, MoveRow, OutsideRow, Po
 // Storage for the tables, and the office over it.
 pub use thes_office::Office;
 pub use thes_sqlite::keeper::SqlKeeper;
-pub use thes_store::fail_once::{FailOnce, Next};
 pub use thes_store::keeper::{Keeper, Posting};
 pub use thes_store::mem::MemKeeper;
 pub use thes_store::sink::{PostingSink, RowSink};

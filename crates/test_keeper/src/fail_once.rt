@@ -1,15 +1,15 @@
-//! Storage for tests, of which one call fails.
+//! A storage of which one call fails.
 ghost use Rattle.std.specs.Prelude.{◌≡◌};
 ghost use Rattle.thes_base.specs.declared.fault.Fault.{Fault};
-ghost use Rattle.thes_store.specs.declared.fail_once.Next.{Next};
 ghost use Rattle.thes_store.specs.Causes.{IsCounted};
+ghost use Rattle.test_keeper.specs.declared.fail_once.Next.{Next};
 
-use crate::keeper::{Keeper, Posting};
-use crate::mem::MemKeeper;
-use crate::sink::{PostingSink, RowSink};
 use thes_base::fault::Fault;
 use thes_base::number::{PostNo, ResNo};
 use thes_base::text::Key;
+use thes_store::keeper::{Keeper, Posting};
+use thes_store::mem::MemKeeper;
+use thes_store::sink::{PostingSink, RowSink};
 use thes_tables::delta::Delta;
 use thes_tables::rows::PostingRow;
 
@@ -71,7 +71,7 @@ impl Keeper for FailOnce {
         self.failures
     }
 
-    #[tactic(auto, using(crate::proofs::FoundLemmas::passes_known))]
+    #[tactic(auto, using(thes_store::proofs::FoundLemmas::passes_known))]
     fn load<S: RowSink>(&mut self, sink: &mut S) -> Result<(), Fault> {
         if self.next == Next::Load {
             return Err(self.fail());
