@@ -9,7 +9,8 @@ use std::alloc::Global;
 use std::io::{Read, Write};
 use test_keeper::fail_once::{FailOnce, Next};
 use thesaurus::{
-    Ended, Fault, Keeper, OfficeHandler, Pipe, PipeFault, Query, QueryAnswer, RequestHandler, script,
+    Ended, Fault, Keeper, OfficeHandler, Pipe, PipeFault, Query, QueryAnswer, RequestHandler,
+    script,
 };
 
 // A posting, sent twice.

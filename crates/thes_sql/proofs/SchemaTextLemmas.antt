@@ -269,7 +269,8 @@ both_indexes old mid new first second = record {
   made = λ has.
       let one = index_after_try schema_without_indexes index_posting_at_text 5 (record posting_table { tree = 8 })
       posting_at (refl, refl, (refl, refl)) refl old mid first has in
-      let two = index_after_try schema_with_posting_at index_move_posting_text 6 (record move_table { tree = 10 }) move_posting
+      let two = index_after_try schema_with_posting_at index_move_posting_text 6 (record move_table { tree = 10 })
+      move_posting
       (refl, refl, (refl, refl)) refl mid new second one.0 in
       (two.0, keeps_rows_twice schema_without_indexes.tables old.now.trees mid.now.trees new.now.trees one.1 two.1, tt);
   inside = second.inside;
@@ -297,31 +298,38 @@ module _ {S : Type 0} (g : Ghosts S) where
       → ExecutesAllInside g 0 texts_0 old new (Ok tt) → IsEmpty old_schema (state g new).now
   unfolding ExecutesAllInside everything
   all_defined old new empty h =
-      first_made g new texts_0 create_meta_text texts_1 (IsEmpty empty_schema) (IsEmpty schema_up_to_meta) (length texts_0) old
+      first_made g new texts_0 create_meta_text texts_1 (IsEmpty empty_schema) (IsEmpty schema_up_to_meta)
+      (length texts_0) old
       refl refl (lit< tt)
       (defines_table empty_schema create_meta_text meta_table create_meta_is refl) empty h
       (λ at_1 most_1 empty_1 more_1.
-      first_made g new texts_1 create_resource_text texts_2 (IsEmpty schema_up_to_meta) (IsEmpty schema_up_to_resource) most_1 at_1 refl
+      first_made g new texts_1 create_resource_text texts_2 (IsEmpty schema_up_to_meta) (IsEmpty schema_up_to_resource)
+      most_1 at_1 refl
       refl (lit< tt)
       (defines_table schema_up_to_meta create_resource_text resource_table create_resource_is refl) empty_1 more_1
       (λ at_2 most_2 empty_2 more_2.
-      first_made g new texts_2 create_outside_text texts_3 (IsEmpty schema_up_to_resource) (IsEmpty schema_up_to_outside) most_2 at_2 refl refl
+      first_made g new texts_2 create_outside_text texts_3 (IsEmpty schema_up_to_resource)
+      (IsEmpty schema_up_to_outside) most_2 at_2 refl refl
       (lit< tt)
       (defines_table schema_up_to_resource create_outside_text outside_table create_outside_is refl) empty_2 more_2
       (λ at_3 most_3 empty_3 more_3.
-      first_made g new texts_3 create_label_text texts_4 (IsEmpty schema_up_to_outside) (IsEmpty schema_up_to_label) most_3 at_3 refl refl
+      first_made g new texts_3 create_label_text texts_4 (IsEmpty schema_up_to_outside) (IsEmpty schema_up_to_label)
+      most_3 at_3 refl refl
       (lit< tt)
       (defines_table schema_up_to_outside create_label_text label_table create_label_is refl) empty_3 more_3
       (λ at_4 most_4 empty_4 more_4.
-      first_made g new texts_4 create_link_text texts_5 (IsEmpty schema_up_to_label) (IsEmpty schema_up_to_link) most_4 at_4 refl refl
+      first_made g new texts_4 create_link_text texts_5 (IsEmpty schema_up_to_label) (IsEmpty schema_up_to_link) most_4
+      at_4 refl refl
       (lit< tt)
       (defines_table schema_up_to_label create_link_text link_table create_link_is refl) empty_4 more_4
       (λ at_5 most_5 empty_5 more_5.
-      first_made g new texts_5 create_posting_text texts_6 (IsEmpty schema_up_to_link) (IsEmpty schema_up_to_posting) most_5 at_5 refl refl
+      first_made g new texts_5 create_posting_text texts_6 (IsEmpty schema_up_to_link) (IsEmpty schema_up_to_posting)
+      most_5 at_5 refl refl
       (lit< tt)
       (defines_table schema_up_to_link create_posting_text posting_table create_posting_is refl) empty_5 more_5
       (λ at_6 most_6 empty_6 more_6.
-      first_made g new texts_6 create_move_text [] (IsEmpty schema_up_to_posting) (IsEmpty schema_up_to_move) most_6 at_6 refl refl (lit< tt)
+      first_made g new texts_6 create_move_text [] (IsEmpty schema_up_to_posting) (IsEmpty schema_up_to_move) most_6
+      at_6 refl refl (lit< tt)
       (defines_table schema_up_to_posting create_move_text move_table create_move_is refl) empty_6 more_6
       (λ at_7 most_7 empty_7 more_7. subst (λ h. IsEmpty old_schema (state g h).now) (sym more_7.1) empty_7)))))))
 
@@ -350,7 +358,8 @@ module _ {S : Type 0} (g : Ghosts S) where
       (HasHier start)
       (length create_hier_text) old refl refl (lit< tt)
       (λ was is count from ran.
-      let m = made_table schema_up_to_move create_hier_text hier_table (refl, refl, (refl, refl)) refl was is count from.0 ran in
+      let m = made_table schema_up_to_move create_hier_text hier_table (refl, refl, (refl, refl)) refl was is count
+      from.0 ran in
       (m.0, subst (λ (db : Trees). KeepsRows schema_up_to_move.tables db is.now.trees) from.1 m.1, (m.2, tt)))
       (has, refl) h (λ mid most was more. subst (λ h. HasHier start (state g h).now) (sym more.1) was)
 

@@ -197,8 +197,8 @@ pub moves_few : (c : Change) → added_move_count c ≤ 1
 moves_few (change.AddMove r) = omega arith
 moves_few c = omega arith
 
-pub covers_when_stopped : (old new : PostingIndexes) (changes : List Change) (i : ℕ) (c : Change) (t : Tables) (step : ℕ) → i
-    < length changes → c ≡ get_or changes i c → DeltaFits changes t → SoFar old changes i t step
+pub covers_when_stopped : (old new : PostingIndexes) (changes : List Change) (i : ℕ) (c : Change) (t : Tables)
+    (step : ℕ) → i < length changes → c ≡ get_or changes i c → DeltaFits changes t → SoFar old changes i t step
     → IndexesGrow c old new → Covers new t
 covers_when_stopped old new changes i c t step lt is fits so_far grows =
     let s = tables_after_delta (take i changes) t in
@@ -206,8 +206,8 @@ covers_when_stopped old new changes i c t step lt is fits so_far grows =
     subst (IsOtherKey c) z.2 (other_key c s z.0 (fit_at changes i c t lt is fits) z.1)) so_far.first
 
 -- One iteration of the loop keeps its state.
-pub so_far_continues : (old new : PostingIndexes) (changes : List Change) (i : ℕ) (c : Change) (t : Tables) (step next : ℕ)
-    → i < length changes → c ≡ get_or changes i c → DeltaFits changes t → SoFar old changes i t step
+pub so_far_continues : (old new : PostingIndexes) (changes : List Change) (i : ℕ) (c : Change) (t : Tables)
+    (step next : ℕ) → i < length changes → c ≡ get_or changes i c → DeltaFits changes t → SoFar old changes i t step
     → IndexesGrow c old new → ((s : Tables) → ChangeFits c s → Covers old s → CoversChange new c s step)
     → next ≡ step + added_move_count c → SoFar new changes (i + 1) t next
 so_far_continues old new changes i c t step next lt is fits so_far grows reaches next_is =
