@@ -10,7 +10,7 @@ use std::io::{Read, Write};
 use test_keeper::fail_once::{FailOnce, Next};
 use thesaurus::{
     Ended, Fault, Keeper, OfficeHandler, Pipe, PipeFault, Query, QueryAnswer, RequestHandler,
-    script,
+    ViewLine, script,
 };
 
 // A posting, sent twice.
@@ -47,6 +47,11 @@ fn view<K: Keeper>(
     handler.show(alloc, query)
 }
 
+// Returns the bytes of a view, with its line feed.
+fn bytes_of(line: &ViewLine) -> &[u8] {
+    line.as_bytes()
+}
+
 // Appends the answers to the lines, and the view of the totals.
 fn write_answers<K: Keeper>(
     alloc: Global,
@@ -55,7 +60,7 @@ fn write_answers<K: Keeper>(
 ) -> Result<(), Failure> {
     push(report, &answers(alloc, handler)?)?;
     match view(alloc, handler, &Query::Totals)? {
-        QueryAnswer::Line(line) => Ok(push(report, line.as_bytes())?),
+        QueryAnswer::Line(line) => Ok(push(report, bytes_of(&line))?),
         QueryAnswer::No(_) => Ok(push(report, b"refused\n")?),
     }
 }
