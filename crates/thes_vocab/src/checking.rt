@@ -21,7 +21,7 @@ use thes_base::text::{Iri, Tag, Text};
 
 impl Vocab {
     /// Checks whether a concept with this preferred label may be added: whether its scheme exists,
-    /// and no live concept of the scheme has the label.
+    /// and no live concept there has the label.
     pub fn check_concept(&self, scheme: ResNo, tag: &Tag, text: &Text) -> Option<Refusal>
         ensures { unless_new self.now
             (new_resource.Concept scheme tag.now text.now) accepted result }
