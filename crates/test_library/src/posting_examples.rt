@@ -1,7 +1,7 @@
 //! The postings of an office: their histories, and those at a concept.
 use crate::failure::{Failure, on_success};
 use crate::report::{push, view_line};
-use std::alloc::Global;
+use std::alloc::{AllocError, Global};
 use std::fmt::Write;
 use thesaurus::{
     Fault, History, Keeper, Move, MoveNo, Moves, Office, PipeFault, PostNo, Posting, PostingRow,
@@ -44,11 +44,16 @@ fn last_move(history: &History) -> Option<(MoveNo, ResNo)> {
     Some((step.number, step.target))
 }
 
-// Returns the line of a list of one posting.
-fn list_line(alloc: Global, history: &History) -> Result<Vec<u8>, PipeFault> {
+// Returns the view of a list of one posting.
+fn list_of_one(alloc: Global, history: &History) -> Result<View<'_>, AllocError> {
     let mut rows = Vec::new(alloc);
     rows.push(history)?;
-    let view = View::Postings(PostingRows { rows });
+    Ok(View::Postings(PostingRows { rows }))
+}
+
+// Returns the line of a list of one posting.
+fn list_line(alloc: Global, history: &History) -> Result<Vec<u8>, PipeFault> {
+    let view = list_of_one(alloc, history)?;
     let line = view_line(alloc, &view);
     drop(view);
     line

@@ -38,8 +38,8 @@ fn split(alloc: Global, source: ResNo, text: &str, posting: PostNo) -> Result<Co
 }
 
 // Returns what an answer says. After a refusal or a fault everything is as it was.
-fn outcome_name(result: Result<Answer, Fault>) -> &'static str {
-    match result {
+fn outcome_name(outcome: Result<Answer, Fault>) -> &'static str {
+    match outcome {
         Ok(Answer::No(Refusal::PreferredTaken)) => "another concept has the name",
         Ok(Answer::No(refusal)) => refusal.name(),
         Ok(_) => "done",

@@ -125,8 +125,8 @@
 //     Ok(Command::Split(source, tag, text, postings))
 // }
 //
-// fn outcome_name(result: Result<Answer, Fault>) -> &'static str {
-//     match result {
+// fn outcome_name(outcome: Result<Answer, Fault>) -> &'static str {
+//     match outcome {
 //         Ok(Answer::No(Refusal::PreferredTaken)) => "another concept has the name",
 //         Ok(Answer::No(refusal)) => refusal.name(),
 //         Ok(_) => "done",
@@ -563,13 +563,10 @@ pub use thes_plans::references::first_bad_reference;
 //     }
 // }
 //
-// fn list_line(alloc: Global, history: &History) -> Result<Vec<u8>, PipeFault> {
+// fn list_of_one(alloc: Global, history: &History) -> Result<View<'_>, AllocError> {
 //     let mut rows = Vec::new(alloc);
 //     rows.push(history)?;
-//     let view = View::Postings(PostingRows { rows });
-//     let line = view_line(alloc, &view);
-//     drop(view);
-//     line
+//     Ok(View::Postings(PostingRows { rows }))
 // }
 //
 // pub fn view_line(alloc: Global, view: &View) -> Result<Vec<u8>, PipeFault> {
