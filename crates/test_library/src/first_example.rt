@@ -29,7 +29,8 @@ fn make_post_merge_show<K: Keeper>(
     perform_read(office, concept(alloc, "Mammals"))?;
     perform_read(office, post(alloc, "k1", "r1", cats))?;
     perform_read(office, Ok(Command::Merge(cats, mammals)))?;
-    push_concept(alloc, office.ready()?, mammals, report)
+    let core = office.ready()?;
+    push_concept(alloc, core, mammals, report)
 }
 
 /// Runs the example in a new office.

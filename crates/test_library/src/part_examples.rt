@@ -10,11 +10,10 @@ use thesaurus::{
 
 // Returns a vocabulary with a scheme, which has number 1.
 fn vocab_with_scheme(alloc: Global) -> Result<Vocab, ReadStop> {
+    let base = base(alloc)?;
     let (tag, text) = both(english(alloc), Text::read(alloc, "Animals"))?;
-    let scheme = NewResource::Scheme(tag, text);
-    let (scheme, base) = both(Ok(scheme), base(alloc))?;
     let mut vocab = Vocab::new(alloc, base);
-    vocab.add_resource(scheme)?;
+    vocab.add_resource(NewResource::Scheme(tag, text))?;
     Ok(vocab)
 }
 

@@ -199,7 +199,8 @@ fn write_texts<K: Keeper>(
 ) -> Result<(), Failure> {
     push(report, &outcomes(alloc, office)?)?;
     push(report, &triples(alloc, office)?)?;
-    write_displays(alloc, office.ready()?, report)
+    let core = office.ready()?;
+    write_displays(alloc, core, report)
 }
 
 /// Appends what a handler of an office reads and writes.

@@ -12,7 +12,8 @@
 //!     perform_read(office, concept(alloc, "Mammals"))?;
 //!     perform_read(office, post(alloc, "k1", "r1", cats))?;
 //!     perform_read(office, Ok(Command::Merge(cats, mammals)))?;
-//!     push_concept(alloc, office.ready()?, mammals, report)
+//!     let core = office.ready()?;
+//!     push_concept(alloc, core, mammals, report)
 //! }
 //! ```
 //!
@@ -197,11 +198,10 @@ pub use thes_display::sort_key;
 // `Links`, which counts the visits.
 // ```
 // fn vocab_with_scheme(alloc: Global) -> Result<Vocab, ReadStop> {
+//     let base = base(alloc)?;
 //     let (tag, text) = both(english(alloc), Text::read(alloc, "Animals"))?;
-//     let scheme = NewResource::Scheme(tag, text);
-//     let (scheme, base) = both(Ok(scheme), base(alloc))?;
 //     let mut vocab = Vocab::new(alloc, base);
-//     vocab.add_resource(scheme)?;
+//     vocab.add_resource(NewResource::Scheme(tag, text))?;
 //     Ok(vocab)
 // }
 //
