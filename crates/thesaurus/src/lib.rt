@@ -42,33 +42,36 @@
 //! the facts are.
 //!
 //! **Checks.** A check changes nothing, and returns the first refusal. A change of a part requires what its check
-//! found, as `Vocab::add_label` after `Vocab::check_label`. An office and a core check for themselves.
+//! found, as `Vocab::add_label` after `Vocab::check_label`, and `Core::apply` after `Core::decide`. An office and
+//! `Core::step` check for themselves.
 //!
 //! **Pipes.** Readers and writers are passed in a `Pipe`, which records failures. A call requires one that is fresh:
 //! its device hasn't failed or ended. Calls of the device are at most 100,000,000 for each call of the library.
 //!
 //! # Errors
 //!
-//! - `AllocError`: memory ran out, and the values are as they were. `Base::try_clone`, `Book::move_all`,
-//!   `Book::move_listed`, `Book::post`, `CellBytes::new`, `CellText::new`, `Command::try_clone`, `Core::broader_of`,
-//!   `Core::collections_of`, `Core::labels_of_kind`, `Core::mappings`, `Core::narrower_of`, `Core::related_of`,
-//!   `Core::replacements`, `Core::term`, `Core::typed_of`, `Delta::push`, `Graph::add`, `Graph::broader_of`,
-//!   `Graph::check_whole`, `Graph::collections_of`, `Graph::contract`, `Graph::mappings`, `Graph::mark_outside`,
-//!   `Graph::narrower_of`, `Graph::related_of`, `Graph::typed_of`, `History::try_clone`, `Iri::try_clone`,
-//!   `Key::try_clone`, `Label::try_clone`, `LabelValue::try_clone`, `NewResource::try_clone`, `Note::try_clone`,
-//!   `PostingRow::try_clone`, `RecordName::try_clone`, `Routes::new`, `Sequence::push`, `Sequence::try_clone`,
-//!   `Tag::try_clone`, `Text::try_clone`, `Vocab::add_label`, `Vocab::add_resource`, `Vocab::relabel`,
-//!   `Vocab::replacements`, `Vocab::take_labels`, `check_at`, `concept_view`, `judge_add`, `judge_contract`, `sort_key`
+//! - `AllocError`: memory ran out, and nothing is changed; visits of links that were made are counted.
+//!   `Base::try_clone`, `Book::move_all`, `Book::move_listed`, `Book::post`, `CellBytes::new`, `CellText::new`,
+//!   `Command::try_clone`, `Core::broader_of`, `Core::collections_of`, `Core::labels_of_kind`, `Core::mappings`,
+//!   `Core::narrower_of`, `Core::related_of`, `Core::replacements`, `Core::term`, `Core::typed_of`, `Delta::push`,
+//!   `Graph::add`, `Graph::broader_of`, `Graph::check_whole`, `Graph::collections_of`, `Graph::contract`,
+//!   `Graph::mappings`, `Graph::mark_outside`, `Graph::narrower_of`, `Graph::related_of`, `Graph::typed_of`,
+//!   `History::try_clone`, `Iri::try_clone`, `Key::try_clone`, `Label::try_clone`, `LabelValue::try_clone`,
+//!   `NewResource::try_clone`, `Note::try_clone`, `PostingRow::try_clone`, `RecordName::try_clone`, `Routes::new`,
+//!   `Sequence::push`, `Sequence::try_clone`, `Tag::try_clone`, `Text::try_clone`, `Vocab::add_label`,
+//!   `Vocab::add_resource`, `Vocab::relabel`, `Vocab::replacements`, `Vocab::take_labels`, `check_at`, `concept_view`,
+//!   `judge_add`, `judge_contract`, `sort_key`
 //! - `ReadStop`: a text lacks its form, or a line is no request, or memory ran out. `Base::read`, `Iri::read`,
 //!   `Key::read`, `Note::read`, `RecordName::read`, `Tag::read`, `Text::read`, `read_request`
 //! - `FormFault`: a text is no number from 1 to 4,294,967,295. `MoveNo::read`, `PostNo::read`, `ResNo::read`
-//! - `Fault`: memory ran out (`OutOfMemory`), the storage failed (`Store`), or its rows aren't those of a state.
-//!   Nothing is committed; of an `Office::run` the commands that were answered stay performed. A `Core::apply` or
-//!   `Core::step` may leave the core spent. `Core::apply`, `Core::decide`, `Core::step`, `Keeper::commit`,
-//!   `Keeper::find`, `Keeper::load`, `Keeper::posting`, `Keeper::row`, `Keeper::standing`, `Keeper::standing_numbers`,
-//!   `Loader::finish`, `Office::perform`, `Office::posting`, `Office::postings`, `Office::ready`, `Office::run`,
-//!   `Office::run_plan`, `Office::totals`, `PostingSink::posting`, `RequestHandler::perform`, `RequestHandler::show`,
-//!   `RowSink::report_unqueried`, `RowSink::row`, `SqlKeeper::commit_changes`, `SqlKeeper::migrate`, `from_rows`
+//! - `Fault`: memory ran out (`OutOfMemory`), the storage failed (`Store`), or its rows have another version or aren't
+//!   those of a state. Nothing is committed; of an `Office::run` the commands that were answered stay performed. A
+//!   `Core::apply` or `Core::step` may leave the core spent. `Core::apply`, `Core::decide`, `Core::step`,
+//!   `Keeper::commit`, `Keeper::find`, `Keeper::load`, `Keeper::posting`, `Keeper::row`, `Keeper::standing`,
+//!   `Keeper::standing_numbers`, `Loader::finish`, `Office::perform`, `Office::posting`, `Office::postings`,
+//!   `Office::ready`, `Office::run`, `Office::run_plan`, `Office::totals`, `PostingSink::posting`,
+//!   `RequestHandler::perform`, `RequestHandler::show`, `RowSink::report_unqueried`, `RowSink::row`,
+//!   `SqlKeeper::commit_changes`, `SqlKeeper::migrate`, `from_rows`
 //! - A fault with what was passed in: `Office::start` returns the storage, `SqlKeeper::create` the connection.
 //! - `Stop`: the device of a pipe failed, or the budget of its calls is used up. `Pipe::read`, `Pipe::write_all`
 //! - `io::Error`: what the device returns. `Pipe::read_once`, `Pipe::write_once`
