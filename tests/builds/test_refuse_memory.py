@@ -15,16 +15,17 @@ from cases import Cases, run_cases
 pytestmark = pytest.mark.needs("rt")
 # The request that the toolchain refuses.
 REFUSED = 10_000
-# The requests of each example that are refused in turn: from one before its first step to some after its last.
+# The requests of each example that are refused in turn: from one before its first step to one after its last.
 EXAMPLES = {
-    "post": (60, 120),
-    "merge": (8, 220),
-    "mappings": (8, 160),
-    "splits": (8, 260),
-    "postings": (20, 200),
-    "export": (20, 190),
-    "displays": (50, 260),
-    # Each connection by itself makes its routes.
+    "post": (60, 93),
+    "merge": (8, 191),
+    "mappings": (8, 128),
+    "splits": (8, 226),
+    "plans": (10, 313),
+    "postings": (20, 172),
+    "export": (20, 160),
+    "displays": (50, 225),
+    # Each connection by itself makes its routes. (The last one has a margin.)
     "connections": (35, 1500),
 }
 NUMBERED = [(it, number) for it, (first, last) in EXAMPLES.items() for number in range(first, last + 1)]
