@@ -27,7 +27,7 @@ SCRIPTS = range(1, 101)
 PLANS = 200
 # Each of these is also sent over HTTP.
 SERVED = SCRIPTS[::5]
-# Of every so many scripts one has limits that its plans reach.
+# One script in this number has limits that its plans reach.
 SMALL = {"resources": 60, "labels": 90, "links": 40, "postings": 90, "moves": 60}
 
 
