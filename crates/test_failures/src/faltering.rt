@@ -3,10 +3,10 @@ ghost use Rattle.std.specs.Prelude.{◌≡◌};
 ghost use Rattle.thes_base.specs.declared.fault.Fault.{Fault};
 ghost use Rattle.thes_store.specs.Causes.{IsCounted};
 
+use test_keeper::fail_once::Next;
 use thes_base::fault::Fault;
 use thes_base::number::{PostNo, ResNo};
 use thes_base::text::Key;
-use thes_store::fail_once::Next;
 use thes_store::keeper::{Keeper, Posting};
 use thes_store::mem::MemKeeper;
 use thes_store::sink::{PostingSink, RowSink};

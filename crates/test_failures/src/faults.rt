@@ -5,9 +5,9 @@ use crate::outcome::StoreOutcome;
 use crate::run_report::{RunReport, answer, close, import, new_keeper, open, show};
 use crate::stop::TrialStop;
 use std::alloc::{AllocError, Global};
+use test_keeper::fail_once::Next;
 use thes_service::OfficeHandler;
 use thes_service::plan_mode::WithPlans;
-use thes_store::fail_once::Next;
 use thes_store::keeper::Keeper;
 
 // The report of a run in which each call is repeated until it succeeds.

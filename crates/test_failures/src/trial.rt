@@ -10,7 +10,7 @@ use crate::stop::TrialStop;
 use crate::stores::report_in_memory;
 use std::alloc::{AllocError, Global};
 use std::fmt::Write;
-use thes_store::fail_once::Next;
+use test_keeper::fail_once::Next;
 
 // Repeats a trial with a file that fails after 0, 1, 2, .. calls until the outcome isn't `Kept`.
 // Returns the number of calls and the outcome.

@@ -19,7 +19,8 @@ pub fn english(alloc: Global) -> Result<Tag, ReadStop> {
     Tag::read(alloc, "en")
 }
 
-fn scheme(alloc: Global, text: &str) -> Result<Command, ReadStop> {
+/// Returns the command that makes a scheme.
+pub fn scheme(alloc: Global, text: &str) -> Result<Command, ReadStop> {
     let (tag, text) = both(english(alloc), Text::read(alloc, text))?;
     Ok(Command::Scheme(tag, text))
 }

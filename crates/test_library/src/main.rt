@@ -7,11 +7,18 @@
 mod commands;
 mod core_example;
 mod failure;
+mod first_example;
 mod office_example;
+mod page_examples;
+mod part_examples;
 mod plan_example;
+mod posting_examples;
 mod report;
+mod row_examples;
 mod row_list;
 mod script_example;
+mod text_examples;
+mod value_examples;
 
 use crate::failure::Failure;
 use std::alloc::Global;
@@ -22,7 +29,10 @@ fn run_all(alloc: Global, report: &mut String) -> Result<(), Failure> {
     core_example::run(alloc, report)?;
     office_example::run(alloc, report)?;
     plan_example::run(alloc, report)?;
-    script_example::run(alloc, report)
+    script_example::run(alloc, report)?;
+    first_example::run(alloc, report)?;
+    part_examples::run(alloc, report)?;
+    page_examples::run(alloc, report)
 }
 
 fn print_examples<R: Print>(rt: &R, alloc: Global) -> io::Result<()> {

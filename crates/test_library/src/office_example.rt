@@ -11,8 +11,8 @@ use thesaurus::{
     Rows, Table, from_rows,
 };
 
-// Performs a command in an office.
-fn perform<K: Keeper>(office: &mut Office<K>, command: &Command) -> Result<Answer, Fault> {
+/// Performs a command in an office.
+pub fn perform<K: Keeper>(office: &mut Office<K>, command: &Command) -> Result<Answer, Fault> {
     office.perform(command)
 }
 
@@ -52,9 +52,9 @@ pub fn keeper_after(
     on_success(office.into_keeper(), result)
 }
 
-// Copies all rows of a storage.
-fn copy_rows<K: Keeper>(keeper: &mut K, list: &mut RowList) -> Result<(), Fault> {
-    keeper.load(list)
+/// Passes all rows of a storage to a sink.
+pub fn copy_rows<K: Keeper, S: RowSink>(keeper: &mut K, sink: &mut S) -> Result<(), Fault> {
+    keeper.load(sink)
 }
 
 // Returns the rows of a storage.

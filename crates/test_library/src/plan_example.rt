@@ -5,7 +5,8 @@ use crate::office_example::{keeper_after, open};
 use std::alloc::{AllocError, Global};
 use std::fmt::Write;
 use thesaurus::{
-    Command, Fault, Keeper, LinkKind, Office, PlanOutcome, PlanRequest, PostNo, ReadStop, ResNo,
+    Command, Fault, Keeper, LinkKind, Office, PlanOutcome, PlanRequest, PostNo, REQUEST_LIMIT,
+    ReadStop, ResNo, first_bad_reference,
 };
 
 // The number of commands that are performed before the plan.
@@ -50,6 +51,12 @@ fn plan(alloc: Global) -> Result<Vec<PlanRequest>, Failure> {
     Ok(plan)
 }
 
+// Checks that a list isn't too long for a plan, and that each reference in it is to an earlier
+// request that makes what is asked for.
+fn is_plan(plan: &[PlanRequest]) -> bool {
+    plan.len() <= REQUEST_LIMIT && first_bad_reference(plan).is_none()
+}
+
 // Performs a plan in an office.
 fn perform<K: Keeper>(office: &mut Office<K>, plan: &[PlanRequest]) -> Result<PlanOutcome, Fault> {
     office.run_plan(plan)
@@ -61,11 +68,12 @@ fn write_outcome(outcome: Result<PlanOutcome, Fault>, report: &mut String) -> Re
     Ok(writeln!(report, "{outcome:?}")?)
 }
 
-/// Performs the first commands, and a plan twice, and appends the answers and outcomes: the second
-/// time the name of its concept is taken.
+/// Performs the first commands, and a plan twice, and appends the answers, whether it is a plan, and
+/// the outcomes: the second time the name of its concept is taken.
 pub fn run(alloc: Global, report: &mut String) -> Result<(), Failure> {
     let mut office = open(alloc, keeper_after(alloc, BEFORE, report)?)?;
     let plan = plan(alloc)?;
+    writeln!(report, "{}", is_plan(&plan))?;
     write_outcome(perform(&mut office, &plan), report)?;
     write_outcome(perform(&mut office, &plan), report)
 }

@@ -26,8 +26,8 @@ pub fn push_answer(alloc: Global, answer: Answer, report: &mut String) -> Result
     Ok(push(report, &line)?)
 }
 
-// Returns the line of a view.
-fn view_line(alloc: Global, view: &View) -> Result<Vec<u8>, PipeFault> {
+/// Returns the line of a view.
+pub fn view_line(alloc: Global, view: &View) -> Result<Vec<u8>, PipeFault> {
     let mut writer = Pipe::new(Vec::new(alloc));
     let result = write_view(alloc, view, &mut writer);
     on_success(writer.into_device(), result)

@@ -7,9 +7,10 @@ use crate::office_example::{keeper_after, open};
 use crate::report::push;
 use std::alloc::Global;
 use std::io::{Read, Write};
+use test_keeper::fail_once::{FailOnce, Next};
 use thesaurus::{
-    Ended, FailOnce, Fault, Keeper, Next, OfficeHandler, Pipe, PipeFault, Query, QueryAnswer,
-    RequestHandler, WithPlans, script,
+    Ended, Fault, Keeper, OfficeHandler, Pipe, PipeFault, Query, QueryAnswer, RequestHandler,
+    ViewLine, WithPlans, script,
 };
 
 // A posting, sent twice.
@@ -49,6 +50,11 @@ fn view<K: Keeper>(
     handler.show(alloc, query)
 }
 
+// Returns the bytes of a view, with its line feed.
+fn bytes_of(line: &ViewLine) -> &[u8] {
+    line.as_bytes()
+}
+
 // Appends the answers to the lines, and the view of the totals.
 fn write_answers<K: Keeper>(
     alloc: Global,
@@ -57,7 +63,7 @@ fn write_answers<K: Keeper>(
 ) -> Result<(), Failure> {
     push(report, &answers(alloc, handler)?)?;
     match view(alloc, handler, &Query::Totals)? {
-        QueryAnswer::Line(line) => Ok(push(report, line.as_bytes())?),
+        QueryAnswer::Line(line) => Ok(push(report, bytes_of(&line))?),
         QueryAnswer::No(_) => Ok(push(report, b"refused\n")?),
     }
 }

@@ -6,8 +6,8 @@ use crate::calls::answers::answers;
 use crate::calls::failing::{fail_once_report, filled_keeper};
 use std::alloc::Global;
 use std::io;
+use test_keeper::fail_once::Next;
 use test_keeper::failure::Failure;
-use thes_store::fail_once::Next;
 
 // Returns the results of all calls, those of failing ones included.
 fn full_report(alloc: Global) -> Result<String, Failure> {

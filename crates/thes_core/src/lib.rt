@@ -2,9 +2,8 @@
 //! state after it.
 #![tactic(auto)]
 
+mod applying;
 mod arguments;
-mod changes;
-mod changing;
 mod checking;
 mod display_readers;
 mod export_readers;
@@ -15,6 +14,7 @@ mod named_postings;
 mod parts;
 pub mod reading;
 mod room;
+mod row_changes;
 mod thesaurus;
 mod unusable;
 mod verdict;

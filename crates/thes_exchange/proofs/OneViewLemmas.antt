@@ -23,7 +23,7 @@ use Rattle.thes_exchange.specs.declared.view.View.{View}
 use Rattle.thes_exchange.specs.declared.view.View.TheVariants as views
 use Rattle.thes_exchange.specs.Laws.{HasOneView}
 use Rattle.thes_exchange.specs.ViewOf.{IsView, unless_posting}
-use Rattle.thes_exchange.specs.Viewing.{IsViewLine}
+use Rattle.thes_exchange.specs.QueryAnswers.{IsViewLine}
 use Rattle.thes_exchange.specs.ViewTexts.{concept_data, line_text, posting_data, postings_data, totals_data}
 
 tagged_total : IsTotalOrder tagged_text_cmp

@@ -3,5 +3,5 @@ pub mod PostingList
 pub mod ConceptMembers
 pub mod PostingMembers
 pub mod ViewOf
-pub mod Viewing
+pub mod QueryAnswers
 pub mod Laws

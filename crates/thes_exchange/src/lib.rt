@@ -4,5 +4,5 @@
 pub mod concept;
 pub mod laws;
 pub mod posting_list;
+pub mod query_answers;
 pub mod view;
-pub mod viewing;

@@ -13,7 +13,7 @@ use thes_base::data::Limits;
 use thes_base::fault::{Fault, Table};
 use thes_core::Core;
 use thes_office::Loader;
-use thes_store::row_output::{AsCells, yield_rows};
+use thes_store::row_encoding::{AsCells, yield_rows};
 use thes_store::sink::RowSink;
 use thes_tables::cells::Cell;
 use thes_tables::order::tables_in_order;

@@ -19,7 +19,7 @@ use Rattle.thes_requests.specs.declared.plan_reply.PlanReply.{PlanReply}
 use Rattle.thes_requests.specs.Requests.{json_in}
 use Rattle.thes_requests.specs.Serving.{ServesPlan}
 use Rattle.thes_service.proofs.PlanAnswerLemmas.{one_plan_reply}
-use Rattle.thes_exchange.specs.Viewing.{IsQueryAnswer}
+use Rattle.thes_exchange.specs.QueryAnswers.{IsQueryAnswer}
 use Rattle.thes_exchange.proofs.OneViewLemmas.{one_view}
 use Rattle.thes_display.specs.DisplayWrites.{IsSchemeRefusal}
 use Rattle.thes_display.proofs.OneTextLemmas.{one_alphabetical, one_hierarchical}

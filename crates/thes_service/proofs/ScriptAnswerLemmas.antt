@@ -31,7 +31,7 @@ use Rattle.thes_requests.specs.Requests.{json_in, json_of, request_in, request_o
 use Rattle.thes_requests.specs.Script.{RunLines, StepLine, is_blank}
 use Rattle.thes_requests.specs.Serving.{ServesPlan, is_plan_line, query_answer}
 use Rattle.thes_requests.proofs.ReadingLemmas.{one_outcome}
-use Rattle.thes_exchange.specs.Viewing.{IsQueryAnswer}
+use Rattle.thes_exchange.specs.QueryAnswers.{IsQueryAnswer}
 use Rattle.thes_exchange.proofs.OneViewLemmas.{one_view}
 use Rattle.thes_import.specs.OneImport.{EncodeOneState}
 use Rattle.thes_import.proofs.OneImportLemmas.{run_from_state}

@@ -27,7 +27,7 @@ use Rattle.thes_requests.specs.declared.handler.QueryAnswer.{QueryAnswer}
 use Rattle.thes_requests.specs.declared.handler.QueryAnswer.TheVariants as viewed
 use Rattle.thes_requests.specs.declared.request.Query.TheVariants as asked
 use Rattle.thes_exchange.specs.declared.view.View.TheVariants as views
-use Rattle.thes_exchange.specs.Viewing.{IsQueryAnswer}
+use Rattle.thes_exchange.specs.QueryAnswers.{IsQueryAnswer}
 use Rattle.thes_exchange.specs.PostingList.{entries}
 use Rattle.thes_exchange.specs.ViewTexts.{entry_data, line_text, listing_data, postings_data}
 use Rattle.thes_service.specs.OfficeRequests.{OfficeShows}

@@ -11,7 +11,7 @@ use Rattle.thes_office.specs.Office.{FaultBehaviour, TablesAfterRun, OfficeView,
 use Rattle.thes_office.specs.Plans.{RunPlanResult}
 use Rattle.thes_requests.specs.declared.handler.QueryAnswer.{QueryAnswer}
 use Rattle.thes_requests.specs.declared.request.Query.{Query}
-use Rattle.thes_exchange.specs.Viewing.{IsQueryAnswer}
+use Rattle.thes_exchange.specs.QueryAnswers.{IsQueryAnswer}
 use Rattle.thes_requests.specs.RequestBehaviour.{RequestBehaviour}
 use Rattle.thes_requests.specs.Serving.{LineBehaviour, Serves}
 

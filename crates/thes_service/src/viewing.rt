@@ -2,7 +2,7 @@
 ghost use Rattle.std.specs.Prelude.{◌≡◌, false, Ok, IfOk};
 ghost use Rattle.thes_base.specs.State.{State};
 ghost use Rattle.thes_core.specs.CoreView.{IsViewOf};
-ghost use Rattle.thes_exchange.specs.Viewing.{IsQueryAnswer};
+ghost use Rattle.thes_exchange.specs.QueryAnswers.{IsQueryAnswer};
 ghost use Rattle.thes_service.specs.OfficeRequests.{OfficeShows};
 
 use crate::posting_lister::PostingLister;
@@ -11,8 +11,8 @@ use thes_base::fault::{Fault, Refusal};
 use thes_base::number::{PostNo, ResNo};
 use thes_core::Core;
 use thes_exchange::concept::concept_view;
+use thes_exchange::query_answers::query_answer;
 use thes_exchange::view::View;
-use thes_exchange::viewing::query_answer;
 use thes_office::Office;
 use thes_requests::handler::{QueryAnswer, ViewLine};
 use thes_requests::request::Query;

@@ -33,9 +33,10 @@ use Rattle.sqlite_trees.specs.declared.store.Store.{Ghosts}
 use Rattle.sqlite.proofs.Callers.{IsPlain, command_of, statement_of, runs_as}
 use Rattle.sqlite_trees.proofs.ListLemmas.{all-append}
 use Rattle.thes_sql.specs.Schema.{meta_table, resource_table, outside_table, label_table, link_table, hier_table}
-use Rattle.thes_sql.specs.Schema.{posting_table, move_table, posting_at, move_posting, empty_schema, schema_1, schema_2}
-use Rattle.thes_sql.specs.Schema.{schema_3, schema_4, schema_5, schema_6, schema_7, schema_without_indexes, schema_9}
-use Rattle.thes_sql.specs.Schema.{store_schema}
+use Rattle.thes_sql.specs.Schema.{posting_table, move_table, posting_at, move_posting, empty_schema, store_schema}
+use Rattle.thes_sql.specs.Schema.{schema_up_to_meta, schema_up_to_resource, schema_up_to_outside, schema_up_to_label}
+use Rattle.thes_sql.specs.Schema.{schema_up_to_link, schema_up_to_posting, schema_up_to_move, schema_without_indexes}
+use Rattle.thes_sql.specs.Schema.{schema_with_posting_at}
 use Rattle.thes_tables.specs.Tables.{Tables}
 use Rattle.thes_sql.specs.OldStore.{old_schema, KeepsOld, KeepsAs, IsOldStore, HasEmptyHier}
 use Rattle.thes_sql.specs.TransactionEffects.{IsEmpty, Transforms, TransformsTables, ExtendsSchema}
@@ -67,14 +68,14 @@ abbrev create_resource_text : List ℕ
 create_resource_text =
     codes "CREATE TABLE resource (num INTEGER PRIMARY KEY, kind INTEGER NOT NULL, scheme INTEGER, live INTEGER NOT NULL, replaced INTEGER) STRICT;"
 
-create_resource_is : MakesTable schema_1 create_resource_text resource_table
+create_resource_is : MakesTable schema_up_to_meta create_resource_text resource_table
 unfolding understood everything
 create_resource_is = (refl, refl, (refl, refl))
 
 abbrev create_outside_text : List ℕ
 create_outside_text = codes "CREATE TABLE outside (num INTEGER PRIMARY KEY, iri TEXT NOT NULL UNIQUE) STRICT;"
 
-create_outside_is : MakesTable schema_2 create_outside_text outside_table
+create_outside_is : MakesTable schema_up_to_resource create_outside_text outside_table
 unfolding understood everything
 create_outside_is = (refl, refl, (refl, refl))
 
@@ -82,7 +83,7 @@ abbrev create_label_text : List ℕ
 create_label_text =
     codes "CREATE TABLE label (owner INTEGER NOT NULL, kind INTEGER NOT NULL, tag TEXT NOT NULL, text TEXT NOT NULL, PRIMARY KEY (owner, kind, tag, text)) STRICT;"
 
-create_label_is : MakesTable schema_3 create_label_text label_table
+create_label_is : MakesTable schema_up_to_outside create_label_text label_table
 unfolding understood everything
 create_label_is = (refl, refl, (refl, refl))
 
@@ -90,7 +91,7 @@ abbrev create_link_text : List ℕ
 create_link_text =
     codes "CREATE TABLE link (kind INTEGER NOT NULL, a INTEGER NOT NULL, b INTEGER NOT NULL, PRIMARY KEY (kind, a, b)) STRICT;"
 
-create_link_is : MakesTable schema_4 create_link_text link_table
+create_link_is : MakesTable schema_up_to_label create_link_text link_table
 unfolding understood everything
 create_link_is = (refl, refl, (refl, refl))
 
@@ -102,7 +103,7 @@ abbrev create_posting_text : List ℕ
 create_posting_text =
     codes "CREATE TABLE posting (num INTEGER PRIMARY KEY, pkey TEXT NOT NULL UNIQUE, record TEXT NOT NULL, first_at INTEGER NOT NULL, at INTEGER NOT NULL, withdrawn INTEGER NOT NULL) STRICT;"
 
-create_posting_is : MakesTable schema_5 create_posting_text posting_table
+create_posting_is : MakesTable schema_up_to_link create_posting_text posting_table
 unfolding understood everything
 create_posting_is = (refl, refl, (refl, refl))
 
@@ -110,7 +111,7 @@ abbrev create_move_text : List ℕ
 create_move_text =
     codes "CREATE TABLE move (num INTEGER PRIMARY KEY, posting INTEGER NOT NULL, source INTEGER NOT NULL, target INTEGER NOT NULL) STRICT;"
 
-create_move_is : MakesTable schema_6 create_move_text move_table
+create_move_is : MakesTable schema_up_to_posting create_move_text move_table
 unfolding understood everything
 create_move_is = (refl, refl, (refl, refl))
 
@@ -268,7 +269,8 @@ both_indexes old mid new first second = record {
   made = λ has.
       let one = index_after_try schema_without_indexes index_posting_at_text 5 (record posting_table { tree = 8 })
       posting_at (refl, refl, (refl, refl)) refl old mid first has in
-      let two = index_after_try schema_9 index_move_posting_text 6 (record move_table { tree = 10 }) move_posting
+      let two = index_after_try schema_with_posting_at index_move_posting_text 6 (record move_table { tree = 10 })
+      move_posting
       (refl, refl, (refl, refl)) refl mid new second one.0 in
       (two.0, keeps_rows_twice schema_without_indexes.tables old.now.trees mid.now.trees new.now.trees one.1 two.1, tt);
   inside = second.inside;
@@ -296,32 +298,39 @@ module _ {S : Type 0} (g : Ghosts S) where
       → ExecutesAllInside g 0 texts_0 old new (Ok tt) → IsEmpty old_schema (state g new).now
   unfolding ExecutesAllInside everything
   all_defined old new empty h =
-      first_made g new texts_0 create_meta_text texts_1 (IsEmpty empty_schema) (IsEmpty schema_1) (length texts_0) old
+      first_made g new texts_0 create_meta_text texts_1 (IsEmpty empty_schema) (IsEmpty schema_up_to_meta)
+      (length texts_0) old
       refl refl (lit< tt)
       (defines_table empty_schema create_meta_text meta_table create_meta_is refl) empty h
       (λ at_1 most_1 empty_1 more_1.
-      first_made g new texts_1 create_resource_text texts_2 (IsEmpty schema_1) (IsEmpty schema_2) most_1 at_1 refl
+      first_made g new texts_1 create_resource_text texts_2 (IsEmpty schema_up_to_meta) (IsEmpty schema_up_to_resource)
+      most_1 at_1 refl
       refl (lit< tt)
-      (defines_table schema_1 create_resource_text resource_table create_resource_is refl) empty_1 more_1
+      (defines_table schema_up_to_meta create_resource_text resource_table create_resource_is refl) empty_1 more_1
       (λ at_2 most_2 empty_2 more_2.
-      first_made g new texts_2 create_outside_text texts_3 (IsEmpty schema_2) (IsEmpty schema_3) most_2 at_2 refl refl
+      first_made g new texts_2 create_outside_text texts_3 (IsEmpty schema_up_to_resource)
+      (IsEmpty schema_up_to_outside) most_2 at_2 refl refl
       (lit< tt)
-      (defines_table schema_2 create_outside_text outside_table create_outside_is refl) empty_2 more_2
+      (defines_table schema_up_to_resource create_outside_text outside_table create_outside_is refl) empty_2 more_2
       (λ at_3 most_3 empty_3 more_3.
-      first_made g new texts_3 create_label_text texts_4 (IsEmpty schema_3) (IsEmpty schema_4) most_3 at_3 refl refl
+      first_made g new texts_3 create_label_text texts_4 (IsEmpty schema_up_to_outside) (IsEmpty schema_up_to_label)
+      most_3 at_3 refl refl
       (lit< tt)
-      (defines_table schema_3 create_label_text label_table create_label_is refl) empty_3 more_3
+      (defines_table schema_up_to_outside create_label_text label_table create_label_is refl) empty_3 more_3
       (λ at_4 most_4 empty_4 more_4.
-      first_made g new texts_4 create_link_text texts_5 (IsEmpty schema_4) (IsEmpty schema_5) most_4 at_4 refl refl
+      first_made g new texts_4 create_link_text texts_5 (IsEmpty schema_up_to_label) (IsEmpty schema_up_to_link) most_4
+      at_4 refl refl
       (lit< tt)
-      (defines_table schema_4 create_link_text link_table create_link_is refl) empty_4 more_4
+      (defines_table schema_up_to_label create_link_text link_table create_link_is refl) empty_4 more_4
       (λ at_5 most_5 empty_5 more_5.
-      first_made g new texts_5 create_posting_text texts_6 (IsEmpty schema_5) (IsEmpty schema_6) most_5 at_5 refl refl
+      first_made g new texts_5 create_posting_text texts_6 (IsEmpty schema_up_to_link) (IsEmpty schema_up_to_posting)
+      most_5 at_5 refl refl
       (lit< tt)
-      (defines_table schema_5 create_posting_text posting_table create_posting_is refl) empty_5 more_5
+      (defines_table schema_up_to_link create_posting_text posting_table create_posting_is refl) empty_5 more_5
       (λ at_6 most_6 empty_6 more_6.
-      first_made g new texts_6 create_move_text [] (IsEmpty schema_6) (IsEmpty schema_7) most_6 at_6 refl refl (lit< tt)
-      (defines_table schema_6 create_move_text move_table create_move_is refl) empty_6 more_6
+      first_made g new texts_6 create_move_text [] (IsEmpty schema_up_to_posting) (IsEmpty schema_up_to_move) most_6
+      at_6 refl refl (lit< tt)
+      (defines_table schema_up_to_posting create_move_text move_table create_move_is refl) empty_6 more_6
       (λ at_7 most_7 empty_7 more_7. subst (λ h. IsEmpty old_schema (state g h).now) (sym more_7.1) empty_7)))))))
 
   pub does_define : (old new : Held S) (r : Result (Unit {0}) Error) → ExecutesAllInside g 0 texts_0 old new r
@@ -335,7 +344,7 @@ module _ {S : Type 0} (g : Ghosts S) where
 
   -- The rows are unchanged, and table hier is empty.
   abbrev HasHier : Trees → Database → Type 0
-  HasHier start db = (db.schema ≡ schema_without_indexes) × KeepsRows schema_7.tables start db.trees
+  HasHier start db = (db.schema ≡ schema_without_indexes) × KeepsRows schema_up_to_move.tables start db.trees
       × ((db.trees 11 ≡ []) × Unit {0})
 
   -- The batch that creates hier extends the schema of version 1.
@@ -345,12 +354,13 @@ module _ {S : Type 0} (g : Ghosts S) where
   unfolding ExecutesAllInside understood everything
   gets_hier old new h has =
       let start = (state g old).now.trees in
-      first_made g new create_hier_text create_hier_text [] (λ db. (db.schema ≡ schema_7) × (db.trees ≡ start))
+      first_made g new create_hier_text create_hier_text [] (λ db. (db.schema ≡ schema_up_to_move) × (db.trees ≡ start))
       (HasHier start)
       (length create_hier_text) old refl refl (lit< tt)
       (λ was is count from ran.
-      let m = made_table schema_7 create_hier_text hier_table (refl, refl, (refl, refl)) refl was is count from.0 ran in
-      (m.0, subst (λ (db : Trees). KeepsRows schema_7.tables db is.now.trees) from.1 m.1, (m.2, tt)))
+      let m = made_table schema_up_to_move create_hier_text hier_table (refl, refl, (refl, refl)) refl was is count
+      from.0 ran in
+      (m.0, subst (λ (db : Trees). KeepsRows schema_up_to_move.tables db is.now.trees) from.1 m.1, (m.2, tt)))
       (has, refl) h (λ mid most was more. subst (λ h. HasHier start (state g h).now) (sym more.1) was)
 
   pub does_hier : (old new : Held S) (r : Result (Unit {0}) Error) → ExecutesAllInside g 0 create_hier_text old new r

@@ -8,14 +8,14 @@ use Rattle.thes_tables.specs.declared.cells.Cell.TheVariants.{Text}
 use Rattle.thes_tables.specs.Cells.{number_cell}
 use Rattle.thes_tables.specs.OldRows.{is_broader, untyped_row, tables_after_migration}
 use Rattle.thes_tables.specs.Tables.{Tables}
-use Rattle.thes_sql.specs.Schema.{schema_7, store_schema}
+use Rattle.thes_sql.specs.Schema.{schema_up_to_move, store_schema}
 use Rattle.thes_sql.specs.StoredRows.{Keeps, keyed_row, values, HoldResources, HoldOutside, HoldPostings, HoldMoves}
 use Rattle.thes_sql.specs.StoredRows.{AreHidden, ArePostingsNumbered, AreSpelled, label_values, link_values}
 use Rattle.thes_sql.specs.StoredRows.{hier_values}
 
 -- The schema of version 1: seven tables, without hier and without the two indexes.
 abbrev pub old_schema : Schema
-old_schema = schema_7
+old_schema = schema_up_to_move
 
 -- The stored row of table meta, with this version and base.
 abbrev pub stored_version : ℕ → List ℕ → Row

@@ -116,37 +116,38 @@ posting_at = index_of (codes "posting_at") 8 (5 ∷ [])
 abbrev pub move_posting : Index
 move_posting = index_of (codes "move_posting") 10 (2 ∷ [])
 
--- The schemas after each of the ten statements that create a store, beginning with the empty schema.
+-- The schemas after each of the ten statements that create a store, beginning with the empty schema. The name of each
+-- says which table, or which index, it has last.
 abbrev pub empty_schema : Schema
 empty_schema = record { tables = []; indexes = []; views = [] }
 
-abbrev pub schema_1 : Schema
-schema_1 = created empty_schema meta_table
+abbrev pub schema_up_to_meta : Schema
+schema_up_to_meta = created empty_schema meta_table
 
-abbrev pub schema_2 : Schema
-schema_2 = created schema_1 resource_table
+abbrev pub schema_up_to_resource : Schema
+schema_up_to_resource = created schema_up_to_meta resource_table
 
-abbrev pub schema_3 : Schema
-schema_3 = created schema_2 outside_table
+abbrev pub schema_up_to_outside : Schema
+schema_up_to_outside = created schema_up_to_resource outside_table
 
-abbrev pub schema_4 : Schema
-schema_4 = created schema_3 label_table
+abbrev pub schema_up_to_label : Schema
+schema_up_to_label = created schema_up_to_outside label_table
 
-abbrev pub schema_5 : Schema
-schema_5 = created schema_4 link_table
+abbrev pub schema_up_to_link : Schema
+schema_up_to_link = created schema_up_to_label link_table
 
-abbrev pub schema_6 : Schema
-schema_6 = created schema_5 posting_table
+abbrev pub schema_up_to_posting : Schema
+schema_up_to_posting = created schema_up_to_link posting_table
 
-abbrev pub schema_7 : Schema
-schema_7 = created schema_6 move_table
+abbrev pub schema_up_to_move : Schema
+schema_up_to_move = created schema_up_to_posting move_table
 
 abbrev pub schema_without_indexes : Schema
-schema_without_indexes = created schema_7 hier_table
+schema_without_indexes = created schema_up_to_move hier_table
 
-abbrev pub schema_9 : Schema
-schema_9 = indexed schema_without_indexes (record posting_table { tree = 8 }) posting_at
+abbrev pub schema_with_posting_at : Schema
+schema_with_posting_at = indexed schema_without_indexes (record posting_table { tree = 8 }) posting_at
 
 -- The schema of a store of version 2: eight tables and two indexes.
 abbrev pub store_schema : Schema
-store_schema = indexed schema_9 (record move_table { tree = 10 }) move_posting
+store_schema = indexed schema_with_posting_at (record move_table { tree = 10 }) move_posting

@@ -20,9 +20,9 @@ ghost use Rattle.sqlite.specs.Held.{state};
 ghost use Rattle.sqlite.specs.State.{HasCleanDisk};
 
 use crate::faults::{count_fault, count_if_store, fault_of};
-use crate::finding::{find_posting, find_row, find_with_moves};
 use crate::migrating::migrate_database;
-use crate::row_output::{collect_numbers, yield_postings, yield_table_rows};
+use crate::posting_look_ups::{find_posting, find_row, find_with_moves};
+use crate::row_streams::{collect_numbers, yield_postings, yield_table_rows};
 use sqlite::{Alter, Connection};
 use std::alloc::Global;
 use std::marker::Model;

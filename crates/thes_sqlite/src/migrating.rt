@@ -5,8 +5,8 @@ ghost use Rattle.thes_sqlite.specs.MigrationEffects.{meta_fault_of, links_verdic
 ghost use Rattle.thes_sqlite.specs.Versions.{SpellsVersion};
 ghost use Rattle.sqlite.specs.Effect.{Database};
 
+use crate::any_cells::any_cells_of;
 use crate::faults::fault_of;
-use crate::found::any_cells_of;
 use sqlite::{Alter, Connection, Error, ErrorCode, Row};
 use std::alloc::Global;
 use thes_base::fault::{Fault, Table};

@@ -17,9 +17,9 @@ ghost use Rattle.thes_sqlite.specs.KeeperView.{ServesTables};
 
 use crate::cause::Cause;
 use crate::faults::{count_fault, fault_of};
-use crate::finding::{find_posting, find_row, find_with_moves};
 use crate::keeper::SqlKeeper;
-use crate::row_output::{collect_numbers, yield_postings, yield_table_rows};
+use crate::posting_look_ups::{find_posting, find_row, find_with_moves};
+use crate::row_streams::{collect_numbers, yield_postings, yield_table_rows};
 use crate::telling::telling_change;
 use sqlite::{Alter, Connection};
 use std::alloc::Global;

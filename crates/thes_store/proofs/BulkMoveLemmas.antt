@@ -11,7 +11,7 @@ use Rattle.thes_tables.specs.declared.rows.PostingRow.{PostingRow}
 use Rattle.thes_tables.specs.Tables.{IsIn}
 use Rattle.thes_tables.specs.Rows.{row_after_move_all}
 use Rattle.thes_store.proofs.IndexPositionLemmas.{in_keys}
-use Rattle.thes_store.specs.declared.index.Index.{Index}
+use Rattle.thes_store.specs.declared.position_sets.PositionSets.{PositionSets}
 use Rattle.thes_store.specs.Covers.{IndexesByPlace}
 use Rattle.thes_store.specs.RowsAtPositions.{rows_after_change_at, rows_after_changes_at}
 use Rattle.thes_base.proofs.NumberedLemmas.{slice_set_cases}
@@ -65,7 +65,7 @@ moved_or_stays : (source target : ℕ) (row : PostingRow) → (row_after_move_al
     ⊎ (row.place ≡ source)
 moved_or_stays source target row = grind (arith, common_steps)
 
-pub moved_at_positions : (index : Index) (source target : ℕ) (set : BTreeSet ℕ) (rows : List PostingRow)
+pub moved_at_positions : (index : PositionSets) (source target : ℕ) (set : BTreeSet ℕ) (rows : List PostingRow)
     → IndexesByPlace index rows → slice_get index.sets.items source ≡ Some set → rows_after_changes_at
     (row_after_move_all source target) set.keys rows ≡ map (row_after_move_all source target) rows
 moved_at_positions index source target set rows standing found =
@@ -78,7 +78,7 @@ moved_at_positions index source target set rows standing found =
           (standing i row at))))
     ])
 
-pub moved_none : (index : Index) (source target : ℕ) (rows : List PostingRow) → IndexesByPlace index rows
+pub moved_none : (index : PositionSets) (source target : ℕ) (rows : List PostingRow) → IndexesByPlace index rows
     → slice_get index.sets.items source ≡ None → rows ≡ map (row_after_move_all source target) rows
 moved_none index source target rows standing none =
     all_changed_at (row_after_move_all source target) (moved_again source target) [] rows

@@ -18,8 +18,8 @@ use Rattle.thes_tables.specs.Rows.{row_at_place, row_after_move_all, ChangeFits,
 use Rattle.thes_tables.proofs.RowSetLemmas.{append_left, map_in}
 use Rattle.thes_tables.proofs.DeltaAppendLemmas.{all_append}
 use Rattle.thes_store.proofs.IndexPositionLemmas.{take_one}
-use Rattle.thes_store.specs.declared.indexes.Indexes.{Indexes}
-use Rattle.thes_store.specs.Index.{HasPosition}
+use Rattle.thes_store.specs.declared.posting_indexes.PostingIndexes.{PostingIndexes}
+use Rattle.thes_store.specs.PositionSets.{HasPosition}
 use Rattle.thes_store.specs.Keys.{KeyHasPosition}
 use Rattle.thes_store.specs.Covers.{Covers, CoversAll, CoversBoth, IndexesByPlace, IndexesGrow, IsOtherKey}
 use Rattle.thes_store.specs.Covers.{CoversChange, added_move_count}
@@ -55,11 +55,11 @@ moved_cases source target row = grind (arith, common_steps)
 moved_key : (source target : ℕ) (row : PostingRow) → (row_after_move_all source target row).key ≡ row.key
 moved_key source target row = grind (arith, common_steps)
 
-abbrev KeyIs : Indexes → List ℕ → ℕ → Type 0
+abbrev KeyIs : PostingIndexes → List ℕ → ℕ → Type 0
 KeyIs x key i = KeyHasPosition x.keys key i
 
 -- The indexes have each row after one posting is changed, if they have its new place.
-covers_after_posting_change : (x : Indexes) (t : Tables) (f : PostingRow → PostingRow) (n : ℕ)
+covers_after_posting_change : (x : PostingIndexes) (t : Tables) (f : PostingRow → PostingRow) (n : ℕ)
     → ((row : PostingRow) → (f row).key ≡ row.key)
     → ((i : ℕ) (row : PostingRow) → suc i ≡ n → HasPosition x.standing row.place i
     → HasPosition x.standing (f row).place i)
@@ -72,7 +72,7 @@ covers_after_posting_change x t f n key place covers =
     }
 
 -- The indexes have each row after a bulk move, if they have the moved postings under the target.
-covers_after_move : (x : Indexes) (t : Tables) (source target : ℕ)
+covers_after_move : (x : PostingIndexes) (t : Tables) (source target : ℕ)
     → ((i : ℕ) (row : PostingRow) → slice_get t.posting i ≡ Some row → row.place ≡ source
     → HasPosition x.standing target
     i) → Covers x t → Covers x (record t { posting = map (row_after_move_all source target) t.posting })
@@ -87,7 +87,7 @@ covers_after_move x t source target along covers =
 
 -- The indexes have each row of the tables after a change, if they had each row before it and have the rows of the
 -- change.
-pub covers_after_change : (x : Indexes) (c : Change) (t : Tables) (step : ℕ) → length t.move ≡ step
+pub covers_after_change : (x : PostingIndexes) (c : Change) (t : Tables) (step : ℕ) → length t.move ≡ step
     → CoversChange x c t step → Covers x t → Covers x (tables_after_change c t)
 covers_after_change x (change.AddPosting row) t step len reached covers = record {
   keys = λ i y e. let p = push_cases t.posting row y (suc i) e in grind (arith, common_steps);
@@ -161,7 +161,7 @@ get_in [] i row e = absurd (cc)
 get_in (x ∷ xs) zero row e = inl (sym (same_Some _ _ e))
 get_in (x ∷ xs) (suc i) row e = inr (get_in xs i row e)
 
-covers_after_growth : (c : Change) (old new : Indexes) (t : Tables) → IndexesGrow c old new
+covers_after_growth : (c : Change) (old new : PostingIndexes) (t : Tables) → IndexesGrow c old new
     → ((row : PostingRow) → IsIn row t.posting → IsOtherKey c row.key) → Covers old t → Covers new t
 covers_after_growth c old new t grows apart covers = record {
   keys = λ i row e. grows.keys row.key i (apart row (get_in t.posting i row e)) (covers.keys i row e);
@@ -177,13 +177,13 @@ fit_at (x ∷ changes) (suc i) c t lt e fits = fit_at changes i c (tables_after_
 
 -- The state of the loop after the first i changes: the indexes have each row of the tables before and after these
 -- changes, and each posting under its place in between.
-pub record SoFar (x : Indexes) (changes : List Change) (i : ℕ) (t : Tables) (step : ℕ) : Type 0 where
+pub record SoFar (x : PostingIndexes) (changes : List Change) (i : ℕ) (t : Tables) (step : ℕ) : Type 0 where
   pub first : Covers x t
   pub last : Covers x (tables_after_delta (take i changes) t)
   pub standing : (k : ℕ) → k ≤ i → IndexesByPlace x.standing (tables_after_delta (take k changes) t).posting
   pub moves : length (tables_after_delta (take i changes) t).move ≡ step
 
-pub so_far_begins : (x : Indexes) (changes : List Change) (t : Tables) (moves : ℕ) → length t.move ≡ moves
+pub so_far_begins : (x : PostingIndexes) (changes : List Change) (t : Tables) (moves : ℕ) → length t.move ≡ moves
     → Covers x t → SoFar x changes 0 t moves
 so_far_begins x changes t moves len covers = grind (arith, common_steps)
 
@@ -197,8 +197,8 @@ pub moves_few : (c : Change) → added_move_count c ≤ 1
 moves_few (change.AddMove r) = omega arith
 moves_few c = omega arith
 
-pub covers_when_stopped : (old new : Indexes) (changes : List Change) (i : ℕ) (c : Change) (t : Tables) (step : ℕ) → i
-    < length changes → c ≡ get_or changes i c → DeltaFits changes t → SoFar old changes i t step
+pub covers_when_stopped : (old new : PostingIndexes) (changes : List Change) (i : ℕ) (c : Change) (t : Tables)
+    (step : ℕ) → i < length changes → c ≡ get_or changes i c → DeltaFits changes t → SoFar old changes i t step
     → IndexesGrow c old new → Covers new t
 covers_when_stopped old new changes i c t step lt is fits so_far grows =
     let s = tables_after_delta (take i changes) t in
@@ -206,8 +206,8 @@ covers_when_stopped old new changes i c t step lt is fits so_far grows =
     subst (IsOtherKey c) z.2 (other_key c s z.0 (fit_at changes i c t lt is fits) z.1)) so_far.first
 
 -- One iteration of the loop keeps its state.
-pub so_far_continues : (old new : Indexes) (changes : List Change) (i : ℕ) (c : Change) (t : Tables) (step next : ℕ)
-    → i < length changes → c ≡ get_or changes i c → DeltaFits changes t → SoFar old changes i t step
+pub so_far_continues : (old new : PostingIndexes) (changes : List Change) (i : ℕ) (c : Change) (t : Tables)
+    (step next : ℕ) → i < length changes → c ≡ get_or changes i c → DeltaFits changes t → SoFar old changes i t step
     → IndexesGrow c old new → ((s : Tables) → ChangeFits c s → Covers old s → CoversChange new c s step)
     → next ≡ step + added_move_count c → SoFar new changes (i + 1) t next
 so_far_continues old new changes i c t step next lt is fits so_far grows reaches next_is =
@@ -232,13 +232,13 @@ so_far_continues old new changes i c t step next lt is fits so_far grows reaches
       moves = ap (λ (u : Tables). length u.move) done ∙ more ∙ ap (λ n. n + added_move_count c) before ∙ sym next_is;
     }
 
-pub so_far_ends : (x : Indexes) (changes : List Change) (i : ℕ) (t : Tables) (step : ℕ) → length changes ≤ i
+pub so_far_ends : (x : PostingIndexes) (changes : List Change) (i : ℕ) (t : Tables) (step : ℕ) → length changes ≤ i
     → SoFar x changes i t step → CoversAll x changes t
 so_far_ends x changes i t step all so_far = grind (arith, common_steps, take_all)
 
 -- The result of `cover_all` in a commit holds of the tables that the caller sees, which are those in memory, since
 -- reserving memory doesn't change them.
-pub covers_both : (x y : Indexes) (changes given : List Change) (moves : ℕ) (room inside seen : Tables)
+pub covers_both : (x y : PostingIndexes) (changes given : List Change) (moves : ℕ) (room inside seen : Tables)
     (result : Result (Unit {0}) AllocError) → ((t : Tables) → DeltaFits given t → length t.move ≡ moves → Covers x t
     → CoversBoth y given t result)
     → given ≡ changes → room ≡ inside → inside ≡ seen → DeltaFits changes seen → length room.move ≡ moves

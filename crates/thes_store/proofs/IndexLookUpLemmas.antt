@@ -11,9 +11,9 @@ use Rattle.std.specs.Cmp.Lexicographic.{slice_cmp}
 use Rattle.std.specs.Ordering.{nat_cmp}
 use Rattle.thes_tables.specs.declared.rows.PostingRow.{PostingRow}
 use Rattle.thes_tables.specs.Tables.{Tables, IsIn, is_assigned_row}
-use Rattle.thes_store.specs.declared.indexes.Indexes.{Indexes}
+use Rattle.thes_store.specs.declared.posting_indexes.PostingIndexes.{PostingIndexes}
 use Rattle.thes_store.specs.declared.keys.Keys.{Keys}
-use Rattle.thes_store.specs.Index.{HasPosition, ArePositions}
+use Rattle.thes_store.specs.PositionSets.{HasPosition, ArePositions}
 use Rattle.thes_store.specs.Covers.{Covers}
 use Rattle.thes_store.specs.Keys.{KeyHasPosition, digest_of}
 use Rattle.thes_store.specs.RowsAtPositions.{is_move_of, rows_at_positions}
@@ -51,12 +51,12 @@ found_by_text x rows key place (Some row) is leads position_by_digest some none 
 place_of_standing : (concept : ℕ) (row : PostingRow) → is_assigned_row concept row ≡ true → row.place ≡ concept
 place_of_standing concept row e = eqb-true row.place concept (and_parts (not row.withdrawn) (row.place == concept) e).1
 
-pub standing_all : (x : Indexes) (t : Tables) (concept : ℕ) (places : List ℕ) → Covers x t
+pub standing_all : (x : PostingIndexes) (t : Tables) (concept : ℕ) (places : List ℕ) → Covers x t
     → ArePositions x.standing concept places → rows_at_positions (is_assigned_row concept) t.posting places
     ≡ assigned_posting_rows concept t.posting
 standing_all x t concept places covers are = grind (arith, common_steps, picked_all, place_of_standing)
 
-pub moves_all : (x : Indexes) (t : Tables) (n : ℕ) (places : List ℕ) → Covers x t → ArePositions x.moves n places
+pub moves_all : (x : PostingIndexes) (t : Tables) (n : ℕ) (places : List ℕ) → Covers x t → ArePositions x.moves n places
     → rows_at_positions (is_move_of n) t.move places ≡ filter (is_move_of n) t.move
 moves_all x t n places covers are =
     picked_all (is_move_of n) t.move places are.rises

@@ -17,8 +17,8 @@ use Rattle.thes_tables.specs.Tables.{IsIn}
 use Rattle.std.proofs.lemmas.List.{map-append, take_more}
 use Rattle.thes_tables.proofs.MoveRowLemmas.{get_at}
 use Rattle.thes_tables.proofs.RowSetLemmas.{in_append}
-use Rattle.thes_store.specs.declared.index.Index.{Index}
-use Rattle.thes_store.specs.Index.{ArePositions}
+use Rattle.thes_store.specs.declared.position_sets.PositionSets.{PositionSets}
+use Rattle.thes_store.specs.PositionSets.{ArePositions}
 use Rattle.thes_store.specs.RowsAtPositions.{filtered_option, rows_at_positions}
 
 pub in_keys : (ks : List ℕ) (place : ℕ) → list_any (is_at (nat_cmp place)) ks ≡ true → IsIn place ks
@@ -29,11 +29,11 @@ sorted_none : IsStrictlySortedBy nat_cmp []
 unfolding IsStrictlySortedBy
 sorted_none = tt
 
-pub some_places : (index : Index) (n : ℕ) (set : BTreeSet ℕ) (places : List ℕ) → slice_get index.sets.items n
+pub some_places : (index : PositionSets) (n : ℕ) (set : BTreeSet ℕ) (places : List ℕ) → slice_get index.sets.items n
     ≡ Some set → places ≡ set.keys → IsStrictlySortedBy nat_cmp set.keys → ArePositions index n places
 some_places index n set places found same rises = grind (arith, common_steps, in_keys)
 
-pub no_places : (index : Index) (n : ℕ) (places : List ℕ) → slice_get index.sets.items n ≡ None → places ≡ []
+pub no_places : (index : PositionSets) (n : ℕ) (places : List ℕ) → slice_get index.sets.items n ≡ None → places ≡ []
     → ArePositions index n places
 no_places index n places none same = grind (arith, common_steps, sorted_none)
 

@@ -3,7 +3,7 @@ pub mod Causes
 pub mod Covers
 pub mod FoundLoads
 pub mod Sinks
-pub mod Index
+pub mod PositionSets
 pub mod Keys
 pub mod Places
 pub mod Numbers

@@ -2,16 +2,15 @@
 #![tactic(auto)]
 
 mod added_row;
-pub mod fail_once;
-mod index;
-mod indexed_rows;
-mod indexes;
 pub mod keeper;
 mod keys;
+mod labels_and_links;
 pub mod mem;
 mod packed_label;
 mod places;
-pub mod row_output;
+mod position_sets;
+mod posting_indexes;
+pub mod row_encoding;
 pub mod sink;
 mod slots;
 mod tables;

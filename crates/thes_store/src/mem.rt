@@ -8,10 +8,10 @@ ghost use Rattle.thes_store.specs.RowsAtPositions.{is_move_of, filtered_option, 
 ghost use Rattle.thes_store.specs.Reading.{IsPostingOfKey, row_number};
 ghost use Rattle.thes_store.specs.Sinks.{SinkOutcome};
 
-use crate::indexes::{Indexes, cover_all};
 use crate::keeper::{Keeper, Posting};
 use crate::keys::Keys;
-use crate::row_output::yield_all;
+use crate::posting_indexes::{PostingIndexes, cover_all};
+use crate::row_encoding::yield_all;
 use crate::sink::{PostingSink, RowSink};
 use crate::tables::MemTables;
 use std::alloc::{AllocError, Global};
@@ -28,7 +28,7 @@ use thes_tables::rows::{MoveRow, PostingRow};
 pub struct MemKeeper {
     alloc: Global,
     tables: MemTables,
-    indexes: Indexes,
+    indexes: PostingIndexes,
 }
 
 impl Model for MemKeeper {
@@ -54,7 +54,7 @@ impl MemKeeper {
         MemKeeper {
             alloc,
             tables: MemTables::new(alloc, base),
-            indexes: Indexes::new(alloc),
+            indexes: PostingIndexes::new(alloc),
         }
     }
 }

@@ -12,8 +12,8 @@ ghost use Rattle.thes_store.specs.Room.{tables_in_memory, AllIndexed, HasRoomFor
 ghost use Rattle.thes_store.specs.Slots.{AreIndexedBy, IsReady, AppendsRow, RemovesRow};
 
 use crate::added_row::make_room;
-use crate::index::Index;
 use crate::packed_label::{PackedLabel, pack_labels};
+use crate::position_sets::PositionSets;
 use crate::slots::Slots;
 use std::alloc::{AllocError, Global};
 use std::collections::{BTreeSet, VecDeque};
@@ -76,7 +76,7 @@ impl MemTables {
     }
 
     /// Applies a change. `standing` is an index of the postings by place, as they are before the change.
-    pub fn apply_change(&mut self, change: Change, standing: &Index)
+    pub fn apply_change(&mut self, change: Change, standing: &PositionSets)
         requires ready { IsReadyForChanges (change ∷ []) self.old }
         requires standing { IndexesByPlace standing.now self.old.posting.items }
         ensures tables { tables_in_memory self.new ≡ tables_after_change change
@@ -109,7 +109,7 @@ impl MemTables {
 
     /// Applies changes in order. `standing` is an index that has each posting under its place before each of the
     /// changes.
-    pub fn apply_changes(&mut self, changes: Vec<Change>, standing: &Index)
+    pub fn apply_changes(&mut self, changes: Vec<Change>, standing: &PositionSets)
         requires ready { IsReadyForChanges changes.items self.old }
         requires standing { IndexesByPlaceThroughout
             standing.now changes.items (tables_in_memory self.old) }
@@ -219,7 +219,7 @@ fn move_at_positions(
 
 // Assigns all postings assigned to the source to the target. `standing` is an index of the postings
 // by place.
-fn move_all(postings: &mut Vec<PostingRow>, standing: &Index, source: ResNo, target: ResNo)
+fn move_all(postings: &mut Vec<PostingRow>, standing: &PositionSets, source: ResNo, target: ResNo)
     requires { IndexesByPlace standing.now postings.old.items }
     ensures items { postings.new.items ≡ map (row_after_move_all source target) postings.old.items }
     ensures room { KeepsRoom postings.old postings.new }

@@ -19,7 +19,7 @@ use thes_base::number::ResNo;
 use thes_base::text::{Iri, Tag, Text};
 
 impl Vocab {
-    /// Adds a resource that passes `check_new`, and returns its number, the next one.
+    /// Adds a scheme, or a resource that its check allows, and returns its number, the next one.
     pub fn add_resource(&mut self, new: NewResource) -> Result<ResNo, AllocError>
         requires allowed { unless_new self.old new accepted None }
         requires room { length self.old.resources + 1 < 2 ^ 32 }

@@ -14,27 +14,14 @@ ghost use Rattle.thes_vocab.specs.NewResources.{unless_new};
 ghost use Rattle.thes_vocab.specs.Rivals.{HasRival};
 
 use crate::vocab::{Vocab, resource_at};
-use thes_base::data::{Label, LabelKind, LabelValue, NewResource, ResourceKind};
+use thes_base::data::{Label, LabelKind, LabelValue, ResourceKind};
 use thes_base::fault::Refusal;
 use thes_base::number::ResNo;
 use thes_base::text::{Iri, Tag, Text};
 
 impl Vocab {
-    /// Checks whether the resource may be added: a scheme always, any other resource if
-    /// `check_concept`, `check_collection` or `check_outside` allows it.
-    pub fn check_new(&self, new: &NewResource) -> Option<Refusal>
-        ensures { unless_new self.now new.now accepted result }
-    {
-        match new {
-            NewResource::Scheme(_, _) => None,
-            NewResource::Concept(scheme, tag, text) => self.check_concept(*scheme, tag, text),
-            NewResource::Collection(scheme, _, _) => self.check_collection(*scheme),
-            NewResource::Outside(iri) => self.check_outside(iri),
-        }
-    }
-
     /// Checks whether a concept with this preferred label may be added: whether its scheme exists,
-    /// and no live concept of the scheme has the label.
+    /// and no live concept there has the label.
     pub fn check_concept(&self, scheme: ResNo, tag: &Tag, text: &Text) -> Option<Refusal>
         ensures { unless_new self.now
             (new_resource.Concept scheme tag.now text.now) accepted result }

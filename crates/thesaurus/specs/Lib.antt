@@ -32,9 +32,9 @@ pub use Rattle.thes_display.specs.Alphabetical
 pub use Rattle.thes_display.specs.DisplayWrites
 pub use Rattle.thes_display.specs.Hierarchical
 pub use Rattle.thes_display.specs.Order
+pub use Rattle.thes_exchange.specs.QueryAnswers
 pub use Rattle.thes_exchange.specs.ViewOf
 pub use Rattle.thes_exchange.specs.ViewTexts
-pub use Rattle.thes_exchange.specs.Viewing
 pub use Rattle.thes_export.specs.ExportWrites
 pub use Rattle.thes_http.specs.Connection
 pub use Rattle.thes_http.specs.Responses

@@ -1,6 +1,8 @@
 //! A vocabulary whose calls have no contracts. Each change is checked before it is applied.
 ghost use Rattle.std.specs.Prelude.{IsTrue, Some};
+ghost use Rattle.thes_base.specs.RefusalRules.{accepted};
 ghost use Rattle.thes_base.specs.Resources.{IsLiveConcept};
+ghost use Rattle.thes_vocab.specs.NewResources.{unless_new};
 ghost use Rattle.thes_vocab.specs.Vocabulary.{IsLiveOwner, IsReplacement};
 
 use std::alloc::{AllocError, Global};
@@ -75,6 +77,18 @@ fn may_replace(vocab: &Vocab, source: ResNo, target: ResNo) -> bool
     source != target && is_live_concept(vocab, target) && from.scheme == to.scheme
 }
 
+// Checks whether the resource may be added.
+fn check_new(vocab: &Vocab, new: &NewResource) -> Option<Refusal>
+    ensures { unless_new vocab.now new.now accepted result }
+{
+    match new {
+        NewResource::Scheme(_, _) => None,
+        NewResource::Concept(scheme, tag, text) => vocab.check_concept(*scheme, tag, text),
+        NewResource::Collection(scheme, _, _) => vocab.check_collection(*scheme),
+        NewResource::Outside(iri) => vocab.check_outside(iri),
+    }
+}
+
 /// A vocabulary under test, whose calls have no contracts.
 #[derive(Drop)]
 pub struct Fixture {
@@ -92,7 +106,7 @@ impl Fixture {
     }
 
     fn make(&mut self, new: NewResource) -> Result<Answer, AllocError> {
-        if let Some(refusal) = self.vocab.check_new(&new) {
+        if let Some(refusal) = check_new(&self.vocab, &new) {
             return Ok(Answer::No(refusal));
         }
         if self.vocab.resource_count() > 100 {

@@ -5,11 +5,11 @@ use crate::calls::answers::{
 };
 use std::alloc::Global;
 use std::fmt::Write;
+use test_keeper::fail_once::{FailOnce, Next};
 use test_keeper::failure::Failure;
 use test_keeper::workload::{merge, post_all};
 use thes_base::number::{PostNo, ResNo};
 use thes_base::text::Base;
-use thes_store::fail_once::{FailOnce, Next};
 use thes_store::keeper::Keeper;
 use thes_store::mem::MemKeeper;
 

@@ -4,7 +4,7 @@ use Rattle.thes_base.specs.Resources.{entry_at}
 use Rattle.thes_base.proofs.NumberedLemmas.{numbered_at}
 use Rattle.thes_tables.specs.Tables.{Tables, recorded_move}
 use Rattle.thes_tables.proofs.CellLemmas.{listed_one}
-use Rattle.thes_store.specs.Index.{ArePositions}
+use Rattle.thes_store.specs.PositionSets.{ArePositions}
 use Rattle.thes_store.specs.Covers.{Covers}
 use Rattle.thes_store.specs.RowsAtPositions.{is_move_of, rows_at_positions}
 use Rattle.thes_store.proofs.IndexLookUpLemmas.{moves_all}

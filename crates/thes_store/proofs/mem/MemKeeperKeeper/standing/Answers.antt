@@ -3,7 +3,7 @@ use Rattle.std.proofs.lemmas.Grind.{common_steps}
 use Rattle.thes_tables.specs.declared.rows.PostingRow.{PostingRow}
 use Rattle.thes_tables.specs.Tables.{Tables, is_assigned_row}
 use Rattle.thes_tables.proofs.CellLemmas.{listed_one}
-use Rattle.thes_store.specs.Index.{ArePositions}
+use Rattle.thes_store.specs.PositionSets.{ArePositions}
 use Rattle.thes_store.specs.Covers.{Covers}
 use Rattle.thes_store.specs.Sinks.{SinkOutcome}
 use Rattle.thes_store.specs.RowsAtPositions.{rows_at_positions}

@@ -1,0 +1,40 @@
+//! The examples of the library's page that share an office.
+use crate::commands::base;
+use crate::failure::Failure;
+use crate::office_example::open;
+use crate::{posting_examples, row_examples, text_examples, value_examples};
+use std::alloc::Global;
+use thesaurus::{Keeper, MemKeeper, Office, OfficeHandler};
+
+// Performs commands in an office, and appends what became of them and of their postings.
+fn run_in_office<K: Keeper>(
+    alloc: Global,
+    office: &mut Office<K>,
+    report: &mut String,
+) -> Result<(), Failure> {
+    value_examples::run(alloc, office, report)?;
+    posting_examples::run(alloc, office, report)
+}
+
+// Runs the examples over a handler, and then over its storage.
+fn run_over<K: Keeper + Drop>(
+    alloc: Global,
+    handler: OfficeHandler<K>,
+    report: &mut String,
+) -> Result<(), Failure> {
+    let mut handler = handler;
+    let result = text_examples::run(alloc, &mut handler, report);
+    let mut keeper = handler.into_office().into_keeper();
+    let rows = row_examples::run(alloc, &mut keeper, report);
+    let moves = posting_examples::run_in_storage(&mut keeper, report);
+    drop(keeper);
+    result.and(rows).and(moves)
+}
+
+/// Runs the examples, and appends their results.
+pub fn run(alloc: Global, report: &mut String) -> Result<(), Failure> {
+    let mut office = open(alloc, MemKeeper::new(alloc, base(alloc)?))?;
+    let result = run_in_office(alloc, &mut office, report);
+    let rest = run_over(alloc, OfficeHandler::new(office), report);
+    result.and(rest)
+}

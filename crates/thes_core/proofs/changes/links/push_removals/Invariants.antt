@@ -1,7 +1,0 @@
-use Rattle.std.proofs.Common.{◌≡◌, ◌++◌, drop, map}
-use Rattle.thes_tables.specs.Changes.{drop_link}
-use Rattle.thes_core.proofs.changes.links.push_removals.Given as goal
-
--- The changes so far, followed by those of the remaining links, are the whole list of changes.
-abbrev pub invariant-loop-link : goal.invariant-loop-link
-invariant-loop-link l = l.delta ++ map drop_link (drop l.link-index l.links) ≡ l.fn.delta ++ map drop_link l.links

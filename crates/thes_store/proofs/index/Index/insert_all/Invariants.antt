@@ -1,8 +1,0 @@
-use Rattle.std.proofs.Common.{ℕ, take}
-use Rattle.thes_tables.specs.Tables.{IsIn}
-use Rattle.thes_store.specs.Index.{HasPosition, KeepsPositions}
-use Rattle.thes_store.proofs.index.Index.insert_all.Given as goal
-
-abbrev pub invariant-loop-place : goal.invariant-loop-place
-invariant-loop-place l = KeepsPositions l.fn.self l.self × ((place : ℕ) → IsIn place (take l.place-index l.places)
-    → HasPosition l.self l.n place)

@@ -1,0 +1,103 @@
+//! An index from numbers to the positions of rows, for rows of which many have one number.
+ghost use Rattle.std.specs.Prelude.{◌≡◌, ℕ, slice_get, IfOk, OnOk};
+ghost use Rattle.std.specs.List.Sorted.{IsStrictlySortedBy};
+ghost use Rattle.std.specs.Option.{option_copied};
+ghost use Rattle.std.specs.Ordering.{nat_cmp};
+ghost use Rattle.thes_tables.specs.Tables.{IsIn};
+ghost use Rattle.thes_store.specs.PositionSets.{HasPosition, HasSet, KeepsPositions, ArePositions};
+
+use std::alloc::{AllocError, Global};
+use std::collections::BTreeSet;
+
+/// For each number, the positions at which its rows may be. A look-up checks the row at a position,
+/// so further positions do no harm. The sets are in a vector by number, so memory grows with the
+/// greatest number in use; resources and postings are numbered without gaps.
+#[derive(Drop)]
+pub struct PositionSets {
+    alloc: Global,
+    sets: Vec<BTreeSet<usize>>,
+}
+
+impl PositionSets {
+    /// Creates an empty index without allocating.
+    pub fn new(alloc: Global) -> PositionSets {
+        PositionSets {
+            alloc,
+            sets: Vec::new(alloc),
+        }
+    }
+
+    /// Inserts a position under a number, unless it is there.
+    pub fn insert(&mut self, n: u32, place: usize) -> Result<(), AllocError>
+        ensures keeps { KeepsPositions self.old self.new }
+        ensures ok { OnOk result (HasPosition self.new n place) }
+    {
+        self.open(n)?;
+        self.insert_in(n, place)
+    }
+
+    // Adds empty sets until the number has one; does nothing if it has one already.
+    fn open(&mut self, n: u32) -> Result<(), AllocError>
+        ensures keeps { KeepsPositions self.old self.new }
+        ensures set { OnOk result (HasSet self.new n) }
+    {
+        'opening: while self.sets.len() <= n as usize {
+            self.sets.push(BTreeSet::new(self.alloc))?;
+        }
+        Ok(())
+    }
+
+    // Inserts a position into the set of a number that has one.
+    fn insert_in(&mut self, n: u32, place: usize) -> Result<(), AllocError>
+        requires { HasSet self.old n }
+        ensures keeps { KeepsPositions self.old self.new }
+        ensures ok { OnOk result (HasPosition self.new n place) }
+    {
+        if let Some(set) = self.sets.get_mut(n as usize) {
+            set.insert(place)?;
+        }
+        Ok(())
+    }
+
+    /// Inserts several positions under a number; if memory runs out, perhaps only some of them.
+    pub fn insert_all(&mut self, n: u32, places: &[usize]) -> Result<(), AllocError>
+        ensures keeps { KeepsPositions self.old self.new }
+        ensures ok { OnOk result ((place : ℕ) → IsIn place places.now
+            → HasPosition self.new n place) }
+    {
+        for place in places {
+            self.insert(n, *place)?;
+        }
+        Ok(())
+    }
+
+    /// Returns the positions under a number, or None if it has no set.
+    pub fn set(&self, n: u32) -> Option<&BTreeSet<usize>>
+        ensures { option_copied result ≡ slice_get self.now.sets.items n }
+    {
+        self.sets.get(n as usize)
+    }
+
+    /// Returns the positions under a number in ascending order, as a list.
+    pub fn places(&self, n: u32) -> Result<Vec<usize>, AllocError>
+        ensures { IfOk result (λ places. ArePositions self.now n places.items) }
+    {
+        match self.set(n) {
+            Some(set) => {
+                let places = collect_positions(self.alloc, set)?;
+                Ok(places)
+            }
+            None => Ok(Vec::new(self.alloc)),
+        }
+    }
+}
+
+// Returns the elements of a set in ascending order, as a list.
+fn collect_positions(alloc: Global, set: &BTreeSet<usize>) -> Result<Vec<usize>, AllocError>
+    ensures places { IfOk result (λ places. places.items ≡ set.now.keys) }
+    ensures rises { IsStrictlySortedBy nat_cmp set.now.keys }
+{
+    let mut places = Vec::new(alloc);
+    places.extend(set.iter().copied())?;
+    Ok(places)
+}
