@@ -18,10 +18,10 @@ use Rattle.thes_links.specs.declared.relation.Relation.TheVariants.{Broader, Nar
 use Rattle.thes_links.specs.LinkEdit.{HeldAfter, CoversAt}
 use Rattle.thes_links.specs.Steps.{Steps, Reaches, IsReachOf, IsSearchedUpTo}
 use Rattle.thes_walks.specs.SideSearch.{IsSearchResult, link_visits, read_cost, IsHierarchy, IsSideSearch, LeadsTo}
-use Rattle.thes_walks.specs.SideSearch.{IsReadBounded, IsAdvanceResult}
+use Rattle.thes_walks.specs.SideSearch.{IsReadBounded, IsAdvanceResult, AreAmong}
 use Rattle.thes_links.proofs.PivotLemmas.{Reaches-then_chain, Chain-one}
 use Rattle.thes_walks.proofs.ProbeLemmas.{Path-last}
-use Rattle.thes_links.proofs.ReachLemmas.{IsSearchedUpTo-start, IsSearchedUpTo-more, IsSearchedUpTo-end}
+use Rattle.thes_links.proofs.ReachLemmas.{no_others, IsSearchedUpTo-start, IsSearchedUpTo-more, IsSearchedUpTo-end}
 use Rattle.thes_walks.proofs.ReadCostLemmas.{spent_one}
 
 pub hierarchy_is_one_sided : (r : Relation) → IsHierarchy r → IsOneSided r
@@ -103,21 +103,22 @@ module _ (edit : LinkEdit) (held : Links) (relation : Relation) (goals : List �
       here : Contains old.nodes x
       here = subst (λ (w : ℕ). Contains old.nodes w) (sym at) (Contains-get_or old.nodes old.next 0 inside)
 
-      pub IsAdvanceResult-more : (found : Bool) → IsSearchResult found old.nodes new.nodes goals (S x)
-          → IsAdvanceResult edit held relation goals start new after found
-      IsAdvanceResult-more true (y, has, leads) = (
+      pub IsAdvanceResult-more : (all : List ℕ) → AreAmong goals all → (found : Bool)
+          → IsSearchResult found old.nodes new.nodes all (S x)
+          → IsAdvanceResult edit held relation goals all start new after found
+      IsAdvanceResult-more all among true (y, has, leads) = (
         (y, has, Reaches-then_chain S start x y (is.closed.sound x here) (Chain-one S x y leads)),
         paid_by old.nodes (old.next + 1) after is.closed.distinct is.closed.sound (omega arith)
             (spent_more old.nodes [] (sym (append-nil old.nodes))),
       )
-      IsAdvanceResult-more false (grows, off) =
+      IsAdvanceResult-more all among false (grows, off) =
           let grown : new.nodes ≡ old.nodes ++ grows.extends.0 = grows.extends.1 in record {
             closed = subst (IsSearchedUpTo S start new.nodes) (sym next)
                 (IsSearchedUpTo-more S start old.nodes new.nodes old.next x inside at grows is.closed);
             no_goal = λ k lt. below_more (λ k. (y : ℕ) → Contains goals y → S (get_or new.nodes k 0) y → ⊥) old.next
                 (λ k lt y has leads. is.no_goal k lt y has (let P : ℕ → Type 0 = λ w. S w y in
                 subst P (same new.nodes grows.extends.0 grown k (omega arith)) leads))
-                (λ y has leads. off y has (let P : ℕ → Type 0 = λ w. S w y in
+                (λ y has leads. off y (among y has) (let P : ℕ → Type 0 = λ w. S w y in
                 subst P (same new.nodes grows.extends.0 grown old.next inside ∙ sym at) leads))
                 k (omega (arith, next));
             cost = λ ns covers.
@@ -149,10 +150,16 @@ module _ (edit : LinkEdit) (held : Links) where
       side_search a
   IsSideSearch-less relation goals start side_search a b less is = grind (arith, common_steps)
 
-  pub IsAdvanceResult-less : (relation : Relation) (goals : List ℕ) (start : ℕ) (side_search : SideSearch) (a b : ℕ)
-      → a ≤ b → (found : Bool) → IsAdvanceResult edit held relation goals start side_search b found
-      → IsAdvanceResult edit held relation goals start side_search a found
-  IsAdvanceResult-less relation goals start side_search a b less true (leads, paid) =
+  pub IsAdvanceResult-less : (relation : Relation) (kept goals : List ℕ) (start : ℕ) (side_search : SideSearch)
+      (a b : ℕ) → a ≤ b → (found : Bool) → IsAdvanceResult edit held relation kept goals start side_search b found
+      → IsAdvanceResult edit held relation kept goals start side_search a found
+  IsAdvanceResult-less relation kept goals start side_search a b less true (leads, paid) =
       (leads, λ ns covers. omega (arith, less, paid ns covers))
-  IsAdvanceResult-less relation goals start side_search a b less false is = IsSideSearch-less relation goals start
+  IsAdvanceResult-less relation kept goals start side_search a b less false is = IsSideSearch-less relation kept start
       side_search a b less is
+
+  -- A search has met the node from which it started.
+  pub has_start : (relation : Relation) (kept : List ℕ) (start : ℕ) (side_search : SideSearch) (read : ℕ)
+      → IsSideSearch edit held relation kept start side_search read → AreAmong (start ∷ []) side_search.nodes
+  has_start relation kept start side_search read is y has =
+      subst (λ (w : ℕ). Contains side_search.nodes w) (no_others start y has) is.closed.starts

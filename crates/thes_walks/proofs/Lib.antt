@@ -9,3 +9,4 @@ mod AdvanceLemmas
 mod MergeStepLemmas
 mod UpwardLinkLemmas
 mod PairedSearchLemmas
+mod TurnLemmas

@@ -1,6 +1,6 @@
 -- Two searches, one from each end of a link, decide whether a chain leads from the first end to the second. They make
 -- at most two visits for each link near the first end.
-use Rattle.std.proofs.Common.{◌≡◌, ◌≢◌, ◌+◌, ◌-◌, ◌≤◌, ◌<◌, ◌⊎◌, inl, inr, ℕ, List, [], ◌∷◌, length, sym, subst}
+use Rattle.std.proofs.Common.{◌≡◌, ◌≢◌, ◌+◌, ◌-◌, ◌≤◌, ◌<◌, ◌⊎◌, inl, inr, ℕ, [], ◌∷◌, length, sym}
 use Rattle.std.proofs.Common.{arith, Bool, true, false, refl}
 use Rattle.std.specs.Bool.{MatchBool}
 use Rattle.thes_base.specs.declared.data.Link.{Link}
@@ -13,12 +13,11 @@ use Rattle.thes_links.specs.declared.relation.Relation.TheVariants.{Broader, Nar
 use Rattle.thes_links.specs.declared.edit.LinkEdit.TheVariants.{NoEdit}
 use Rattle.thes_walks.specs.declared.side_search.SideSearch.{SideSearch}
 use Rattle.thes_links.specs.Steps.{Steps}
-use Rattle.thes_walks.specs.SideSearch.{IsHierarchy, IsSideSearch, IsAdvanceResult}
-use Rattle.thes_walks.specs.PairedSearch.{converse, AreVisitsBounded, ArePairedSearches, HasFoundGoal}
-use Rattle.thes_links.proofs.ReachLemmas.{no_others}
-use Rattle.thes_links.proofs.PivotLemmas.{Chain-turn}
+use Rattle.thes_walks.specs.SideSearch.{IsHierarchy, IsSideSearch, LeadsTo, ContinuesSearch}
+use Rattle.thes_walks.specs.PairedSearch.{converse, AreVisitsBounded, ArePairedSearches, HasFoundChain}
+use Rattle.thes_links.proofs.PivotLemmas.{Chain-turn, Chain-then_reach, Reaches-then_chain, Reaches-turn}
 use Rattle.thes_walks.proofs.ProbeLemmas.{narrower_from, narrower_to}
-use Rattle.thes_walks.proofs.AdvanceLemmas.{IsSideSearch-start, IsSideSearch-paid, IsSideSearch-no_goal}
+use Rattle.thes_walks.proofs.AdvanceLemmas.{IsSideSearch-start, IsSideSearch-paid, IsSideSearch-no_goal, has_start}
 
 pub converse_is_hierarchy : (r : Relation) → IsHierarchy r → IsHierarchy (converse r)
 converse_is_hierarchy Broader walked = tt
@@ -49,102 +48,114 @@ module _ (held : Links) where
     back_chain = Chain-turn (Steps (converse relation) (Holds held)) (Steps relation (Holds held))
         (back_step relation walked)
 
-    module _ (froms tos : List ℕ) (from to before : ℕ) where
+    module _ (from to before : ℕ) where
+      -- If the first search leads to a node that the second has met, or the other way round, a chain leads from one end
+      -- to the other.
+      met_first : (second : SideSearch) (b : ℕ) → IsSideSearch NoEdit held (converse relation) (from ∷ []) to second b
+          → LeadsTo NoEdit held relation second.nodes from → Chain (Steps relation (Holds held)) from to
+      met_first second b two (y, has, chain) =
+          Chain-then_reach (Steps relation (Holds held)) from y to chain
+          (Reaches-turn (Steps (converse relation) (Holds held)) (Steps relation (Holds held))
+          (back_step relation walked) to y (two.closed.sound y has))
+
+      met_second : (first : SideSearch) (a : ℕ) → IsSideSearch NoEdit held relation (to ∷ []) from first a
+          → LeadsTo NoEdit held (converse relation) first.nodes to → Chain (Steps relation (Holds held)) from to
+      met_second first a one (y, has, chain) =
+          Reaches-then_chain (Steps relation (Holds held)) from y to (one.closed.sound y has) (back_chain to y chain)
+
       pub ArePairedSearches-start : (first second : SideSearch) → first.nodes ≡ from ∷ [] → first.next ≡ 0
           → second.nodes ≡ to ∷ [] → second.next ≡ 0
-          → ArePairedSearches held relation froms tos from to first second 0 before before
+          → ArePairedSearches held relation from to first second 0 before before
       ArePairedSearches-start first second f i s j = (
         0,
         0,
-        IsSideSearch-start NoEdit held relation tos from first f i,
-        IsSideSearch-start NoEdit held (converse relation) froms to second s j,
+        IsSideSearch-start NoEdit held relation (to ∷ []) from first f i,
+        IsSideSearch-start NoEdit held (converse relation) (from ∷ []) to second s j,
         omega arith,
         omega arith,
       )
 
-      -- A step of the first search keeps the state of the two, or finds a goal.
-      pub first_step : (first later second : SideSearch) (left more size count after : ℕ) (found : Bool) → more ≤ left
-          + size → after ≤ count + size
-          → ((read : ℕ) → IsSideSearch NoEdit held relation tos from first read → IsAdvanceResult NoEdit held relation
-          tos from later (read + size) found)
-          → ArePairedSearches held relation froms tos from to first second left before count
-          → MatchBool found (HasFoundGoal held relation froms tos from to before after)
-          (ArePairedSearches held relation froms tos from to later second more before after)
-      first_step first later second left more size count after true room cost advances (a, b, one, two, within, paid) =
-          let on = advances a one in (inl on.0, λ ns covers. omega (arith, on.1 ns covers, within, paid, cost))
-      first_step first later second left more size count after false room cost advances (a, b, one, two, within, paid) =
-          (a + size, b, advances a one, two, omega (arith, within, room), omega (arith, paid, cost))
+      -- A turn of the first search keeps the state of the two, or finds a chain.
+      pub first_turn : (first later second : SideSearch) (left more count after : ℕ) (met : Bool) → more ≤ left
+          + (after - count)
+          → ContinuesSearch NoEdit held relation second.nodes first later (after - count) met
+          → ArePairedSearches held relation from to first second left before count
+          → MatchBool met (HasFoundChain held relation from to before after)
+          (ArePairedSearches held relation from to later second more before after)
+      first_turn first later second left more count after true room advances (a, b, one, two, within, paid) =
+          let on = advances (to ∷ []) (has_start NoEdit held (converse relation) (from ∷ []) to second b two) from a
+          one in
+          (met_first second b two on.0, λ ns covers. omega (arith, on.1 ns covers, within, paid))
+      first_turn first later second left more count after false room advances (a, b, one, two, within, paid) = (
+        a + (after - count),
+        b,
+        advances (to ∷ []) (has_start NoEdit held (converse relation) (from ∷ []) to second b two) from a one,
+        two,
+        omega (arith, within, room),
+        omega (arith, paid),
+      )
 
-      -- A step of the second search keeps the state of the two, or finds a goal.
-      pub second_step : (first second later : SideSearch) (left size count after : ℕ) (found : Bool) → size ≤ left
-          → after ≤ count + size
-          → ((read : ℕ) → IsSideSearch NoEdit held (converse relation) froms to second read → IsAdvanceResult NoEdit
-          held (converse relation) froms to later (read + size) found)
-          → ArePairedSearches held relation froms tos from to first second left before count
-          → MatchBool found (HasFoundGoal held relation froms tos from to before after)
-          (ArePairedSearches held relation froms tos from to first later (left - size) before after)
-      second_step first second later left size count after true room cost advances (a, b, one, two, within, paid) =
-          let on = advances b two in (
-            inr on.0,
+      -- A turn of the second search keeps the state of the two, or finds a chain.
+      pub second_turn : (first second later : SideSearch) (left more count after : ℕ) (met : Bool) → more ≤ left
+          → after ≤ count + (left - more)
+          → ContinuesSearch NoEdit held (converse relation) first.nodes second later (left - more) met
+          → ArePairedSearches held relation from to first second left before count
+          → MatchBool met (HasFoundChain held relation from to before after)
+          (ArePairedSearches held relation from to first later more before after)
+      second_turn first second later left more count after true room cost advances (a, b, one, two, within, paid) =
+          let on = advances (from ∷ []) (has_start NoEdit held relation (to ∷ []) from first a one) to b two in (
+            met_second first a one on.0,
             λ ns covers. omega (
               arith,
-              IsSideSearch-paid NoEdit held relation tos from walked first a one ns
-                  covers,
+              IsSideSearch-paid NoEdit held relation (to ∷ []) from walked first a one ns covers,
               within,
               paid,
               cost,
               room,
             ),
           )
-      second_step first second later left size count after false room cost advances (a, b, one, two, within, paid) =
-          (a, b + size, one, advances b two, omega (arith, within, room), omega (arith, paid, cost))
+      second_turn first second later left more count after false room cost advances (a, b, one, two, within, paid) = (
+        a,
+        b + (left - more),
+        one,
+        advances (from ∷ []) (has_start NoEdit held relation (to ∷ []) from first a one) to b two,
+        omega (arith, within, room),
+        omega (arith, paid, cost),
+      )
 
-      pub ArePairedSearches-paid : (first second : SideSearch) (left count : ℕ) → ArePairedSearches held relation
-          froms tos from to first second left before count
-          → AreVisitsBounded held relation from before count
-      ArePairedSearches-paid first second left count (a, b, one, two, within, paid) ns covers =
-          omega (arith, IsSideSearch-paid NoEdit held relation tos from walked first a one ns covers, within, paid)
+      module _ (first second : SideSearch) (after : ℕ) where
+        abbrev Ended : Type 0
+        Ended = (left : ℕ) × ArePairedSearches held relation from to first second left before after
 
-    module _ (from to before : ℕ) (first second : SideSearch) (after : ℕ) where
-      abbrev Led : Type 0
-      Led = HasFoundGoal held relation (from ∷ []) (to ∷ []) from to before after
+        -- If one search is done without a goal, no chain leads from one end to the other.
+        none_from : (length first.nodes ≤ first.next) ⊎ (length second.nodes ≤ second.next) → Ended
+            → Chain (Steps relation (Holds held)) from to → ⊥
+        none_from (inl done) (left, (a, b, one, two, within, paid)) chain =
+            IsSideSearch-no_goal NoEdit held relation (to ∷ []) from first a done one (to, Contains-head to [], chain)
+        none_from (inr done) (left, (a, b, one, two, within, paid)) chain =
+            IsSideSearch-no_goal NoEdit held (converse relation) (from ∷ []) to second b done two
+            (from, Contains-head from [], chain_back from to chain)
 
-      abbrev Ended : Type 0
-      Ended = (left : ℕ) × ArePairedSearches held relation (from ∷ []) (to ∷ []) from to first second left before after
+        -- The two searches decide whether a chain leads from one end to the other.
+        pub PairedSearch-chain : (met : Bool) → (met ≡ false → first.next < length first.nodes → length second.nodes
+            ≤ second.next) → MatchBool met (HasFoundChain held relation from to before after) Ended
+            → MatchBool met (Chain (Steps relation (Holds held)) from to)
+            (Chain (Steps relation (Holds held)) from to → ⊥)
+        PairedSearch-chain true done found = found.0
+        PairedSearch-chain false done ended = none_from (which first.next (length first.nodes) (done refl)) ended
+          where
+            which : (i n : ℕ) → (i < n → length second.nodes ≤ second.next) → (n ≤ i)
+                ⊎ (length second.nodes ≤ second.next)
+            which i n then = elim (within i n) [ inl past ↦ inl past | inr more ↦ inr (then more) ]
+              where
+                within : (i n : ℕ) → (n ≤ i) ⊎ (i < n)
+                within i n = grind arith
 
-      -- If one search is done without a goal, no chain leads from one end to the other.
-      none_from : (length first.nodes ≤ first.next) ⊎ (length second.nodes ≤ second.next) → Ended
-          → Chain (Steps relation (Holds held)) from to → ⊥
-      none_from (inl done) (left, (a, b, one, two, within, paid)) chain =
-          IsSideSearch-no_goal NoEdit held relation (to ∷ []) from first a done one (to, Contains-head to [], chain)
-      none_from (inr done) (left, (a, b, one, two, within, paid)) chain =
-          IsSideSearch-no_goal NoEdit held (converse relation) (from ∷ []) to second b done two
-          (from, Contains-head from [], chain_back from to chain)
-
-      -- The two searches decide whether a chain leads from one end to the other.
-      pub PairedSearch-chain : (found : Bool) → (found ≡ false → first.next < length first.nodes → length second.nodes
-          ≤ second.next) → MatchBool found Led Ended
-          → MatchBool found (Chain (Steps relation (Holds held)) from to)
-          (Chain (Steps relation (Holds held)) from to → ⊥)
-      PairedSearch-chain true done (inl (y, has, chain), paid) =
-          subst (λ (w : ℕ). Chain (Steps relation (Holds held)) from w) (sym (no_others to y has)) chain
-      PairedSearch-chain true done (inr (y, has, chain), paid) =
-          subst (λ (w : ℕ). Chain (Steps relation (Holds held)) w to) (sym (no_others from y has))
-          (back_chain to y chain)
-      PairedSearch-chain false done ended = none_from (which first.next (length first.nodes) (done refl)) ended
-        where
-          which : (i n : ℕ) → (i < n → length second.nodes ≤ second.next) → (n ≤ i)
-              ⊎ (length second.nodes ≤ second.next)
-          which i n then = elim (within i n) [ inl past ↦ inl past | inr more ↦ inr (then more) ]
-            where
-              within : (i n : ℕ) → (n ≤ i) ⊎ (i < n)
-              within i n = grind arith
-
-      pub PairedSearch-paid : (found : Bool) → MatchBool found Led Ended → AreVisitsBounded held relation from before
-          after
-      PairedSearch-paid true led = led.1
-      PairedSearch-paid false (left, are) = ArePairedSearches-paid (from ∷ []) (to ∷ []) from to before first second
-          left after are
+        pub PairedSearch-paid : (met : Bool) → MatchBool met (HasFoundChain held relation from to before after) Ended
+            → AreVisitsBounded held relation from before after
+        PairedSearch-paid true found ns covers = found.1 ns covers
+        PairedSearch-paid false (left, (a, b, one, two, within, paid)) ns covers =
+            omega (arith, IsSideSearch-paid NoEdit held relation (to ∷ []) from walked first a one ns covers, within, paid)
 
 -- Chains from either end decide whether one end of a link is above the other.
 module _ (Held : Link → Type 0) (l : Link) where

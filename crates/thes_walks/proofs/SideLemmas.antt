@@ -1,6 +1,6 @@
 -- The links of a relation lie on its side of a node.
 use Rattle.std.proofs.lemmas.Grind.{common_steps}
-use Rattle.std.proofs.Common.{◌≡◌, ◌≢◌, ◌==◌, ◌-◌, ◌<◌, ◌≤◌, ℕ, List, true, false}
+use Rattle.std.proofs.Common.{◌≡◌, ◌≢◌, ◌==◌, ◌<◌, ◌≤◌, ℕ, List, true, false}
 use Rattle.std.proofs.Common.{Some, slice_get, refl, sym}
 use Rattle.std.proofs.Common.{ap, ◌∙◌, arith}
 use Rattle.std.proofs.lemmas.Bool.{false_from_ne_true}
@@ -13,7 +13,7 @@ use Rattle.thes_base.specs.declared.data.Direction.TheVariants.{Either}
 use Rattle.thes_base.specs.Links.{Links, Holds, broader_direction, related_direction, exact_direction, LinkLeads}
 use Rattle.thes_links.specs.declared.relation.Relation.{Relation}
 use Rattle.thes_links.specs.declared.relation.Relation.TheVariants as relation
-use Rattle.thes_links.specs.declared.side.Side.TheVariants.{Up, Sideways, Alike, Down, Apart}
+use Rattle.thes_links.specs.declared.side.Side.TheVariants.{Up, Sideways, Alike, Down}
 use Rattle.thes_links.specs.declared.side.Part.{Part}
 use Rattle.thes_links.specs.Side.{side_by_directions, side_at, IsPart, IsOneSided, side_in}
 use Rattle.thes_links.specs.Reading.{HaveTwoEnds, IsRow}

@@ -1,6 +1,6 @@
 -- Two alternating searches, up from the high node and down from the low one, find what a link up would break. They make
 -- at most four visits for each link near it.
-use Rattle.std.proofs.Common.{◌≡◌, ◌+◌, ◌-◌, ◌*◌, ◌≤◌, inl, inr, ℕ, List, [], ◌∷◌, length, sym, subst, arith}
+use Rattle.std.proofs.Common.{◌≡◌, ◌+◌, ◌-◌, ◌*◌, ◌≤◌, inl, inr, ℕ, List, [], ◌∷◌, length, arith}
 use Rattle.std.proofs.Common.{Contains, Bool, true, false, Option, Some, None, ap, take, get_or}
 use Rattle.std.proofs.lemmas.List.{take_all}
 use Rattle.std.proofs.lemmas.List.Elements.{Contains-get_or}
@@ -18,15 +18,14 @@ use Rattle.thes_walks.specs.declared.side_search.SideSearch.{SideSearch}
 use Rattle.thes_links.specs.Side.{side_in}
 use Rattle.thes_links.specs.LinkEdit.{HeldAfter, CoversAt}
 use Rattle.thes_links.specs.Steps.{Steps, Reaches}
-use Rattle.thes_walks.specs.SideSearch.{read_cost, IsHierarchy, IsSideSearch, LeadsTo, IsAdvanceResult, AreAlternating}
-use Rattle.thes_walks.specs.SideSearch.{HasEitherFoundGoal, IsSecondResult, IsBrokenBetween, CoversBetween}
-use Rattle.thes_links.proofs.ReachLemmas.{no_others}
-use Rattle.thes_links.proofs.PivotLemmas.{Chain-turn}
+use Rattle.thes_walks.specs.SideSearch.{read_cost, IsHierarchy, IsSideSearch, LeadsTo, ContinuesSearch}
+use Rattle.thes_walks.specs.SideSearch.{AreAlternating, HasFoundCycle, IsSecondResult, IsBrokenBetween, CoversBetween}
+use Rattle.thes_links.proofs.PivotLemmas.{Chain-turn, Chain-then_reach, Reaches-then_chain}
 use Rattle.thes_walks.proofs.ProbeLemmas.{narrower_from, narrower_to, below_from, below_to}
 use Rattle.thes_walks.proofs.KindLemmas.{related_turns}
 use Rattle.thes_walks.proofs.ReadCostLemmas.{spent_two}
 use Rattle.thes_walks.proofs.AdvanceLemmas.{IsSideSearch-start, IsSideSearch-paid, IsSideSearch-reach}
-use Rattle.thes_walks.proofs.AdvanceLemmas.{IsSideSearch-no_goal, leads_one_way}
+use Rattle.thes_walks.proofs.AdvanceLemmas.{IsSideSearch-no_goal, leads_one_way, has_start}
 
 module _ (edit : LinkEdit) (held : Links) where
   abbrev Would : Link → Type 0
@@ -39,75 +38,81 @@ module _ (edit : LinkEdit) (held : Links) where
     pub covers_down : (n : ℕ) → Reaches (Steps Narrower Would) low n → CoversAt edit held n ns
     covers_down n r = covers n (inl (below_from Would low n r))
 
+  -- If the search up leads to a node that the search down has met, or the other way round, a chain leads from the high
+  -- node up to the low one.
+  module _ (low high : ℕ) where
+    pub met_up : (down : SideSearch) (b : ℕ) → IsSideSearch edit held Narrower (high ∷ []) low down b
+        → LeadsTo edit held Broader down.nodes high → IsBelow Would high low
+    met_up down b is (y, has, chain) =
+        Chain-then_reach (IsNarrower Would) high y low chain (below_from Would low y (is.closed.sound y has))
+
+    pub met_down : (up : SideSearch) (a : ℕ) → IsSideSearch edit held Broader (low ∷ []) high up a
+        → LeadsTo edit held Narrower up.nodes low → IsBelow Would high low
+    met_down up a is (y, has, chain) =
+        Reaches-then_chain (IsNarrower Would) high y low (is.closed.sound y has)
+        (Chain-turn (Steps Narrower Would) (IsNarrower Would) (narrower_from Would low) low y chain)
+
   -- Assumes the state of both searches.
-  module _ (lows highs : List ℕ) (low high from : ℕ) (up down : SideSearch) where
+  module _ (low high from : ℕ) (up down : SideSearch) where
     pub AreAlternating-start : (count : ℕ) → up.nodes ≡ high ∷ [] → up.next ≡ 0 → down.nodes ≡ low ∷ [] → down.next
-        ≡ 0 → AreAlternating edit held lows highs low high up down count count
+        ≡ 0 → AreAlternating edit held low high up down count count
     AreAlternating-start count u i d j = (
       0,
       0,
-      IsSideSearch-start edit held Broader lows high up u i,
-      IsSideSearch-start edit held Narrower highs low down d j,
+      IsSideSearch-start edit held Broader (low ∷ []) high up u i,
+      IsSideSearch-start edit held Narrower (high ∷ []) low down d j,
       omega arith,
     )
 
     pub turn_up : (later : SideSearch) (before count : ℕ) (found : Bool)
-        → ((read : ℕ) → IsSideSearch edit held Broader lows high up read → IsAdvanceResult edit held Broader lows high
-        later (read + (count - before)) found)
-        → AreAlternating edit held lows highs low high up down from before
-        → MatchBool found (HasEitherFoundGoal edit held lows highs low high from count)
-        (AreAlternating edit held lows highs low high later down from count)
+        → ContinuesSearch edit held Broader down.nodes up later (count - before) found
+        → AreAlternating edit held low high up down from before
+        → MatchBool found (HasFoundCycle edit held low high from count)
+        (AreAlternating edit held low high later down from count)
     turn_up later before count true advances (a, b, u, d, paid) =
-        let on = advances a u in (
-          inl on.0,
+        let on = advances (low ∷ []) (has_start edit held Narrower (high ∷ []) low down b d) high a u in (
+          met_up low high down b d on.0,
           λ ns covers. omega (
             arith,
             paid,
             on.1 ns (covers_up low high ns covers),
-            IsSideSearch-paid edit held Narrower highs low tt down b d ns (covers_down low high ns covers),
+            IsSideSearch-paid edit held Narrower (high ∷ []) low tt down b d ns (covers_down low high ns covers),
           ),
         )
-    turn_up later before count false advances (a, b, u, d, paid) =
-        (a + (count - before), b, advances a u, d, omega (arith, paid))
+    turn_up later before count false advances (a, b, u, d, paid) = (
+      a + (count - before),
+      b,
+      advances (low ∷ []) (has_start edit held Narrower (high ∷ []) low down b d) high a u,
+      d,
+      omega (arith, paid),
+    )
 
     pub turn_down : (later : SideSearch) (before count : ℕ) (found : Bool)
-        → ((read : ℕ) → IsSideSearch edit held Narrower highs low down read → IsAdvanceResult edit held Narrower highs
-        low later (read + (count - before)) found)
-        → AreAlternating edit held lows highs low high up down from before
-        → MatchBool found (HasEitherFoundGoal edit held lows highs low high from count)
-        (AreAlternating edit held lows highs low high up later from count)
+        → ContinuesSearch edit held Narrower up.nodes down later (count - before) found
+        → AreAlternating edit held low high up down from before
+        → MatchBool found (HasFoundCycle edit held low high from count)
+        (AreAlternating edit held low high up later from count)
     turn_down later before count true advances (a, b, u, d, paid) =
-        let on = advances b d in (
-          inr on.0,
+        let on = advances (high ∷ []) (has_start edit held Broader (low ∷ []) high up a u) low b d in (
+          met_down low high up a u on.0,
           λ ns covers. omega (
             arith,
             paid,
             on.1 ns (covers_down low high ns covers),
-            IsSideSearch-paid edit held Broader lows high tt up a u ns (covers_up low high ns covers),
+            IsSideSearch-paid edit held Broader (low ∷ []) high tt up a u ns (covers_up low high ns covers),
           ),
         )
-    turn_down later before count false advances (a, b, u, d, paid) =
-        (a, b + (count - before), u, advances b d, omega (arith, paid))
+    turn_down later before count false advances (a, b, u, d, paid) = (
+      a,
+      b + (count - before),
+      u,
+      advances (high ∷ []) (has_start edit held Broader (low ∷ []) high up a u) low b d,
+      omega (arith, paid),
+    )
 
   -- A chain of broader concepts, read backwards, is a chain of narrower ones.
   chain_down : (low high : ℕ) → IsBelow Would high low → Chain (Steps Narrower Would) low high
   chain_down low high = Chain-turn (IsNarrower Would) (Steps Narrower Would) (narrower_to Would low) high low
-
-  chain_up : (low high : ℕ) → Chain (Steps Narrower Would) low high → IsBelow Would high low
-  chain_up low high = Chain-turn (Steps Narrower Would) (IsNarrower Would) (narrower_from Would low) low high
-
-  pub found_up : (low high : ℕ) → LeadsTo edit held Broader (low ∷ []) high → IsBelow Would high low
-  found_up low high (y, has, chain) = subst (λ (w : ℕ). IsBelow Would high w) (sym (no_others low y has)) chain
-
-  pub found_down : (low high : ℕ) → LeadsTo edit held Narrower (high ∷ []) low → IsBelow Would high low
-  found_down low high (y, has, chain) =
-      chain_up low high (subst (λ (w : ℕ). Chain (Steps Narrower Would) low w) (sym (no_others high y has)) chain)
-
-  pub HasEitherFoundGoal-cycle : (low high from count : ℕ)
-      → HasEitherFoundGoal edit held (low ∷ []) (high ∷ []) low high from count
-      → IsBelow Would high low
-  HasEitherFoundGoal-cycle low high from count (met, paid) =
-      elim met [ inl u ↦ found_up low high u | inr d ↦ found_down low high d ]
 
   -- Assumes that the search up is done, and the search down is finished.
   module _ (low high : ℕ) (up down : SideSearch) (a : ℕ) (done : length up.nodes ≤ up.next)
@@ -119,14 +124,14 @@ module _ (edit : LinkEdit) (held : Links) where
       above,
     )
 
-    pub broken_up : (rest : Option Refusal) → IsSecondResult edit held Narrower (high ∷ []) up.nodes low rest
+    pub broken_up : (rest : Option Refusal) → IsSecondResult edit held Narrower up.nodes low rest
         → IsBrokenBetween Would low high rest
     broken_up None apart = (
       off_up,
       λ x y to from related. apart y x ((IsSideSearch-reach edit held Broader (low ∷ []) high up a done is).complete y
           from) (below_to Would low x to) (related_turns Would x y related),
     )
-    broken_up (Some no.Cycle) leads = found_down low high leads
+    broken_up (Some no.Cycle) leads = met_down low high up a is leads
     broken_up (Some no.S27) (x, y, has, reach, related) = (
       off_up,
       (
@@ -147,7 +152,7 @@ module _ (edit : LinkEdit) (held : Links) where
     off_down above = IsSideSearch-no_goal edit held Narrower (high ∷ []) low down b done is
         (high, Contains-head high [], chain_down low high above)
 
-    pub broken_down : (rest : Option Refusal) → IsSecondResult edit held Broader (low ∷ []) down.nodes high rest
+    pub broken_down : (rest : Option Refusal) → IsSecondResult edit held Broader down.nodes high rest
         → IsBrokenBetween Would low high rest
     broken_down None apart = (
       off_down,
@@ -155,7 +160,7 @@ module _ (edit : LinkEdit) (held : Links) where
           apart x y ((IsSideSearch-reach edit held Narrower (high ∷ []) low down b done is).complete x
           (below_to Would low x to)) from related,
     )
-    broken_down (Some no.Cycle) leads = found_up low high leads
+    broken_down (Some no.Cycle) leads = met_up low high down b is leads
     broken_down (Some no.S27) (x, y, has, reach, related) = (
       off_down,
       (

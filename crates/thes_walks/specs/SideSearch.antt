@@ -1,6 +1,6 @@
 -- Searches that read the links on one side of each node, and the results of two such searches.
 use Rattle.std.specs.Prelude.{◌≡◌, ◌+◌, ◌<◌, ◌≤◌, ◌*◌, ◌==◌, ◌⊎◌, ◌&&◌, ℕ, Bool, List, Contains, MatchBool, Option}
-use Rattle.std.specs.Prelude.{None, Some, option_and_then, get_or, slice_get, take, sum_by, length, if◌then◌else◌}
+use Rattle.std.specs.Prelude.{[], ◌∷◌, None, Some, option_and_then, get_or, slice_get, take, sum_by, length, if◌then◌else◌}
 use Rattle.thes_base.specs.declared.data.Link.{Link}
 use Rattle.thes_base.specs.declared.fault.Refusal.{Refusal}
 use Rattle.thes_base.specs.declared.fault.Refusal.TheVariants as no
@@ -132,20 +132,24 @@ IsReadBounded edit held relation start read =
     → read ≤ length ns
 
 -- The result of a step: a goal is found within the bound on visits, or IsSideSearch still describes the state of the
--- search.
-abbrev pub IsAdvanceResult : LinkEdit → Links → Relation → (goals : List ℕ) → (start : ℕ) → SideSearch → (read : ℕ)
-    → (found : Bool) → Type 0
-IsAdvanceResult edit held relation goals start side_search read found =
+-- search, with the goals `kept`.
+abbrev pub IsAdvanceResult : LinkEdit → Links → Relation → (kept goals : List ℕ) → (start : ℕ) → SideSearch
+    → (read : ℕ) → (found : Bool) → Type 0
+IsAdvanceResult edit held relation kept goals start side_search read found =
     MatchBool found (LeadsTo edit held relation goals start × IsReadBounded edit held relation start read)
-    (IsSideSearch edit held relation goals start side_search read)
+    (IsSideSearch edit held relation kept start side_search read)
 
--- The result of reading more nodes in `visits` visits: from each state that IsSideSearch describes, the search comes to
--- another one, or has found a goal.
+-- Each node of the first list is in the second.
+abbrev pub AreAmong : (nodes all : List ℕ) → Type 0
+AreAmong nodes all = (y : ℕ) → Contains nodes y → Contains all y
+
+-- The result of reading more nodes in `visits` visits: from each state that IsSideSearch describes with some of the
+-- goals, the search comes to another one with these, or has found a goal.
 abbrev pub ContinuesSearch : LinkEdit → Links → Relation → (goals : List ℕ) → (old new : SideSearch) → (visits : ℕ)
     → (found : Bool) → Type 0
 ContinuesSearch edit held relation goals old new visits found =
-    (start read : ℕ) → IsSideSearch edit held relation goals start old read
-    → IsAdvanceResult edit held relation goals start new (read + visits) found
+    (kept : List ℕ) → AreAmong kept goals → (start read : ℕ) → IsSideSearch edit held relation kept start old read
+    → IsAdvanceResult edit held relation kept goals start new (read + visits) found
 
 -- The search has read the links of one more node, in `visits` visits.
 pub record AdvancesByNode (edit : LinkEdit) (held : Links) (relation : Relation) (goals : List ℕ)
@@ -169,50 +173,27 @@ abbrev pub CoversBetween : LinkEdit → Links → (low high : ℕ) → List Link
 CoversBetween edit held low high ns =
     (n : ℕ) → ReachesUp (HeldAfter edit held) n low ⊎ ReachesUp (HeldAfter edit held) high n → CoversAt edit held n ns
 
--- The ranges have the links of the next nodes of two searches, one up and one down.
-pub record HaveNextParts (held : Links) (rows : ℕ → List Link) (up : SideSearch) (up_part : Part) (down : SideSearch)
-    (down_part : Part) : Type 0 where
-  pub upward : HasNextPart held rows along.Broader up up_part
-  pub downward : HasNextPart held rows along.Narrower down down_part
-
--- The edit is valid, each of two searches, one up and one down, has met a node that it hasn't read, and the ranges have
--- the links of these next nodes.
-pub record CanAdvanceInTurn (edit : LinkEdit) (held : Links) (rows : ℕ → List Link) (up : SideSearch) (up_part : Part)
-    (down : SideSearch) (down_part : Part) : Type 0 where
-  pub fit : IsValidEdit edit
-  pub more_up : up.next < length up.nodes
-  pub more_down : down.next < length down.nodes
-  pub ready : HaveNextParts held rows up up_part down down_part
-
--- One of the two searches has read the links of one more node, and the ranges have the links of the next nodes.
-pub record AdvancesInTurn (held : Links) (rows : ℕ → List Link) (up down up_after : SideSearch) (up_part : Part)
-    (down_after : SideSearch) (down_part : Part) : Type 0 where
-  pub next : up_after.next + down_after.next ≡ up.next + down.next + 1
-  pub ready : HaveNextParts held rows up_after up_part down_after down_part
-
--- The state of two alternating searches, up from `high` and down from `low`; the count has grown from `from` to `count`
--- by at most their visits.
-abbrev pub AreAlternating : LinkEdit → Links → (lows highs : List ℕ) → (low high : ℕ) → (up down : SideSearch)
-    → (from count : ℕ) → Type 0
-AreAlternating edit held lows highs low high up down from count =
-    (a : ℕ) × (b : ℕ) × IsSideSearch edit held along.Broader lows high up a × IsSideSearch edit held along.Narrower
-    highs low down b
+-- The state of two alternating searches, up from `high` and down from `low`, neither of which leads to the start of the
+-- other so far; the count has grown from `from` to `count` by at most their visits.
+abbrev pub AreAlternating : LinkEdit → Links → (low high : ℕ) → (up down : SideSearch) → (from count : ℕ) → Type 0
+AreAlternating edit held low high up down from count =
+    (a : ℕ) × (b : ℕ) × IsSideSearch edit held along.Broader (low ∷ []) high up a
+    × IsSideSearch edit held along.Narrower (high ∷ []) low down b
     × (count ≤ from + a + b)
 
--- One of the two searches has found a goal, within the bound on visits.
-abbrev pub HasEitherFoundGoal : LinkEdit → Links → (lows highs : List ℕ) → (low high : ℕ) → (from count : ℕ) → Type 0
-HasEitherFoundGoal edit held lows highs low high from count =
-    (LeadsTo edit held along.Broader lows high ⊎ LeadsTo edit held along.Narrower highs low)
+-- A chain leads from `high` up to `low`, which was found within the bound on visits.
+abbrev pub HasFoundCycle : LinkEdit → Links → (low high : ℕ) → (from count : ℕ) → Type 0
+HasFoundCycle edit held low high from count = IsBelow (HeldAfter edit held) high low
     × ((ns : List Link) → CoversBetween edit held low high ns → count ≤ from + 4 * length ns)
 
 -- The result of turns of two searches, during which the count grows from `before` to `after`: from each state that
--- AreAlternating describes, they come to another one, or one of them has found a goal.
-abbrev pub ContinuesInTurn : LinkEdit → Links → (lows highs : List ℕ) → (up down up_after down_after : SideSearch)
-    → (before after : ℕ) → (found : Bool) → Type 0
-ContinuesInTurn edit held lows highs up down up_after down_after before after found =
-    (low high from : ℕ) → AreAlternating edit held lows highs low high up down from before
-    → MatchBool found (HasEitherFoundGoal edit held lows highs low high from after)
-    (AreAlternating edit held lows highs low high up_after down_after from after)
+-- AreAlternating describes, they come to another one, or have met.
+abbrev pub ContinuesInTurn : LinkEdit → Links → (up down up_after down_after : SideSearch) → (before after : ℕ)
+    → (found : Bool) → Type 0
+ContinuesInTurn edit held up down up_after down_after before after found =
+    (low high from : ℕ) → AreAlternating edit held low high up down from before
+    → MatchBool found (HasFoundCycle edit held low high from after)
+    (AreAlternating edit held low high up_after down_after from after)
 
 -- A related link joins one of xs to one of ys after the edit.
 abbrev pub AreTied : LinkEdit → Links → (xs ys : List ℕ) → Type 0
@@ -225,12 +206,12 @@ AreUnrelated edit held relation xs start =
     (x y : ℕ) → Contains xs x → Reaches (Steps relation (HeldAfter edit held)) start y
     → Steps along.Related (HeldAfter edit held) x y → ⊥
 
--- The result of the second search, after the first has met the nodes xs: Cycle only if it finds a goal, S27 only if a
--- related link leads from xs to a node that it reaches, and none only if no related link does.
-abbrev pub IsSecondResult : LinkEdit → Links → Relation → (goals xs : List ℕ) → (start : ℕ) → Option Refusal → Type 0
-IsSecondResult edit held relation goals xs start None = AreUnrelated edit held relation xs start
-IsSecondResult edit held relation goals xs start (Some no.Cycle) = LeadsTo edit held relation goals start
-IsSecondResult edit held relation goals xs start (Some no.S27) =
+-- The result of the second search, after the first has met the nodes xs: Cycle only if it meets one of them, S27 only if
+-- a related link leads from xs to a node that it reaches, and none only if no related link does.
+abbrev pub IsSecondResult : LinkEdit → Links → Relation → (xs : List ℕ) → (start : ℕ) → Option Refusal → Type 0
+IsSecondResult edit held relation xs start None = AreUnrelated edit held relation xs start
+IsSecondResult edit held relation xs start (Some no.Cycle) = LeadsTo edit held relation xs start
+IsSecondResult edit held relation xs start (Some no.S27) =
     (x : ℕ) × (y : ℕ) × Contains xs x × Reaches (Steps relation (HeldAfter edit held)) start y
     × Steps along.Related (HeldAfter edit held) x y
-IsSecondResult edit held relation goals xs start (Some _) = ⊥
+IsSecondResult edit held relation xs start (Some _) = ⊥

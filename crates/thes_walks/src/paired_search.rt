@@ -1,21 +1,21 @@
 //! Checks whether one end of a link is above the other by two searches, one from each end. The bound on visits counts
 //! only links near the first end, so the second search may read no more links than the first has read.
-ghost use Rattle.std.specs.Prelude.{◌≡◌, ◌≢◌, ◌+◌, ◌*◌, ◌≤◌, ◌<◌, ℕ, false, List, OnOk, IfOk, MatchBool, length};
+ghost use Rattle.std.specs.Prelude.{◌≡◌, ◌≢◌, ◌+◌, ◌-◌, ◌*◌, ◌^◌, ◌≤◌, ◌<◌, ℕ, false, List, OnOk, IfOk, MatchBool, length};
 ghost use Rattle.thes_base.specs.declared.data.Link.{Link};
 ghost use Rattle.thes_base.specs.Links.{Holds, Chain};
 ghost use Rattle.thes_links.specs.declared.edit.LinkEdit.TheVariants.{NoEdit};
 ghost use Rattle.thes_links.specs.Steps.{Steps};
-ghost use Rattle.thes_walks.specs.SideSearch.{IsHierarchy, CoversBetween};
-ghost use Rattle.thes_walks.specs.PairedSearch.{converse, HasNextNode, AdvancesUnlessAllowed, CanAdvanceBoth, AdvancesPair, AreVisitsBounded, ArePairedSearches, HasFoundGoal, HasEndAbove, HasNoEndAbove};
+ghost use Rattle.thes_walks.specs.SideSearch.{IsHierarchy, ContinuesSearch, CoversBetween};
+ghost use Rattle.thes_walks.specs.PairedSearch.{converse, AreVisitsBounded, ArePairedSearches, HasFoundChain, HasEndAbove, HasNoEndAbove};
 
-use crate::side_search::SideSearch;
+use crate::side_search::{SideSearch, TURN};
 use std::alloc::{AllocError, Global};
 use thes_base::data::Link;
 use thes_base::number::ResNo;
+use thes_links::edit::LinkEdit;
 use thes_links::links::Links;
 use thes_links::nodes::Nodes;
 use thes_links::relation::Relation;
-use thes_links::side::Part;
 
 // Returns the converse relation: narrower for broader, broader for narrower, and any other itself.
 fn converse_of(relation: Relation) -> Relation
@@ -28,119 +28,121 @@ fn converse_of(relation: Relation) -> Relation
     }
 }
 
-// Advances the first search by a node, and adds the number of links that it reads to `allowance`,
-// the number that the second may still read. Does nothing if `allowance` is already at least
-// `size`. Returns whether the first found a goal.
+// Advances the first search up to this limit, and adds the number of links that it reads to `allowance`, the number that
+// the second may still read. Returns whether it met the second.
 fn advance_first<L: Links>(
     links: &mut L,
     relation: Relation,
     first: &mut SideSearch,
-    allowance: &mut usize,
-    size: usize,
-    tos: &Nodes,
+    seconds: &Nodes,
+    limit: usize,
+    allowance: &mut u64,
 ) -> Result<bool, AllocError>
-    requires { HasNextNode relation first.old }
+    requires { IsHierarchy relation }
     ensures net { L.net links.new ≡ L.net links.old }
-    ensures advances { OnOk result
-        (AdvancesUnlessAllowed allowance.new size first.old first.new) }
-    ensures continues { IfOk result (λ found. (froms : List ℕ) (from to before : ℕ)
-        (second : SideSearch)
-        → ArePairedSearches (L.net links.old).links relation froms tos.now from to first.old second
-        allowance.old before (L.count links.old)
-        → MatchBool found
-        (HasFoundGoal (L.net links.old).links relation froms tos.now from to before
-        (L.count links.new))
-        (ArePairedSearches (L.net links.old).links relation froms tos.now from to first.new second
-        allowance.new before (L.count links.new))) }
+    ensures done { IfOk result (λ met. met ≡ false → limit ≡ 2 ^ 64 - 1
+        → length first.new.nodes ≤ first.new.next) }
+    ensures allowance { allowance.new
+        ≤ allowance.old + (L.count links.new - L.count links.old) }
+    ensures continues { IfOk result (ContinuesSearch NoEdit (L.net links.old).links relation
+        seconds.now first.old first.new (L.count links.new - L.count links.old)) }
 {
-    if size <= *allowance {
-        return Ok(false);
-    }
-    let part = first.next_part(links, relation);
-    let found = first.advance_at(links, relation, part, tos)?;
-    *allowance = allowance.saturating_add(part.size());
-    Ok(found)
+    let before = links.visits();
+    let met = first.advance_to(links, &LinkEdit::NoEdit, relation, seconds, limit)?;
+    *allowance = allowance.saturating_add(links.visits().saturating_sub(before));
+    Ok(met)
 }
 
-// Advances the first search by a node if `allowance`, the number of links that the second may still
-// read, is too small for the second's next node. Then advances the second if `allowance` is large
-// enough, and subtracts the number of links that it reads. The range has the links held at the
-// second's next node. Returns whether one of them found a goal.
-fn advance_pair<L: Links>(
+// Advances the second search as long as `allowance` is large enough for its next node, and subtracts the number of links
+// that it reads. Returns whether it met the first.
+fn advance_second<L: Links>(
+    links: &mut L,
+    relation: Relation,
+    second: &mut SideSearch,
+    firsts: &Nodes,
+    allowance: &mut u64,
+) -> Result<bool, AllocError>
+    requires { IsHierarchy relation }
+    ensures net { L.net links.new ≡ L.net links.old }
+    ensures allowance { allowance.new ≤ allowance.old }
+    ensures count { OnOk result (L.count links.new
+        ≤ L.count links.old + (allowance.old - allowance.new)) }
+    ensures continues { IfOk result (ContinuesSearch NoEdit (L.net links.old).links relation
+        firsts.now second.old second.new (allowance.old - allowance.new)) }
+{
+    'reading: while !second.is_done() {
+        let part = second.next_part(links, relation);
+        let size = part.size() as u64;
+        if *allowance < size {
+            return Ok(false);
+        }
+        *allowance -= size;
+        if second.advance_at(links, relation, part, firsts)? {
+            return Ok(true);
+        }
+    }
+    Ok(false)
+}
+
+// Advances the second search within `allowance`, and then the first up to this limit, until one is done or they meet,
+// and returns whether they have met. So no link is read if the second search has none to read.
+fn take_paired_turns<L: Links>(
     links: &mut L,
     relation: Relation,
     first: &mut SideSearch,
     second: &mut SideSearch,
-    part: &mut Part,
-    allowance: &mut usize,
-    froms: &Nodes,
-    tos: &Nodes,
+    limit: usize,
+    allowance: &mut u64,
 ) -> Result<bool, AllocError>
-    requires { CanAdvanceBoth (L.net links.old).links (L.links_of (L.net links.old)) relation
-        first.old second.old part.old }
+    requires { IsHierarchy relation }
     ensures net { L.net links.new ≡ L.net links.old }
-    ensures advances { IfOk result (AdvancesPair (L.net links.old).links
-        (L.links_of (L.net links.old)) relation first.old second.old first.new second.new
-        part.new) }
-    ensures continues { IfOk result (λ found. (from to before : ℕ)
-        → ArePairedSearches (L.net links.old).links relation froms.now tos.now from to first.old
-        second.old allowance.old before (L.count links.old)
-        → MatchBool found (HasFoundGoal (L.net links.old).links relation froms.now tos.now from to
-        before (L.count links.new))
-        (ArePairedSearches (L.net links.old).links relation froms.now tos.now from to first.new
-        second.new allowance.new before (L.count links.new))) }
+    ensures done { IfOk result (λ met. met ≡ false → limit ≡ 2 ^ 64 - 1
+        → second.new.next < length second.new.nodes → length first.new.nodes ≤ first.new.next) }
+    ensures continues { IfOk result (λ met. (from to before : ℕ)
+        → ArePairedSearches (L.net links.old).links relation from to first.old second.old
+        allowance.old before (L.count links.old)
+        → MatchBool met (HasFoundChain (L.net links.old).links relation from to before
+        (L.count links.new))
+        (ArePairedSearches (L.net links.old).links relation from to first.new second.new
+        allowance.new before (L.count links.new))) }
 {
     let back = converse_of(relation);
-    let size = part.size();
-    if advance_first(links, relation, first, allowance, size, tos)? {
+    if advance_second(links, back, second, &first.nodes, allowance)? {
         return Ok(true);
     }
-    if *allowance < size {
-        return Ok(false);
+    if !second.is_done() {
+        let met = advance_first(links, relation, first, &second.nodes, limit, allowance)?;
+        return Ok(met);
     }
-    let found = second.advance_at(links, back, *part, froms)?;
-    *part = second.next_part(links, back);
-    *allowance -= size;
-    Ok(found)
+    Ok(false)
 }
 
-// Advances the two searches until one of them is done or has found a goal, and returns whether a goal was found.
+// Advances the two searches in turns until one of them is done or they meet, and returns whether they have met.
 fn run_paired_search<L: Links>(
     links: &mut L,
     relation: Relation,
     first: &mut SideSearch,
     second: &mut SideSearch,
-    froms: &Nodes,
-    tos: &Nodes,
 ) -> Result<bool, AllocError>
     requires { IsHierarchy relation }
     ensures net { L.net links.new ≡ L.net links.old }
-    ensures done { IfOk result (λ found. found ≡ false → first.new.next < length first.new.nodes
+    ensures done { IfOk result (λ met. met ≡ false → first.new.next < length first.new.nodes
         → length second.new.nodes ≤ second.new.next) }
-    ensures continues { IfOk result (λ found. (from to before : ℕ)
-        → ArePairedSearches (L.net links.old).links relation froms.now tos.now from to first.old
-        second.old 0 before (L.count links.old)
-        → MatchBool found (HasFoundGoal (L.net links.old).links relation froms.now tos.now from to
-        before (L.count links.new))
-        ((allowance : ℕ) × ArePairedSearches (L.net links.old).links relation froms.now tos.now
-        from to first.new second.new allowance
-        before (L.count links.new))) }
+    ensures continues { IfOk result (λ met. (from to before : ℕ)
+        → ArePairedSearches (L.net links.old).links relation from to first.old second.old 0 before
+        (L.count links.old)
+        → MatchBool met (HasFoundChain (L.net links.old).links relation from to before
+        (L.count links.new))
+        ((allowance : ℕ) × ArePairedSearches (L.net links.old).links relation from to first.new
+        second.new allowance before (L.count links.new))) }
 {
-    let mut part = second.next_part(links, converse_of(relation));
+    let mut limit = TURN;
     let mut allowance = 0;
-    'steps: while !first.is_done() && !second.is_done() {
-        if advance_pair(
-            links,
-            relation,
-            first,
-            second,
-            &mut part,
-            &mut allowance,
-            froms,
-            tos,
-        )? {
+    'turns: while !first.is_done() && !second.is_done() {
+        if take_paired_turns(links, relation, first, second, limit, &mut allowance)? {
             return Ok(true);
         }
+        limit = limit.saturating_add(TURN);
     }
     Ok(false)
 }
@@ -161,11 +163,9 @@ fn leads_to<L: Links>(
     ensures count { OnOk result (AreVisitsBounded (L.net links.old).links relation from
         (L.count links.old) (L.count links.new)) }
 {
-    let froms = Nodes::singleton(alloc, from)?;
-    let tos = Nodes::singleton(alloc, to)?;
     let mut first = SideSearch::start(alloc, from)?;
     let mut second = SideSearch::start(alloc, to)?;
-    let found = run_paired_search(links, relation, &mut first, &mut second, &froms, &tos)?;
+    let found = run_paired_search(links, relation, &mut first, &mut second)?;
     Ok(found)
 }
 

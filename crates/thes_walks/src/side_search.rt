@@ -16,6 +16,9 @@ use thes_links::nodes::Nodes;
 use thes_links::relation::{Relation, step};
 use thes_links::side::{Part, side_for};
 
+/// The number of nodes and links by which a search may advance in its turn.
+pub const TURN: usize = 16;
+
 /// A breadth-first search: the nodes met so far, and the number of them whose links were read.
 #[derive(Drop)]
 pub struct SideSearch {
@@ -284,6 +287,35 @@ impl SideSearch {
         Ok(found)
     }
 
+    /// Advances the search until all nodes are read, one leads to a goal, or the nodes met and the links held at the
+    /// next one are more than `limit`. Returns whether there is a goal.
+    pub fn advance_to<L: Links>(
+        &mut self,
+        links: &mut L,
+        edit: &LinkEdit,
+        relation: Relation,
+        goals: &Nodes,
+        limit: usize,
+    ) -> Result<bool, AllocError>
+        requires { IsHierarchySearch edit.now relation }
+        ensures net { L.net links.new ≡ L.net links.old }
+        ensures done { IfOk result (λ found. found ≡ false → limit ≡ 2 ^ 64 - 1
+            → length self.new.nodes ≤ self.new.next) }
+        ensures continues { IfOk result (ContinuesSearch edit.now (L.net links.old).links relation
+            goals.now self.old self.new (L.count links.new - L.count links.old)) }
+    {
+        'reading: while !self.is_done() {
+            let part = self.next_part(links, relation);
+            if limit < self.nodes.as_slice().len().saturating_add(part.size()) {
+                return Ok(false);
+            }
+            if self.advance(links, edit, relation, part, goals)? {
+                return Ok(true);
+            }
+        }
+        Ok(false)
+    }
+
     /// Advances the search until all nodes are read or one leads to a goal. Returns whether one
     /// does.
     pub fn finish<L: Links>(
@@ -300,12 +332,7 @@ impl SideSearch {
         ensures continues { IfOk result (ContinuesSearch edit.now (L.net links.old).links relation
             goals.now self.old self.new (L.count links.new - L.count links.old)) }
     {
-        'reading: while !self.is_done() {
-            let part = self.next_part(links, relation);
-            if self.advance(links, edit, relation, part, goals)? {
-                return Ok(true);
-            }
-        }
-        Ok(false)
+        let found = self.advance_to(links, edit, relation, goals, usize::MAX)?;
+        Ok(found)
     }
 }

@@ -1,17 +1,17 @@
 //! Checks a link from a low node up to a high one by two searches that take turns, up from the high node and down from
 //! the low one. The search that ends first has met all nodes of its side; the other one is finished only if a related
 //! link may lead from one of these nodes.
-ghost use Rattle.std.specs.Prelude.{◌≡◌, ◌+◌, ◌-◌, ◌*◌, ◌≤◌, ◌<◌, ℕ, true, false, List, Contains, OnOk, IfOk, MatchBool, length};
+ghost use Rattle.std.specs.Prelude.{◌≡◌, ◌+◌, ◌-◌, ◌*◌, ◌^◌, ◌≤◌, ◌<◌, ℕ, true, false, List, Contains, OnOk, IfOk, MatchBool, length};
 ghost use Rattle.thes_base.specs.declared.data.Link.{Link};
 ghost use Rattle.thes_links.specs.declared.relation.Relation.TheVariants.{Related};
 ghost use Rattle.thes_links.specs.declared.side.Side.TheVariants.{Sideways};
 ghost use Rattle.thes_links.specs.Steps.{Steps, Reaches};
 ghost use Rattle.thes_links.specs.LinkEdit.{HeldAfter, IsValidEdit, CoversAt};
 ghost use Rattle.thes_walks.specs.Ends.{IsEnd};
-ghost use Rattle.thes_walks.specs.SideSearch.{read_cost, IsHierarchySearch, IsSideSearch, CanAdvanceInTurn, AdvancesInTurn, ContinuesInTurn, AreTied, IsSecondResult, IsBrokenBetween, CoversBetween};
+ghost use Rattle.thes_walks.specs.SideSearch.{read_cost, IsHierarchySearch, IsSideSearch, AreAmong, ContinuesInTurn, AreTied, IsSecondResult, IsBrokenBetween, CoversBetween};
 
 use crate::ends::is_end_after;
-use crate::side_search::{SideSearch, follow_after_edit, part_along};
+use crate::side_search::{SideSearch, TURN, follow_after_edit, part_along};
 use std::alloc::{AllocError, Global};
 use thes_base::fault::Refusal;
 use thes_base::number::ResNo;
@@ -19,74 +19,54 @@ use thes_links::edit::LinkEdit;
 use thes_links::links::Links;
 use thes_links::nodes::Nodes;
 use thes_links::relation::Relation;
-use thes_links::side::Part;
 
-// Advances the search that will have read less after its next node, and returns whether it found a
-// goal. The number of nodes that a search has met estimates what it has read, so that neither reads
-// a node with many links while the other has few to read. The ranges have the links held at the
-// next nodes.
-fn advance_in_turn<L: Links>(
+// Advances the search up to this limit, and then the search down, until one is done or they meet, and returns whether
+// they have met. The limit is on the nodes that a search has met and the links of its next one, so that neither reads a
+// node with many links while the other has few to read.
+fn take_turns<L: Links>(
     links: &mut L,
     edit: &LinkEdit,
     up: &mut SideSearch,
-    up_part: &mut Part,
     down: &mut SideSearch,
-    down_part: &mut Part,
-    lows: &Nodes,
-    highs: &Nodes,
+    limit: usize,
 ) -> Result<bool, AllocError>
-    requires { CanAdvanceInTurn edit.now (L.net links.old).links (L.links_of (L.net links.old))
-        up.old up_part.old down.old down_part.old }
+    requires { IsValidEdit edit.now }
     ensures net { L.net links.new ≡ L.net links.old }
-    ensures advances { OnOk result (AdvancesInTurn (L.net links.old).links
-        (L.links_of (L.net links.old)) up.old down.old up.new up_part.new down.new down_part.new) }
-    ensures continues { IfOk result (ContinuesInTurn edit.now (L.net links.old).links lows.now
-        highs.now up.old down.old up.new down.new (L.count links.old) (L.count links.new)) }
+    ensures done { IfOk result (λ met. met ≡ false → limit ≡ 2 ^ 64 - 1
+        → length up.new.nodes ≤ up.new.next) }
+    ensures continues { IfOk result (ContinuesInTurn edit.now (L.net links.old).links up.old
+        down.old up.new down.new (L.count links.old) (L.count links.new)) }
 {
-    let up_read = up.nodes.as_slice().len().saturating_add(up_part.size());
-    let down_read = down.nodes.as_slice().len().saturating_add(down_part.size());
-    if up_read <= down_read {
-        let found = up.advance(links, edit, Relation::Broader, *up_part, lows)?;
-        *up_part = up.next_part(links, Relation::Broader);
-        return Ok(found);
+    if up.advance_to(links, edit, Relation::Broader, &down.nodes, limit)? {
+        return Ok(true);
     }
-    let found = down.advance(links, edit, Relation::Narrower, *down_part, highs)?;
-    *down_part = down.next_part(links, Relation::Narrower);
-    Ok(found)
+    if !up.is_done() {
+        let met = down.advance_to(links, edit, Relation::Narrower, &up.nodes, limit)?;
+        return Ok(met);
+    }
+    Ok(false)
 }
 
-// Advances the two searches, each time the one that will have read less, until one is done or has found a goal, and
-// returns whether a goal was found.
+// Advances the two searches in turns until one is done or they meet, and returns whether they have met.
 fn search_in_turns<L: Links>(
     links: &mut L,
     edit: &LinkEdit,
     up: &mut SideSearch,
     down: &mut SideSearch,
-    lows: &Nodes,
-    highs: &Nodes,
 ) -> Result<bool, AllocError>
     requires { IsValidEdit edit.now }
     ensures net { L.net links.new ≡ L.net links.old }
-    ensures done { IfOk result (λ found. found ≡ false → up.new.next < length up.new.nodes
+    ensures done { IfOk result (λ met. met ≡ false → up.new.next < length up.new.nodes
         → length down.new.nodes ≤ down.new.next) }
-    ensures continues { IfOk result (ContinuesInTurn edit.now (L.net links.old).links lows.now
-        highs.now up.old down.old up.new down.new (L.count links.old) (L.count links.new)) }
+    ensures continues { IfOk result (ContinuesInTurn edit.now (L.net links.old).links up.old
+        down.old up.new down.new (L.count links.old) (L.count links.new)) }
 {
-    let mut up_part = up.next_part(links, Relation::Broader);
-    let mut down_part = down.next_part(links, Relation::Narrower);
+    let mut limit = TURN;
     'turns: while !up.is_done() && !down.is_done() {
-        if advance_in_turn(
-            links,
-            edit,
-            up,
-            &mut up_part,
-            down,
-            &mut down_part,
-            lows,
-            highs,
-        )? {
+        if take_turns(links, edit, up, down, limit)? {
             return Ok(true);
         }
+        limit = limit.saturating_add(TURN);
     }
     Ok(false)
 }
@@ -141,16 +121,16 @@ fn check_second_search<L: Links>(
     ended: &Nodes,
     other: &mut SideSearch,
     relation: Relation,
-    goals: &Nodes,
 ) -> Result<Option<Refusal>, AllocError>
     requires { IsHierarchySearch edit.now relation }
     ensures net { L.net links.new ≡ L.net links.old }
-    ensures rest { IfOk result (λ answer. (start read : ℕ)
-        → IsSideSearch edit.now (L.net links.old).links relation goals.now start other.old read
-        → IsSecondResult edit.now (L.net links.old).links relation goals.now ended.now start
-        answer) }
-    ensures count { OnOk result ((start read : ℕ) (ns : List Link)
-        → IsSideSearch edit.now (L.net links.old).links relation goals.now start other.old read
+    ensures rest { IfOk result (λ answer. (kept : List ℕ) (start read : ℕ)
+        → AreAmong kept ended.now
+        → IsSideSearch edit.now (L.net links.old).links relation kept start other.old read
+        → IsSecondResult edit.now (L.net links.old).links relation ended.now start answer) }
+    ensures count { OnOk result ((kept : List ℕ) (start read : ℕ) (ns : List Link)
+        → AreAmong kept ended.now
+        → IsSideSearch edit.now (L.net links.old).links relation kept start other.old read
         → ((n : ℕ) → Reaches (Steps relation (HeldAfter edit.now (L.net links.old).links)) start n
         → CoversAt edit.now (L.net links.old).links n ns)
         → ((n : ℕ) → Contains ended.now n → CoversAt edit.now (L.net links.old).links n ns)
@@ -160,7 +140,7 @@ fn check_second_search<L: Links>(
     if have_none(links, edit, ended) {
         return Ok(None);
     }
-    if other.finish(links, edit, relation, goals)? {
+    if other.finish(links, edit, relation, ended)? {
         return Ok(Some(Refusal::Cycle));
     }
     if are_tied(alloc, links, edit, ended, &other.nodes)? {
@@ -186,33 +166,17 @@ pub fn check_upward_link<L: Links>(
         ((ns : List Link) → CoversBetween edit.now (L.net links.old).links low high ns
         → L.count links.new ≤ L.count links.old + 4 * length ns) }
 {
-    let lows = Nodes::singleton(alloc, low)?;
-    let highs = Nodes::singleton(alloc, high)?;
     let mut up = SideSearch::start(alloc, high)?;
     let mut down = SideSearch::start(alloc, low)?;
-    if search_in_turns(links, edit, &mut up, &mut down, &lows, &highs)? {
+    if search_in_turns(links, edit, &mut up, &mut down)? {
         return Ok(Some(Refusal::Cycle));
     }
     if up.is_done() {
-        let rest = check_second_search(
-            alloc,
-            links,
-            edit,
-            &up.nodes,
-            &mut down,
-            Relation::Narrower,
-            &highs,
-        )?;
+        let narrower = Relation::Narrower;
+        let rest = check_second_search(alloc, links, edit, &up.nodes, &mut down, narrower)?;
         return Ok(rest);
     }
-    let rest = check_second_search(
-        alloc,
-        links,
-        edit,
-        &down.nodes,
-        &mut up,
-        Relation::Broader,
-        &lows,
-    )?;
+    let broader = Relation::Broader;
+    let rest = check_second_search(alloc, links, edit, &down.nodes, &mut up, broader)?;
     Ok(rest)
 }

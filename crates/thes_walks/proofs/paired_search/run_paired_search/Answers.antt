@@ -1,16 +1,33 @@
-use Rattle.std.proofs.Common.{◌∙◌}
+use Rattle.std.proofs.Common.{◌∙◌, length, arith}
+use Rattle.thes_walks.proofs.TurnLemmas.{paired_turn_smaller}
 use Rattle.thes_walks.proofs.paired_search.run_paired_search.Goals as goal
 
-pub steps-preserved : goal.steps-preserved
-steps-preserved g c = record {
-  net = c.in_ok-advance_pair.ensures.net ∙ c.steps.invariant.net;
-  part = rw c.steps.invariant.net at c.in_ok-advance_pair.ensures.advances.ready;
-  continues = λ from to before are. (rw (c.if-branch.false, c.steps.invariant.net) at
-      c.in_ok-advance_pair.ensures.continues)
-      from to before (c.steps.invariant.continues from to before are);
+pub turns-preserved : goal.turns-preserved
+turns-preserved g c = record {
+  limit = omega (arith, c.saturating_add-limit.ensures);
+  net = c.in_ok-take_paired_turns.ensures.net ∙ c.turns.invariant.net;
+  continues = λ from to before are. (rw (c.if-branch.false, c.turns.invariant.net) at
+      c.in_ok-take_paired_turns.ensures.continues)
+      from to before (c.turns.invariant.continues from to before are);
 }
 
 pub returns-then-branch-clause-continues : goal.returns-then-branch-clause-continues
 returns-then-branch-clause-continues g c from to before are =
-    (rw (c.if-branch.true, c.steps.invariant.net) at c.in_ok-advance_pair.ensures.continues) from to before
-    (c.steps.invariant.continues from to before are)
+    (rw (c.if-branch.true, c.turns.invariant.net) at c.in_ok-take_paired_turns.ensures.continues) from to before
+    (c.turns.invariant.continues from to before are)
+
+pub turns-smaller : goal.turns-smaller
+turns-smaller g c =
+    paired_turn_smaller c.turns.limit c.saturating_add-limit.result c.turns.invariant.limit
+    c.saturating_add-limit.ensures (length c.turns.first.nodes) (length c.turns.second.nodes) c.turns.first.next
+    c.turns.second.next (length c.take_paired_turns.new.first.nodes) (length c.take_paired_turns.new.second.nodes)
+    c.take_paired_turns.new.first.next c.take_paired_turns.new.second.next c.turns-test.ensures.done
+    c.if-not-is_done.ensures.done (c.in_ok-take_paired_turns.ensures.done c.if-branch.false)
+
+pub returns-else-not-is_done-clause-continues : goal.returns-else-not-is_done-clause-continues
+returns-else-not-is_done-clause-continues g c from to before are =
+    (c.turns.allowance, c.turns.invariant.continues from to before are)
+
+pub returns-after-turns-clause-continues : goal.returns-after-turns-clause-continues
+returns-after-turns-clause-continues g c from to before are =
+    (c.turns.allowance, c.turns.invariant.continues from to before are)

@@ -1,19 +1,19 @@
-use Rattle.std.proofs.Common.{◌≡◌, ◌+◌, ◌-◌, ◌^◌, ℕ}
-use Rattle.thes_walks.specs.PairedSearch.{converse, ArePairedSearches}
-use Rattle.thes_walks.specs.SideSearch.{HasNextPart}
+use Rattle.std.proofs.Common.{◌≡◌, ◌+◌, ◌*◌, ◌-◌, ◌^◌, ◌<◌, ℕ, length, min}
+use Rattle.thes_walks.specs.PairedSearch.{ArePairedSearches}
 use Rattle.thes_walks.proofs.paired_search.run_paired_search.Given as goal
 
-abbrev pub invariant-steps : goal.invariant-steps
-invariant-steps g l = record {
+abbrev pub invariant-turns : goal.invariant-turns
+invariant-turns g l = record {
+  limit : l.limit < 2 ^ 64;
   net : g.L.Links.net l.links ≡ g.L.Links.net l.fn.links;
-  part : HasNextPart (g.L.Links.net l.fn.links).links (g.L.Links.links_of (g.L.Links.net l.fn.links))
-      (converse l.relation) l.second l.part;
   continues : (from to before : ℕ)
-      → ArePairedSearches (g.L.Links.net l.fn.links).links l.relation l.froms l.tos from to l.fn.first l.fn.second 0
+      → ArePairedSearches (g.L.Links.net l.fn.links).links l.relation from to l.fn.first l.fn.second 0
       before (g.L.Links.count l.fn.links)
-      → ArePairedSearches (g.L.Links.net l.fn.links).links l.relation l.froms l.tos from to l.first l.second l.allowance
+      → ArePairedSearches (g.L.Links.net l.fn.links).links l.relation from to l.first l.second l.allowance
       before (g.L.Links.count l.links);
 }
 
-abbrev pub decreases-steps : goal.decreases-steps
-decreases-steps g l = 2 ^ 64 - (l.first.next + l.second.next)
+-- Without a limit one of the searches ends in its turn.
+abbrev pub decreases-turns : goal.decreases-turns
+decreases-turns g l = 3 * (2 ^ 64 - l.limit) + min 1 (length l.first.nodes - l.first.next)
+    + min 1 (length l.second.nodes - l.second.next)

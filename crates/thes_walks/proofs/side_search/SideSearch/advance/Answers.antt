@@ -30,8 +30,8 @@ follow_after_edit-requires g c = record {
 pub returns-clause-advances : goal.returns-clause-advances
 returns-clause-advances g c = record {
   next = refl;
-  continues = λ start read is.
-      IsAdvanceResult-more c.args.edit.now (g.L.Links.net c.args.links.now).links c.args.relation c.args.goals.now
+  continues = λ kept among start read is.
+      IsAdvanceResult-more c.args.edit.now (g.L.Links.net c.args.links.now).links c.args.relation kept
       start c.requires.hierarchy
       c.args.self.now (record { nodes = c.follow_after_edit.new.nodes; next = c.args.self.now.next + 1 })
       c.index-as_slice-self.result
@@ -39,6 +39,6 @@ returns-clause-advances g c = record {
       (read + (g.L.Links.count c.follow_after_edit.new.links - g.L.Links.count c.args.links.now))
       c.requires.more
       (is_next g (goal.at.returns-clause-advances g c).After-index-as_slice-self)
-      refl (omega arith) (λ ns covers. omega (arith, c.in_ok-found.ensures.count ns covers)) is c.in_ok-found.found
+      refl (omega arith) (λ ns covers. omega (arith, c.in_ok-found.ensures.count ns covers)) is c.args.goals.now among c.in_ok-found.found
       c.in_ok-found.ensures.finds;
 }

@@ -24,15 +24,15 @@ returns-clause-advances g c =
     (sym at) (c.requires.ready c.requires.more) in
     record {
       next = refl;
-      continues = λ start read is.
-          IsAdvanceResult-more NoEdit (g.L.Links.net c.args.links.now).links c.args.relation c.args.goals.now start
+      continues = λ kept among start read is.
+          IsAdvanceResult-more NoEdit (g.L.Links.net c.args.links.now).links c.args.relation kept start
           c.requires.hierarchy
           c.args.self.now (record { nodes = c.follow_part.new.nodes; next = c.args.self.now.next + 1 }) x
           (c.args.part.to - c.args.part.from) read (read + (c.args.part.to - c.args.part.from)) c.requires.more
           at refl (omega arith)
           (λ ns covers. part_cost (g.L.Links.net c.args.links.now).links x (side_in c.args.relation) row c.args.part ready.is_row
           ready.on_side ns (λ l has ends _. covers l has ends))
-          is c.in_ok-found.found
+          is c.args.goals.now among c.in_ok-found.found
           (IsSearchResult-same c.args.self.now.nodes c.follow_part.new.nodes c.args.goals.now
           (LeadsWithin NoEdit c.args.relation x row c.args.part.from c.args.part.to)
           (Steps c.args.relation (HeldAfter NoEdit (g.L.Links.net c.args.links.now).links) x)
