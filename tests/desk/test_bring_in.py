@@ -247,6 +247,45 @@ def test_a_vocabulary(site: Site, anna: Client) -> None:
     assert [site.desk.mirror.iri(it) for _, it in view.mappings] == ["http://old.example/b"]
 
 
+BROKEN = """
+:c a skos:Concept ; skos:inScheme :s ; skos:prefLabel "Oslo"@en, "Christiania"@en ; skos:broader :b ; skos:related :a .
+:d a skos:Concept ; skos:inScheme :s ; skos:prefLabel "Bergen" .
+"""
+
+
+@pytest.mark.needs("rdflib")
+@pytest.mark.parametrize(
+    ("language", "heading"),
+    [
+        ("en", "Two preferred terms in one language (S14)"),
+        ("de", "Zwei Vorzugsbenennungen in einer Sprache (S14)"),
+        ("fr", "Deux termes préférentiels dans une langue (S14)"),
+    ],
+)
+def test_the_report_of_a_vocabulary_is_in_words(site: Site, anna: Client, language: str, heading: str) -> None:
+    anna.get(f"/language?pages={language}&next=/")
+    page = send(anna, "/bring-in/skos", (SKOS + BROKEN).encode(), "places.ttl")
+    assert page.status_code == 200, text_of(page)
+    headings = [" ".join(text_of_part(it).split()) for it in re.findall("<h3>(.*?)</h3>", page.text)]
+    assert heading in headings and len(headings) == 5, headings
+    assert all(f" ({it})" in " ".join(headings) for it in ("S14", "S27", "BadTag", "NoLabel")), headings
+    assert "is a second preferred label" in text_of(page) and " --" not in text_of(page)
+
+
+@pytest.mark.needs("rdflib")
+def test_what_a_copy_refuses_is_in_words(site: Site, anna: Client) -> None:
+    data = f"{SKOS}:b skos:exactMatch <https://thesaurus.example/id/5> ."
+    page = send(anna, "/bring-in/skos", data.encode(), "places.ttl", tag="en")
+    assert page.status_code == 200 and "so it can’t be brought in" in text_of(page), text_of(page)
+    assert "A link between what can’t be linked so (WrongKind)" in " ".join(text_of(page).split())
+    assert "https://thesaurus.example/id/5" in page.text and "{" not in text_of(page), text_of(page)
+
+
+def text_of_part(markup: str) -> str:
+    """Returns the text of a part of a page."""
+    return re.sub("<[^>]*>", "", markup)
+
+
 @pytest.mark.parametrize(("name", "data"), [("a.ttl", b"no turtle <"), ("a.nt", b""), ("a.docx", b"x")])
 def test_no_vocabulary(anna: Client, name: str, data: bytes) -> None:
     page = send(anna, "/bring-in/skos", data, name, tag="en")

@@ -182,6 +182,7 @@ def test_a_conflict_shows_both_changes_and_asks_again(reader: Reader, desk: Desk
     assert "alternative term “Fiddles too” (en)" in page.text and user in page.text
     assert "Your change Violins: alternative term “Fine violins” (en) added" in " ".join(page.text.split())
     assert ("en", "Fine violins") not in view(desk, VIOLINS).alt
+    assert " autofocus" not in page.html and page.html.index(">Leave it</a>") < page.html.index(">Make my change")
     assert reader.send(page.form("add-term")).status == 200
     assert ("en", "Fine violins") in view(desk, VIOLINS).alt
 
