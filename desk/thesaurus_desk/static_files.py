@@ -1,4 +1,4 @@
-"""The addresses of scripts, style sheets and the icon: with a sum of the content, so that no browser runs an old one."""
+"""The addresses of scripts, style sheets and the icon: each with a sum of its content, so that no old one is used."""
 from __future__ import annotations
 
 import hashlib

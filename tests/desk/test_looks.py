@@ -154,11 +154,12 @@ def test_360_pixels(served: Running) -> None:
 
 # The texts beside which a sign is below the last line, once they are long.
 SIGNS_BELOW = """
-const texts = [...document.querySelectorAll('.labels .text, .links li > a')].filter((it) => it.closest('li').querySelector('summary'));
-const bottom = (it) => it.getBoundingClientRect().bottom, top = (it) => it.getBoundingClientRect().top;
+const signs = (it) => [...it.closest('li').querySelectorAll('summary, button.x')].filter((it) => it.checkVisibility());
+const texts = [...document.querySelectorAll('.labels .text, .links li > a')].filter((it) => signs(it).length);
 for (const it of texts) it.textContent = 'a long text '.repeat(12);
-const signs = (it) => [...it.closest('li').querySelectorAll('summary, button.x')].filter((sign) => sign.checkVisibility());
-return [texts.length, texts.filter((it) => signs(it).some((sign) => top(sign) >= bottom(it))).map((it) => it.outerHTML)];"""
+const bottom = (it) => it.getBoundingClientRect().bottom, top = (it) => it.getBoundingClientRect().top;
+const isBelow = (it) => signs(it).some((sign) => top(sign) >= bottom(it));
+return [texts.length, texts.filter(isBelow).map((it) => it.outerHTML)];"""
 
 
 def test_signs_stay_beside_a_long_text(served: Running) -> None:
@@ -172,7 +173,9 @@ def test_signs_stay_beside_a_long_text(served: Running) -> None:
 
 
 def test_the_box_for_searches_stays_where_it_is(anna: Browser) -> None:
-    script = "const it = document.querySelector('#q').getBoundingClientRect(); return `${it.left} ${it.top} ${it.width}`;"
+    script = (
+        "const it = document.getElementById('q').getBoundingClientRect(); return `${it.left} ${it.top} ${it.width}`"
+    )
     places = {}
     for path in ("/", "/tree", "/az", "/c/5", "/keys", "/changes", "/bring-in", "/users", "/nothing", "/search?q=x"):
         anna.go(path)
