@@ -127,8 +127,8 @@ def test_rows_that_exchange_terms(is_refused: bool, site: Site, anna: Client) ->
     [
         ("Kotos,Kotos,", "would have two roles at one concept"),
         ('"Ly\tres",,', "without control characters"),
-        (f"{'x' * 257},,", "has 257 bytes, and 256 is the limit"),
-        (f"Lyres,,{'x' * 2001}", "has 2,001 bytes"),
+        (f"{'x' * 257},,", "is one character too long"),
+        (f"Lyres,,{'x' * 2001}", "is one character too long"),
         ("Violins,Violin,", "is there already"),
     ],
 )
