@@ -177,7 +177,7 @@ def test_the_box_for_searches_stays_where_it_is(anna: Browser) -> None:
         "const it = document.getElementById('q').getBoundingClientRect(); return `${it.left} ${it.top} ${it.width}`"
     )
     places = {}
-    for path in ("/", "/tree", "/az", "/c/5", "/keys", "/changes", "/bring-in", "/users", "/nothing", "/search?q=x"):
+    for path in ("/", "/tree", "/az", "/c/5", "/keys", "/changes", "/bring-in", "/users", "/lists", "/search?q=x"):
         anna.go(path)
         places[path] = anna.run(script)
     assert len(set(places.values())) == 1, places
