@@ -102,7 +102,8 @@ def try_on_copy(desk: Desk, folder: Path, script: Path) -> list[str]:
                 shutil.copyfile(f"{desk.db}{end}", f"{copy}{end}")
     words = ["--db", str(copy), "--program", desk.program.words[0], *desk.program.options, "--keep-going", str(script)]
     ran = run_tool("load", *words)
-    lines = [it for it in ran.stderr.splitlines() if it.startswith(str(script)) or "refused" in it]
+    said = ran.stderr.splitlines()
+    lines = [it for it in said if it.startswith(str(script))] or (said[-1:] if ran.returncode else [])
     return refused_lines(lines[:SHOWN], str(script))
 
 

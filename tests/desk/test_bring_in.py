@@ -279,6 +279,7 @@ def test_what_a_copy_refuses_is_in_words(site: Site, anna: Client) -> None:
     assert page.status_code == 200 and "so it can’t be brought in" in text_of(page), text_of(page)
     assert "A link between what can’t be linked so (WrongKind)" in " ".join(text_of(page).split())
     assert "https://thesaurus.example/id/5" in page.text and "{" not in text_of(page), text_of(page)
+    assert "It refers to what was refused" in page.text and "requests:" not in text_of(page)
 
 
 def text_of_part(markup: str) -> str:
