@@ -106,7 +106,7 @@ def failed_rows(name: str) -> Response:
     if what is None:
         abort(404)
     if isinstance(what, Brought):
-        lines = [("key", "record", "concept", "reason"), *((*it.cells, it.outcome) for it in what.failed)]
+        lines = [("key", "record", "concept", "reason"), *((*it.cells, plain(why_refused(it))) for it in what.failed)]
     else:
         lines = [(*what.heading, "reason"), *((*it.cells, plain(it.reason)) for it in what.plans if it.reason)]
     text = "".join(to_csv(tuple(it)) for it in lines)
