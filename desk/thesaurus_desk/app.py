@@ -21,6 +21,7 @@ from thesaurus_desk.performing import Desk
 from thesaurus_desk.program import NoAnswer
 from thesaurus_desk.settings import Settings
 from thesaurus_desk.shelf import Shelf
+from thesaurus_desk.static_files import install_static_files
 from thesaurus_desk.words import LANGUAGES
 
 # The modules with pages: each has a blueprint `pages`.
@@ -55,6 +56,7 @@ def create_app(desk: Desk, entry: Entry, settings: Settings) -> Flask:
     install_checks(app)
     install_languages(app)
     install_words(app)
+    install_static_files(app)
     install_errors(app)
     for name in PAGES:
         app.register_blueprint(import_module(f"thesaurus_desk.pages.{name}").pages)

@@ -12,6 +12,7 @@ from typing import Any
 
 from thesaurus_desk.named import NamedRun
 from thesaurus_desk.performing import Desk, Outcome
+from thesaurus_desk.skos_reports import Findings, by_rules, refused_lines
 from thesaurus_tools.command_line import REFUSED, ToolError
 
 TOOLS = Path(__file__).resolve().parents[2] / "tools"
@@ -53,8 +54,8 @@ class SkosRun:
 
     name: str
     requests: list[dict[str, Any]]
-    report: list[str]
-    refused: list[str] = field(default_factory=list)
+    report: list[Findings]
+    refused: list[Findings] = field(default_factory=list)
     # The number of the first scheme that it made, and whether only a part of it was done.
     scheme: int | None = None
     is_cut: bool = False
@@ -70,19 +71,14 @@ def read_skos(desk: Desk, name: str, data: bytes, options: SkosOptions) -> SkosR
         path = Path(folder, f"vocabulary{suffix}")
         path.write_bytes(data)
         ran = run_tool("from-skos", str(path), *options.words())
-        report = [in_page(it) for it in ran.stderr.replace(str(path), name).splitlines()]
+        report = [it.removeprefix("from-skos: ") for it in ran.stderr.replace(str(path), name).splitlines()]
         if ran.returncode or not ran.stdout:
             raise ToolError("\n".join(report[-SHOWN:]) or "the converter failed", REFUSED)
         script = Path(folder, "script.jsonl")
         script.write_text(ran.stdout, encoding="utf-8")
-        run = SkosRun(name, [json.loads(it) for it in ran.stdout.splitlines()], report[:SHOWN])
-        run.refused = try_on_copy(desk, Path(folder), script)
+        run = SkosRun(name, [json.loads(it) for it in ran.stdout.splitlines()], by_rules(report))
+        run.refused = by_rules(try_on_copy(desk, Path(folder), script))
     return run
-
-
-def in_page(line: str) -> str:
-    """Returns a line of a converter's report without the tool's name, and without its options, which a page hasn't."""
-    return line.removeprefix("from-skos: ").partition("; options that keep more: ")[0]
 
 
 def run_tool(tool: str, *words: str) -> subprocess.CompletedProcess[str]:
@@ -106,8 +102,9 @@ def try_on_copy(desk: Desk, folder: Path, script: Path) -> list[str]:
                 shutil.copyfile(f"{desk.db}{end}", f"{copy}{end}")
     words = ["--db", str(copy), "--program", desk.program.words[0], *desk.program.options, "--keep-going", str(script)]
     ran = run_tool("load", *words)
-    lines = [it for it in ran.stderr.splitlines() if it.startswith(str(script)) or "refused" in it]
-    return [it.replace(str(script), script.name) for it in lines[:SHOWN]]
+    said = ran.stderr.splitlines()
+    lines = [it for it in said if it.startswith(str(script))] or (said[-1:] if ran.returncode else [])
+    return refused_lines(lines[:SHOWN], str(script))
 
 
 def perform_script(desk: Desk, user: str, run: SkosRun) -> Outcome:

@@ -41,7 +41,8 @@ def test_a_posting_file(site: Site, anna: Client) -> None:
     found = re.search(r"/bring-in/failed/[^\"]+\.csv", page.text)
     assert found
     rows = list(csv.DictReader(io.StringIO(anna.get(found[0]).text.removeprefix("\ufeff"))))
-    assert [(it["key"], it["reason"]) for it in rows] == [("n2", "UnknownResource"), ("n3", "BadRecord")]
+    assert [it["key"] for it in rows] == ["n2", "n3"]
+    assert rows[0]["reason"].startswith("No concept has the number") and "the record" in rows[1]["reason"]
     assert site.client("ben").get(found[0]).status_code == 404  # (it is another's)
     assert "posting file table.csv: 1 indexed, 2 refused" in text_of(anna.get("/changes"))
     again = send(anna, "/bring-in/postings", data)
@@ -127,8 +128,8 @@ def test_rows_that_exchange_terms(is_refused: bool, site: Site, anna: Client) ->
     [
         ("Kotos,Kotos,", "would have two roles at one concept"),
         ('"Ly\tres",,', "without control characters"),
-        (f"{'x' * 257},,", "has 257 bytes, and 256 is the limit"),
-        (f"Lyres,,{'x' * 2001}", "has 2,001 bytes"),
+        (f"{'x' * 257},,", "is one character too long"),
+        (f"Lyres,,{'x' * 2001}", "is one character too long"),
         ("Violins,Violin,", "is there already"),
     ],
 )
@@ -245,6 +246,46 @@ def test_a_vocabulary(site: Site, anna: Client) -> None:
     view = site.desk.mirror.view(number(site, "Norway"))
     assert view and view.broader == (number(site, "Europe"),) and view.scheme != 1
     assert [site.desk.mirror.iri(it) for _, it in view.mappings] == ["http://old.example/b"]
+
+
+BROKEN = """
+:c a skos:Concept ; skos:inScheme :s ; skos:prefLabel "Oslo"@en, "Christiania"@en ; skos:broader :b ; skos:related :a .
+:d a skos:Concept ; skos:inScheme :s ; skos:prefLabel "Bergen" .
+"""
+
+
+@pytest.mark.needs("rdflib")
+@pytest.mark.parametrize(
+    ("language", "heading"),
+    [
+        ("en", "Two preferred terms in one language (S14)"),
+        ("de", "Zwei Vorzugsbenennungen in einer Sprache (S14)"),
+        ("fr", "Deux termes préférentiels dans une langue (S14)"),
+    ],
+)
+def test_the_report_of_a_vocabulary_is_in_words(site: Site, anna: Client, language: str, heading: str) -> None:
+    anna.get(f"/language?pages={language}&next=/")
+    page = send(anna, "/bring-in/skos", (SKOS + BROKEN).encode(), "places.ttl")
+    assert page.status_code == 200, text_of(page)
+    headings = [" ".join(text_of_part(it).split()) for it in re.findall("<h3>(.*?)</h3>", page.text)]
+    assert heading in headings and len(headings) == 5, headings
+    assert all(f" ({it})" in " ".join(headings) for it in ("S14", "S27", "BadTag", "NoLabel")), headings
+    assert "is a second preferred label" in text_of(page) and " --" not in text_of(page)
+
+
+@pytest.mark.needs("rdflib")
+def test_what_a_copy_refuses_is_in_words(site: Site, anna: Client) -> None:
+    data = f"{SKOS}:b skos:exactMatch <https://thesaurus.example/id/5> ."
+    page = send(anna, "/bring-in/skos", data.encode(), "places.ttl", tag="en")
+    assert page.status_code == 200 and "so it can’t be brought in" in text_of(page), text_of(page)
+    assert "A link between what can’t be linked so (WrongKind)" in " ".join(text_of(page).split())
+    assert "https://thesaurus.example/id/5" in page.text and "{" not in text_of(page), text_of(page)
+    assert "It refers to what was refused" in page.text and "requests:" not in text_of(page)
+
+
+def text_of_part(markup: str) -> str:
+    """Returns the text of a part of a page."""
+    return re.sub("<[^>]*>", "", markup)
 
 
 @pytest.mark.parametrize(("name", "data"), [("a.ttl", b"no turtle <"), ("a.nt", b""), ("a.docx", b"x")])

@@ -36,7 +36,7 @@ def test_terms_and_notes_are_added(reader: Reader, desk: Desk) -> None:
         ("alt", "x1y2z3w4q5", "Fine violins", "tag", "isn’t a language tag"),
         ("alt", "english", "Fine violins", "tag", "“english” isn’t a language tag"),
         ("alt", "de", "Violinen", "text", "already has “Violinen” (de) as alternative term"),
-        ("alt", "en", "x" * 257, "text", "has 257 bytes"),
+        ("alt", "en", "x" * 257, "text", "is one character too long"),
     ],
 )
 def test_a_refused_term_is_shown_again(reader: Reader, kind: str, tag: str, text: str, field: str, part: str) -> None:
@@ -182,6 +182,7 @@ def test_a_conflict_shows_both_changes_and_asks_again(reader: Reader, desk: Desk
     assert "alternative term “Fiddles too” (en)" in page.text and user in page.text
     assert "Your change Violins: alternative term “Fine violins” (en) added" in " ".join(page.text.split())
     assert ("en", "Fine violins") not in view(desk, VIOLINS).alt
+    assert " autofocus" not in page.html and page.html.index(">Leave it</a>") < page.html.index(">Make my change")
     assert reader.send(page.form("add-term")).status == 200
     assert ("en", "Fine violins") in view(desk, VIOLINS).alt
 

@@ -20,7 +20,7 @@ def plain_driver() -> Iterator[WebDriver]:
     """A browser that runs no script of pages."""
     found = Browser("", *WIDE, True, ()).driver
     found.execute_cdp_cmd("Network.enable", {})
-    found.execute_cdp_cmd("Network.setBlockedURLs", {"urls": ["*/static/*.js"]})
+    found.execute_cdp_cmd("Network.setBlockedURLs", {"urls": ["*/static/*.js*"]})
     yield found
     found.quit()
 
@@ -161,6 +161,8 @@ def test_two_editors_at_once(driver: WebDriver, program: str, store: Path) -> No
             anna.sees("You changed Fine violins yourself after this page was opened")
             anna.sees("preferred term “Fine violins” (en)")
             anna.sees("Your change Fine violins: renamed to “Old violins” (en)")
+            focused = driver.switch_to.active_element
+            assert focused.tag_name not in ("a", "button"), "Enter, pressed once more, changes nothing"
             anna.press("Make my change all the same")
             anna.sees("renamed to “Old violins” (en)")
             anna.sees("UF Fine violins")

@@ -152,6 +152,37 @@ def test_360_pixels(served: Running) -> None:
             assert browser.run(WIDTH) == [], f"{path}, with its forms open"
 
 
+# The texts beside which a sign is below the last line, once they are long.
+SIGNS_BELOW = """
+const signs = (it) => [...it.closest('li').querySelectorAll('summary, button.x')].filter((it) => it.checkVisibility());
+const texts = [...document.querySelectorAll('.labels .text, .links li > a')].filter((it) => signs(it).length);
+for (const it of texts) it.textContent = 'a long text '.repeat(12);
+const bottom = (it) => it.getBoundingClientRect().bottom, top = (it) => it.getBoundingClientRect().top;
+const isBelow = (it) => signs(it).some((sign) => top(sign) >= bottom(it));
+return [texts.length, texts.filter(isBelow).map((it) => it.outerHTML)];"""
+
+
+def test_signs_stay_beside_a_long_text(served: Running) -> None:
+    for size in (NARROW, (1280, 960)):
+        with browsing(root_of(served), size) as browser:
+            come_in(browser)
+            browser.go("/c/5")
+            count, below = browser.run(SIGNS_BELOW)
+            assert count > 3 and below == []
+            assert browser.run(WIDTH) == []
+
+
+def test_the_box_for_searches_stays_where_it_is(anna: Browser) -> None:
+    script = (
+        "const it = document.getElementById('q').getBoundingClientRect(); return `${it.left} ${it.top} ${it.width}`"
+    )
+    places = {}
+    for path in ("/", "/tree", "/az", "/c/5", "/keys", "/changes", "/bring-in", "/users", "/lists", "/search?q=x"):
+        anna.go(path)
+        places[path] = anna.run(script)
+    assert len(set(places.values())) == 1, places
+
+
 def test_without_script(served: Running) -> None:
     with browsing(root_of(served), is_scripted=False) as browser:
         come_in(browser)

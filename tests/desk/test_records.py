@@ -33,7 +33,7 @@ def test_a_record_is_indexed_at_a_concept(reader: Reader, desk: Desk) -> None:
     ("fields", "field", "part"),
     [
         ({"record": ""}, "record", "Write the name of the record"),
-        ({"record": "x" * 129}, "record", "has 1 to 128 bytes"),
+        ({"record": "x" * 129}, "record", "is one character too long"),
         ({"record": "Other", "key": "a b"}, "key", "“a b” can’t be a key"),
         ({"record": "Other", "key": "k-0"}, "key", "belongs to the record Violin 0000, indexed with Violas"),
     ],

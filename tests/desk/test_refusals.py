@@ -129,17 +129,14 @@ CASES: list[tuple[dict[str, Any], str, str, list[int]]] = [
     ({"do": "post", "key": "k", "record": "x", "concept": 3}, "TooMany", "--max-postings, --max-moves", []),
     ({"do": "addLabel", "owner": 3, "kind": "alt", "tag": "1", "text": "x"}, "BadTag", "“1” isn’t a language tag", []),
     ({"do": "addLabel", "owner": 3, "kind": "alt", "tag": "en", "text": ""}, "BadText", "The field is empty", []),
-    ({"do": "addLabel", "owner": 3, "kind": "alt", "tag": "en", "text": "é" * 129}, "BadText", "has 258 bytes", []),
-    (
-        {"do": "addLabel", "owner": 3, "kind": "scope", "tag": "en", "text": "x" * 2001},
-        "BadText",
-        "has 2,001 bytes",
-        [],
-    ),
+    ({"do": "addLabel", "owner": 3, "kind": "alt", "tag": "en", "text": "é" * 129}, "BadText", "one character too", []),
+    ({"do": "addLabel", "owner": 3, "kind": "scope", "tag": "en", "text": "é" * 1003}, "BadText", "is 3 char", []),
     ({"do": "outside", "iri": "x"}, "BadIri", "“x” isn’t an address", []),
     ({"do": "outside", "iri": "http://www.wikidata.org/entity/Q8355"}, "OutsideKnown", "is known already", [7]),
     ({"do": "post", "key": "a b", "record": "x", "concept": 3}, "BadKey", "“a b” can’t be a key", []),
     ({"do": "post", "key": "k", "record": "", "concept": 3}, "BadRecord", "Write the name", []),
+    ({"do": "post", "key": "k", "record": "x" * 130, "concept": 3}, "BadRecord", "is 2 characters too long", []),
+    ({"do": "post", "key": "k", "record": "a\nb", "concept": 3}, "BadRecord", "is on one line", []),
 ]
 
 

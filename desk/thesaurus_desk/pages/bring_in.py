@@ -15,6 +15,7 @@ from thesaurus_desk.pages.telling import LINKS, PageLinks, tell_outcome
 from thesaurus_desk.refusals import explain, explain_state
 from thesaurus_desk.sentences import sentence_of
 from thesaurus_desk.shelf import Shelf
+from thesaurus_desk.skos_reports import Findings
 from thesaurus_desk.tables import Bringer, TableRun, plan_rows, read_sent_table, run_table
 from thesaurus_desk.vocabularies import SkosOptions, SkosRun, StoreBusy, perform_script, read_skos
 from thesaurus_tools.command_line import ToolError
@@ -105,7 +106,7 @@ def failed_rows(name: str) -> Response:
     if what is None:
         abort(404)
     if isinstance(what, Brought):
-        lines = [("key", "record", "concept", "reason"), *((*it.cells, it.outcome) for it in what.failed)]
+        lines = [("key", "record", "concept", "reason"), *((*it.cells, plain(why_refused(it))) for it in what.failed)]
     else:
         lines = [(*what.heading, "reason"), *((*it.cells, plain(it.reason)) for it in what.plans if it.reason)]
     text = "".join(to_csv(tuple(it)) for it in lines)
@@ -200,7 +201,21 @@ def preview_skos() -> Any:
         return refused("skos", say("refusals.Busy.text"), "")
     except ToolError as error:
         return refused("skos", str(error))
+    run.refused = refused_sentences(run)
     return render_template("bring_in/skos.html", run=run, name=keep(run))
+
+
+def refused_sentences(run: SkosRun) -> list[Findings]:
+    """Returns what a copy of the store refused, with a sentence in place of each line of the script."""
+    links = PageLinks({f"${it['as']}": it.get("text") or it["iri"] for it in run.requests if "as" in it})
+
+    def sentence(line: str) -> str:
+        number = line.partition(":")[0]
+        if not (number.isdecimal() and 1 <= int(number) <= len(run.requests)):
+            return line
+        return sentence_of(run.requests[int(number) - 1], None, the_mirror(), words(), links)
+
+    return [Findings(it.rule, [sentence(line) for line in it.lines], it.more) for it in run.refused]
 
 
 @pages.post("/bring-in/skos/perform")

@@ -5,7 +5,8 @@ from markupsafe import Markup
 
 from thesaurus_desk.refusals.case import Case
 
-MOST_OF_LABEL, MOST_OF_NOTE = 256, 2000
+# The most bytes of a label, of a note, and of a record's name.
+MOST_OF_LABEL, MOST_OF_NOTE, MOST_OF_RECORD = 256, 2000, 128
 # The options that raise the limits which a request can reach.
 LIMITS = {
     "scheme": ("resources", "labels"),
@@ -35,14 +36,17 @@ def explain_bad_tag(case: Case) -> Markup:
     return case.say("text", tag=case.request.get("tag", ""))
 
 
+def excess_of(text: str, most: int) -> int:
+    """Returns how many characters at the end of a text are too many for a number of bytes."""
+    return len(text) - len(text.encode()[:most].decode(errors="ignore"))
+
+
 def explain_bad_text(case: Case) -> Markup:
     text, is_note = str(case.request.get("text", "")), case.request.get("kind") == "scope"
-    size, ending = len(text.encode()), "_note" if is_note else ""
-    if not size:
+    excess, ending = excess_of(text, MOST_OF_NOTE if is_note else MOST_OF_LABEL), "_note" if is_note else ""
+    if not text:
         return case.say(f"empty{ending}")
-    if size > (MOST_OF_NOTE if is_note else MOST_OF_LABEL):
-        return case.say(f"long{ending}", n=size)
-    return case.say("text")
+    return case.say(f"long{ending}", n=excess) if excess else case.say("text")
 
 
 def explain_bad_iri(case: Case) -> Markup:
@@ -58,7 +62,9 @@ def explain_bad_key(case: Case) -> Markup:
 
 
 def explain_bad_record(case: Case) -> Markup:
-    return case.say("text" if case.request.get("record") else "empty")
+    record = str(case.request.get("record", ""))
+    excess = excess_of(record, MOST_OF_RECORD)
+    return case.say("long", n=excess) if excess else case.say("text" if record else "empty")
 
 
 def explain_bad_number(case: Case) -> Markup:

@@ -1,0 +1,45 @@
+"""The desk's commands in docs/OPERATING.md and README.md, as they stand there, with other ports and files."""
+from __future__ import annotations
+
+import re
+import shlex
+from pathlib import Path
+
+import pytest
+from clients import PASSWORD
+from processes import run_desk, running
+
+ROOT = Path(__file__).resolve().parents[2]
+
+
+def commands_of(name: str) -> list[list[str]]:
+    """Returns the commands of a document that begin with tools/desk, without this word: on lines of their own, or in
+    the text."""
+    text = (ROOT / name).read_text(encoding="utf-8")
+    found = re.findall(r"^ {4}tools/desk (.*)$|`tools/desk (--[^`\n]*)`", text, re.M)
+    return [shlex.split(it or other) for it, other in found]
+
+
+def test_what_the_documents_have() -> None:
+    assert [it[:2] for it in commands_of("docs/OPERATING.md")] == [
+        ["--db", "museum.db"],
+        ["user", "add"],
+        ["--db", "museum.db"],
+    ]
+    assert [it[:2] for it in commands_of("README.md")] == [["--db", "sample.db"]]
+
+
+@pytest.mark.parametrize("name", ["docs/OPERATING.md", "README.md"])
+def test_commands_of_a_document(name: str, store: Path, program: str, tmp_path: Path) -> None:
+    """Those that add a user end, the others serve."""
+    places = {"museum.db": store, "sample.db": store, "users.json": tmp_path / "users.json", "8090": 0}
+    for words in commands_of(name):
+        given = [str(places.get(it, it)) for it in words]
+        if words[0] == "user":
+            short = run_desk(*given, given="too short\n")
+            assert short.returncode == 1 and "10" in short.stderr, short
+            assert run_desk(*given, given=f"{PASSWORD}\n").returncode == 0
+            continue
+        with running(*given, "--program", program) as desk:
+            assert ("key=" in desk.entrance) == ("--alone" in words)
+            assert desk.ask("GET", desk.entrance)[0] in (200, 303)
