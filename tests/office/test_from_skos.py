@@ -209,6 +209,85 @@ def test_script_is_the_same_each_time(seed: str, sound: Path) -> None:
     assert from_skos(sound, seed=seed) == from_skos(sound)
 
 
+# --- MADS/RDF, which the Library of Congress writes beside SKOS, or alone ---
+
+SUBJECT = "http://id.loc.gov/authorities/subjects/sh85143827"
+IN_MADS = f"""
+<{SUBJECT}> rdf:type <mads:Topic> .
+<{SUBJECT}> rdf:type <mads:Authority> .
+<{SUBJECT}> <mads:authoritativeLabel> "Violin"@en .
+<{SUBJECT}> <mads:elementList> _:list .
+_:list rdf:first _:element .
+_:list rdf:rest rdf:nil .
+_:element rdf:type <mads:TopicElement> .
+_:element <mads:elementValue> "Violin"@en .
+<{SUBJECT}> <mads:hasVariant> _:first .
+_:first rdf:type <mads:Topic> .
+_:first rdf:type <mads:Variant> .
+_:first <mads:variantLabel> "Fiddle"@en .
+<{SUBJECT}> <mads:hasVariant> _:second .
+_:second rdf:type <mads:Variant> .
+_:second <mads:variantLabel> "Fiddles"@en .
+"""
+MADS_TERMS = {
+    "Authority": 1,
+    "Topic": 2,
+    "TopicElement": 1,
+    "Variant": 2,
+    "authoritativeLabel": 1,
+    "elementList": 1,
+    "elementValue": 1,
+    "hasVariant": 2,
+    "variantLabel": 2,
+}
+IN_SKOS = f"""
+<{SUBJECT}> rdf:type <skos:Concept> .
+<{SUBJECT}> <skos:inScheme> <http://id.loc.gov/authorities/subjects> .
+<{SUBJECT}> <skos:prefLabel> "Violin"@en .
+<http://id.loc.gov/authorities/subjects> <skos:prefLabel> "Subject headings"@en .
+"""
+
+
+def write_authority(path: Path, text: str) -> Path:
+    """Writes lines of N-Triples whose terms have prefixes."""
+    text = text.replace("<mads:", "<http://www.loc.gov/mads/rdf/v1#")
+    text = text.replace("<skos:", "<http://www.w3.org/2004/02/skos/core#")
+    text = re.sub(r"rdf:(\w+)", r"<http://www.w3.org/1999/02/22-rdf-syntax-ns#\1>", text)
+    path.write_text(text, encoding="utf-8")
+    return path
+
+
+def test_mads_is_left_out_by_name(room: Path) -> None:
+    file = write_authority(room / "both.nt", IN_SKOS + IN_MADS)
+    status, script, told = from_skos(file)
+    assert (status, script) == (1, "")
+    assert f"from-skos: lost: {SUBJECT}: madsrdf:authoritativeLabel 'Violin'@en" in told
+    assert f"from-skos: lost: {SUBJECT}: madsrdf:Authority as its class" in told
+    assert f"lost {sum(MADS_TERMS.values())} (" in told[-1]
+    counts = {name: int(count) for name, count in re.findall(r"madsrdf:(\w+) (\d+)", told[-1])}
+    assert counts == MADS_TERMS
+    status, script, told = from_skos("--drop", file)
+    assert (status, counts) == (0, {it[0]: int(it[1]) for it in re.findall(r"madsrdf:(\w+) (\d+)", told[-1])})
+    assert script == from_skos(write_authority(room / "skos.nt", IN_SKOS))[1] != ""
+
+
+@pytest.mark.parametrize("words", [[], ["--drop"], ["--scheme", "All", "--lang", "en", "--drop"]])
+def test_mads_alone_is_refused(words: list[str], room: Path) -> None:
+    file = write_authority(room / "mads.nt", IN_MADS)
+    status, script, told = from_skos(*words, file)
+    assert (status, script, len(told)) == (1, "", 1)
+    assert "mads.nt: nothing in it is a concept, a scheme or a collection of SKOS; it is in MADS/RDF" in told[0]
+    assert {it[0]: int(it[1]) for it in re.findall(r"madsrdf:(\w+) (\d+)", told[0])} == MADS_TERMS
+
+
+def test_mads_label_alone_makes_no_concept(room: Path) -> None:
+    """A concept of SKOS with labels only in MADS isn't a file only in MADS: what it lacks is reported."""
+    text = IN_SKOS.replace(f'<{SUBJECT}> <skos:prefLabel> "Violin"@en .', "") + IN_MADS
+    status, script, told = from_skos("--drop", write_authority(room / "unlabelled.nt", text))
+    assert (status, script) == (1, "") and told[-1].endswith("no concept would be left, so nothing is written")
+    assert any("NoLabel" in it and SUBJECT in it for it in told) and "madsrdf:authoritativeLabel 1" in told[-2]
+
+
 # --- options, and files that can't be read ---
 
 PLAIN_TEXTS = """<http://old.example/s> <http://www.w3.org/1999/02/22-rdf-syntax-ns#type> \
