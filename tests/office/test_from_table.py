@@ -342,6 +342,17 @@ def test_rows_of_a_split_that_is_refused(store: Path, tmp_path: Path) -> None:
     assert script_of(from_table(rest, store, "--postings", "--keep-going")) == []
 
 
+def test_limits_are_those_of_the_options(store: Path, tmp_path: Path) -> None:
+    """Of the store, and of the copy on which --dry tries."""
+    path = table(tmp_path, ("record", "concept"), ("Violin 1700", "3"), ("Violin 1701", "3"))
+    for how in ("--dry", "--perform"):
+        ended = from_table(path, store, "--postings", how, "--max-postings", "2")
+        assert ended.status == 1 and "1 change something" in ended.err.decode(), ended.err
+        assert "TooMany: a limit of the store is reached" in (ended.out + ended.err).decode()
+    assert from_table(path, store, "--postings", "--perform", "--max-postings", "3").status == 0
+    assert concept(store, 3)["postings"] == 3
+
+
 # --- what goes out and comes back ---
 
 FOR_LISTS: list[dict[str, object]] = [

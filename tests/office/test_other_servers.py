@@ -76,6 +76,14 @@ CALLS = (
     ("report", "counts", "--http"),
     ("report", "record", "x", "--http"),
     ("number-postings", "old.csv", "--http"),
+    ("from-table", "table.csv", "--http"),
+    ("from-table", "table.csv", "--perform", "--http"),
+    ("repost", "--posting", "1", "--to", "2", "--http"),
+    ("unmerge", "2", "--before", "old.nt", "--http"),
+    ("to-rdf", "--types", "--http"),
+    ("to-marc", "--lang", "en", "--http"),
+    ("to-table", "--columns", "number,pref@en", "--http"),
+    ("to-print", "--scheme", "1", "--lang", "en", "--http"),
 )
 
 
@@ -161,6 +169,8 @@ def files(room: Path) -> Path:
         ),
         ("outside.jsonl", '{"as":"o","do":"outside","iri":"http://b.example/x"}\n'),
         ("old.csv", "record,concept\nA jar,x\n"),
+        ("table.csv", "number,alt@en\n2,Jars\n"),
+        ("old.nt", EXPORT),
     ):
         (room / name).write_text(text, encoding="utf-8")
     return room
