@@ -5,7 +5,6 @@ import csv
 import io
 import json
 import subprocess
-import time
 import zipfile
 from collections.abc import Sequence
 from dataclasses import dataclass
@@ -13,7 +12,7 @@ from pathlib import Path
 from typing import Any
 
 import pytest
-from office import tool
+from office import tool, tool_with_use
 from program import Ended, built
 
 BASE = "https://museum.example/id/"
@@ -633,10 +632,9 @@ def test_a_gigabyte_of_nothing(store: Path, tmp_path: Path, name: str) -> None:
         "number-postings": (path, "--db", store),
         "repost": ("--db", store, "--records", path, "--at", "3", "--to", "4"),
     }
-    began = time.process_time()
-    ended = tool(name, *words[name])
+    ended, use = tool_with_use(name, *words[name])
     assert (ended.status, ended.out) == (2, b"") and b"more than 64 megabytes" in ended.err
-    assert ended.err.count(b"\n") == 1 and time.process_time() - began < 5
+    assert ended.err.count(b"\n") == 1 and use.seconds < 5 and use.memory < 500 << 20
 
 
 @pytest.mark.needs("openpyxl")
