@@ -105,7 +105,7 @@ def test_each_tool_that_reads_a_store_asks_a_server() -> None:
 @pytest.mark.parametrize("is_near", [True, False], ids=["this machine's", "another machine's"])
 def test_a_server_answers_what_the_store_has(is_near: bool, store: Path, tmp_path: Path) -> None:
     table, postings = tmp_path / "table.csv", tmp_path / "postings.csv"
-    table.write_text("number,alt@it,broader\n5,Violini,Instruments\n6,Viole,2\n", encoding="utf-8")
+    table.write_text("number,alt@it\n5,Violini\n7,Violoncelli\n", encoding="utf-8")
     postings.write_text("record,concept\nA violin,Violins\n", encoding="utf-8")
     before, after = (Path(shutil.copy(store, tmp_path / it)) for it in ("before.db", "after.db"))
     post, merge = b'{"do":"post","key":"k","record":"r","concept":6}\n', b'{"do":"merge","source":6,"target":5}\n'
@@ -114,11 +114,11 @@ def test_a_server_answers_what_the_store_has(is_near: bool, store: Path, tmp_pat
     calls: list[list[object]] = [
         ["report", "tops"],
         ["report", "counts", "--concepts"],
-        ["from-table", table, "--keep-going"],
+        ["from-table", table],
         ["number-postings", postings, "--terms", "en"],
         ["repost", "--posting", 1, "--to", 7],
         ["unmerge", "--before", before, 6],
-        ["to-rdf", "--types"],
+        ["to-rdf", "--types", "--program", built()],
         ["to-marc", "--lang", "en"],
         ["to-table", "--columns", "number,pref@en,alt@de,broader,records"],
         ["to-print", "--scheme", 1, "--lang", "en"],
