@@ -225,11 +225,13 @@ class Recorder(Handler):
 
     sent: list[bytes]
 
-    def do_POST(self) -> None:
+    def do_GET(self) -> None:
         self.sent.append(self.rfile.read(int(self.headers.get("Content-Length") or 0)))
         self.send_response(200)
         self.send_header("Content-Length", "0")
         self.end_headers()
+
+    do_POST = do_GET
 
 
 @pytest.mark.parametrize("way", ["file", "--http", "--url"])

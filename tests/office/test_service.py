@@ -299,8 +299,8 @@ def test_client_that_is_slow_to_send_holds_up_nobody(front: Fronted) -> None:
 
 def large_store(path: Path) -> Path:
     """Makes a store with an export of some 13 megabytes, more than the system keeps for a client that doesn't read."""
-    concept = {"do": "concept", "scheme": 1, "tag": "en"}
-    over(path, "script", lines_of([SCHEME, *({**concept, "text": f"Animal {it}"} for it in range(100))]))
+    concepts = ({"do": "concept", "scheme": 1, "tag": "en", "text": f"Animal {it}"} for it in range(100))
+    over(path, "script", lines_of([SCHEME, *concepts]))
     with contextlib.closing(sqlite3.connect(path)) as tables, tables:
         labels = ((2 + it % 100, f"{it:06} {'x' * 240}") for it in range(40_000))
         tables.executemany("INSERT INTO label VALUES (?, 2, 'en', ?)", labels)
