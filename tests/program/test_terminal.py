@@ -86,7 +86,7 @@ def posting_file(path: Path, rows: int) -> Path:
 
 
 def late(words: Iterable[object], trace: Path) -> Shown:
-    """Runs a command twice, and the second time has a second pass between the start of its progress and the first row."""
+    """Runs a command twice; the second time a second passes between the start of its progress and the first row."""
     traced = on_terminal(words, before=["strace", "-f", "-qq", "-o", str(trace)])
     assert traced.status == 0
     calls = calls_of(trace)
