@@ -50,6 +50,8 @@ def in_memory(size):
     yield Work(f"{size(90_000):,} posts", script(made, posts(size(90_000), concepts)), script(made), 1.1)
     labelled = labels(concepts, 1 + concepts + size(100_000))
     yield Work(f"{size(100_000):,} labels", script(made, labelled), script(made), 1.2)
+    alone = list(scheme_with(0))
+    yield Work(f"{count:,} labels of one scheme", script(alone, labels(0, 1 + count)), script(alone), 1.2)
     yield Work(f"{count:,} links of a tree", script(many, tree(count)), script(many), 1.3)
     yield Work(f"{len(leveled):,} links in levels", script(made, leveled), script(made), 1.3)
     related = unrelated(concepts, size(2_000))

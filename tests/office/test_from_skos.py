@@ -209,6 +209,189 @@ def test_script_is_the_same_each_time(seed: str, sound: Path) -> None:
     assert from_skos(sound, seed=seed) == from_skos(sound)
 
 
+# --- labels of SKOS-XL, types of broader terms, and concepts below one that is left out ---
+
+IN_XL = """
+@prefix xl: <http://www.w3.org/2008/05/skos-xl#> .
+:s a skos:ConceptScheme ; xl:prefLabel [ a xl:Label ; xl:literalForm "Scheme"@en ] .
+:a a skos:Concept ; skos:inScheme :s ; xl:prefLabel :la ; xl:altLabel [ xl:literalForm "Low"@en ] .
+:a xl:hiddenLabel [ a xl:Label ; xl:literalForm "Loww"@en ] .
+:la a xl:Label ; xl:literalForm "Bass"@en .
+"""
+IN_PLAIN = """
+:s a skos:ConceptScheme ; skos:prefLabel "Scheme"@en .
+:a a skos:Concept ; skos:inScheme :s ; skos:prefLabel "Bass"@en ; skos:altLabel "Low"@en ; skos:hiddenLabel "Loww"@en .
+"""
+
+
+def write_turtle(path: Path, text: str) -> Path:
+    """Writes triples of Turtle with the prefixes of these tests."""
+    path.write_text(PREFIXES + text, encoding="utf-8")
+    return path
+
+
+@needs_rdflib
+def test_labels_of_skos_xl_are_read(room: Path) -> None:
+    found = from_skos(write_turtle(room / "xl.ttl", IN_XL))
+    assert found == from_skos(write_turtle(room / "plain.ttl", IN_PLAIN))
+    assert found[0] == 0 and not found[2] and found[1].count('"do":"addLabel"') == 2
+
+
+@needs_rdflib
+def test_what_else_is_said_of_a_label_of_skos_xl_is_lost(room: Path) -> None:
+    file = write_turtle(room / "xl.ttl", IN_XL + ':la dct:created "2001" .')
+    assert "from-skos: lost: http://old.example/la: created '2001'" in from_skos(file)[2]
+
+
+@needs_rdflib
+def test_vocabulary_that_would_be_empty_is_refused(room: Path) -> None:
+    """As one whose labels of SKOS-XL have no form."""
+    file = write_turtle(room / "xl.ttl", re.sub(r'xl:literalForm "(?!Scheme).*?"@en', "dct:source :x", IN_XL))
+    status, script, told = from_skos("--drop", file)
+    assert (status, script) == (1, "") and told[-1].endswith("no concept would be left, so nothing is written")
+
+
+@needs_rdflib
+@pytest.mark.parametrize("kind", ["Generic", "Partitive", "Instantial"])
+@pytest.mark.parametrize("triple", [":a iso:broader{} :b .", ":b iso:narrower{} :a ."], ids=["broader", "narrower"])
+def test_types_of_broader_terms_are_read(triple: str, kind: str, room: Path) -> None:
+    status, script, told = from_skos(write_turtle(room / "typed.ttl", SOUND + triple.format(kind)))
+    links = [it for it in map(json.loads, script.splitlines()) if it["do"] == "link"]
+    a, b = "$http://old.example/a", "$http://old.example/b"
+    assert (status, told) == (0, [])
+    assert [it["kind"] for it in links if (it["a"], it["b"]) == (a, b)] == [f"broader{kind}"]
+
+
+@pytest.mark.parametrize("name", ["each kind", "the sample"])
+def test_types_of_broader_terms_come_back(name: str, room: Path) -> None:
+    """By tools/to-rdf, which writes them, too."""
+    path, file, back = room / "first.db", room / "first.nt", room / "back.db"
+    over(path, "script", requests_of(name))
+    words = ("--program", built(), "--types", "--format", "ntriples")
+    text = tool("to-rdf", "--db", path, *words).out.decode()
+    file.write_text(text, encoding="utf-8")
+    status, script, told = from_skos(file)
+    assert (status, told) == (0, [])
+    numbers = load(back, script)
+    mapped = re.sub(rf"<({re.escape(BASE)}\d+)>", lambda it: f"<{OTHER}{numbers[it[1]]}>", text)
+    assert set(tool("to-rdf", "--db", back, *words).out.decode().splitlines()) == set(mapped.splitlines())
+    assert "skos-thes#broaderGeneric" in text
+
+
+GAPS = """
+:s a skos:ConceptScheme ; skos:prefLabel "Scheme"@en .
+:top a skos:Concept ; skos:inScheme :s ; skos:prefLabel "Top"@en .
+:gone a skos:Concept ; skos:inScheme :s ; skos:broader :top .
+:also a skos:Concept ; skos:inScheme :s ; skos:broader :gone .
+:one a skos:Concept ; skos:inScheme :s ; skos:prefLabel "One"@en ; iso:broaderGeneric :also .
+:two a skos:Concept ; skos:inScheme :s ; skos:prefLabel "Two"@en ; skos:broader :gone .
+:three a skos:Concept ; skos:inScheme :s ; skos:prefLabel "Three"@en ; skos:broader :gone .
+"""
+
+
+def links_of(script: str) -> set[str]:
+    """The links of a script, with the ends of IRIs."""
+    found = [it for it in map(json.loads, script.splitlines()) if it["do"] == "link"]
+    return {" ".join((it["a"].rpartition("/")[2], it["kind"], it["b"].rpartition("/")[2])) for it in found}
+
+
+@needs_rdflib
+def test_places_below_what_is_left_out_are_counted(room: Path) -> None:
+    status, script, told = from_skos("--drop", write_turtle(room / "gaps.ttl", GAPS))
+    assert not status and not links_of(script)
+    assert "from-skos: lost: http://old.example/gone: the place of 2 concepts below it; --adopt keeps one" in told
+    assert "from-skos: lost: http://old.example/also: the place of 1 concept below it; --adopt keeps one" in told
+    assert "lost 2 (the place 2)" in told[-1] and told[-1].endswith("options that keep more: --adopt (the place)")
+
+
+@needs_rdflib
+def test_places_are_kept_with_adopt(room: Path) -> None:
+    """Below the nearest concept above that stays, by links of the same types."""
+    status, script, told = from_skos("--drop", "--adopt", write_turtle(room / "gaps.ttl", GAPS))
+    assert not status and not any("the place" in it for it in told)
+    assert links_of(script) == {"one broaderGeneric top", "two broader top", "three broader top"}
+    load(room / "gaps.db", script)
+
+
+# --- MADS/RDF, which the Library of Congress writes beside SKOS, or alone ---
+
+SUBJECT = "http://id.loc.gov/authorities/subjects/sh85143827"
+IN_MADS = f"""
+<{SUBJECT}> rdf:type <mads:Topic> .
+<{SUBJECT}> rdf:type <mads:Authority> .
+<{SUBJECT}> <mads:authoritativeLabel> "Violin"@en .
+<{SUBJECT}> <mads:elementList> _:list .
+_:list rdf:first _:element .
+_:list rdf:rest rdf:nil .
+_:element rdf:type <mads:TopicElement> .
+_:element <mads:elementValue> "Violin"@en .
+<{SUBJECT}> <mads:hasVariant> _:first .
+_:first rdf:type <mads:Topic> .
+_:first rdf:type <mads:Variant> .
+_:first <mads:variantLabel> "Fiddle"@en .
+<{SUBJECT}> <mads:hasVariant> _:second .
+_:second rdf:type <mads:Variant> .
+_:second <mads:variantLabel> "Fiddles"@en .
+"""
+MADS_TERMS = {
+    "Authority": 1,
+    "Topic": 2,
+    "TopicElement": 1,
+    "Variant": 2,
+    "authoritativeLabel": 1,
+    "elementList": 1,
+    "elementValue": 1,
+    "hasVariant": 2,
+    "variantLabel": 2,
+}
+IN_SKOS = f"""
+<{SUBJECT}> rdf:type <skos:Concept> .
+<{SUBJECT}> <skos:inScheme> <http://id.loc.gov/authorities/subjects> .
+<{SUBJECT}> <skos:prefLabel> "Violin"@en .
+<http://id.loc.gov/authorities/subjects> <skos:prefLabel> "Subject headings"@en .
+"""
+
+
+def write_authority(path: Path, text: str) -> Path:
+    """Writes lines of N-Triples whose terms have prefixes."""
+    text = text.replace("<mads:", "<http://www.loc.gov/mads/rdf/v1#")
+    text = text.replace("<skos:", "<http://www.w3.org/2004/02/skos/core#")
+    text = re.sub(r"rdf:(\w+)", r"<http://www.w3.org/1999/02/22-rdf-syntax-ns#\1>", text)
+    path.write_text(text, encoding="utf-8")
+    return path
+
+
+def test_mads_is_left_out_by_name(room: Path) -> None:
+    file = write_authority(room / "both.nt", IN_SKOS + IN_MADS)
+    status, script, told = from_skos(file)
+    assert (status, script) == (1, "")
+    assert f"from-skos: lost: {SUBJECT}: madsrdf:authoritativeLabel 'Violin'@en" in told
+    assert f"from-skos: lost: {SUBJECT}: madsrdf:Authority as its class" in told
+    assert f"lost {sum(MADS_TERMS.values())} (" in told[-1]
+    counts = {name: int(count) for name, count in re.findall(r"madsrdf:(\w+) (\d+)", told[-1])}
+    assert counts == MADS_TERMS
+    status, script, told = from_skos("--drop", file)
+    assert (status, counts) == (0, {it[0]: int(it[1]) for it in re.findall(r"madsrdf:(\w+) (\d+)", told[-1])})
+    assert script == from_skos(write_authority(room / "skos.nt", IN_SKOS))[1] != ""
+
+
+@pytest.mark.parametrize("words", [[], ["--drop"], ["--scheme", "All", "--lang", "en", "--drop"]])
+def test_mads_alone_is_refused(words: list[str], room: Path) -> None:
+    file = write_authority(room / "mads.nt", IN_MADS)
+    status, script, told = from_skos(*words, file)
+    assert (status, script, len(told)) == (1, "", 1)
+    assert "mads.nt: nothing in it is a concept, a scheme or a collection of SKOS; it is in MADS/RDF" in told[0]
+    assert {it[0]: int(it[1]) for it in re.findall(r"madsrdf:(\w+) (\d+)", told[0])} == MADS_TERMS
+
+
+def test_mads_label_alone_makes_no_concept(room: Path) -> None:
+    """A concept of SKOS with labels only in MADS isn't a file only in MADS: what it lacks is reported."""
+    text = IN_SKOS.replace(f'<{SUBJECT}> <skos:prefLabel> "Violin"@en .', "") + IN_MADS
+    status, script, told = from_skos("--drop", write_authority(room / "unlabelled.nt", text))
+    assert (status, script) == (1, "") and told[-1].endswith("no concept would be left, so nothing is written")
+    assert any("NoLabel" in it and SUBJECT in it for it in told) and "madsrdf:authoritativeLabel 1" in told[-2]
+
+
 # --- options, and files that can't be read ---
 
 PLAIN_TEXTS = """<http://old.example/s> <http://www.w3.org/1999/02/22-rdf-syntax-ns#type> \

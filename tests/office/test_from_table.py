@@ -5,7 +5,6 @@ import csv
 import io
 import json
 import subprocess
-import time
 import zipfile
 from collections.abc import Sequence
 from dataclasses import dataclass
@@ -13,7 +12,7 @@ from pathlib import Path
 from typing import Any
 
 import pytest
-from office import tool
+from office import tool, tool_with_use
 from program import Ended, built
 
 BASE = "https://museum.example/id/"
@@ -342,6 +341,17 @@ def test_rows_of_a_split_that_is_refused(store: Path, tmp_path: Path) -> None:
     assert script_of(from_table(rest, store, "--postings", "--keep-going")) == []
 
 
+def test_limits_are_those_of_the_options(store: Path, tmp_path: Path) -> None:
+    """Of the store, and of the copy on which --dry tries."""
+    path = table(tmp_path, ("record", "concept"), ("Violin 1700", "3"), ("Violin 1701", "3"))
+    for how in ("--dry", "--perform"):
+        ended = from_table(path, store, "--postings", how, "--max-postings", "2")
+        assert ended.status == 1 and "1 change something" in ended.err.decode(), ended.err
+        assert "TooMany: a limit of the store is reached" in (ended.out + ended.err).decode()
+    assert from_table(path, store, "--postings", "--perform", "--max-postings", "3").status == 0
+    assert concept(store, 3)["postings"] == 3
+
+
 # --- what goes out and comes back ---
 
 FOR_LISTS: list[dict[str, object]] = [
@@ -622,10 +632,9 @@ def test_a_gigabyte_of_nothing(store: Path, tmp_path: Path, name: str) -> None:
         "number-postings": (path, "--db", store),
         "repost": ("--db", store, "--records", path, "--at", "3", "--to", "4"),
     }
-    began = time.process_time()
-    ended = tool(name, *words[name])
+    ended, use = tool_with_use(name, *words[name])
     assert (ended.status, ended.out) == (2, b"") and b"more than 64 megabytes" in ended.err
-    assert ended.err.count(b"\n") == 1 and time.process_time() - began < 5
+    assert ended.err.count(b"\n") == 1 and use.seconds < 5 and use.memory < 500 << 20
 
 
 @pytest.mark.needs("openpyxl")

@@ -115,6 +115,15 @@ def test_expected_refusals_stop_nothing(store: Store) -> None:
     assert store.load(REFUSING, "--ok", "LinkThere,Cycle").status == 0
 
 
+def test_limits_are_those_of_the_options(store: Store) -> None:
+    """They are the program's own, which tells them apart."""
+    status, _, errors = store.load(START, "--max-resources", "2")
+    assert (status, errors[0]) == (1, f"{store.script}:3: TooMany: {START[2]}")
+    assert store.load([*START, BROADER], "--max-resources", "3", "--max-links", "1").status == 0
+    status, _, errors = store.load([*START, BROADER, RELATED, GERMAN], "--ok", "S27", "--max-labels", "3")
+    assert (status, errors[0]) == (1, f"{store.script}:6: TooMany: {GERMAN}")
+
+
 def test_name_without_a_number(store: Store) -> None:
     lines = [*START, CATS_TOO, GERMAN.replace("$cats", "$more"), GERMAN]
     status, _, errors = store.load(lines, "--ok", "PreferredTaken")

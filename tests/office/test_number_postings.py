@@ -94,6 +94,43 @@ def test_each_way_gives_the_same_file(way: str, store: Path, room: Path) -> None
     assert_end(tool("number-postings", file, "--db", store, "--terms", "EN"), 0, NUMBERED)
 
 
+@pytest.mark.parametrize("encoding", ["utf-8-sig", "utf-16"])
+def test_each_encoding_gives_the_same_file(encoding: str, store: Path, room: Path) -> None:
+    file = file_of(room / "codes.csv", rows_by("codes"), ";")
+    file.write_bytes(file.read_text(encoding="utf-8").encode(encoding))
+    assert_end(tool("number-postings", file, "--db", store), 0, NUMBERED)
+
+
+@pytest.mark.needs("openpyxl")
+def test_workbook_of_excel_gives_the_same_file(store: Path, room: Path) -> None:
+    import openpyxl
+
+    book = openpyxl.Workbook()
+    for row in (("key", "record", "concept"), *rows_by("IRIs")):
+        book.active.append(row)
+    book.save(room / "book.xlsx")
+    rows = NUMBERED.replace(b'" Lyre, found "', b'"Lyre, found"')  # (cells of a workbook have no spaces at their ends)
+    assert_end(tool("number-postings", room / "book.xlsx", "--db", store), 0, rows)
+
+
+@pytest.mark.needs("odf")
+def test_open_document_gives_the_same_file(store: Path, room: Path) -> None:
+    from odf import opendocument, table, text
+
+    book, page = opendocument.OpenDocumentSpreadsheet(), table.Table(name="Postings")
+    for row in (("key", "record", "concept"), *rows_by("terms")):
+        line = table.TableRow()
+        for it in row:
+            place = table.TableCell()
+            place.addElement(text.P(text=it))
+            line.addElement(place)
+        page.addElement(line)
+    book.spreadsheet.addElement(page)
+    book.save(room / "book.ods")
+    rows = NUMBERED.replace(b'" Lyre, found "', b'"Lyre, found"')
+    assert_end(tool("number-postings", room / "book.ods", "--db", store, "--terms", "en"), 0, rows)
+
+
 def test_names_of_a_script(room: Path) -> None:
     script, journal, names = room / "named.jsonl", room / "named.journal", room / "names.csv"
     scheme = {"as": "scheme", "do": "scheme", "tag": "en", "text": "Instruments"}

@@ -3,6 +3,7 @@ from __future__ import annotations
 
 import json
 import os
+import re
 import shutil
 import subprocess
 import sys
@@ -79,6 +80,57 @@ def test_names_of_options_agree(store: Path) -> None:
     for name, options in {"site": ("--db", "--store"), "number-postings": ("--hidden-codes", "--codes")}.items():
         text = tool(name, "--help").out.decode()
         assert all(it in text for it in options), name
+
+
+# --- a store that is served ---
+
+# The tools that read a store, or may do so.
+READING = (
+    "from-table", "load", "number-postings", "report", "repost", "site", "to-marc", "to-print", "to-rdf", "to-table",
+    "unmerge",
+)  # fmt: skip
+# These don't ask the program: it is theirs, or they serve it.
+OWN = ("backup", "desk", "look")
+
+
+def test_each_tool_that_reads_a_store_asks_a_server() -> None:
+    """By --http, wherever there is --db."""
+    names = {it.name for it in TOOLS.iterdir() if it.is_file() and os.access(it, os.X_OK)} - set(OWN)
+    helps = {it: tool(it, "--help").out.decode() for it in names}
+    for option in ("--db FILE", "--http URL"):
+        having = {it for it, text in helps.items() if re.search(f"^ +{option}", text, re.M)}
+        assert having - {"feed"} == set(READING), option
+
+
+@pytest.mark.parametrize("is_near", [True, False], ids=["this machine's", "another machine's"])
+def test_a_server_answers_what_the_store_has(is_near: bool, store: Path, tmp_path: Path) -> None:
+    table, postings = tmp_path / "table.csv", tmp_path / "postings.csv"
+    table.write_text("number,alt@it\n5,Violini\n7,Violoncelli\n", encoding="utf-8")
+    postings.write_text("record,concept\nA violin,Violins\n", encoding="utf-8")
+    before, after = (Path(shutil.copy(store, tmp_path / it)) for it in ("before.db", "after.db"))
+    post, merge = b'{"do":"post","key":"k","record":"r","concept":6}\n', b'{"do":"merge","source":6,"target":5}\n'
+    over(before, "script", post)
+    over(after, "script", post + merge)
+    calls: list[list[object]] = [
+        ["report", "tops"],
+        ["report", "counts", "--concepts"],
+        ["from-table", table],
+        ["number-postings", postings, "--terms", "en"],
+        ["repost", "--posting", 1, "--to", 7],
+        ["unmerge", "--before", before, 6],
+        ["to-rdf", "--types", "--program", built()],
+        ["to-marc", "--lang", "en"],
+        ["to-table", "--columns", "number,pref@en,alt@de,broader,records"],
+        ["to-print", "--scheme", 1, "--lang", "en"],
+    ]
+    os.environ["SOURCE_DATE_EPOCH"] = "1700000000"
+    of_file = [tool(str(name), *words, "--db", after) for name, *words in calls]
+    with serving(after, 1_000_000) as served, forwarding(served.port) as front:
+        url = f"http://127.0.0.1:{served.port}" if is_near else front
+        of_server = [tool(str(name), *words, "--http", url) for name, *words in calls]
+    for call, ours, theirs in zip(calls, of_file, of_server):
+        assert (ours.status, ours.out) == (theirs.status, theirs.out), (call, theirs.err)
+        assert ours.out, call
 
 
 # --- without locks, as on Windows ---

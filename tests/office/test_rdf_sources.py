@@ -5,18 +5,17 @@ import json
 import subprocess
 import sys
 import threading
-import time
 from collections.abc import Iterator
 from http.server import BaseHTTPRequestHandler, ThreadingHTTPServer
 from pathlib import Path
 
 import pytest
 
-from office import SKOS, TOOLS, tool
+from office import SKOS, TOOLS, tool, tool_with_use
 
 pytest.importorskip("rdflib")
 
-REFUSED = 1
+REFUSED, USAGE = 1, 2
 CONTEXT = {"@context": {"skos": SKOS, "Scheme": "skos:ConceptScheme", "name": "skos:prefLabel"}}
 # Runs a tool with smaller bounds.
 BOUNDED = """
@@ -120,9 +119,8 @@ def test_external_entities_are_not_read(tmp_path: Path) -> None:
 def test_a_bomb_of_entities_is_given_up_soon(tmp_path: Path) -> None:
     path = tmp_path / "a.rdf"
     path.write_text(bomb(7), encoding="utf-8")
-    began = time.process_time()
-    ran = tool("from-skos", path, "--lang", "en")
-    assert time.process_time() - began < 30
+    ran, use = tool_with_use("from-skos", path, "--lang", "en")
+    assert use.seconds < 30
     assert (ran.status, ran.out) == (REFUSED, b"")
     assert "more than 10 seconds" in ran.err.decode() and "N-Triples" in ran.err.decode()
 
@@ -143,3 +141,15 @@ def test_memory_has_a_bound(tmp_path: Path) -> None:
     ran = bounded(path, "100, 100, 1 << 20, 1")
     assert (ran.returncode, ran.stdout) == (REFUSED, "")
     assert "memory" in ran.stderr and ran.stderr.count("\n") == 1
+
+
+@pytest.mark.parametrize("ending", ["nt", "ttl", "rdf", "jsonld"])
+def test_a_gigabyte_of_nothing(tmp_path: Path, ending: str) -> None:
+    """It takes neither time nor memory."""
+    path = tmp_path / f"nothing.{ending}"
+    with open(path, "wb") as file:
+        file.truncate(1 << 30)
+    ran, use = tool_with_use("from-skos", path, "--lang", "en", "--drop", "-o", tmp_path / "script")
+    assert (ran.status, ran.out) == (USAGE, b"") and ran.err.count(b"\n") == 1, ran.err
+    assert b"a megabyte without the end of a line" in ran.err or b"more than 256 megabytes" in ran.err
+    assert use.seconds < 5 and use.memory < 500 << 20 and not (tmp_path / "script").exists()

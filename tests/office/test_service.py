@@ -132,6 +132,25 @@ def test_program_works_under_the_filter(command: str, restored: Path) -> None:
     assert (program.returncode, said) == (0, wanted), errors
 
 
+def test_unit_passes_its_limits_on(restored: Path) -> None:
+    """Those of the line LIMITS in its file of settings."""
+    (line,) = re.findall(r"^ExecStart=\S+ (.*)$", UNIT.read_text(encoding="utf-8"), re.M)
+    port = free_port()
+    settings = {"/var/lib/thesaurus/%i.db": restored, "$LIMITS": "--max-resources 2", "${PORT}": port}
+    for name, value in settings.items():
+        assert name in line
+        line = line.replace(name, str(value))
+    with subprocess.Popen([built(), *line.split()], stdout=subprocess.PIPE) as program:
+        assert program.stdout and program.stdout.readline() == f"listening on 127.0.0.1:{port}\n".encode()
+        answers = []
+        for _ in range(2):
+            client = http.client.HTTPConnection("127.0.0.1", port, timeout=60)
+            client.request("POST", "/requests", json.dumps(SCHEME))
+            answers.append(client.getresponse().read())
+        program.kill()
+    assert answers == [b'{"ok":2}\n', b'{"no":"TooMany"}\n']
+
+
 # --- nginx ---
 
 needs_nginx = pytest.mark.needs("nginx", "openssl")
@@ -276,6 +295,45 @@ def test_client_that_is_slow_to_send_holds_up_nobody(front: Fronted) -> None:
         began = time.monotonic()
         assert front.site.ask("GET", "/totals", user=READER)[0] == 200
         assert time.monotonic() - began <= 25
+
+
+def large_store(path: Path) -> Path:
+    """Makes a store with an export of some 13 megabytes, more than the system keeps for a client that doesn't read."""
+    concepts = ({"do": "concept", "scheme": 1, "tag": "en", "text": f"Animal {it}"} for it in range(100))
+    over(path, "script", lines_of([SCHEME, *concepts]))
+    with contextlib.closing(sqlite3.connect(path)) as tables, tables:
+        labels = ((2 + it % 100, f"{it:06} {'x' * 240}") for it in range(40_000))
+        tables.executemany("INSERT INTO label VALUES (?, 2, 'en', ?)", labels)
+    return path
+
+
+def begin_to_read(port: int) -> socket.socket:
+    """Connects a client that takes little at a time."""
+    client = socket.socket()
+    client.setsockopt(socket.SOL_SOCKET, socket.SO_RCVBUF, 4096)
+    client.settimeout(60)
+    client.connect(("127.0.0.1", port))
+    return client
+
+
+@needs_nginx
+def test_client_that_is_slow_to_read_holds_up_nobody(tmp_path: Path) -> None:
+    """nginx takes the answer whole. Without it the program waits for a client that reads a byte of an export."""
+    password = base64.b64encode(":".join(READER).encode()).decode()
+    head = f"GET /export HTTP/1.1\r\nHost: {HOST}\r\nAuthorization: Basic {password}\r\n\r\n".encode()
+    with serving(large_store(tmp_path / "large.db"), CONNECTIONS) as served:
+        with begin_to_read(served.port) as slow:
+            slow.sendall(head)
+            assert slow.recv(1) == b"H"
+            with pytest.raises(TimeoutError):
+                served.answer(b"GET /totals HTTP/1.1\r\n\r\n", patience=5)
+        with fronted(tmp_path, served.port) as site, begin_to_read(site.tls) as plain:
+            with site.trust.wrap_socket(plain, server_hostname=HOST) as slow:
+                slow.sendall(head)
+                assert slow.recv(1) == b"H"
+                began = time.monotonic()
+                assert site.ask("GET", "/totals", user=READER)[0] == 200
+                assert time.monotonic() - began <= 25
 
 
 @contextlib.contextmanager

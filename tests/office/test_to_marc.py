@@ -65,6 +65,7 @@ def test_each_field_is_what_the_store_has(store: Path, marcxml: Path) -> None:
     for number, fields in found.items():
         seen = view(store, int(number))
         names = {tag: text for tag, text in seen["pref"]}
+        assert (fields["001"], fields["003"]) == ([[("", number)]], [[("", "DE-M")]])
         assert fields["024"] == [[("a", f"{BASE}{number}"), ("2", "uri")]]
         assert fields["150"] == [[("a", names["en"])]] or "en" not in names
         assert [it[0][1] for it in fields["450"]] == [text for tag, text in seen["alt"] if tag == "en"]
@@ -102,26 +103,33 @@ def test_yaz_makes_iso_2709_of_it_and_back(marcxml: Path, tmp_path: Path) -> Non
         assert fields == theirs[number]
 
 
+# Prints each field of each record: its tag, its indicators, and the code and value of each subfield.
+PERL = """
+binmode STDOUT, ":utf8";
+my $batch = MARC::Batch->new("XML", $ARGV[0]);
+while (my $record = $batch->next) {
+    for my $it ($record->fields) {
+        my @parts = $it->is_control_field
+            ? $it->data : ($it->indicator(1) . $it->indicator(2), map { @$_ } $it->subfields);
+        print join("\t", $it->tag, @parts), "\n";
+    }
+}
+"""
+
+
 @pytest.mark.needs("perl")
-def test_perl_reads_it(marcxml: Path) -> None:
-    check = subprocess.run(["perl", "-MMARC::Batch", "-MMARC::File::XML", "-e", "1"], capture_output=True, check=False)
-    if check.returncode:
+def test_perl_reads_each_field(marcxml: Path) -> None:
+    modules = ["-MMARC::Batch", "-MMARC::File::XML=BinaryEncoding,utf8,RecordFormat,USMARC"]
+    if subprocess.run(["perl", *modules, "-e", "1"], capture_output=True, check=False).returncode:
         pytest.skip("skipped without libmarc-xml-perl")
-    program = (
-        "binmode STDOUT, ':utf8'; my $b = MARC::Batch->new('XML', $ARGV[0]);"
-        "while (my $r = $b->next) { print $r->field('001')->data, \"\\t\", $r->subfield('150', 'a'), \"\\n\" }"
-    )
-    words = [
-        "perl",
-        "-MMARC::Batch",
-        "-MMARC::File::XML=BinaryEncoding,utf8,RecordFormat,USMARC",
-        "-e",
-        program,
-        str(marcxml),
-    ]
-    ran = subprocess.run(words, capture_output=True, check=True)
-    found = dict(it.split("\t") for it in ran.stdout.decode().splitlines())
-    assert found == {number: fields["150"][0][0][1] for number, fields in records(marcxml).items()}
+    ran = subprocess.run(["perl", *modules, "-e", PERL, str(marcxml)], capture_output=True, check=True)
+    wanted = []
+    for it in ElementTree.parse(marcxml).getroot().iterfind("*/*[@tag]"):
+        subfields = [part for sub in it for part in (sub.attrib["code"], sub.text or "")]
+        parts = [it.attrib["ind1"] + it.attrib["ind2"], *subfields] if len(it) else [it.text or ""]
+        wanted.append([it.attrib["tag"], *parts])
+    assert len(wanted) > 200
+    assert [it.split("\t") for it in ran.stdout.decode().splitlines()] == wanted
 
 
 def test_a_language_that_no_term_has(store: Path) -> None:

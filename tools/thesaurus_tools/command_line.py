@@ -53,6 +53,11 @@ def languages(text: str) -> list[str]:
         raise argparse.ArgumentTypeError(f"not language tags: {text!r}") from None
 
 
+def without_password(url: str) -> str:
+    """Returns a URL without the user and the password that it may have."""
+    return re.sub(r"//.*@", "//", url, count=1, flags=re.S)
+
+
 def run(name: str, main: Callable[[], int]) -> NoReturn:
     """Runs a tool, reports the error that ends it, and exits with its status. What it prints is UTF-8, whatever the
     terminal has."""

@@ -8,9 +8,8 @@ from pathlib import Path
 
 from thesaurus_tools.command_line import REFUSED, ToolError
 from thesaurus_tools.export_store import ExportStore, Properties
-from thesaurus_tools.files import read_file
 from thesaurus_tools.kinds import BROADER
-from thesaurus_tools.ntriples import SKOS, Iri, Triple, parse_ntriples
+from thesaurus_tools.ntriples import SKOS, Iri, Triple, parse_ntriples, read_document
 from thesaurus_tools.opening import open_file, open_served
 from thesaurus_tools.program import copy_closed, find_program, run_program
 from thesaurus_tools.rdf_writing import ISO_THES
@@ -32,14 +31,18 @@ def read_triples(path: Path, program: str | None = None) -> list[Triple]:
     """Returns the triples of an export, or of a store."""
     with open(path, "rb") as file:
         is_store = file.read(len(SQLITE)) == SQLITE
-    return list(parse_ntriples(export_of_store(path, program) if is_store else read_file(path), str(path)))
+    return list(parse_ntriples(export_of_store(path, program) if is_store else read_document(path), str(path)))
 
 
 def served_triples(url: str) -> list[Triple]:
     """Returns the triples of a thesaurus that is served."""
     from thesaurus_tools.server import Server  # (a tool starts faster without what talks HTTP)
 
-    return list(parse_ntriples(Server(url).export(), url))
+    server = Server(url)
+    try:
+        return list(parse_ntriples(server.export(), f"{server.name}/export"))
+    except ToolError as error:
+        raise ToolError(str(error)) from None  # (what a server exports is no input that can be corrected)
 
 
 def base_of(triples: Iterable[Triple]) -> str:

@@ -1,11 +1,13 @@
 """Keeps a triple store equal to a thesaurus: whole at first, and then by the differences after each change."""
 from __future__ import annotations
 
+import re
 from collections import defaultdict
 from collections.abc import Callable, Iterable
 from dataclasses import dataclass
 from pathlib import Path
 
+from thesaurus_tools.command_line import REFUSED, ToolError
 from thesaurus_tools.fed_state import FedState
 from thesaurus_tools.line_differences import Lines, differences
 from thesaurus_tools.ntriples import Node, Triple, parse_statement
@@ -13,6 +15,8 @@ from thesaurus_tools.triple_store import TripleStore, plain
 
 # The most triples of an update, and the most changed resources that a query is about.
 MOST_TRIPLES, MOST_ASKED = 500, 20
+# A sign by its code, and the most bytes of a wrong line that are shown.
+CODED, SHOWN = re.compile(rb"(?<!\\)(?:\\\\)*\\[uU]"), 60
 # As many subjects are found faster by the beginnings of lines.
 FEW = 4
 
@@ -37,10 +41,13 @@ class Feed:
 
         Raises ToolError if it can't be; then the next call puts all of it anew."""
         now = [it for it in export.splitlines() if it]
+        if not now:
+            raise ToolError("there are no triples, so nothing is fed", REFUSED)
         known = self.state.known
         if known is None:
             return self.put_all(export, now)
         gone, come = differences(known, now)
+        check_triples(come)
         if not gone and not come:
             return Fed(0, 0) if self.target.count() == len(known) else self.put_all(export, now)
         # (what others wrote meanwhile is found by the count after the update, too)
@@ -54,6 +61,7 @@ class Feed:
 
     def put_all(self, export: bytes, now: Lines) -> Fed:
         """Puts all triples in place of those there."""
+        check_triples(now)
         self.state.forget()
         if self.target.graph_store_url:
             self.target.put(export)
@@ -110,6 +118,18 @@ def lines_about(subjects: set[bytes], lines: Lines) -> Lines:
         starts = tuple(it + b" " for it in subjects)
         return [it for it in lines if it.startswith(starts)]
     return [it for it in lines if it.partition(b" ")[0] in subjects]
+
+
+def check_triples(lines: Iterable[bytes]) -> None:
+    """Raises ToolError for a line that isn't a triple as the program writes it. It would be a part of an update, in
+    which SPARQL reads the codes of signs before all else."""
+    for it in lines:
+        try:
+            is_triple = not CODED.search(it) and parsed(it) is not None
+        except ValueError:
+            is_triple = False
+        if not is_triple:
+            raise ToolError(f"a line is no triple of an export, so nothing is fed: {it[:SHOWN]!r}", REFUSED)
 
 
 def parsed(line: bytes) -> Triple | None:

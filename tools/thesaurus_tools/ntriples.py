@@ -6,14 +6,16 @@ from collections.abc import Iterator
 from pathlib import Path
 from typing import NamedTuple
 
-from thesaurus_tools.command_line import REFUSED, ToolError
-from thesaurus_tools.files import read_file
+from thesaurus_tools.command_line import REFUSED, USAGE, ToolError
 
 RDF = "http://www.w3.org/1999/02/22-rdf-syntax-ns#"
 SKOS = "http://www.w3.org/2004/02/skos/core#"
 OWL = "http://www.w3.org/2002/07/owl#"
 DCTERMS = "http://purl.org/dc/terms/"
 XSD = "http://www.w3.org/2001/XMLSchema#"
+
+# The most bytes of the first line.
+LONGEST_LINE = 1 << 20
 
 
 class Iri(str):
@@ -112,6 +114,19 @@ def parse_ntriples(data: bytes, name: str) -> Iterator[Triple]:
             yield triple
 
 
+def read_document(path: Path | str) -> bytes:
+    """Returns the bytes of a document. Raises ToolError if it can't be read; if its first line is longer than any
+    triple, it isn't read to its end."""
+    try:
+        with open(path, "rb") as file:
+            data = file.read(LONGEST_LINE)
+            if len(data) == LONGEST_LINE and b"\n" not in data and b"\r" not in data:
+                raise ToolError(f"{path}: a megabyte without the end of a line: no N-Triples", USAGE)
+            return data + file.read()
+    except OSError as error:
+        raise ToolError(f"{path}: {error.strerror or error}") from None
+
+
 def read_ntriples(path: Path | str) -> Iterator[Triple]:
     """Yields the triples of a file of N-Triples. Raises ToolError with `FILE:LINE` for a line that is none."""
-    yield from parse_ntriples(read_file(path), str(path))
+    yield from parse_ntriples(read_document(path), str(path))

@@ -30,12 +30,13 @@ FORMATS = {
 # The system's Python may have rdflib if this one, of another installation, has not.
 SYSTEM_PYTHON = "/usr/bin/python3"
 HAS_RDFLIB = "import sys, rdflib; sys.exit(sys.version_info < (3, 11))"
+# The most bytes of a file that rdflib is given, which takes a multiple of them.
+MOST_BYTES = 256 << 20
 # The time of a processor and the memory that rdflib may take for a file: these, and as much again for its size.
 SECONDS, SECONDS_FOR_MEGABYTE = 10, 10
 MEMORY, MEMORY_FOR_BYTE = 1 << 30, 300
-STOPPED = (
-    """rdflib took more than {most} for it, and was stopped; make N-Triples of it by another program, such as rapper"""
-)
+OTHER_WAY = "make N-Triples of it by another program, such as rapper"
+STOPPED = f"rdflib took more than {{most}} for it, and was stopped; {OTHER_WAY}"
 NO_RDFLIB = """Python's rdflib isn't installed, which reads all forms but N-Triples.
   Install it: `sudo apt install python3-rdflib`, or `python3 -m pip install rdflib`;
   or make N-Triples of the file: `rapper -g -o ntriples {path} > {stem}.nt`"""
@@ -49,6 +50,8 @@ def parse_by_rdflib(path: Path, form: str, may_fetch: bool) -> Any:
     watch = None
     try:
         size = path.stat().st_size
+        if size > MOST_BYTES:
+            raise ToolError(f"{path}: more than {MOST_BYTES >> 20} megabytes; {OTHER_WAY}", USAGE)
         seconds, memory = SECONDS + SECONDS_FOR_MEGABYTE * size / 1e6, MEMORY + MEMORY_FOR_BYTE * size
         with contextlib.ExitStack() as stack:
             stack.enter_context(limited(seconds, memory))
@@ -56,6 +59,8 @@ def parse_by_rdflib(path: Path, form: str, may_fetch: bool) -> Any:
                 watch = stack.enter_context(watched(path))
             graph = rdflib.Graph().parse(path, format=form)
         failure: Exception | None = None
+    except ToolError:
+        raise
     except Exception as error:  # each parser of rdflib has errors of its own
         failure = error
     if watch and watch.refused:

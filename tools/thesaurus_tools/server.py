@@ -4,11 +4,10 @@ from __future__ import annotations
 import base64
 import http.client
 import json
-import re
 import time
 import urllib.parse
 
-from thesaurus_tools.command_line import USAGE, ToolError
+from thesaurus_tools.command_line import USAGE, ToolError, without_password
 from thesaurus_tools.program import Performer
 
 PATHS = {
@@ -37,11 +36,6 @@ VIEWS: dict[str, dict[str, type | tuple[type, ...]]] = {
     },
 }
 CHANGES = {"ok": int, "again": int, "moved": int, "done": bool}
-
-
-def without_password(url: str) -> str:
-    """Returns a URL without the user and the password that it may have."""
-    return re.sub(r"//.*@", "//", url, count=1, flags=re.S)
 
 
 def is_answer(request: object, answer: object) -> bool:
@@ -142,4 +136,8 @@ class Server(Performer):
         return data.rstrip(b"\n")
 
     def export(self) -> bytes:
-        return self.call("GET", "/export")
+        """Returns the export. Raises ToolError for an empty one that isn't the program's."""
+        data = self.call("GET", "/export")
+        if not data:
+            self.perform(b'{"get":"totals"}')
+        return data

@@ -9,6 +9,7 @@ from typing import Any
 
 from thesaurus_tools.kinds import BROADER, CLASSES, LABEL_PROPERTIES, LINK_PROPERTIES
 from thesaurus_tools.link_rules import OUTSIDE
+from thesaurus_tools.mads import mads_name
 from thesaurus_tools.ntriples import DCTERMS, OWL, RDF, SKOS, Blank, Iri, Literal, Triple
 from thesaurus_tools.skos_xl import plain_labels
 from thesaurus_tools.vocabulary import Resource, Vocabulary, by_numbers
@@ -31,8 +32,8 @@ TRANSITIVE = {SKOS + "broaderTransitive": False, SKOS + "narrowerTransitive": Tr
 
 
 def short(iri: str) -> str:
-    """Returns the last part of an IRI."""
-    return re.split(r"[#/:]", iri.rstrip("#/"))[-1]
+    """Returns the last part of an IRI, with its prefix for a term of MADS/RDF."""
+    return mads_name(iri) or re.split(r"[#/:]", iri.rstrip("#/"))[-1]
 
 
 class SkosReader:
@@ -52,9 +53,16 @@ class SkosReader:
                 )
         self.subjects = sorted(self.values, key=by_numbers)
         self.is_title_label: set[str] = set()
+        self.has_resources = False
 
     def lose(self, resource: str, what: str) -> None:
         self.vocabulary.find("lost", resource, what)
+
+    def lose_triple(self, subject: str, predicate: str, node: Any) -> None:
+        """Notes a triple as lost; a class of MADS/RDF by its own name."""
+        text = f"{node.text!r}" + (f"@{node.tag}" if node.tag else "") if isinstance(node, Literal) else node
+        is_class = predicate == RDF + "type" and not isinstance(node, Literal) and bool(mads_name(node))
+        self.lose(subject, f"{mads_name(node)} as its class" if is_class else f"{short(predicate)} {text}")
 
     def read(self) -> Vocabulary:
         """Returns the vocabulary, checked."""
@@ -77,6 +85,7 @@ class SkosReader:
                 for node in nodes:
                     for it, kind in self.entailed(subject, predicate, node):
                         kinds[it].add(kind)
+        self.has_resources = bool(kinds)
         for it in sorted(kinds, key=by_numbers):
             if isinstance(it, Blank):
                 self.lose(it, f"the {'/'.join(sorted(kinds[it]))} is a blank node")
@@ -271,20 +280,19 @@ class SkosReader:
             return
         for predicate, nodes in self.values[subject].items():
             for node in nodes:
-                text = f"{node.text!r}" + (f"@{node.tag}" if node.tag else "") if isinstance(node, Literal) else node
                 if not self.kind(subject):
                     if predicate not in LINKS:
-                        self.lose(subject, f"{short(predicate)} {text}")
+                        self.lose_triple(subject, predicate, node)
                 elif predicate == SKOS + "memberList":
                     self.lose(subject, "memberList: the order of its members")
                 elif predicate == RDF + "type" and node not in KINDS:
-                    self.lose(subject, f"type {text}")
+                    self.lose_triple(subject, predicate, node)
                 elif predicate == RDFS_LABEL and ("pref", node) in {
                     ("pref", it) for it in self.values[subject].get(SKOS + "prefLabel", ())
                 }:
                     continue
                 elif predicate not in kept:
-                    self.lose(subject, f"{short(predicate)} {text}")
+                    self.lose_triple(subject, predicate, node)
 
     def compare_entailed(self) -> None:
         """Notes top concepts that have broader ones, and transitive links that no chain of links entails."""

@@ -1,6 +1,7 @@
 """Talks to a triple store: SPARQL 1.1 Query and Update, and the Graph Store HTTP Protocol."""
 from __future__ import annotations
 
+import http.client
 import json
 import urllib.error
 import urllib.parse
@@ -9,7 +10,7 @@ from collections.abc import Iterable
 from dataclasses import dataclass
 from typing import Any
 
-from thesaurus_tools.command_line import ToolError
+from thesaurus_tools.command_line import USAGE, ToolError, without_password
 from thesaurus_tools.ntriples import XSD, Iri, Literal, Node
 
 # The seconds that an answer may take, and the most characters of an error that are shown.
@@ -32,6 +33,7 @@ class TripleStore:
     def __post_init__(self) -> None:
         passwords = urllib.request.HTTPPasswordMgrWithDefaultRealm()
         for url in filter(None, (self.query_url, self.update_url, self.graph_store_url)):
+            check_url(url)
             passwords.add_password(None, url, self.user, self.password)
         handlers = [urllib.request.HTTPDigestAuthHandler(passwords), urllib.request.HTTPBasicAuthHandler(passwords)]
         self.opener = urllib.request.build_opener(*(handlers if self.user else ()))
@@ -45,7 +47,7 @@ class TripleStore:
         except urllib.error.HTTPError as error:
             said = error.read().decode(errors="replace").strip()[:SHOWN]
             raise ToolError(f"{url}: {error.code} {error.reason}: {said}") from None
-        except (OSError, ValueError) as error:
+        except (OSError, ValueError, http.client.HTTPException) as error:
             raise ToolError(f"{url}: {getattr(error, 'reason', error)}") from None
 
     def update(self, text: str) -> None:
@@ -83,6 +85,19 @@ class TripleStore:
         names = " ".join(f"<{it}>" for it in subjects)
         rows = self.select(f"SELECT ?s ?p ?o WHERE {{ GRAPH <{self.graph}> {{ ?s ?p ?o VALUES ?s {{ {names} }} }} }}")
         return {(str(row["s"]), str(row["p"]), plain(row["o"])) for row in rows}
+
+
+def check_url(url: str) -> None:
+    """Raises ToolError for what is no URL of a server, or has a password in it."""
+    try:
+        parts = urllib.parse.urlsplit(url)
+        is_right = parts.scheme in ("http", "https") and bool(parts.hostname) and parts.port != 0
+    except ValueError:
+        is_right = False
+    if not is_right:
+        raise ToolError(f"{without_password(url)} is no URL of a server", USAGE)
+    if parts.username is not None:
+        raise ToolError(f"{without_password(url)}: name the user by --user and --password-file", USAGE)
 
 
 def node_of(value: dict[str, Any]) -> Node:

@@ -131,7 +131,8 @@ class Vocabulary:
                 self.links = [it for it in self.links if it[2] != name or it[0] not in BROADER]
                 self.links += [(kind, it, top) for kind, it in heirs for top in self.kept_above(name, gone, above)]
             elif heirs:
-                self.find("lost", name, f"the place: {len(heirs)} concepts below it lose it; --adopt keeps one")
+                count = f"{len(heirs)} concept{'s' * (len(heirs) != 1)}"
+                self.find("lost", name, f"the place of {count} below it; --adopt keeps one")
 
     def kept_above(self, name: str, gone: Iterable[str], above: dict[str, list[tuple[str, str]]]) -> list[str]:
         """Returns the nearest concepts above one that are not left out."""
