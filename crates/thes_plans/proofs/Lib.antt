@@ -3,3 +3,4 @@ pub mod ResolvingLemmas
 pub mod PlanLemmas
 pub mod PlanLawLemmas
 pub mod PlanOutcomeLemmas
+pub mod EntryLemmas

@@ -48,7 +48,7 @@ compare (suc m) (suc n) = elim (compare m n) [
 ]
 
 module _ (setting : Setting) (fit : IsSetting setting) where
-  one_step : (s t u : State) (c : Command) (a b : Answer) → IsLegalState setting.base s → Step setting s c a t
+  pub one_step : (s t u : State) (c : Command) (a b : Answer) → IsLegalState setting.base s → Step setting s c a t
       → Step setting s c b u → (a ≡ b) × (t ≡ u)
   one_step s t u c a b legal x y =
       let r = one_outcome setting fit s legal (c ∷ []) (a ∷ []) (b ∷ []) t u (t, x, refl) (u, y, refl) in
@@ -61,7 +61,7 @@ module _ (setting : Setting) (fit : IsSetting setting) where
       (resolved_numbers before asked.postings.items) asked.command forms) legal step
 
   -- Runs of the same number of requests of a plan agree.
-  runs_agree : (before : List Answer) (plan : List PlanRequest) (xs ys : List Answer) (s t u : State)
+  pub runs_agree : (before : List Answer) (plan : List PlanRequest) (xs ys : List Answer) (s t u : State)
       → PlanHasForms plan → IsLegalState setting.base s → length xs ≡ length ys → length xs ≤ length plan
       → Run setting s (resolved_commands before plan xs) xs t → Run setting s (resolved_commands before plan ys) ys u
       → (xs ≡ ys) × (t ≡ u)
@@ -115,7 +115,7 @@ module _ (setting : Setting) (fit : IsSetting setting) where
       refused_run = subst (λ (cs : List Command). Run setting s cs is.answers is.state_before)
           (resolved_front [] plan is.answers) is.before.run
 
-    done_or_refused : (ys : List Answer) (u : State) (place : ℕ) (r : Refusal) → PlanAccepted setting s plan ys u
+    pub done_or_refused : (ys : List Answer) (u : State) (place : ℕ) (r : Refusal) → PlanAccepted setting s plan ys u
         → PlanRefused setting s plan place r → ⊥
     done_or_refused ys u place r done is =
         let within = refused_within place r is in
@@ -149,7 +149,7 @@ module _ (setting : Setting) (fit : IsSetting setting) where
         let answers_agree : reply.No r ≡ reply.No q = agree.0 in
         (here, cc)
 
-    refusals_agree : (place other : ℕ) (r q : Refusal) → PlanRefused setting s plan place r
+    pub refusals_agree : (place other : ℕ) (r q : Refusal) → PlanRefused setting s plan place r
         → PlanRefused setting s plan other q → (place ≡ other) × (r ≡ q)
     refusals_agree place other r q x y = elim (compare (length x.answers) (length y.answers)) [
       | inl less ↦ absurd (earlier_refusal place other r q x y less)

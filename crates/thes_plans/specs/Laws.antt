@@ -14,6 +14,7 @@ use Rattle.thes_base.specs.Texts.{CommandHasForms}
 use Rattle.thes_plans.specs.declared.plan.PlanOutcome.{PlanOutcome}
 use Rattle.thes_plans.specs.declared.plan.PlanOutcome.TheVariants.{Done, Refused}
 use Rattle.thes_plans.specs.declared.plan.PlanRequest.{PlanRequest}
+use Rattle.thes_plans.specs.Entries.{Entry, EntryOutcome, SingleRequest, WholePlan, EntriesRun}
 use Rattle.thes_plans.specs.Plans.{IsNoRefusal, IsPlanOutcome, PlanAccepted, PlanRefused}
 
 -- The request has no references.
@@ -66,3 +67,33 @@ SomePlanOutcome =
     (setting : Setting) (s : State) (plan : List PlanRequest)
     → ¬ (¬ (((answers : List Answer) × (t : State) × PlanAccepted setting s plan answers t)
     ⊎ ((place : Number) × (refusal : Refusal) × PlanRefused setting s plan place refusal)))
+
+-- Each text of the entry has its form.
+abbrev pub EntryHasForms : Entry → Type 0
+EntryHasForms (SingleRequest command) = CommandHasForms command
+EntryHasForms (WholePlan plan) = PlanHasForms plan
+
+-- Each text of the requests and plans has its form.
+abbrev pub EntriesHaveForms : List Entry → Type 0
+EntriesHaveForms entries = AllByRecursion EntryHasForms entries
+
+-- Requests and plans whose texts have their forms leave a legal state legal and consistent, whatever their outcomes.
+abbrev pub EntriesKeepLegal : Type 0
+EntriesKeepLegal =
+    (setting : Setting) → IsSetting setting → (s t : State) (entries : List Entry) (outcomes : List EntryOutcome)
+    → EntriesHaveForms entries → IsLegalState setting.base s → EntriesRun setting s entries outcomes t
+    → IsLegalState setting.base t × IsConsistentState setting.base t
+
+-- A list of requests and plans whose texts have their forms, performed from a legal state, has at most one list of
+-- outcomes and at most one state after it.
+abbrev pub OneListOfOutcomes : Type 0
+OneListOfOutcomes =
+    (setting : Setting) → IsSetting setting → (s t u : State) (entries : List Entry) (xs ys : List EntryOutcome)
+    → EntriesHaveForms entries → IsLegalState setting.base s → EntriesRun setting s entries xs t
+    → EntriesRun setting s entries ys u → (xs ≡ ys) × (t ≡ u)
+
+-- Every list of requests and plans has outcomes in every state: that it has none is contradictory.
+abbrev pub SomeListOfOutcomes : Type 0
+SomeListOfOutcomes =
+    (setting : Setting) (s : State) (entries : List Entry)
+    → ¬ (¬ ((outcomes : List EntryOutcome) × (t : State) × EntriesRun setting s entries outcomes t))

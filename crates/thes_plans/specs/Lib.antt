@@ -1,4 +1,5 @@
 pub mod References
 pub mod Resolving
 pub mod Plans
+pub mod Entries
 pub mod Laws

@@ -3,6 +3,7 @@ pub mod ObjectLemmas
 pub mod TreeLemmas
 pub mod PlanTextLemmas
 pub mod ReferenceLemmas
+pub mod UnchangedLemmas
 pub mod MemberLemmas
 pub mod ReadingLemmas
 pub mod PlanReadingLemmas

@@ -1,6 +1,7 @@
 //! Reads a plan from JSON: an array of requests, in which numbers may be references.
-ghost use Rattle.std.specs.Prelude.{◌≡◌, ◌≤◌, length, map, option_map, IfOk};
+ghost use Rattle.std.specs.Prelude.{◌≡◌, ◌≤◌, codes, length, map, option_and_then, option_map, IfOk};
 ghost use Rattle.serde_json.specs.Data.{Data, array};
+ghost use Rattle.serde_json.specs.Find.{as_array, get};
 ghost use Rattle.thes_requests.specs.PlanReadings as plan;
 ghost use Rattle.thes_requests.specs.PlanReadings.{GivesPlan, GivesPlanRequest, IsPlanOfRequests, PlanReadsAs, PlanValueReadsAs, RequestsReadAs};
 ghost use Rattle.thes_requests.specs.Tree.{view, items_view};
@@ -102,9 +103,20 @@ fn listed_references(
 ) -> Result<Vec<Option<u32>>, AllocError>
     ensures { IfOk result (λ v. v.items ≡ plan.listed_references verb (view value.now)) }
 {
-    match (verb, value.get("postings").and_then(Value::as_array)) {
-        (CommandKeyword::Split, Some(items)) => references_in(alloc, items),
+    match verb {
+        CommandKeyword::Split => posting_references(alloc, value),
         _ => Ok(Vec::new(alloc)),
+    }
+}
+
+// Returns the reference, if it is one, of each item of the member `postings`, if that is an array.
+fn posting_references(alloc: Global, value: &Value<'_>) -> Result<Vec<Option<u32>>, AllocError>
+    ensures { IfOk result (λ v. v.items
+        ≡ plan.array_references (option_and_then as_array (get (codes "postings") (view value.now)))) }
+{
+    match value.get("postings").and_then(Value::as_array) {
+        Some(items) => references_in(alloc, items),
+        None => Ok(Vec::new(alloc)),
     }
 }
 

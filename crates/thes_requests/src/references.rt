@@ -1,7 +1,7 @@
 //! References in the requests of a plan: strings such as `"$3"` in place of numbers.
-ghost use Rattle.std.specs.Prelude.{◌≡◌, ◌+◌, ◌*◌, ◌-◌, min, true, IfOk};
+ghost use Rattle.std.specs.Prelude.{◌≡◌, ◌+◌, ◌*◌, ◌-◌, ℕ, List, min, false, is_some, true, IfOk};
 ghost use Rattle.std.specs.Char.{is_ascii_digit};
-ghost use Rattle.std.specs.List.{list_all};
+ghost use Rattle.std.specs.List.{list_all, list_any};
 ghost use Rattle.std.specs.Str.Parse.{digits_value};
 ghost use Rattle.thes_requests.specs.References as plan;
 ghost use Rattle.thes_requests.specs.Tree.{view, items_view, members_view};
@@ -155,13 +155,51 @@ fn members_without_references<'a>(
     Ok(found)
 }
 
+// Returns whether one of the items is a reference.
+fn has_reference_item(items: &[Value<'_>]) -> bool
+    ensures { result ≡ list_any (λ v. is_some (plan.reference_in (view v))) items.now }
+{
+    items.iter().any(|item| reference_in(item).is_some())
+}
+
+// Returns whether the value is a reference, or an array with one; if not, it stays unchanged as a
+// member of any name.
+#[tactic(auto, using(crate::proofs::UnchangedLemmas::value_unchanged, crate::proofs::UnchangedLemmas::member_unchanged))]
+fn has_reference(value: &Value<'_>) -> bool
+    ensures { result ≡ false → (name : List ℕ)
+        → plan.member_without_references name (view value.now) ≡ view value.now }
+{
+    match value {
+        Value::Array(items) => has_reference_item(items),
+        _ => reference_in(value).is_some(),
+    }
+}
+
+// Returns whether a member has a reference; if not, the members stay unchanged.
+fn have_references(members: &[(&str, Value<'_>)]) -> bool
+    ensures { result ≡ false → plan.members_without_references (members_view members.now)
+        ≡ members_view members.now }
+{
+    for member in members {
+        if has_reference(&member.1) {
+            return true;
+        }
+    }
+    false
+}
+
 /// Returns an object with 1 in place of each reference to a number, and any other value
-/// unchanged.
+/// unchanged. Members are copied only if there are references.
 pub fn without_references<'a>(alloc: Global, value: Value<'a>) -> Result<Value<'a>, AllocError>
     ensures { IfOk result (λ v. view v ≡ plan.without_references (view value.entry)) }
 {
     match value {
-        Value::Object(members) => Ok(Value::Object(members_without_references(alloc, members)?)),
+        Value::Object(members) => {
+            if !have_references(&members) {
+                return Ok(Value::Object(members));
+            }
+            Ok(Value::Object(members_without_references(alloc, members)?))
+        }
         other => Ok(other),
     }
 }

@@ -214,6 +214,7 @@ fn withdraw_in(value: &Value<'_>) -> Result<Command, ReadStop>
 }
 
 /// Reads the members of the command with this keyword.
+#[inline(always)]
 pub fn command_in(
     alloc: Global,
     verb: CommandKeyword,

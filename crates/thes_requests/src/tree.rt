@@ -154,6 +154,7 @@ fn has_names<'a>(members: &[(&'a str, Value<'a>)], count: usize) -> bool
 }
 
 /// Appends a member; before the first one, reserves capacity for all members of a request.
+#[inline(always)]
 pub fn push_member<'a>(
     members: &mut Vec<(&'a str, Value<'a>)>,
     name: &'a str,
