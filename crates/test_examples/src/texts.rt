@@ -8,7 +8,8 @@ use thes_base::text::Tag;
 use thes_display::writing::DisplayOutcome;
 use thes_requests::request::Display;
 
-/// Returns a text of the store after the requests: its export, a display, or the name of the refusal of a display.
+/// Returns a text of the store after the requests: its export, a display, or the name of the
+/// refusal of a display.
 pub fn text_after(alloc: Global, requests: &str, text: &str) -> io::Result<String> {
     match text {
         "export" => export_after(alloc, requests),

@@ -9,8 +9,8 @@ use std::alloc::{AllocError, Global};
 /// The two files of a store: its database and its log.
 pub type Disks = Files<Fuse<Memory>>;
 
-/// A store in two files. Functions are generic in `D`, since the contract of a file in memory is long and slows their
-/// proofs.
+/// A store in two files. Functions are generic in `D`, since the contract of a file in memory is
+/// long and slows their proofs.
 pub type Store<D> = Connection<FileStore<D>>;
 
 /// The file that stops working.
@@ -29,8 +29,8 @@ impl Failing {
         }
     }
 
-    // Returns the numbers of calls after which the log and the database file fail, if this file fails after `calls`
-    // calls.
+    // Returns the numbers of calls after which the log and the database file fail, if this file
+    // fails after `calls` calls.
     fn calls(self, calls: u64) -> (u64, u64) {
         match self {
             Failing::Log => (calls, u64::MAX),
@@ -80,7 +80,8 @@ impl Image {
         })
     }
 
-    /// Returns files with these contents, of which the failing one stops working after `calls` calls.
+    /// Returns files with these contents, of which the failing one stops working after `calls`
+    /// calls.
     pub fn files(&self, alloc: Global, failing: Failing, calls: u64) -> Result<Disks, TrialStop> {
         let (log_calls, db_calls) = failing.calls(calls);
         Ok(Files {

@@ -15,7 +15,8 @@ pub enum StoreOutcome {
 }
 
 impl StoreOutcome {
-    /// Returns the outcome of a run, from whether the store is right and whether each call succeeded.
+    /// Returns the outcome of a run, from whether the store is right and whether each call
+    /// succeeded.
     pub fn of(is_right: bool, is_whole: bool) -> StoreOutcome {
         match (is_right, is_whole) {
             (false, _) => StoreOutcome::Wrong,

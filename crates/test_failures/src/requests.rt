@@ -106,8 +106,8 @@ impl<'a> Requests<'a> {
         self.report_prefix(alloc, run_report, run_report.failed, &mut wanted.more)
     }
 
-    // Performs the prefix of the example that this report confirms, and, `with_next`, the request or
-    // the group of rows after it.
+    // Performs the prefix of the example that this report confirms, and, `with_next`, the request
+    // or the group of rows after it.
     fn report_prefix(
         &self,
         alloc: Global,
@@ -187,8 +187,8 @@ impl<'a> Job for Run<'a> {
     }
 }
 
-// The expected reports: after the confirmed requests, and after one more request or group of rows, which may have been
-// performed without being confirmed.
+// The expected reports: after the confirmed requests, and after one more request or group of rows,
+// which may have been performed without being confirmed.
 #[derive(Drop)]
 struct Wanted {
     after_answers: RunReport,

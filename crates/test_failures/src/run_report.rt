@@ -1,5 +1,6 @@
-//! Examples over a storage, and their reports. Each call of an `Office` is in a function of its own without a contract,
-//! since the `Office`'s contracts are long and slow the proofs of their callers.
+//! Examples over a storage, and their reports. Each call of an `Office` is in a function of its own
+//! without a contract, since the `Office`'s contracts are long and slow the proofs of their
+//! callers.
 use crate::example::{Example, has_fault};
 use crate::stop::TrialStop;
 use std::alloc::Global;

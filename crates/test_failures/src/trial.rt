@@ -78,8 +78,8 @@ fn push_new(words: &mut String, word: &str) -> Result<(), AllocError> {
     Ok(())
 }
 
-// Repeats an example with `times` calls failing after 0, 1, 2, .. others until the outcome isn't `Kept`, and collects
-// the kinds of calls that failed first. Returns the last outcome.
+// Repeats an example with `times` calls failing after 0, 1, 2, .. others until the outcome isn't
+// `Kept`, and collects the kinds of calls that failed first. Returns the last outcome.
 fn add_calls(
     alloc: Global,
     stored: &StoredExample,

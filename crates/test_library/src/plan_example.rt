@@ -58,7 +58,7 @@ fn is_plan(plan: &[PlanRequest]) -> bool {
 }
 
 // Performs a plan in an office.
-fn perform<K: Keeper>(office: &mut Office<K>, plan: &[PlanRequest]) -> Result<PlanOutcome, Fault> {
+fn apply<K: Keeper>(office: &mut Office<K>, plan: &[PlanRequest]) -> Result<PlanOutcome, Fault> {
     office.run_plan(plan)
 }
 
@@ -68,12 +68,12 @@ fn write_outcome(outcome: Result<PlanOutcome, Fault>, report: &mut String) -> Re
     Ok(writeln!(report, "{outcome:?}")?)
 }
 
-/// Performs the first commands, and a plan twice, and appends the answers, whether it is a plan, and
-/// the outcomes: the second time the name of its concept is taken.
+/// Performs the first commands, and a plan twice, and appends the answers, whether it is a plan,
+/// and the outcomes: the second time the name of its concept is taken.
 pub fn run(alloc: Global, report: &mut String) -> Result<(), Failure> {
     let mut office = open(alloc, keeper_after(alloc, BEFORE, report)?)?;
     let plan = plan(alloc)?;
     writeln!(report, "{}", is_plan(&plan))?;
-    write_outcome(perform(&mut office, &plan), report)?;
-    write_outcome(perform(&mut office, &plan), report)
+    write_outcome(apply(&mut office, &plan), report)?;
+    write_outcome(apply(&mut office, &plan), report)
 }

@@ -1,4 +1,5 @@
-//! Texts that are read and written: requests in JSON, posting files, exports, displays and connections.
+//! Texts that are read and written: requests in JSON, posting files, exports, displays and
+//! connections.
 ghost use Rattle.std.specs.Prelude.{◌≡◌, false, true};
 ghost use Rattle.thesaurus.specs.Pipe.{IsFresh};
 

@@ -1,5 +1,6 @@
-//! Calls of an office: scripts, imports, exports, displays and connections, each with a reader and a writer of its own.
-ghost use Rattle.std.specs.Prelude.{◌≡◌, false, true};
+//! Calls of an office: scripts, imports, exports, displays and connections, each with a reader and
+//! a writer of its own.
+ghost use Rattle.std.specs.Prelude.{◌≡◌, true};
 ghost use Rattle.thes_base.specs.Pipe.{IsFresh};
 
 use std::alloc::Global;
@@ -8,8 +9,7 @@ use thes_base::fault::PipeFault;
 use thes_base::number::ResNo;
 use thes_base::pipe::Pipe;
 use thes_base::text::Tag;
-use thes_core::Core;
-use thes_display::writing::{DisplayOutcome, alphabetical, hierarchical};
+use thes_display::writing::{DisplayOutcome, write_display};
 use thes_export::writing::export;
 use thes_http::serve::{ConnectionEnd, serve_one};
 use thes_http::service::Service;
@@ -23,7 +23,8 @@ use thes_service::OfficeHandler;
 use thes_service::plan_mode::WithPlans;
 use thes_store::keeper::Keeper;
 
-// Serves a script by any handler: the contract of `office_script` would make the proof of this call much longer.
+// Serves a script by any handler: the contract of `office_script` would make the proof of this call
+// much longer.
 fn serve_pipes<H: RequestHandler, R: Read, W: Write>(
     alloc: Global,
     handler: &mut H,
@@ -97,23 +98,6 @@ pub fn export_in<K: Keeper, W: Write>(
     (writer.into_device(), ended)
 }
 
-fn display_core<W: Write>(
-    alloc: Global,
-    core: &Core,
-    display: Display,
-    scheme: ResNo,
-    tag: &Tag,
-    writer: &mut Pipe<W>,
-) -> Result<DisplayOutcome, PipeFault>
-    requires unspent { core.now.spent ≡ false }
-    requires writer { IsFresh writer.old }
-{
-    match display {
-        Display::Alphabetical => alphabetical(alloc, core, scheme, tag, writer),
-        Display::Hierarchical => hierarchical(alloc, core, scheme, tag, writer),
-    }
-}
-
 fn display_pipe<K: Keeper, W: Write>(
     alloc: Global,
     handler: &mut OfficeHandler<K, WithPlans>,
@@ -125,7 +109,7 @@ fn display_pipe<K: Keeper, W: Write>(
     requires { IsFresh writer.old }
 {
     let core = handler.office.ready()?;
-    display_core(alloc, core, display, scheme, tag, writer)
+    write_display(alloc, core, display, scheme, tag, writer)
 }
 
 /// Writes a display, and returns the writer and the outcome.

@@ -12,8 +12,17 @@ use Rattle.thes_base.specs.Pipe.{IsPartialWrite, KeepsCallLimit, written_bytes}
 use Rattle.thes_base.specs.Resources.{Exists, IsScheme}
 use Rattle.thes_base.specs.State.{State}
 use Rattle.thes_core.specs.CoreView.{CoreView, IsViewOf}
+use Rattle.thes_requests.specs.declared.request.Display.{Display}
+use Rattle.thes_requests.specs.declared.request.Display.TheVariants as which
+use Rattle.thes_display.specs.Alphabetical.{IsAlphabetical}
+use Rattle.thes_display.specs.Hierarchical.{IsHierarchicalDisplay}
 use Rattle.thes_display.specs.declared.writing.DisplayOutcome.{DisplayOutcome}
 use Rattle.thes_display.specs.declared.writing.DisplayOutcome.TheVariants.{Written, No}
+
+-- The text of a display of a scheme in a language.
+abbrev pub IsDisplay : Display → ℕ → List ℕ → State → List ℕ → Type 0
+IsDisplay which.Alphabetical scheme tag s text = IsAlphabetical s scheme tag text
+IsDisplay which.Hierarchical scheme tag s text = IsHierarchicalDisplay s scheme tag text
 
 -- The refusal of a number that isn't a scheme's.
 abbrev pub IsSchemeRefusal : List Resource → ℕ → Refusal → Type 0

@@ -1,4 +1,6 @@
-//! Performs the postings of a file over an office.
+//! Performs the postings of a file over an office, and keeps the report in memory, for HTTP.
+//! `import` over a vector as its writer wouldn't do: memory for the last lines could run out after
+//! all rows are performed. Here each block's lines are allocated before its rows are performed.
 ghost use Rattle.std.specs.Prelude.{◌≡◌};
 ghost use Rattle.thes_import.specs.Imports.{Imports, fault_in};
 ghost use Rattle.thes_posting_files.specs.Outcomes.{IsBlankReport};

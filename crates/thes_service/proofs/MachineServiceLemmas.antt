@@ -21,7 +21,7 @@ use Rattle.thes_requests.specs.Serving.{ServesPlan}
 use Rattle.thes_service.proofs.PlanAnswerLemmas.{one_plan_reply}
 use Rattle.thes_exchange.specs.QueryAnswers.{IsQueryAnswer}
 use Rattle.thes_exchange.proofs.OneViewLemmas.{one_view}
-use Rattle.thes_display.specs.DisplayWrites.{IsSchemeRefusal}
+use Rattle.thes_display.specs.DisplayWrites.{IsDisplay, IsSchemeRefusal}
 use Rattle.thes_display.proofs.OneTextLemmas.{one_alphabetical, one_hierarchical}
 use Rattle.thes_export.specs.Export.{IsExport}
 use Rattle.thes_export.proofs.ExportLemmas.{one_text}
@@ -44,7 +44,7 @@ use Rattle.thes_http.specs.ServiceBehaviour.{ServiceBehaviour}
 use Rattle.thes_http.specs.Serving.{Answers}
 use Rattle.thes_http.proofs.AnswerLemmas.{one_call}
 use Rattle.thes_service.specs.Laws.{ReportsFailure}
-use Rattle.thes_service.specs.Service.{IsDisplay, IsDisplayed, import_answer}
+use Rattle.thes_service.specs.Service.{IsDisplayed, import_answer}
 
 -- Memory ran out, or the storage failed.
 abbrev pub IsFailure : Fault → Type 0

@@ -4,9 +4,7 @@ use Rattle.thes_base.specs.declared.fault.Fault.{Fault}
 use Rattle.thes_base.specs.Resources.{IsScheme}
 use Rattle.thes_base.specs.State.{State}
 use Rattle.thes_store.specs.Storage.{StorageView}
-use Rattle.thes_display.specs.Alphabetical.{IsAlphabetical}
-use Rattle.thes_display.specs.Hierarchical.{IsHierarchicalDisplay}
-use Rattle.thes_display.specs.DisplayWrites.{IsSchemeRefusal}
+use Rattle.thes_display.specs.DisplayWrites.{IsDisplay, IsSchemeRefusal}
 use Rattle.thes_export.specs.Export.{IsExport, IsReadAs}
 use Rattle.thes_office.specs.Office.{FaultBehaviour, OfficeView, SameTables}
 use Rattle.thes_office.specs.TablesOfState.{TablesOfState}
@@ -17,7 +15,6 @@ use Rattle.thes_import.specs.declared.postings.FileImport.TheVariants as ends
 use Rattle.thes_service.specs.OfficeRequests.{office_requests}
 use Rattle.thes_http.specs.ServiceBehaviour.{ServiceBehaviour}
 use Rattle.thes_requests.specs.declared.request.Display.{Display}
-use Rattle.thes_requests.specs.declared.request.Display.TheVariants as which
 use Rattle.thes_http.specs.declared.service.DisplayAnswer.{DisplayAnswer}
 use Rattle.thes_http.specs.declared.service.DisplayAnswer.TheVariants as displayed
 use Rattle.thes_http.specs.declared.service.ImportAnswer.{ImportAnswer}
@@ -26,11 +23,6 @@ use Rattle.thes_http.specs.declared.service.ImportAnswer.TheVariants as imported
 -- The export of a state: an N-Triples document whose only reading is the state's triples.
 abbrev pub IsExportRead : List ℕ → State → List ℕ → Type 0
 IsExportRead base s text = IsExport base s text × IsReadAs base s text
-
--- The text of a display of a scheme in a language.
-abbrev pub IsDisplay : Display → ℕ → List ℕ → State → List ℕ → Type 0
-IsDisplay which.Alphabetical scheme tag s text = IsAlphabetical s scheme tag text
-IsDisplay which.Hierarchical scheme tag s text = IsHierarchicalDisplay s scheme tag text
 
 -- The answer to a request for a display: its text, or the refusal of a number that isn't a scheme's.
 abbrev pub IsDisplayed : Display → ℕ → List ℕ → State → DisplayAnswer → Type 0

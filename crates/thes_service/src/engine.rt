@@ -35,10 +35,11 @@ use thes_requests::request::{Display, Query};
 use thes_requests::script::{ScriptEnd, script};
 use thes_store::keeper::Keeper;
 
-/// An office that performs the requests of scripts and connections, and plans if its mode says so. In
-/// contracts its value is that of the office.
+/// An office that performs the requests of scripts and connections, and plans if its mode says so.
+/// In contracts its value is that of the office.
 #[derive(Drop)]
 pub struct OfficeHandler<K: Keeper, M: PlanMode> {
+    // The crates of handlers and of the office don't know each other (DECISIONS.md, The office).
     pub office: Office<K>,
     pub mode: M,
 }
@@ -71,9 +72,9 @@ impl<K: Keeper, M: PlanMode + Copy> OfficeHandler<K, M> {
     }
 }
 
-/// Each command is performed by a step of the machine over the tables of the storage, each plan by a
-/// run of it or not at all, and each view is of the state that they encode. A stale copy is reloaded
-/// first; a fault leaves the tables unchanged.
+/// Each command is performed by a step of the machine over the tables of the storage, each plan by
+/// a run of it or not at all, and each view is of the state that they encode. A stale copy is
+/// reloaded first; a fault leaves the tables unchanged.
 impl<K: Keeper, M: PlanMode> RequestHandler for OfficeHandler<K, M> {
     ghost use Rattle.thes_service.specs.OfficeRequests.{office_requests, is_always_open};
 
@@ -135,6 +136,7 @@ impl<K: Keeper, M: PlanMode> Service for OfficeHandler<K, M> {
         match import_postings(alloc, file, &mut self.office) {
             Ok(postings::FileImport::Rows(report)) => Ok(ImportAnswer::Outcomes(page_of(report))),
             Ok(postings::FileImport::Malformed) => Ok(ImportAnswer::Malformed),
+            // An answer has one status (DECISIONS.md, HTTP).
             Err(ImportHalt { fault, report: _ }) => Err(fault),
         }
     }
