@@ -44,8 +44,8 @@ module _ {W : Type 0} (contents : W → Option (List ℕ)) where
   IsDisplayStopped IsText old new fault = (text : List ℕ) × IsText text × IsPartialWrite contents text old new fault
 
 -- The whole display of the scheme was written; or the number was refused, and nothing was written; or, after a fault,
--- only a prefix of the display was written, or nothing if memory ran out. The display is that of the state that the core
--- holds: `IsText s` is the property of its text. No more writes were made than one call may make.
+-- only a prefix of the display was written, or nothing if memory ran out. The display is that of the state that the
+-- core holds: `IsText s` is the property of its text. No more writes were made than one call may make.
 pub record DisplayResult {W : Type 0} (contents : W → Option (List ℕ)) (core : CoreView) (scheme : ℕ)
     (IsText : State → List ℕ → Type 0) (old new : Pipe W) (result : Result DisplayOutcome PipeFault) : Type 0 where
   pub outcome : (s : State) → IsViewOf core s → IfOk result

@@ -85,7 +85,8 @@ module _ {K : Type 0} (view : K → StorageView) where
   -- The import by an office is one of the machine, between the states that its tables encode.
   pub import_from_state : (base : List ℕ) (s : State) (file : List ℕ) (old new : OfficeView K) (done : FileImport)
       → TablesOfState (view old.keeper).rows base s → (view new.keeper).is_up → Imports view old file (Ok done) new
-      → (t : State) × IsImportOf (setting_of base old.limits) s file done t × TablesOfState (view new.keeper).rows base t
+      → (t : State) × IsImportOf (setting_of base old.limits) s file done t
+      × TablesOfState (view new.keeper).rows base t
   import_from_state base s file old new (Rows report) shows up (rows, is_file, all) =
       let performs = all.performs up in
       let ran = run_from_state old.limits base s (view old.keeper).rows (view new.keeper).rows (posts_of rows)

@@ -36,5 +36,6 @@ module _ {K : Type 0} (view : K → StorageView) where
 abbrev pub HasOneImport : {K L : Type 0} → (K → StorageView) → (L → StorageView) → Type 0
 HasOneImport {K} {L} view other =
     (base : List ℕ) (s : State) (file : List ℕ) (old new : OfficeView K) (old' new' : OfficeView L) (a b : FileImport)
-    → old'.limits ≡ old.limits → ImportsInState view base s old file a new → ImportsInState other base s old' file b new'
+    → old'.limits ≡ old.limits → ImportsInState view base s old file a new
+    → ImportsInState other base s old' file b new'
     → ReportSame a b × EncodeOneState base (view new.keeper).rows (other new'.keeper).rows

@@ -115,7 +115,8 @@ same_import_answer ends.Malformed (ends.Rows other) same = absurd same
 same_import_answer ends.Malformed ends.Malformed same = refl
 
 module _ (setting : Setting) (fit : IsSetting setting) (s : State) (legal : IsLegalState setting.base s) where
-  pub one_step : (command : Command) (a b : Answer) (t u : State) → Step setting s command a t → Step setting s command b u
+  pub one_step : (command : Command) (a b : Answer) (t u : State) → Step setting s command a t
+      → Step setting s command b u
       → (a ≡ b) × (t ≡ u)
   one_step command a b t u x y =
       let one = one_outcome setting fit s legal (command ∷ []) (a ∷ []) (b ∷ []) t u (t, x, refl) (u, y, refl) in
@@ -170,7 +171,8 @@ module _ (setting : Setting) (takes : Bool) (fit : IsSetting setting) (s : State
   Machine = machine_service setting takes
 
   -- A plan that isn't answered failed.
-  plan_fails : (value : Option Data) (f : Fault) (v : State) → ServesPlan Machine.requests s value (Err f) v → IsFailure f
+  plan_fails : (value : Option Data) (f : Fault) (v : State) → ServesPlan Machine.requests s value (Err f) v
+      → IsFailure f
   plan_fails value f v (inl x) = inl x.0
   plan_fails value f v (inr x) = x.2
 
