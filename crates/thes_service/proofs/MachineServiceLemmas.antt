@@ -26,8 +26,8 @@ use Rattle.thes_display.proofs.OneTextLemmas.{one_alphabetical, one_hierarchical
 use Rattle.thes_export.specs.Export.{IsExport}
 use Rattle.thes_export.proofs.ExportLemmas.{one_text}
 use Rattle.thes_import.specs.OneImport.{ReportSame}
-use Rattle.thes_import.specs.declared.postings.FileImport as performed
-use Rattle.thes_import.specs.declared.postings.FileImport.TheVariants as ends
+use Rattle.thes_import.specs.declared.postings.ReportEnd as performed
+use Rattle.thes_import.specs.declared.postings.ReportEnd.TheVariants as ends
 use Rattle.thes_import.proofs.OneImportLemmas.{IsImportOf, one_import_of}
 use Rattle.thes_http.specs.declared.response.Response.{Response}
 use Rattle.thes_requests.specs.declared.request.Display.{Display}
@@ -59,7 +59,7 @@ module _ (setting : Setting) where
   -- The answer reports an import of the file from the one state to the other.
   abbrev pub ImportAnswers : State → List ℕ → ImportAnswer → State → Type 0
   ImportAnswers s file answer t =
-      (done : performed.FileImport) × IsImportOf setting s file done t × (Ok answer ≡ import_answer (Ok done))
+      (done : performed.ReportEnd) × IsImportOf setting s file done t × (Ok answer ≡ import_answer (Ok done))
 
   -- The machine as a service, which takes plans or doesn't; where it fails, nothing is said of the state after.
   abbrev pub machine_service : Bool → ServiceBehaviour State
@@ -108,7 +108,7 @@ one_display_answer display scheme tag s (displayed.No r) (displayed.Lines y) a b
 one_display_answer display scheme tag s (displayed.No r) (displayed.No q) a b =
     ap displayed.No (one_scheme_refusal s.resources scheme r q a b)
 
-same_import_answer : (a b : performed.FileImport) → ReportSame a b → import_answer (Ok a) ≡ import_answer (Ok b)
+same_import_answer : (a b : performed.ReportEnd) → ReportSame a b → import_answer (Ok a) ≡ import_answer (Ok b)
 same_import_answer (ends.Rows report) (ends.Rows other) same = ap (λ text. Ok (imported.Outcomes text)) same.0
 same_import_answer (ends.Rows report) ends.Malformed same = absurd same
 same_import_answer ends.Malformed (ends.Rows other) same = absurd same

@@ -22,8 +22,8 @@ use Rattle.thes_office.proofs.StepLemmas.{setting_fits}
 use Rattle.thes_requests.specs.declared.handler.QueryAnswer.{QueryAnswer}
 use Rattle.thes_requests.specs.declared.request.Query.{Query}
 use Rattle.thes_import.specs.Imports as importer
-use Rattle.thes_import.specs.declared.postings.ImportHalt.{ImportHalt}
-use Rattle.thes_import.specs.declared.postings.FileImport as performed
+use Rattle.thes_import.specs.declared.postings.ReportStop.{ReportStop}
+use Rattle.thes_import.specs.declared.postings.ReportEnd as performed
 use Rattle.thes_import.proofs.OneImportLemmas.{IsImportOf, import_from_state, run_from_state}
 use Rattle.thes_http.specs.declared.response.Response.{Response}
 use Rattle.thes_requests.specs.declared.request.Display.{Display}
@@ -90,7 +90,7 @@ module _ {K : Type 0} (view : K → StorageView) (takes : Bool) where
         (view new.keeper).rows plan outcome x y (does.performed up)
     performs_plan plan (Err fault) does = let behaviour = does.fault_behaviour in behaviour.fault up
 
-    import_answers : (file : List ℕ) (answer : ImportAnswer) (done : Result performed.FileImport ImportHalt)
+    import_answers : (file : List ℕ) (answer : ImportAnswer) (done : Result performed.ReportEnd ReportStop)
         → importer.Imports view old file done new → Ok answer ≡ import_answer done
         → ImportAnswers (setting_of base old.limits) s file answer t
     import_answers file answer (Ok done) imports reports =

@@ -9,9 +9,9 @@ use Rattle.thes_export.specs.Export.{IsExport, IsReadAs}
 use Rattle.thes_office.specs.Office.{FaultBehaviour, OfficeView, SameTables}
 use Rattle.thes_office.specs.TablesOfState.{TablesOfState}
 use Rattle.thes_import.specs.Imports as importer
-use Rattle.thes_import.specs.declared.postings.ImportHalt.{ImportHalt}
-use Rattle.thes_import.specs.declared.postings.FileImport as performed
-use Rattle.thes_import.specs.declared.postings.FileImport.TheVariants as ends
+use Rattle.thes_import.specs.declared.postings.ReportStop.{ReportStop}
+use Rattle.thes_import.specs.declared.postings.ReportEnd as performed
+use Rattle.thes_import.specs.declared.postings.ReportEnd.TheVariants as ends
 use Rattle.thes_service.specs.OfficeRequests.{office_requests}
 use Rattle.thes_http.specs.ServiceBehaviour.{ServiceBehaviour}
 use Rattle.thes_requests.specs.declared.request.Display.{Display}
@@ -31,7 +31,7 @@ IsDisplayed display scheme tag s (displayed.Lines page) =
 IsDisplayed display scheme tag s (displayed.No refusal) = IsSchemeRefusal s.resources scheme refusal
 
 -- The answer to an import: the lines of all outcomes, the form fault of a malformed file, or the fault that halted it.
-abbrev pub import_answer : Result performed.FileImport ImportHalt → Result ImportAnswer Fault
+abbrev pub import_answer : Result performed.ReportEnd ReportStop → Result ImportAnswer Fault
 import_answer (Ok (ends.Rows report)) = Ok (imported.Outcomes report.text.items)
 import_answer (Ok ends.Malformed) = Ok imported.Malformed
 import_answer (Err halted) = Err halted.fault
@@ -59,7 +59,7 @@ module _ {K : Type 0} (view : K → StorageView) where
   pub record OfficeImports (old : OfficeView K) (file : List ℕ) (result : Result ImportAnswer Fault)
       (new : OfficeView K) : Type 0 where
     pub fault_behaviour : FaultBehaviour view old new result
-    pub done : Result performed.FileImport ImportHalt
+    pub done : Result performed.ReportEnd ReportStop
     pub imports : importer.Imports view old file done new
     pub reports : result ≡ import_answer done
 

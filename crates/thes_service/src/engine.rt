@@ -26,7 +26,7 @@ use thes_http::connection_count::ConnectionCount;
 use thes_http::server::serve;
 use thes_http::service::{DisplayAnswer, ImportAnswer, Page, Service};
 use thes_import::postings;
-use thes_import::postings::{ImportHalt, import_postings};
+use thes_import::postings::{ReportStop, import_postings};
 use thes_import::report::Report;
 use thes_office::Office;
 use thes_plans::plan::{PlanOutcome, PlanRequest};
@@ -134,10 +134,10 @@ impl<K: Keeper, M: PlanMode> Service for OfficeHandler<K, M> {
 
     fn import(&mut self, alloc: Global, file: &[u8]) -> Result<ImportAnswer, Fault> {
         match import_postings(alloc, file, &mut self.office) {
-            Ok(postings::FileImport::Rows(report)) => Ok(ImportAnswer::Outcomes(page_of(report))),
-            Ok(postings::FileImport::Malformed) => Ok(ImportAnswer::Malformed),
+            Ok(postings::ReportEnd::Rows(report)) => Ok(ImportAnswer::Outcomes(page_of(report))),
+            Ok(postings::ReportEnd::Malformed) => Ok(ImportAnswer::Malformed),
             // An answer has one status (DECISIONS.md, HTTP).
-            Err(ImportHalt { fault, report: _ }) => Err(fault),
+            Err(ReportStop { fault, report: _ }) => Err(fault),
         }
     }
 
