@@ -6,10 +6,8 @@ ghost use Rattle.thes_base.specs.Pipe.{IsFresh};
 use std::alloc::Global;
 use std::io::{Read, Write};
 use thes_base::fault::PipeFault;
-use thes_base::number::ResNo;
 use thes_base::pipe::Pipe;
-use thes_base::text::Tag;
-use thes_display::writing::{DisplayOutcome, write_display};
+use thes_display::writing::{DisplayOutcome, DisplayRequest, write_display};
 use thes_export::writing::export;
 use thes_http::serve::{ConnectionEnd, serve_one};
 use thes_http::service::Service;
@@ -17,7 +15,6 @@ use thes_http_request::endpoint::Routes;
 use thes_import::import;
 use thes_import::import::ImportStop;
 use thes_requests::handler::RequestHandler;
-use thes_requests::request::Display;
 use thes_requests::script::{ScriptEnd, script};
 use thes_service::OfficeHandler;
 use thes_service::plan_mode::WithPlans;
@@ -101,28 +98,24 @@ pub fn export_in<K: Keeper, W: Write>(
 fn display_pipe<K: Keeper, W: Write>(
     alloc: Global,
     handler: &mut OfficeHandler<K, WithPlans>,
-    display: Display,
-    scheme: ResNo,
-    tag: &Tag,
+    wanted: DisplayRequest<'_>,
     writer: &mut Pipe<W>,
 ) -> Result<DisplayOutcome, PipeFault>
     requires { IsFresh writer.old }
 {
     let core = handler.office.ready()?;
-    write_display(alloc, core, display, scheme, tag, writer)
+    write_display(alloc, core, wanted, writer)
 }
 
 /// Writes a display, and returns the writer and the outcome.
 pub fn display_in<K: Keeper, W: Write>(
     alloc: Global,
     handler: &mut OfficeHandler<K, WithPlans>,
-    display: Display,
-    scheme: ResNo,
-    tag: &Tag,
+    wanted: DisplayRequest<'_>,
     output: W,
 ) -> (W, Result<DisplayOutcome, PipeFault>) {
     let mut writer = Pipe::new(output);
-    let shown = display_pipe(alloc, handler, display, scheme, tag, &mut writer);
+    let shown = display_pipe(alloc, handler, wanted, &mut writer);
     (writer.into_device(), shown)
 }
 

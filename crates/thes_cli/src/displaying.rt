@@ -11,7 +11,7 @@ use thes_base::number::ResNo;
 use thes_base::pipe::Pipe;
 use thes_base::text::Tag;
 use thes_command_line::printing::{report_fault, report_refusal};
-use thes_display::writing::{DisplayOutcome, write_display};
+use thes_display::writing::{DisplayOutcome, DisplayRequest, write_display};
 use thes_office::Office;
 use thes_requests::request::Display;
 use thes_store::keeper::Keeper;
@@ -21,17 +21,16 @@ use thes_store::keeper::Keeper;
 fn write_office_display<K: Keeper, W: Write>(
     alloc: Global,
     office: &mut Office<K>,
-    display: Display,
-    scheme: ResNo,
-    tag: &Tag,
+    wanted: DisplayRequest<'_>,
     output: &mut Pipe<W>,
 ) -> Result<DisplayOutcome, PipeFault>
     requires { IsFresh output.old }
-    ensures { WritesDisplay K.view W.contents display scheme tag.now office.old
+    ensures { let asked = wanted.entry in
+        WritesDisplay K.view W.contents asked.kind asked.scheme asked.tag.now office.old
         output.old result office.new output.new }
 {
     let core = office.ready()?;
-    write_display(alloc, core, display, scheme, tag, output)
+    write_display(alloc, core, wanted, output)
 }
 
 // Prints the refusal, if there is one, and returns the exit status: 1 for a refusal, and else 0.
@@ -74,6 +73,11 @@ pub fn display_store<K: Keeper, W: Write, E: Write>(
     ensures { DisplaysStore K.view W.contents display scheme tag.now E.contents
         office.old output.old output.new errors.old errors.new result office.new }
 {
-    let shown = write_office_display(alloc, office, display, scheme, tag, output);
+    let wanted = DisplayRequest {
+        kind: display,
+        scheme,
+        tag,
+    };
+    let shown = write_office_display(alloc, office, wanted, output);
     report_display(errors, shown)
 }

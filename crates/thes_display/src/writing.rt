@@ -29,6 +29,14 @@ pub enum DisplayOutcome {
     No(Refusal),
 }
 
+/// What is asked for: the kind of a display, the number of a scheme, and a language.
+#[derive(Clone, Copy)]
+pub struct DisplayRequest<'a> {
+    pub kind: Display,
+    pub scheme: ResNo,
+    pub tag: &'a Tag,
+}
+
 /// Checks that the number is a scheme's: returns None if it is, or else UnknownResource or
 /// WrongKind.
 pub fn check_scheme(core: &Core, scheme: ResNo) -> Option<Refusal>
@@ -45,43 +53,40 @@ pub fn check_scheme(core: &Core, scheme: ResNo) -> Option<Refusal>
     }
 }
 
-/// Returns the text of a display of a scheme in a language, in UTF-8.
+/// Returns the text of a display, in UTF-8.
 pub fn display_text(
     alloc: Global,
     core: &Core,
-    display: Display,
-    scheme: ResNo,
-    tag: &Tag,
+    wanted: DisplayRequest<'_>,
 ) -> Result<Vec<u8>, AllocError>
     requires { core.now.spent ≡ false }
-    ensures { (s : State) → IsViewOf core.now s →
-        IfOk result (λ text. IsDisplay display scheme tag.now s text.items) }
+    ensures { let asked = wanted.entry in (s : State) → IsViewOf core.now s →
+        IfOk result (λ text. IsDisplay asked.kind asked.scheme asked.tag.now s text.items) }
 {
-    match display {
-        Display::Alphabetical => alphabetical_text(alloc, core, scheme, tag),
-        Display::Hierarchical => hierarchical_text(alloc, core, scheme, tag),
+    match wanted.kind {
+        Display::Alphabetical => alphabetical_text(alloc, core, wanted.scheme, wanted.tag),
+        Display::Hierarchical => hierarchical_text(alloc, core, wanted.scheme, wanted.tag),
     }
 }
 
-/// Writes a display of a scheme in a language, or returns the refusal of its number. All memory is
-/// allocated before the first byte is written.
+/// Writes a display, or returns the refusal of the scheme's number. All memory is allocated before
+/// the first byte is written.
 pub fn write_display<W: Write>(
     alloc: Global,
     core: &Core,
-    display: Display,
-    scheme: ResNo,
-    tag: &Tag,
+    wanted: DisplayRequest<'_>,
     writer: &mut Pipe<W>,
 ) -> Result<DisplayOutcome, PipeFault>
     requires unspent { core.now.spent ≡ false }
     requires writer { IsFresh writer.old }
-    ensures { let is_text = IsDisplay display scheme tag.now in
-        DisplayResult W.contents core.now scheme is_text writer.old writer.new result }
+    ensures { let asked = wanted.entry in
+        let is_text = IsDisplay asked.kind asked.scheme asked.tag.now in
+        DisplayResult W.contents core.now asked.scheme is_text writer.old writer.new result }
 {
-    if let Some(refusal) = check_scheme(core, scheme) {
+    if let Some(refusal) = check_scheme(core, wanted.scheme) {
         return Ok(DisplayOutcome::No(refusal));
     }
-    let text = display_text(alloc, core, display, scheme, tag)?;
+    let text = display_text(alloc, core, wanted)?;
     writer.write_text(text.as_slice())?;
     Ok(DisplayOutcome::Written)
 }
@@ -99,7 +104,12 @@ pub fn hierarchical<W: Write>(
     ensures { let is_text = λ (s : State). IsHierarchicalDisplay s scheme tag.now in
         DisplayResult W.contents core.now scheme is_text writer.old writer.new result }
 {
-    write_display(alloc, core, Display::Hierarchical, scheme, tag, writer)
+    let wanted = DisplayRequest {
+        kind: Display::Hierarchical,
+        scheme,
+        tag,
+    };
+    write_display(alloc, core, wanted, writer)
 }
 
 /// Writes the alphabetical display of a scheme in a language, or returns the refusal of its number.
@@ -115,5 +125,10 @@ pub fn alphabetical<W: Write>(
     ensures { let is_text = λ (s : State). IsAlphabetical s scheme tag.now in
         DisplayResult W.contents core.now scheme is_text writer.old writer.new result }
 {
-    write_display(alloc, core, Display::Alphabetical, scheme, tag, writer)
+    let wanted = DisplayRequest {
+        kind: Display::Alphabetical,
+        scheme,
+        tag,
+    };
+    write_display(alloc, core, wanted, writer)
 }

@@ -8,7 +8,7 @@ use std::alloc::{AllocError, Global};
 use thes_base::number::ResNo;
 use thes_base::text::Tag;
 use thes_core::Core;
-use thes_display::writing::{check_scheme, display_text};
+use thes_display::writing::{DisplayRequest, check_scheme, display_text};
 use thes_http::service::{DisplayAnswer, Page};
 use thes_requests::request::Display;
 
@@ -28,6 +28,11 @@ pub(crate) fn display_of_core(
     if let Some(refusal) = check_scheme(core, scheme) {
         return Ok(DisplayAnswer::No(refusal));
     }
-    let text = display_text(alloc, core, display, scheme, tag)?;
+    let wanted = DisplayRequest {
+        kind: display,
+        scheme,
+        tag,
+    };
+    let text = display_text(alloc, core, wanted)?;
     Ok(DisplayAnswer::Lines(Page::new(text)))
 }
