@@ -1,5 +1,5 @@
 //! Trials of requests over a store, one file of which stops working.
-use crate::disk::{Failing, new_files};
+use crate::disk::{FailPoint, new_files};
 use crate::example::{Example, ExamplePrefix, are_answers};
 use crate::outcome::{StoreOutcome, Trial};
 use crate::run_report::{RunReport, base, report_wanted};
@@ -53,24 +53,17 @@ impl<'a> Requests<'a> {
     fn outcome_in(
         &self,
         alloc: Global,
-        failing: Failing,
-        calls: u64,
+        point: FailPoint,
         run: &mut Run,
     ) -> Result<StoreOutcome, TrialStop> {
-        self.run(alloc, failing, calls, run)?;
+        self.run(alloc, point, run)?;
         let is_right = self.is_right(alloc, run)?;
         Ok(StoreOutcome::of(is_right, run.is_closed && !run.run_report.failed))
     }
 
     // Creates a store in new files, performs the example in it, and opens the files again.
-    fn run(
-        &self,
-        alloc: Global,
-        failing: Failing,
-        calls: u64,
-        run: &mut Run,
-    ) -> Result<(), TrialStop> {
-        let files = new_files(alloc, failing, calls)?;
+    fn run(&self, alloc: Global, point: FailPoint, run: &mut Run) -> Result<(), TrialStop> {
+        let files = new_files(alloc, point)?;
         let (files, is_closed) = work(alloc, files, run);
         run.is_closed = is_closed;
         run.after.show(alloc, files)?;
@@ -138,12 +131,7 @@ impl<'a> Requests<'a> {
 }
 
 impl<'a> Trial for Requests<'a> {
-    fn outcome(
-        &self,
-        alloc: Global,
-        failing: Failing,
-        calls: u64,
-    ) -> Result<StoreOutcome, TrialStop> {
+    fn outcome(&self, alloc: Global, point: FailPoint) -> Result<StoreOutcome, TrialStop> {
         let mut run = Run::new(alloc, self.example)?;
         self.outcome_in(alloc, failing, calls, &mut run)
     }

@@ -1,5 +1,5 @@
 //! Runs examples over failing stores, and appends the outcomes to a page.
-use crate::disk::Failing;
+use crate::disk::{FailPoint, Failing};
 use crate::example::{Example, StoredExample};
 use crate::faults::outcome_of_calls;
 use crate::migration::Migration;
@@ -17,10 +17,10 @@ use test_keeper::fail_once::Next;
 fn last_outcome<T: Trial>(
     alloc: Global,
     trial: &T,
-    failing: Failing,
+    file: Failing,
 ) -> Result<(u64, StoreOutcome), TrialStop> {
     for calls in 0..u64::MAX {
-        match trial.outcome(alloc, failing, calls)? {
+        match trial.outcome(alloc, FailPoint { file, calls })? {
             StoreOutcome::Kept => {}
             outcome => return Ok((calls, outcome)),
         }
@@ -35,9 +35,9 @@ fn try_files<T: Trial>(
     trial: &T,
     page: &mut String,
 ) -> Result<(), TrialStop> {
-    for failing in [Failing::Log, Failing::Database] {
-        let last = last_outcome(alloc, trial, failing)?;
-        write_last(page, name, failing.name(), last)?;
+    for file in [Failing::Log, Failing::Database] {
+        let last = last_outcome(alloc, trial, file)?;
+        write_last(page, name, file.name(), last)?;
     }
     Ok(())
 }
