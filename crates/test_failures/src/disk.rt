@@ -28,7 +28,6 @@ impl Failing {
             Failing::Database => "the database file",
         }
     }
-
 }
 
 /// Which file of a store stops working, and after how many calls.

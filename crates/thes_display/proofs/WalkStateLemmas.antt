@@ -80,9 +80,11 @@ module _ (terms : List Term) (tops : List Child) (below : List (List Child)) (n 
   top_line c a =
       let h = o.tops_home c (contains_of c tops a) in
       let at_top = subst (λ t. IsOneOf (child c.rank t true) tops) h.1
-      (subst (λ b. IsOneOf (child c.rank c.types b) tops) h.0 a) in
-      (subst (λ b. IsPlacedHere tops below n o b (c.rank ∷ [])) (sym h.0)
-          (contains_of (child c.rank untyped true) tops at_top), h.1)
+      (subst (λ b. IsOneOf (child c.rank c.types b) tops) h.0 a) in (
+        subst (λ b. IsPlacedHere tops below n o b (c.rank ∷ [])) (sym h.0)
+            (contains_of (child c.rank untyped true) tops at_top),
+        h.1,
+      )
 
   walk_at_start : IsWalk IsIt [] (map (child_line []) tops)
   walk_at_start = record {

@@ -81,7 +81,7 @@ len_within bytes len h = let is = length-take head_limit bytes in omega (arith, 
 
 pub answer_problem : {S : Type 0} (d : ServiceBehaviour S) (known left : Option (List ℕ)) (old : S)
     (bytes rest : List ℕ) (p : Problem) → Consumes known left bytes
-        → HeadOutcome (d.requests.takes_plans old) bytes rest (Err p)
+    → HeadOutcome (d.requests.takes_plans old) bytes rest (Err p)
     → IsConnectionAnswer d known left old (problem_response p) old
 answer_problem d known left old bytes rest p t a =
     record { bytes = bytes; taken = t; answers = inr (inl (a.head, rest, a.has, rw a.wants (refl, refl))) }
@@ -140,7 +140,7 @@ pub cut_all : (takes_plans : Bool) (known mid left : Option (List ℕ)) (bytes f
     → IsCutOff takes_plans known left
 cut_all takes_plans known mid left bytes front start len w t e l a s c =
     cut_body takes_plans known mid left bytes (drop len bytes) w t
-        (head_outcome_front takes_plans bytes front len (Ok w) e l a)
+    (head_outcome_front takes_plans bytes front len (Ok w) e l a)
     (subst (λ (x : List ℕ). CutsBody mid left x w.body) s c)
 
 -- A response is the outcome of a request.

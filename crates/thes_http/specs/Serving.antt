@@ -59,7 +59,7 @@ module _ {S : Type 0} (d : ServiceBehaviour S) (old : S) (r : Response) (new : S
   abbrev pub PlanEffect : List ℕ → Type 0
   PlanEffect body =
       (answer : Result PlanReply Fault) × ServesPlan d.requests old (json_in body) answer new
-          × (r ≡ plan_response answer)
+      × (r ≡ plan_response answer)
 
   -- The effect of importing a posting file, and its response.
   abbrev pub ImportEffect : List ℕ → Type 0

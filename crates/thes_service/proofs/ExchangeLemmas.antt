@@ -36,8 +36,12 @@ module _ {K : Type 0} (view : K → StorageView) (takes : Bool) where
   was_up old mid new exchanges e shows answered answers up =
       let reached = exchanges_lead old mid exchanges shows answered in
       let last = exchanges_lead mid new (e ∷ [])
-      (λ is_up. let run = reached.goes_on is_up in let ran = run.2 in (ran.base, ran.state_after, ran.shows,
-          ran.in_order))
+      (λ is_up. let run = reached.goes_on is_up in let ran = run.2 in (
+        ran.base,
+        ran.state_after,
+        ran.shows,
+        ran.in_order,
+      ))
       (mid, refl, answers) in
       last.was up
 
@@ -112,16 +116,16 @@ module _ {K L : Type 0} (view : K → StorageView) (other : L → StorageView) w
   one_list_of_responses takes setting few s old new old' new' (e ∷ exchanges) [] same x y = absurd (cc)
   one_list_of_responses takes setting few s old new old' new' (e ∷ exchanges) (f ∷ others) same x y =
       let both : e.bytes ∷ map (λ (g : Exchange). g.bytes) exchanges
-          ≡ f.bytes ∷ map (λ (g : Exchange). g.bytes) others =
+      ≡ f.bytes ∷ map (λ (g : Exchange). g.bytes) others =
       same in
       let bytes : e.bytes ≡ f.bytes = cc in
       let before : map (λ (g : Exchange). g.bytes) exchanges ≡ map (λ (g : Exchange). g.bytes) others = cc in
       let mine = earlier view takes setting s old new e exchanges x in
       let theirs = earlier other takes setting s old' new' f others y in
       let rest = one_list_of_responses takes setting few s old mine.0 old' theirs.0 exchanges others before mine.1
-          theirs.1 in
+      theirs.1 in
       let fine = x.no_failure in let fine' = y.no_failure in
       let last = last_response takes setting few mine.0 new theirs.0 new' e f bytes mine.2 theirs.2 rest.1 mine.3
-          theirs.3
+      theirs.3
       x.is_up y.is_up fine.0 fine'.0 in
       (λ i. last.0 i ∷ rest.0 i, last.1)

@@ -154,7 +154,7 @@ module _ {K : Type 0} (view : K → StorageView) (takes : Bool) where
   answers_as_machine setting s old new r bytes x =
       let after = state_after setting.base s old new r bytes x.shows x.is_up x.answers in
       let same = answers_as_much (office_behaviour view takes)
-          (machine_service (setting_of setting.base old.limits) takes) old new s
+      (machine_service (setting_of setting.base old.limits) takes) old new s
       after.0 (does_as_machine setting.base s after.0 old new x.is_up x.shows after.1) r bytes x.answers in (
         after.0,
         after.1,
@@ -169,7 +169,7 @@ one_office_answer view other takes setting few s old new old' new' r q bytes mor
     let theirs = answers_as_machine other takes setting s old' new' q (bytes ++ more) y in
     let legal = (let shows = x.shows in shows.legal) in
     elim (one_machine_answer setting takes (setting_fits setting s few legal) s legal mine.0 theirs.0 r q bytes more
-        mine.2
+    mine.2
     theirs.2) [
       | inl same ↦ inl (
         same.0,

@@ -256,7 +256,7 @@ module _ {K L : Type 0} (view : K → StorageView) (other : L → StorageView) (
       let mine = between_lines view takes setting s old r.0 new line f more fs limits x r.1 r.2 up fine.0 in
       let theirs = between_lines other takes setting s old' q.0 new' line g more gs limits' y q.1 q.2 up' fine'.0 in
       let one = one_outcome_effect takes setting few s mine.state theirs.state x.legal line f g mine.effect
-          theirs.effect in
+      theirs.effect in
       let rest = one_run more fs gs mine.state r.0 new q.0 new' mine.limits theirs.limits mine.shows
       (shows_state q.0 theirs.state mine.state (sym one.1) theirs.shows) r.2 q.2 up up' fine.1 fine'.1 in
       (λ i. one.0 i ∷ rest.0 i, rest.1)
@@ -269,5 +269,5 @@ pub one_script : {K L : Type 0} (view : K → StorageView) (other : L → Storag
 one_script view other takes setting few s old new old' new' bytes os qs x y =
     let mine = x.lines in let theirs = y.lines in
     one_run view other takes setting few (lines bytes) os qs s old new old' new' x.limits y.limits x.shows y.shows
-        mine.run
+    mine.run
     theirs.run x.is_up y.is_up x.no_failure y.no_failure

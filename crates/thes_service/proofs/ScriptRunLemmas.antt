@@ -167,7 +167,7 @@ module _ {K : Type 0} (view : K → StorageView) where
   -- Lines extend the run.
   pub lines_reached : (takes : Bool) (lines : List (List ℕ)) (line_outcomes : List LineOutcome)
       (old mid new : OfficeView K) → RunLines (OfficeServes view takes) mid lines line_outcomes new
-          → IsReachedByRun view old
+      → IsReachedByRun view old
       mid → IsReachedByRun view old new
   lines_reached takes [] [] old mid new r so_far = led_kept old mid new so_far r
   lines_reached takes [] (f ∷ line_outcomes) old mid new r so_far = absurd r

@@ -67,7 +67,7 @@ module _ {K : Type 0} (view : K → StorageView) (takes : Bool) where
 abbrev pub HasOneOfficeAnswer : {K L : Type 0} → (K → StorageView) → (L → StorageView) → Type 0
 HasOneOfficeAnswer {K} {L} view other =
     (takes : Bool) (setting : Setting) → AreLimits setting.limits
-        → (s : State) (old new : OfficeView K) (old' new' : OfficeView L)
+    → (s : State) (old new : OfficeView K) (old' new' : OfficeView L)
     (r q : Response) (bytes more : List ℕ)
     → AnswersInState view takes setting s old bytes r new
     → AnswersInState other takes setting s old' (bytes ++ more) q new'
@@ -79,7 +79,7 @@ HasOneOfficeAnswer {K} {L} view other =
 abbrev pub HasOneListOfResponses : {K L : Type 0} → (K → StorageView) → (L → StorageView) → Type 0
 HasOneListOfResponses {K} {L} view other =
     (takes : Bool) (setting : Setting) → AreLimits setting.limits
-        → (s : State) (old new : OfficeView K) (old' new' : OfficeView L)
+    → (s : State) (old new : OfficeView K) (old' new' : OfficeView L)
     (exchanges others : List Exchange) → map (λ e. e.bytes) exchanges ≡ map (λ e. e.bytes) others
     → ExchangesInState view takes setting s old exchanges new
     → ExchangesInState other takes setting s old' others new'
@@ -90,7 +90,7 @@ HasOneListOfResponses {K} {L} view other =
 abbrev pub HasOneScript : {K L : Type 0} → (K → StorageView) → (L → StorageView) → Type 0
 HasOneScript {K} {L} view other =
     (takes : Bool) (setting : Setting) → AreLimits setting.limits
-        → (s : State) (old new : OfficeView K) (old' new' : OfficeView L)
+    → (s : State) (old new : OfficeView K) (old' new' : OfficeView L)
     (bytes : List ℕ) (outcomes others : List LineOutcome)
     → ScriptInState view takes setting s old bytes outcomes new
     → ScriptInState other takes setting s old' bytes others new'

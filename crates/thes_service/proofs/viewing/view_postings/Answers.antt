@@ -10,7 +10,7 @@ returns-in_ok-into_line-in-Ok-None g c = record {
   same = c.in-Ok-None.ensures.frame.same;
   viewed = λ up.
       listing_viewed (g.K.Keeper.view c.postings.new.self.keeper).rows c.args.concept c.new-rows.result
-          c.postings.new.sink
+      c.postings.new.sink
       c.in-Ok-None.field-0 c.new.result c.in-Ok-None.field-0-is (c.in-Ok-None.ensures.lists up) c.new-rows.ensures
       (c.new.ensures ∙ c.in_ok-into_line-in-Ok-None.ensures);
 }
@@ -22,6 +22,6 @@ returns-in-Ok-Some g c = record {
   same = c.in-Ok-Some.ensures.frame.same;
   viewed = λ up.
       refusal_viewed (g.K.Keeper.view c.postings.new.self.keeper).rows c.args.concept c.new-rows.result
-          c.postings.new.sink
+      c.postings.new.sink
       c.in-Ok-Some.field-0 c.in-Ok-Some.refusal c.in-Ok-Some.field-0-is (c.in-Ok-Some.ensures.lists up);
 }
