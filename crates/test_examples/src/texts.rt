@@ -44,7 +44,7 @@ fn display_kind(name: &str) -> io::Result<Display> {
 fn display_text(
     alloc: Global,
     store: &mut Store,
-    wanted: DisplayRequest<'_>,
+    wanted: &DisplayRequest<'_>,
 ) -> io::Result<String> {
     let (written, shown) = display_in(alloc, &mut store.handler, wanted, Vec::new(alloc));
     match shown {
@@ -66,7 +66,7 @@ fn display_after(alloc: Global, requests: &str, text: &str) -> io::Result<String
         scheme,
         tag: &tag,
     };
-    let text = display_text(alloc, &mut store, wanted);
+    let text = display_text(alloc, &mut store, &wanted);
     drop(store);
     text
 }

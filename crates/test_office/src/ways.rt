@@ -98,7 +98,7 @@ pub fn export_in<K: Keeper, W: Write>(
 fn display_pipe<K: Keeper, W: Write>(
     alloc: Global,
     handler: &mut OfficeHandler<K, WithPlans>,
-    wanted: DisplayRequest<'_>,
+    wanted: &DisplayRequest<'_>,
     writer: &mut Pipe<W>,
 ) -> Result<DisplayOutcome, PipeFault>
     requires { IsFresh writer.old }
@@ -111,7 +111,7 @@ fn display_pipe<K: Keeper, W: Write>(
 pub fn display_in<K: Keeper, W: Write>(
     alloc: Global,
     handler: &mut OfficeHandler<K, WithPlans>,
-    wanted: DisplayRequest<'_>,
+    wanted: &DisplayRequest<'_>,
     output: W,
 ) -> (W, Result<DisplayOutcome, PipeFault>) {
     let mut writer = Pipe::new(output);

@@ -21,11 +21,11 @@ use thes_store::keeper::Keeper;
 fn write_office_display<K: Keeper, W: Write>(
     alloc: Global,
     office: &mut Office<K>,
-    wanted: DisplayRequest<'_>,
+    wanted: &DisplayRequest<'_>,
     output: &mut Pipe<W>,
 ) -> Result<DisplayOutcome, PipeFault>
     requires { IsFresh output.old }
-    ensures { let asked = wanted.entry in
+    ensures { let asked = wanted.now in
         WritesDisplay K.view W.contents asked.kind asked.scheme asked.tag.now office.old
         output.old result office.new output.new }
 {
@@ -78,6 +78,6 @@ pub fn display_store<K: Keeper, W: Write, E: Write>(
         scheme,
         tag,
     };
-    let shown = write_office_display(alloc, office, wanted, output);
+    let shown = write_office_display(alloc, office, &wanted, output);
     report_display(errors, shown)
 }

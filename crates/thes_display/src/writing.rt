@@ -57,10 +57,10 @@ pub fn check_scheme(core: &Core, scheme: ResNo) -> Option<Refusal>
 pub fn display_text(
     alloc: Global,
     core: &Core,
-    wanted: DisplayRequest<'_>,
+    wanted: &DisplayRequest<'_>,
 ) -> Result<Vec<u8>, AllocError>
     requires { core.now.spent ≡ false }
-    ensures { let asked = wanted.entry in (s : State) → IsViewOf core.now s →
+    ensures { let asked = wanted.now in (s : State) → IsViewOf core.now s →
         IfOk result (λ text. IsDisplay asked.kind asked.scheme asked.tag.now s text.items) }
 {
     match wanted.kind {
@@ -74,12 +74,12 @@ pub fn display_text(
 pub fn write_display<W: Write>(
     alloc: Global,
     core: &Core,
-    wanted: DisplayRequest<'_>,
+    wanted: &DisplayRequest<'_>,
     writer: &mut Pipe<W>,
 ) -> Result<DisplayOutcome, PipeFault>
     requires unspent { core.now.spent ≡ false }
     requires writer { IsFresh writer.old }
-    ensures { let asked = wanted.entry in
+    ensures { let asked = wanted.now in
         let is_text = IsDisplay asked.kind asked.scheme asked.tag.now in
         DisplayResult W.contents core.now asked.scheme is_text writer.old writer.new result }
 {
@@ -109,7 +109,7 @@ pub fn hierarchical<W: Write>(
         scheme,
         tag,
     };
-    write_display(alloc, core, wanted, writer)
+    write_display(alloc, core, &wanted, writer)
 }
 
 /// Writes the alphabetical display of a scheme in a language, or returns the refusal of its number.
@@ -130,5 +130,5 @@ pub fn alphabetical<W: Write>(
         scheme,
         tag,
     };
-    write_display(alloc, core, wanted, writer)
+    write_display(alloc, core, &wanted, writer)
 }

@@ -33,6 +33,6 @@ pub(crate) fn display_of_core(
         scheme,
         tag,
     };
-    let text = display_text(alloc, core, wanted)?;
+    let text = display_text(alloc, core, &wanted)?;
     Ok(DisplayAnswer::Lines(Page::new(text)))
 }

@@ -55,7 +55,7 @@ fn write_display<W: Write>(
                 scheme,
                 tag: &tag,
             };
-            let (output, shown) = display_in(alloc, handler, wanted, output);
+            let (output, shown) = display_in(alloc, handler, &wanted, output);
             (output, shown.map(|_| ()))
         }
         (_, Err(ReadStop::OutOfMemory)) => (output, Err(PipeFault::Fault(Fault::OutOfMemory))),
