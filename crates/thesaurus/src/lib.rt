@@ -69,6 +69,7 @@
 //! - `ReadStop`: a text lacks its form, or a line is no request, or memory ran out. `Base::read`,
 //!   `Iri::read`, `Key::read`, `Note::read`, `RecordName::read`, `Tag::read`, `Text::read`,
 //!   `read_request`
+//! - `PlanStop`: a line is no plan, or memory ran out. `read_plan`
 //! - `FormFault`: a text is no number from 1 to 4,294,967,295. `MoveNo::read`, `PostNo::read`,
 //!   `ResNo::read`
 //! - `Fault`: memory ran out (`OutOfMemory`), the storage failed (`Store`), or its rows have
@@ -78,7 +79,7 @@
 //!   `Keeper::load`, `Keeper::posting`, `Keeper::row`, `Keeper::standing`,
 //!   `Keeper::standing_numbers`, `Loader::finish`, `Office::perform`, `Office::posting`,
 //!   `Office::postings`, `Office::ready`, `Office::run`, `Office::run_plan`, `Office::totals`,
-//!   `PostingSink::posting`, `RequestHandler::perform`, `RequestHandler::show`,
+//!   `PostingSink::posting`, `RequestHandler::perform`, `RequestHandler::perform_plan`, `RequestHandler::show`,
 //!   `RowSink::report_unqueried`, `RowSink::row`, `SqlKeeper::commit_changes`,
 //!   `SqlKeeper::migrate`, `from_rows`
 //! - A fault with what was passed in: `Office::start` returns the storage, `SqlKeeper::create` the
@@ -510,6 +511,16 @@ pub use thes_store::sink::{PostingSink, RowSink};
 //     plan.len() <= REQUEST_LIMIT && first_bad_reference(plan).is_none()
 // }
 //
+// fn plan_name(memory: &mut RequestScratch, line: &str) -> &'static str {
+//     match read_plan(memory, line.as_bytes()) {
+//         Ok(_) => "a plan",
+//         Err(PlanStop::Bad(PlanFault::Whole(fault))) => fault.name(),
+//         Err(PlanStop::Bad(PlanFault::Request(_, fault))) => fault.name(),
+//         Err(PlanStop::Bad(PlanFault::Reference(_))) => "a reference to nothing",
+//         Err(PlanStop::OutOfMemory) => Fault::OutOfMemory.name(),
+//     }
+// }
+//
 // fn apply<K: Keeper>(office: &mut Office<K>, plan: &[PlanRequest]) -> Result<PlanOutcome, Fault> {
 //     office.run_plan(plan)
 // }
@@ -543,11 +554,15 @@ pub use thes_requests::plan::{PlanFault, PlanStop, read_plan};
 //     on_success(writer.into_device(), result)
 // }
 //
+// fn handler_of<K: Keeper, M: PlanMode + Copy>(office: Office<K>, mode: M) -> OfficeHandler<K, M> {
+//     OfficeHandler::new(office, mode)
+// }
+//
 // fn serve<K: Keeper, R: Read, W: Write>(
 //     alloc: Global,
 //     reader: &mut Pipe<R>,
 //     writer: &mut Pipe<W>,
-//     handler: &mut OfficeHandler<K>,
+//     handler: &mut OfficeHandler<K, WithPlans>,
 // ) -> Result<Ended, PipeFault>
 //     requires reader { IsFresh reader.old }
 //     requires writer { IsFresh writer.old }
@@ -557,7 +572,7 @@ pub use thes_requests::plan::{PlanFault, PlanStop, read_plan};
 //
 // fn write_answers<K: Keeper>(
 //     alloc: Global,
-//     handler: &mut OfficeHandler<K>,
+//     handler: &mut OfficeHandler<K, WithPlans>,
 //     report: &mut String,
 // ) -> Result<(), Failure> {
 //     push(report, &answers(alloc, handler)?)?;
@@ -658,7 +673,7 @@ pub use thes_service::{OfficeHandler, office_script as script};
 //
 // fn serve_connection<K: Keeper, R: Read, W: Write>(
 //     alloc: Global,
-//     handler: &mut OfficeHandler<K>,
+//     handler: &mut OfficeHandler<K, NoPlans>,
 //     reader: &mut Pipe<R>,
 //     writer: &mut Pipe<W>,
 // ) -> Option<Status>
