@@ -79,9 +79,9 @@
 //!   `Keeper::load`, `Keeper::posting`, `Keeper::row`, `Keeper::standing`,
 //!   `Keeper::standing_numbers`, `Loader::finish`, `Office::perform`, `Office::posting`,
 //!   `Office::postings`, `Office::ready`, `Office::run`, `Office::run_plan`, `Office::totals`,
-//!   `PostingSink::posting`, `RequestHandler::perform`, `RequestHandler::perform_plan`, `RequestHandler::show`,
-//!   `RowSink::report_unqueried`, `RowSink::row`, `SqlKeeper::commit_changes`,
-//!   `SqlKeeper::migrate`, `from_rows`
+//!   `PostingSink::posting`, `RequestHandler::perform`, `RequestHandler::perform_plan`,
+//!   `RequestHandler::show`, `RowSink::report_unqueried`, `RowSink::row`,
+//!   `SqlKeeper::commit_changes`, `SqlKeeper::migrate`, `from_rows`
 //! - A fault with what was passed in: `Office::start` returns the storage, `SqlKeeper::create` the
 //!   connection.
 //! - `Stop`: the device of a pipe failed, or the budget of its calls is used up. `Pipe::read`,
