@@ -10,7 +10,7 @@ returns g c =
     state_written g.K.Keeper.view
     (λ base. WritesDisplayOf g.W.Write.contents c.args.wanted.now.kind c.args.wanted.now.scheme
     c.args.wanted.now.tag.now) c.args.output.now
-    c.write_display.new.output c.args.office.now c.ready.follows.lender-at-none c.ready.result c.in_ok-core.core
+    c.write_display.new.writer c.args.office.now c.ready.follows.lender-at-none c.ready.result c.in_ok-core.core
     c.write_display.result c.ready.follows.holds-at-none c.in_ok-core.was
     (λ s holds. MatchResult-from_both c.write_display.result _ _ (c.write_display.ensures.outcome s holds)
     (c.write_display.ensures.fault s holds))
