@@ -1,4 +1,5 @@
-//! A hierarchy of a hundred layers, with broader links to the layer above and related links within each layer.
+//! A hierarchy of a hundred layers, with broader links to the layer above and related links within
+//! each layer.
 use std::alloc::{AllocError, Global};
 use test_devices::numbers::Numbers;
 use thes_base::data::{Link, LinkKind};
@@ -18,7 +19,8 @@ fn add(graph: &mut Graph, kind: LinkKind, a: u32, b: u32) -> Result<(), AllocErr
     Ok(())
 }
 
-// Adds links from the node to random ones: `count` up to the layer above, if there is one, and `count` related ones.
+// Adds links from the node to random ones: `count` up to the layer above, if there is one, and
+// `count` related ones.
 fn link_node(
     graph: &mut Graph,
     numbers: &mut Numbers,

@@ -1,5 +1,5 @@
-//! Checks of related links and merges in a hierarchy of levels, in which each concept has two broader ones in the level
-//! above.
+//! Checks of related links and merges in a hierarchy of levels, in which each concept has two
+//! broader ones in the level above.
 ghost use Rattle.std.specs.Prelude.{◌≡◌};
 ghost use Rattle.thes_base.specs.Links.{Holds};
 ghost use Rattle.thes_links.specs.Local.{BreakNone};
@@ -51,7 +51,8 @@ fn levels(alloc: Global, numbers: &mut Numbers, width: u32) -> Result<Graph, All
     Ok(graph)
 }
 
-// Checks the link, or the merge of its second end into its first, and returns whether it is refused.
+// Checks the link, or the merge of its second end into its first, and returns whether it is
+// refused.
 fn is_refused(
     alloc: Global,
     walk: &mut Walk<'_>,
@@ -112,7 +113,8 @@ fn check_random_links(
     Ok(count_refused)
 }
 
-/// Returns the number of refusals among `count` random related links, or merges, in a hierarchy of twelve levels.
+/// Returns the number of refusals among `count` random related links, or merges, in a hierarchy of
+/// twelve levels.
 pub fn count_refused(
     alloc: Global,
     nodes: u32,

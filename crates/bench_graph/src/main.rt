@@ -52,7 +52,8 @@ fn link_to_following(
     Ok(())
 }
 
-// Adds links from each node up to the `width` nodes after it, which makes the deepest graph of that width.
+// Adds links from each node up to the `width` nodes after it, which makes the deepest graph of that
+// width.
 fn ladder(graph: &mut Graph, nodes: u32, width: u32) -> Result<(), AllocError> {
     for node in 1..nodes {
         link_to_following(graph, node, nodes, width)?;
@@ -60,7 +61,8 @@ fn ladder(graph: &mut Graph, nodes: u32, width: u32) -> Result<(), AllocError> {
     Ok(())
 }
 
-// Adds a link from each node up to the node whose number is its own divided by `width`, rounded down.
+// Adds a link from each node up to the node whose number is its own divided by `width`, rounded
+// down.
 fn tree(graph: &mut Graph, nodes: u32, width: u32) -> Result<(), AllocError> {
     for node in 1..nodes {
         add(graph, node, node / width.max(1))?;

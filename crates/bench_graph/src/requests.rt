@@ -25,7 +25,8 @@ fn add_step(graph: &mut Graph, node: u32) -> Result<(), AllocError> {
     Ok(())
 }
 
-// Returns a graph in which node 3 is above node 2, and the nodes from 5 on are a chain of `further` nodes.
+// Returns a graph in which node 3 is above node 2, and the nodes from 5 on are a chain of `further`
+// nodes.
 fn chain(alloc: Global, further: u32) -> Result<Graph, AllocError> {
     let mut graph = Graph::new(alloc);
     add_step(&mut graph, 2)?;

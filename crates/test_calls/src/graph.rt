@@ -1,4 +1,5 @@
-//! The worked examples on links, and random graphs compared with a naive program that follows the definitions.
+//! The worked examples on links, and random graphs compared with a naive program that follows the
+//! definitions.
 use Fact::{BroaderOf, CollectionsOf, Has, Mappings, NarrowerOf, RelatedTo, Size};
 use std::alloc::{AllocError, Global};
 use std::collections::BTreeSet;
@@ -31,7 +32,8 @@ fn mark(graph: &mut Graph, n: u32) -> Result<(), AllocError> {
     graph.mark_outside(n)
 }
 
-// Checks whether the link may be added, and whether the graph keeps the rules; returns the first refusal.
+// Checks whether the link may be added, and whether the graph keeps the rules; returns the first
+// refusal.
 fn check_link(alloc: Global, graph: &Graph, link: &Link) -> Result<Option<Refusal>, AllocError> {
     if link.a == link.b {
         return Ok(Some(Refusal::SameResource));
@@ -54,7 +56,8 @@ fn try_add(alloc: Global, graph: &mut Graph, link: &Link) -> Result<Option<Refus
     Ok(answer)
 }
 
-// Checks whether the merge is allowed, and whether the graph keeps the rules; returns the first refusal.
+// Checks whether the merge is allowed, and whether the graph keeps the rules; returns the first
+// refusal.
 fn check_merge(
     alloc: Global,
     graph: &Graph,
@@ -158,7 +161,8 @@ fn worked_links(rt: HostRuntime) -> Result<(), Fail> {
     Ok(())
 }
 
-// A row of a table: links, a merge of the first node into the second after these, and the expected answer.
+// A row of a table: links, a merge of the first node into the second after these, and the expected
+// answer.
 type Merge<'a> = (&'a [Step], u32, u32, Option<Refusal>);
 
 #[test]
@@ -540,7 +544,8 @@ fn check_added(
     }
 }
 
-// Tries to add a link to a graph that keeps the rules, and compares each answer with that of the naive program.
+// Tries to add a link to a graph that keeps the rules, and compares each answer with that of the
+// naive program.
 fn compare(
     rt: &impl Abort,
     alloc: Global,
@@ -589,8 +594,8 @@ fn count_different(alloc: Global, graph: &Graph, links: &[Link]) -> Result<usize
     Ok(met.len())
 }
 
-// Tries a merge in a graph that keeps the rules, and compares the answer and the links after it with those of the naive
-// program.
+// Tries a merge in a graph that keeps the rules, and compares the answer and the links after it
+// with those of the naive program.
 fn compare_merge(
     rt: &impl Abort,
     alloc: Global,

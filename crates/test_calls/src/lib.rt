@@ -1,5 +1,5 @@
-//! Tests of calls that no request reaches: of forms and values, vocabularies, graphs of links, and connections. Their
-//! functions have no contracts, and so are proved quickly.
+//! Tests of calls that no request reaches: of forms and values, vocabularies, graphs of links, and
+//! connections. Their functions have no contracts, and so are proved quickly.
 #![tactic(auto)]
 
 #[cfg(test)]

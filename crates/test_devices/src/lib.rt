@@ -1,5 +1,5 @@
-//! Devices for tests: readers and writers that move few bytes a call, are interrupted, and fail; and pseudo-random
-//! numbers.
+//! Devices for tests: readers and writers that move few bytes a call, are interrupted, and fail;
+//! and pseudo-random numbers.
 #![tactic(auto)]
 
 pub mod numbers;
@@ -22,8 +22,8 @@ fn take_call(calls: &mut u32) -> Result<(), ErrorKind> {
     Ok(())
 }
 
-/// A reader that returns at most three bytes at every other call, is interrupted at the calls between, and fails after
-/// `calls` calls.
+/// A reader that returns at most three bytes at every other call, is interrupted at the calls
+/// between, and fails after `calls` calls.
 #[derive(Drop)]
 pub struct Halting<'a> {
     pub bytes: &'a [u8],
@@ -42,8 +42,8 @@ impl<'a> Read for Halting<'a> {
     }
 }
 
-/// A writer that accepts one byte at every other call, and is interrupted at the calls between. After `calls` calls it
-/// fails or, if `is_full`, accepts no byte.
+/// A writer that accepts one byte at every other call, and is interrupted at the calls between.
+/// After `calls` calls it fails or, if `is_full`, accepts no byte.
 #[derive(Drop)]
 pub struct Filling {
     pub bytes: Vec<u8>,

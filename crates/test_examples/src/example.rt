@@ -27,7 +27,8 @@ pub struct Example<'a> {
     pub requests: String,
     /// The look-ups after the requests, one on each line.
     pub lookups: String,
-    /// The text to write: `export`, or a display with its scheme and language; empty if there is none.
+    /// The text to write: `export`, or a display with its scheme and language; empty if there is
+    /// none.
     pub text: &'a str,
     pub answers: String,
 }
@@ -41,8 +42,8 @@ fn mode_for(text: &str) -> Mode {
 }
 
 impl<'a> Example<'a> {
-    /// Parses an example from the lines common to all examples of its file, and from its own lines, of which the first
-    /// is its name.
+    /// Parses an example from the lines common to all examples of its file, and from its own lines,
+    /// of which the first is its name.
     pub fn read(alloc: Global, start: &str, part: &'a str) -> Result<Example<'a>, AllocError> {
         let (own, written) = part.split_once("\n@ ").unwrap_or((part, ""));
         let (name, own) = own.split_once('\n').unwrap_or((own, ""));

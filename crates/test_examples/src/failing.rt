@@ -1,8 +1,9 @@
-//! Examples that must be answered correctly if an allocation, a reader or a writer fails, each in a new store.
+//! Examples that must be answered correctly if an allocation, a reader or a writer fails, each in a
+//! new store.
 //!
-//! `tests/builds/test_refuse_memory.py` has a late allocation fail, and as many made before the example as an argument
-//! says. If that is 0, no allocation should fail, and the readers and writers of imports, exports and displays fail
-//! instead.
+//! `tests/builds/test_refuse_memory.py` has a late allocation fail, and as many made before the
+//! example as an argument says. If that is 0, no allocation should fail, and the readers and
+//! writers of imports, exports and displays fail instead.
 
 mod check;
 mod connections;
@@ -65,8 +66,8 @@ fn print_fault_results<R: Print>(
     }
 }
 
-/// Makes `before` allocations, runs the example in the text of a file, and prints its outcome. If `before` is 0, also
-/// runs it with failing readers and writers.
+/// Makes `before` allocations, runs the example in the text of a file, and prints its outcome. If
+/// `before` is 0, also runs it with failing readers and writers.
 pub fn run_failing<R: Print>(
     rt: &R,
     alloc: Global,

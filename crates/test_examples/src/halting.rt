@@ -9,8 +9,8 @@ use test_office::failing::Failing;
 use thes_base::fault::PipeFault;
 use thes_requests::script::ScriptEnd;
 
-// Returns the number of requests performed: one for each answer and, if the writer failed, one whose answer wasn't
-// written.
+// Returns the number of requests performed: one for each answer and, if the writer failed, one
+// whose answer wasn't written.
 fn performed_count(failing: Failing, written: &str) -> usize {
     let answered = written.bytes().filter(|byte| *byte == b'\n').count();
     match failing {
@@ -30,11 +30,12 @@ enum Outcome {
     Wrong,
 }
 
-/// Runs a script with a reader and a writer that fail after each number of calls. Returns the stored answers, or the
-/// first device and number of calls with a wrong outcome.
+/// Runs a script with a reader and a writer that fail after each number of calls. Returns the
+/// stored answers, or the first device and number of calls with a wrong outcome.
 ///
-/// The text written must be a prefix of the stored answers, and exactly the requests answered must be performed, with
-/// the one whose answer the writer failed to accept: the same store must answer the later requests as stored.
+/// The text written must be a prefix of the stored answers, and exactly the requests answered must
+/// be performed, with the one whose answer the writer failed to accept: the same store must answer
+/// the later requests as stored.
 pub fn halting_answers(alloc: Global, example: &Example) -> io::Result<String> {
     for failing in [Reader, Writer, FullWriter] {
         if let Some(calls) = first_wrong(alloc, example, failing)? {

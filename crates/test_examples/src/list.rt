@@ -9,8 +9,8 @@ use thes_base::request::{Answer, Command};
 use thes_requests::answer::{Reply, reply_line};
 use thes_requests::request::{Request, RequestScratch, read_request};
 
-/// Performs the requests of an example over a new store, by one call, and returns the answers; each request must be a
-/// command.
+/// Performs the requests of an example over a new store, by one call, and returns the answers; each
+/// request must be a command.
 pub fn list_answers(alloc: Global, example: &Example) -> io::Result<String> {
     let mut store = Store::new(alloc, example.limits)?;
     let mut answers: Vec<Answer> = Vec::new(alloc);

@@ -11,8 +11,8 @@ use test_office::Store;
 use thes_base::fault::PipeFault;
 use thes_requests::script::ScriptEnd;
 
-/// Runs an example, and returns its answers with those of its look-ups, or its text. A further line names the end of a
-/// script, if its answers don't show it.
+/// Runs an example, and returns its answers with those of its look-ups, or its text. A further line
+/// names the end of a script, if its answers don't show it.
 pub fn run(alloc: Global, example: &Example) -> io::Result<String> {
     match example.mode {
         Mode::Script => script_answers(alloc, example),

@@ -20,8 +20,8 @@ pub struct TableExample<'a> {
 }
 
 impl<'a> TableExample<'a> {
-    /// Parses an example from the lines common to all examples of its file, and from its own lines: its name, its
-    /// changes of rows, and its verdict.
+    /// Parses an example from the lines common to all examples of its file, and from its own lines:
+    /// its name, its changes of rows, and its verdict.
     pub fn read(alloc: Global, start: &'a str, part: &'a str) -> io::Result<TableExample<'a>> {
         let mut example = TableExample {
             name: part.lines().next().unwrap_or(""),
@@ -118,7 +118,8 @@ fn cell_in(alloc: Global, cell: &str) -> io::Result<Cell> {
     }
 }
 
-/// Loads the rows, and returns the verdict: a fault, or the sizes of the core and the counts of its concepts.
+/// Loads the rows, and returns the verdict: a fault, or the sizes of the core and the counts of its
+/// concepts.
 pub fn load_verdict(alloc: Global, example: &TableExample) -> io::Result<String> {
     match from_rows(alloc, example.rows(alloc)?, Limits::default()) {
         Ok(core) => sizes_of(alloc, &core),

@@ -5,10 +5,11 @@ use test_office::ways::{display_in, export_in};
 use test_office::{Store, invalid, store_after};
 use thes_base::number::ResNo;
 use thes_base::text::Tag;
-use thes_display::writing::DisplayOutcome;
+use thes_display::writing::{DisplayOutcome, DisplayRequest};
 use thes_requests::request::Display;
 
-/// Returns a text of the store after the requests: its export, a display, or the name of the refusal of a display.
+/// Returns a text of the store after the requests: its export, a display, or the name of the
+/// refusal of a display.
 pub fn text_after(alloc: Global, requests: &str, text: &str) -> io::Result<String> {
     match text {
         "export" => export_after(alloc, requests),
@@ -43,12 +44,9 @@ fn display_kind(name: &str) -> io::Result<Display> {
 fn display_text(
     alloc: Global,
     store: &mut Store,
-    display: Display,
-    scheme: ResNo,
-    tag: &Tag,
+    wanted: &DisplayRequest<'_>,
 ) -> io::Result<String> {
-    let output = Vec::new(alloc);
-    let (written, shown) = display_in(alloc, &mut store.handler, display, scheme, tag, output);
+    let (written, shown) = display_in(alloc, &mut store.handler, wanted, Vec::new(alloc));
     match shown {
         Ok(DisplayOutcome::Written) => String::from_utf8(written).map_err(|_| invalid()),
         Ok(DisplayOutcome::No(refusal)) => Ok(format!(in alloc; "{}\n", refusal.name())?),
@@ -59,11 +57,16 @@ fn display_text(
 // Returns the display, given by its kind, scheme and language, of the store after the requests.
 fn display_after(alloc: Global, requests: &str, text: &str) -> io::Result<String> {
     let mut words = text.split(' ');
-    let display = display_kind(words.next().unwrap_or(""))?;
+    let kind = display_kind(words.next().unwrap_or(""))?;
     let scheme = ResNo::read(words.next().unwrap_or("")).map_err(|_| invalid())?;
     let tag = Tag::read(alloc, words.next().unwrap_or("")).map_err(|_| invalid())?;
     let mut store = store_after(alloc, requests)?;
-    let text = display_text(alloc, &mut store, display, scheme, &tag);
+    let wanted = DisplayRequest {
+        kind,
+        scheme,
+        tag: &tag,
+    };
+    let text = display_text(alloc, &mut store, &wanted);
     drop(store);
     text
 }

@@ -9,8 +9,8 @@ use std::alloc::{AllocError, Global};
 /// The two files of a store: its database and its log.
 pub type Disks = Files<Fuse<Memory>>;
 
-/// A store in two files. Functions are generic in `D`, since the contract of a file in memory is long and slows their
-/// proofs.
+/// A store in two files. Functions are generic in `D`, since the contract of a file in memory is
+/// long and slows their proofs.
 pub type Store<D> = Connection<FileStore<D>>;
 
 /// The file that stops working.
@@ -28,13 +28,27 @@ impl Failing {
             Failing::Database => "the database file",
         }
     }
+}
 
-    // Returns the numbers of calls after which the log and the database file fail, if this file fails after `calls`
-    // calls.
-    fn calls(self, calls: u64) -> (u64, u64) {
-        match self {
-            Failing::Log => (calls, u64::MAX),
-            Failing::Database => (u64::MAX, calls),
+/// Which file of a store stops working, and after how many calls.
+#[derive(Clone, Copy)]
+pub struct FailPoint {
+    pub file: Failing,
+    pub calls: u64,
+}
+
+impl FailPoint {
+    /// Both files work on.
+    pub const NEVER: FailPoint = FailPoint {
+        file: Failing::Log,
+        calls: u64::MAX,
+    };
+
+    // Returns the numbers of calls after which the log and the database file fail.
+    fn calls_of_files(self) -> (u64, u64) {
+        match self.file {
+            Failing::Log => (self.calls, u64::MAX),
+            Failing::Database => (u64::MAX, self.calls),
         }
     }
 }
@@ -80,9 +94,9 @@ impl Image {
         })
     }
 
-    /// Returns files with these contents, of which the failing one stops working after `calls` calls.
-    pub fn files(&self, alloc: Global, failing: Failing, calls: u64) -> Result<Disks, TrialStop> {
-        let (log_calls, db_calls) = failing.calls(calls);
+    /// Returns files with these contents, of which one stops working at this point.
+    pub fn files(&self, alloc: Global, point: FailPoint) -> Result<Disks, TrialStop> {
+        let (log_calls, db_calls) = point.calls_of_files();
         Ok(Files {
             log: Fuse::new(memory_of(alloc, &self.log)?, log_calls),
             db: Fuse::new(memory_of(alloc, &self.db)?, db_calls),
@@ -91,13 +105,13 @@ impl Image {
 
     /// Returns files with these contents that never fail.
     pub fn sound_files(&self, alloc: Global) -> Result<Disks, TrialStop> {
-        self.files(alloc, Failing::Log, u64::MAX)
+        self.files(alloc, FailPoint::NEVER)
     }
 }
 
-/// Returns the files of a new store, of which the failing one stops working after `calls` calls.
-pub fn new_files(alloc: Global, failing: Failing, calls: u64) -> Result<Disks, TrialStop> {
-    Image::empty(alloc).files(alloc, failing, calls)
+/// Returns the files of a new store, of which one stops working at this point.
+pub fn new_files(alloc: Global, point: FailPoint) -> Result<Disks, TrialStop> {
+    Image::empty(alloc).files(alloc, point)
 }
 
 /// Returns the files as the next process finds them after a kill: with all that was written.

@@ -1,8 +1,8 @@
 //! Examples that run over stores, with their expected answers.
 use std::alloc::{AllocError, Global};
 
-/// A stored example: requests, one on each line, with an answer for each; and a posting file, with the lines that its
-/// import should return.
+/// A stored example: requests, one on each line, with an answer for each; and a posting file, with
+/// the lines that its import should return.
 #[derive(Drop)]
 pub struct StoredExample<'a> {
     requests: String,
@@ -19,8 +19,8 @@ pub struct Example<'a> {
 }
 
 impl<'a> StoredExample<'a> {
-    /// Parses an example: lines `> REQUEST`, each followed by its answer; a line `% import`, and the posting file; a
-    /// line `% outcomes`, and the lines that the import should return.
+    /// Parses an example: lines `> REQUEST`, each followed by its answer; a line `% import`, and
+    /// the posting file; a line `% outcomes`, and the lines that the import should return.
     pub fn read(alloc: Global, text: &'a str) -> Result<StoredExample<'a>, AllocError> {
         let (script, rest) = text.split_once("% import\n").unwrap_or((text, ""));
         let (postings, outcomes) = rest.split_once("% outcomes\n").unwrap_or((rest, ""));

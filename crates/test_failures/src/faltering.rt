@@ -13,7 +13,8 @@ use thes_store::sink::{PostingSink, RowSink};
 use thes_tables::delta::Delta;
 use thes_tables::rows::PostingRow;
 
-/// A storage in memory of which `before` calls work, the next `times` calls fail, and all others work.
+/// A storage in memory of which `before` calls work, the next `times` calls fail, and all others
+/// work.
 #[derive(Drop)]
 pub struct Faltering {
     pub keeper: MemKeeper,

@@ -122,7 +122,8 @@ impl Tries {
         Ok(())
     }
 
-    // Performs an example over a storage, and repeats the opening of the `Office` until it succeeds.
+    // Performs an example over a storage, and repeats the opening of the `Office` until it
+    // succeeds.
     fn perform<K: Keeper>(
         &mut self,
         alloc: Global,
@@ -143,8 +144,8 @@ impl Tries {
         (keeper, Err(TrialStop))
     }
 
-    // Computes the lines expected of a repeated import, in which the postings that the first attempts added are
-    // repeated.
+    // Computes the lines expected of a repeated import, in which the postings that the first
+    // attempts added are repeated.
     fn want(&mut self, outcomes: &str) -> Result<(), AllocError> {
         for (place, line) in outcomes.lines().enumerate() {
             match line.split_once(",new,") {
@@ -166,7 +167,8 @@ impl Tries {
             && self.run_report.listing.text.as_str() == listing
     }
 
-    // Performs an example over a failing storage, and returns its outcome and the kind of the first call that failed.
+    // Performs an example over a failing storage, and returns its outcome and the kind of the first
+    // call that failed.
     fn falter(
         &mut self,
         alloc: Global,
@@ -192,9 +194,9 @@ fn push_again(text: &mut String, row: &str, number: &str) -> Result<(), AllocErr
     push_line(text, number)
 }
 
-/// Performs an example in memory, where `times` calls fail after the first `before`, and repeats each request that
-/// returns a fault. Returns the outcome, which is right if the store has the same rows as without failures, and the
-/// kind of the first call that failed.
+/// Performs an example in memory, where `times` calls fail after the first `before`, and repeats
+/// each request that returns a fault. Returns the outcome, which is right if the store has the same
+/// rows as without failures, and the kind of the first call that failed.
 pub fn outcome_of_calls(
     alloc: Global,
     stored: &StoredExample,

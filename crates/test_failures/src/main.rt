@@ -1,10 +1,12 @@
-//! Runs stored examples over stores of which calls fail. Each is run once in a database in memory, without failures,
-//! where each answer must be as stored; in memory, where one call or two fail at each place, and each request answered
-//! by a fault is repeated; and in files. There the log or the database file stops working after n calls, for each n up
-//! to the first with which no call fails. The files are opened again as after a kill and as after a power cut: the store
-//! must be as after a prefix of the requests that includes each confirmed one.
+//! Runs stored examples over stores of which calls fail. Each is run once in a database in memory,
+//! without failures, where each answer must be as stored; in memory, where one call or two fail at
+//! each place, and each request answered by a fault is repeated; and in files. There the log or the
+//! database file stops working after n calls, for each n up to the first with which no call fails.
+//! The files are opened again as after a kill and as after a power cut: the store must be as after
+//! a prefix of the requests that includes each confirmed one.
 //!
-//! The arguments name the files of examples. "Stored examples" in CONTRIBUTING.md defines their form.
+//! The arguments name the files of examples. "Stored examples" in CONTRIBUTING.md defines their
+//! form.
 #![tactic(auto)]
 
 mod disk;

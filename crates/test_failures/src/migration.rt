@@ -1,5 +1,5 @@
 //! Trials of a migration of a store, one file of which stops working.
-use crate::disk::{Disks, Failing, Image, new_files};
+use crate::disk::{Disks, FailPoint, Image, new_files};
 use crate::example::{Example, push_line};
 use crate::outcome::{StoreOutcome, Trial};
 use crate::run_report::{RunReport, base, report_wanted};
@@ -70,15 +70,14 @@ impl Migration {
         showing.show(alloc, self.image.sound_files(alloc)?)
     }
 
-    // Runs the migration, and returns the outcome.
+    // Runs the migration in these files, and returns the outcome.
     fn outcome_in(
         &self,
         alloc: Global,
-        failing: Failing,
-        calls: u64,
+        files: Disks,
         run: &mut Run,
     ) -> Result<StoreOutcome, TrialStop> {
-        run.migrate(alloc, self.image.files(alloc, failing, calls)?)?;
+        run.migrate(alloc, files)?;
         Ok(StoreOutcome::of(self.is_kept(run), run.is_answered && run.is_closed))
     }
 
@@ -93,14 +92,10 @@ impl Migration {
 }
 
 impl Trial for Migration {
-    fn outcome(
-        &self,
-        alloc: Global,
-        failing: Failing,
-        calls: u64,
-    ) -> Result<StoreOutcome, TrialStop> {
+    fn outcome(&self, alloc: Global, point: FailPoint) -> Result<StoreOutcome, TrialStop> {
+        let files = self.image.files(alloc, point)?;
         let mut run = Run::new(alloc);
-        self.outcome_in(alloc, failing, calls, &mut run)
+        self.outcome_in(alloc, files, &mut run)
     }
 }
 
@@ -168,7 +163,7 @@ fn older_image(alloc: Global, example: Example) -> Result<Image, TrialStop> {
 }
 
 fn make_image(alloc: Global, making: &mut Making) -> Result<Image, TrialStop> {
-    let (files, is_closed) = work(alloc, new_files(alloc, Failing::Log, u64::MAX)?, making);
+    let (files, is_closed) = work(alloc, new_files(alloc, FailPoint::NEVER)?, making);
     image_of(
         alloc,
         files,

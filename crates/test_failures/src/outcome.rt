@@ -1,5 +1,5 @@
 //! The outcome of a trial.
-use crate::disk::Failing;
+use crate::disk::FailPoint;
 use crate::stop::TrialStop;
 use std::alloc::Global;
 
@@ -15,7 +15,8 @@ pub enum StoreOutcome {
 }
 
 impl StoreOutcome {
-    /// Returns the outcome of a run, from whether the store is right and whether each call succeeded.
+    /// Returns the outcome of a run, from whether the store is right and whether each call
+    /// succeeded.
     pub fn of(is_right: bool, is_whole: bool) -> StoreOutcome {
         match (is_right, is_whole) {
             (false, _) => StoreOutcome::Wrong,
@@ -27,11 +28,6 @@ impl StoreOutcome {
 
 /// A run in files that can be repeated with another number of calls.
 pub trait Trial {
-    /// Runs while a file stops working after `calls` calls, and returns the outcome.
-    fn outcome(
-        &self,
-        alloc: Global,
-        failing: Failing,
-        calls: u64,
-    ) -> Result<StoreOutcome, TrialStop>;
+    /// Runs while a file stops working at this point, and returns the outcome.
+    fn outcome(&self, alloc: Global, point: FailPoint) -> Result<StoreOutcome, TrialStop>;
 }

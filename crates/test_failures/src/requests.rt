@@ -1,5 +1,5 @@
 //! Trials of requests over a store, one file of which stops working.
-use crate::disk::{Failing, new_files};
+use crate::disk::{FailPoint, new_files};
 use crate::example::{Example, ExamplePrefix, are_answers};
 use crate::outcome::{StoreOutcome, Trial};
 use crate::run_report::{RunReport, base, report_wanted};
@@ -53,24 +53,17 @@ impl<'a> Requests<'a> {
     fn outcome_in(
         &self,
         alloc: Global,
-        failing: Failing,
-        calls: u64,
+        point: FailPoint,
         run: &mut Run,
     ) -> Result<StoreOutcome, TrialStop> {
-        self.run(alloc, failing, calls, run)?;
+        self.run(alloc, point, run)?;
         let is_right = self.is_right(alloc, run)?;
         Ok(StoreOutcome::of(is_right, run.is_closed && !run.run_report.failed))
     }
 
     // Creates a store in new files, performs the example in it, and opens the files again.
-    fn run(
-        &self,
-        alloc: Global,
-        failing: Failing,
-        calls: u64,
-        run: &mut Run,
-    ) -> Result<(), TrialStop> {
-        let files = new_files(alloc, failing, calls)?;
+    fn run(&self, alloc: Global, point: FailPoint, run: &mut Run) -> Result<(), TrialStop> {
+        let files = new_files(alloc, point)?;
         let (files, is_closed) = work(alloc, files, run);
         run.is_closed = is_closed;
         run.after.show(alloc, files)?;
@@ -106,8 +99,8 @@ impl<'a> Requests<'a> {
         self.report_prefix(alloc, run_report, run_report.failed, &mut wanted.more)
     }
 
-    // Performs the prefix of the example that this report confirms, and, `with_next`, the request or
-    // the group of rows after it.
+    // Performs the prefix of the example that this report confirms, and, `with_next`, the request
+    // or the group of rows after it.
     fn report_prefix(
         &self,
         alloc: Global,
@@ -138,12 +131,7 @@ impl<'a> Requests<'a> {
 }
 
 impl<'a> Trial for Requests<'a> {
-    fn outcome(
-        &self,
-        alloc: Global,
-        failing: Failing,
-        calls: u64,
-    ) -> Result<StoreOutcome, TrialStop> {
+    fn outcome(&self, alloc: Global, point: FailPoint) -> Result<StoreOutcome, TrialStop> {
         let mut run = Run::new(alloc, self.example)?;
         self.outcome_in(alloc, failing, calls, &mut run)
     }
@@ -187,8 +175,8 @@ impl<'a> Job for Run<'a> {
     }
 }
 
-// The expected reports: after the confirmed requests, and after one more request or group of rows, which may have been
-// performed without being confirmed.
+// The expected reports: after the confirmed requests, and after one more request or group of rows,
+// which may have been performed without being confirmed.
 #[derive(Drop)]
 struct Wanted {
     after_answers: RunReport,

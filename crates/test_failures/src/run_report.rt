@@ -1,5 +1,6 @@
-//! Examples over a storage, and their reports. Each call of an `Office` is in a function of its own without a contract,
-//! since the `Office`'s contracts are long and slow the proofs of their callers.
+//! Examples over a storage, and their reports. Each call of an `Office` is in a function of its own
+//! without a contract, since the `Office`'s contracts are long and slow the proofs of their
+//! callers.
 use crate::example::{Example, has_fault};
 use crate::stop::TrialStop;
 use std::alloc::Global;
@@ -9,7 +10,7 @@ use test_office::serve_in;
 use thes_base::data::Limits;
 use thes_base::fault::{Fault, PipeFault};
 use thes_base::text::Base;
-use thes_import::postings::{FileImport, ImportHalt, import_postings};
+use thes_import::postings::{ReportEnd, ReportStop, import_postings};
 use thes_office::Office;
 use thes_requests::script::ScriptEnd;
 use thes_service::OfficeHandler;
@@ -83,22 +84,22 @@ fn import_in<K: Keeper>(
     alloc: Global,
     office: &mut Office<K>,
     file: &str,
-) -> Result<FileImport, ImportHalt> {
+) -> Result<ReportEnd, ReportStop> {
     import_postings(alloc, file.as_bytes(), office)
 }
 
 // Appends the lines of an import, and returns whether the fault Store halted it.
 fn push_report(
     rows: &mut String,
-    imported: &Result<FileImport, ImportHalt>,
+    imported: &Result<ReportEnd, ReportStop>,
 ) -> Result<bool, TrialStop> {
     match imported {
-        Ok(FileImport::Rows(report)) => {
+        Ok(ReportEnd::Rows(report)) => {
             push_bytes(rows, &report.text)?;
             Ok(false)
         }
         Err(
-            ImportHalt {
+            ReportStop {
                 fault: Fault::Store,
                 report,
             },

@@ -3,8 +3,8 @@ use std::alloc::AllocError;
 use std::io;
 use test_office::invalid;
 
-/// The reason why an example couldn't be run: memory ran out, or the store behaved in a way that no failing call
-/// explains.
+/// The reason why an example couldn't be run: memory ran out, or the store behaved in a way that no
+/// failing call explains.
 #[derive(Clone, Copy)]
 pub struct TrialStop;
 

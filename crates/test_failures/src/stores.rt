@@ -80,8 +80,8 @@ fn show_in<S: Alter>(
     }
 }
 
-/// Creates the tables of a new store, and performs an example in it. Returns the connection, and whether the tables
-/// were created.
+/// Creates the tables of a new store, and performs an example in it. Returns the connection, and
+/// whether the tables were created.
 pub fn perform_new<S: Alter>(
     alloc: Global,
     mut conn: Connection<S>,
@@ -121,7 +121,8 @@ fn run_new(
 
 /// A job to do in a store in files.
 pub trait Job {
-    /// Does the job, and returns the connection and whether to close the store rather than abandon it.
+    /// Does the job, and returns the connection and whether to close the store rather than abandon
+    /// it.
     fn run<S: Alter>(&mut self, alloc: Global, conn: Connection<S>) -> (Connection<S>, bool);
 }
 
@@ -130,7 +131,8 @@ fn work_in<D: Disk + Drop, J: Job>(alloc: Global, conn: Store<D>, job: &mut J) -
     end(conn, is_done)
 }
 
-/// Does a job in the store in files. Returns the files, and whether the store was closed and each call succeeded.
+/// Does a job in the store in files. Returns the files, and whether the store was closed and each
+/// call succeeded.
 pub fn work<D: Disk + Drop, J: Job>(
     alloc: Global,
     files: Files<D>,
@@ -180,7 +182,8 @@ impl Job for StoreListing {
     }
 }
 
-/// The rows of a store after a kill, with all that was written, and after a power cut, with what was synced.
+/// The rows of a store after a kill, with all that was written, and after a power cut, with what
+/// was synced.
 #[derive(Drop)]
 pub struct After {
     kill: StoreListing,

@@ -1,5 +1,5 @@
 //! Runs examples over failing stores, and appends the outcomes to a page.
-use crate::disk::Failing;
+use crate::disk::{FailPoint, Failing};
 use crate::example::{Example, StoredExample};
 use crate::faults::outcome_of_calls;
 use crate::migration::Migration;
@@ -17,10 +17,10 @@ use test_keeper::fail_once::Next;
 fn last_outcome<T: Trial>(
     alloc: Global,
     trial: &T,
-    failing: Failing,
+    file: Failing,
 ) -> Result<(u64, StoreOutcome), TrialStop> {
     for calls in 0..u64::MAX {
-        match trial.outcome(alloc, failing, calls)? {
+        match trial.outcome(alloc, FailPoint { file, calls })? {
             StoreOutcome::Kept => {}
             outcome => return Ok((calls, outcome)),
         }
@@ -35,9 +35,9 @@ fn try_files<T: Trial>(
     trial: &T,
     page: &mut String,
 ) -> Result<(), TrialStop> {
-    for failing in [Failing::Log, Failing::Database] {
-        let last = last_outcome(alloc, trial, failing)?;
-        write_last(page, name, failing.name(), last)?;
+    for file in [Failing::Log, Failing::Database] {
+        let last = last_outcome(alloc, trial, file)?;
+        write_last(page, name, file.name(), last)?;
     }
     Ok(())
 }
@@ -78,8 +78,8 @@ fn push_new(words: &mut String, word: &str) -> Result<(), AllocError> {
     Ok(())
 }
 
-// Repeats an example with `times` calls failing after 0, 1, 2, .. others until the outcome isn't `Kept`, and collects
-// the kinds of calls that failed first. Returns the last outcome.
+// Repeats an example with `times` calls failing after 0, 1, 2, .. others until the outcome isn't
+// `Kept`, and collects the kinds of calls that failed first. Returns the last outcome.
 fn add_calls(
     alloc: Global,
     stored: &StoredExample,

@@ -1,4 +1,5 @@
-//! Posts and merges over any storage, its rows as text, and a storage that fails once, for tests and benchmarks.
+//! Posts and merges over any storage, its rows as text, and a storage that fails once, for tests
+//! and benchmarks.
 #![tactic(auto)]
 
 pub mod fail_once;

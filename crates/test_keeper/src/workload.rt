@@ -68,7 +68,8 @@ pub fn name_with_number(alloc: Global, letter: &str, number: u32) -> Result<Stri
     format!(in alloc; "{letter}{number}")
 }
 
-/// Inserts `count` postings, each in a commit of its own, and assigns them in turn to the concepts from number 2 on.
+/// Inserts `count` postings, each in a commit of its own, and assigns them in turn to the concepts
+/// from number 2 on.
 pub fn post_all<K: Keeper>(alloc: Global, keeper: &mut K, count: u32) -> Result<(), Failure>
     requires { AwaitsPosting (K.view keeper.old) 1 }
     ensures { OnOk result (AwaitsPosting (K.view keeper.new) (count + 1)) }
@@ -85,7 +86,8 @@ pub fn post_all<K: Keeper>(alloc: Global, keeper: &mut K, count: u32) -> Result<
     Ok(())
 }
 
-/// Returns the changes that move all postings from the source to the target, with `count` rows of moves.
+/// Returns the changes that move all postings from the source to the target, with `count` rows of
+/// moves.
 pub fn merge_delta(
     alloc: Global,
     source: ResNo,

@@ -103,8 +103,8 @@ fn load_back<K: Keeper>(alloc: Global, keeper: &mut K, report: &mut String) -> R
     write_loaded(alloc, rows_with_blob(alloc, keeper)?, report)
 }
 
-/// Performs the ten commands in an office, and appends their answers, what a core has that is loaded
-/// from the rows, and the fault of rows with a blob.
+/// Performs the ten commands in an office, and appends their answers, what a core has that is
+/// loaded from the rows, and the fault of rows with a blob.
 pub fn run(alloc: Global, report: &mut String) -> Result<(), Failure> {
     let mut keeper = keeper_after(alloc, COUNT, report)?;
     load_back(alloc, &mut keeper, report)

@@ -4,7 +4,7 @@ use crate::failure::Failure;
 use crate::office_example::open;
 use crate::{posting_examples, row_examples, text_examples, value_examples};
 use std::alloc::Global;
-use thesaurus::{Keeper, MemKeeper, Office, OfficeHandler};
+use thesaurus::{Keeper, MemKeeper, NoPlans, Office, OfficeHandler, PlanMode};
 
 // Performs commands in an office, and appends what became of them and of their postings.
 fn run_in_office<K: Keeper>(
@@ -16,10 +16,15 @@ fn run_in_office<K: Keeper>(
     posting_examples::run(alloc, office, report)
 }
 
+// Returns a handler for requests to an office, and for plans if the mode says so.
+fn handler_of<K: Keeper, M: PlanMode + Copy>(office: Office<K>, mode: M) -> OfficeHandler<K, M> {
+    OfficeHandler::new(office, mode)
+}
+
 // Runs the examples over a handler, and then over its storage.
 fn run_over<K: Keeper + Drop>(
     alloc: Global,
-    handler: OfficeHandler<K>,
+    handler: OfficeHandler<K, NoPlans>,
     report: &mut String,
 ) -> Result<(), Failure> {
     let mut handler = handler;
@@ -35,6 +40,6 @@ fn run_over<K: Keeper + Drop>(
 pub fn run(alloc: Global, report: &mut String) -> Result<(), Failure> {
     let mut office = open(alloc, MemKeeper::new(alloc, base(alloc)?))?;
     let result = run_in_office(alloc, &mut office, report);
-    let rest = run_over(alloc, OfficeHandler::new(office), report);
+    let rest = run_over(alloc, handler_of(office, NoPlans), report);
     result.and(rest)
 }

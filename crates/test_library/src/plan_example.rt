@@ -5,8 +5,8 @@ use crate::office_example::{keeper_after, open};
 use std::alloc::{AllocError, Global};
 use std::fmt::Write;
 use thesaurus::{
-    Command, Fault, Keeper, LinkKind, Office, PlanOutcome, PlanRequest, PostNo, REQUEST_LIMIT,
-    ReadStop, ResNo, first_bad_reference,
+    Command, Fault, Keeper, LinkKind, Office, PlanFault, PlanOutcome, PlanRequest, PlanStop,
+    PostNo, REQUEST_LIMIT, ReadStop, RequestScratch, ResNo, first_bad_reference, read_plan,
 };
 
 // The number of commands that are performed before the plan.
@@ -57,8 +57,28 @@ fn is_plan(plan: &[PlanRequest]) -> bool {
     plan.len() <= REQUEST_LIMIT && first_bad_reference(plan).is_none()
 }
 
+// Reads a line of JSON, and returns whether it is a plan, or why not.
+fn plan_name(memory: &mut RequestScratch, line: &str) -> &'static str {
+    match read_plan(memory, line.as_bytes()) {
+        Ok(_) => "a plan",
+        Err(PlanStop::Bad(PlanFault::Whole(fault))) => fault.name(),
+        Err(PlanStop::Bad(PlanFault::Request(_, fault))) => fault.name(),
+        Err(PlanStop::Bad(PlanFault::Reference(_))) => "a reference to nothing",
+        Err(PlanStop::OutOfMemory) => Fault::OutOfMemory.name(),
+    }
+}
+
+// Appends what two lines are read as.
+fn write_names(alloc: Global, report: &mut String) -> Result<(), Failure> {
+    let mut memory = RequestScratch::new(alloc);
+    let name = plan_name(&mut memory, r#"[{"do":"withdraw","posting":1}]"#);
+    let other = plan_name(&mut memory, "[]");
+    drop(memory);
+    Ok(writeln!(report, "{name}, {other}")?)
+}
+
 // Performs a plan in an office.
-fn perform<K: Keeper>(office: &mut Office<K>, plan: &[PlanRequest]) -> Result<PlanOutcome, Fault> {
+fn apply<K: Keeper>(office: &mut Office<K>, plan: &[PlanRequest]) -> Result<PlanOutcome, Fault> {
     office.run_plan(plan)
 }
 
@@ -68,12 +88,14 @@ fn write_outcome(outcome: Result<PlanOutcome, Fault>, report: &mut String) -> Re
     Ok(writeln!(report, "{outcome:?}")?)
 }
 
-/// Performs the first commands, and a plan twice, and appends the answers, whether it is a plan, and
-/// the outcomes: the second time the name of its concept is taken.
+/// Performs the first commands, and a plan twice, and appends the answers, whether it is a plan,
+/// and the outcomes: the second time the name of its concept is taken. Then appends what two lines
+/// are read as.
 pub fn run(alloc: Global, report: &mut String) -> Result<(), Failure> {
     let mut office = open(alloc, keeper_after(alloc, BEFORE, report)?)?;
     let plan = plan(alloc)?;
     writeln!(report, "{}", is_plan(&plan))?;
-    write_outcome(perform(&mut office, &plan), report)?;
-    write_outcome(perform(&mut office, &plan), report)
+    write_outcome(apply(&mut office, &plan), report)?;
+    write_outcome(apply(&mut office, &plan), report)?;
+    write_names(alloc, report)
 }

@@ -1,4 +1,5 @@
-//! Texts that are read and written: requests in JSON, posting files, exports, displays and connections.
+//! Texts that are read and written: requests in JSON, posting files, exports, displays and
+//! connections.
 ghost use Rattle.std.specs.Prelude.{◌≡◌, false, true};
 ghost use Rattle.thesaurus.specs.Pipe.{IsFresh};
 
@@ -9,7 +10,7 @@ use std::alloc::Global;
 use std::fmt::Write as _;
 use std::io::{Read, Write};
 use thesaurus::{
-    Answer, Budget, Core, Counts, Fault, FormFault, ImportStop, Imported, Keeper, Office,
+    Answer, Budget, Core, Counts, Fault, FormFault, ImportStop, Imported, Keeper, NoPlans, Office,
     OfficeHandler, Pipe, PipeFault, ReadStop, Reply, Request, RequestHandler, RequestScratch,
     ResNo, Routes, Served, Shown, Status, Stop, Tag, alphabetical, export, hierarchical, import,
     read_request, serve_one, write_answer,
@@ -88,7 +89,7 @@ fn write_export<K: Keeper, W: Write>(
 // Serves the request of a connection, and returns the status of the response, if one was written.
 fn serve_connection<K: Keeper, R: Read, W: Write>(
     alloc: Global,
-    handler: &mut OfficeHandler<K>,
+    handler: &mut OfficeHandler<K, NoPlans>,
     reader: &mut Pipe<R>,
     writer: &mut Pipe<W>,
 ) -> Option<Status>
@@ -126,7 +127,7 @@ const REQUEST: &str = "GET /totals HTTP/1.0\r\n\r\n";
 // Appends the answer to a line of JSON.
 fn write_reply<K: Keeper>(
     alloc: Global,
-    handler: &mut OfficeHandler<K>,
+    handler: &mut OfficeHandler<K, NoPlans>,
     report: &mut String,
 ) -> Result<(), Failure> {
     let mut memory = RequestScratch::new(alloc);
@@ -176,7 +177,10 @@ fn write_displays(alloc: Global, core: &Core, report: &mut String) -> Result<(),
 }
 
 // Returns the response to the request, and its status.
-fn response<K: Keeper>(alloc: Global, handler: &mut OfficeHandler<K>) -> (Vec<u8>, Option<Status>) {
+fn response<K: Keeper>(
+    alloc: Global,
+    handler: &mut OfficeHandler<K, NoPlans>,
+) -> (Vec<u8>, Option<Status>) {
     let mut reader = Pipe::new(REQUEST.as_bytes());
     let mut writer = Pipe::new(Vec::new(alloc));
     let status = serve_connection(alloc, handler, &mut reader, &mut writer);
@@ -206,7 +210,7 @@ fn write_texts<K: Keeper>(
 /// Appends what a handler of an office reads and writes.
 pub fn run<K: Keeper>(
     alloc: Global,
-    handler: &mut OfficeHandler<K>,
+    handler: &mut OfficeHandler<K, NoPlans>,
     report: &mut String,
 ) -> Result<(), Failure> {
     write_reply(alloc, handler, report)?;

@@ -27,14 +27,14 @@ fn outside_concept(alloc: Global, iri: &str) -> Result<Command, ReadStop> {
 }
 
 // Returns the command that makes a concept and moves a posting of another to it.
-fn split(alloc: Global, source: ResNo, text: &str, posting: PostNo) -> Result<Command, ReadStop> {
+fn split(alloc: Global, from: ResNo, text: &str, posting: PostNo) -> Result<Command, ReadStop> {
     let mut postings: PostNos = Sequence::new(alloc);
     postings.push(posting)?;
     let ((tag, text), postings) = both(
         both(english(alloc), Text::read(alloc, text)),
         Ok(postings),
     )?;
-    Ok(Command::Split(source, tag, text, postings))
+    Ok(Command::Split(from, tag, text, postings))
 }
 
 // Returns what an answer says. After a refusal or a fault everything is as it was.

@@ -13,7 +13,8 @@ pub enum Failing {
 }
 
 impl Failing {
-    /// Returns a reader of a text, which fails after `calls` calls if the reader is the failing device.
+    /// Returns a reader of a text, which fails after `calls` calls if the reader is the failing
+    /// device.
     pub fn reader<'a>(self, text: &'a str, calls: u32) -> Halting<'a> {
         Halting {
             bytes: text.as_bytes(),

@@ -1,15 +1,13 @@
-//! Calls of an office: scripts, imports, exports, displays and connections, each with a reader and a writer of its own.
-ghost use Rattle.std.specs.Prelude.{◌≡◌, false, true};
+//! Calls of an office: scripts, imports, exports, displays and connections, each with a reader and
+//! a writer of its own.
+ghost use Rattle.std.specs.Prelude.{◌≡◌, true};
 ghost use Rattle.thes_base.specs.Pipe.{IsFresh};
 
 use std::alloc::Global;
 use std::io::{Read, Write};
 use thes_base::fault::PipeFault;
-use thes_base::number::ResNo;
 use thes_base::pipe::Pipe;
-use thes_base::text::Tag;
-use thes_core::Core;
-use thes_display::writing::{DisplayOutcome, alphabetical, hierarchical};
+use thes_display::writing::{DisplayOutcome, DisplayRequest, write_display};
 use thes_export::writing::export;
 use thes_http::serve::{ConnectionEnd, serve_one};
 use thes_http::service::Service;
@@ -17,13 +15,13 @@ use thes_http_request::endpoint::Routes;
 use thes_import::import;
 use thes_import::import::ImportStop;
 use thes_requests::handler::RequestHandler;
-use thes_requests::request::Display;
 use thes_requests::script::{ScriptEnd, script};
 use thes_service::OfficeHandler;
 use thes_service::plan_mode::WithPlans;
 use thes_store::keeper::Keeper;
 
-// Serves a script by any handler: the contract of `office_script` would make the proof of this call much longer.
+// Serves a script by any handler: the contract of `office_script` would make the proof of this call
+// much longer.
 fn serve_pipes<H: RequestHandler, R: Read, W: Write>(
     alloc: Global,
     handler: &mut H,
@@ -97,48 +95,27 @@ pub fn export_in<K: Keeper, W: Write>(
     (writer.into_device(), ended)
 }
 
-fn display_core<W: Write>(
-    alloc: Global,
-    core: &Core,
-    display: Display,
-    scheme: ResNo,
-    tag: &Tag,
-    writer: &mut Pipe<W>,
-) -> Result<DisplayOutcome, PipeFault>
-    requires unspent { core.now.spent ≡ false }
-    requires writer { IsFresh writer.old }
-{
-    match display {
-        Display::Alphabetical => alphabetical(alloc, core, scheme, tag, writer),
-        Display::Hierarchical => hierarchical(alloc, core, scheme, tag, writer),
-    }
-}
-
 fn display_pipe<K: Keeper, W: Write>(
     alloc: Global,
     handler: &mut OfficeHandler<K, WithPlans>,
-    display: Display,
-    scheme: ResNo,
-    tag: &Tag,
+    wanted: &DisplayRequest<'_>,
     writer: &mut Pipe<W>,
 ) -> Result<DisplayOutcome, PipeFault>
     requires { IsFresh writer.old }
 {
     let core = handler.office.ready()?;
-    display_core(alloc, core, display, scheme, tag, writer)
+    write_display(alloc, core, wanted, writer)
 }
 
 /// Writes a display, and returns the writer and the outcome.
 pub fn display_in<K: Keeper, W: Write>(
     alloc: Global,
     handler: &mut OfficeHandler<K, WithPlans>,
-    display: Display,
-    scheme: ResNo,
-    tag: &Tag,
+    wanted: &DisplayRequest<'_>,
     output: W,
 ) -> (W, Result<DisplayOutcome, PipeFault>) {
     let mut writer = Pipe::new(output);
-    let shown = display_pipe(alloc, handler, display, scheme, tag, &mut writer);
+    let shown = display_pipe(alloc, handler, wanted, &mut writer);
     (writer.into_device(), shown)
 }
 

@@ -1,12 +1,13 @@
 //! Benchmarks of storages, for `bench/store` and `bench/load`. Prints times in microseconds.
 //!
-//! With `time` POSTS LOOKS: commits POSTS postings, one a commit; merges a tenth of them; looks up LOOKS keys and LOOKS
-//! numbers; and loads all rows, in memory. With `time` POSTS 0 FILE, makes the postings and the merge in a new database
-//! in the file; with `time` POSTS LOOKS FILE, makes the look-ups and the load in the store of POSTS postings in the
-//! file.
+//! With `time` POSTS LOOKS: commits POSTS postings, one a commit; merges a tenth of them; looks up
+//! LOOKS keys and LOOKS numbers; and loads all rows, in memory. With `time` POSTS 0 FILE, makes the
+//! postings and the merge in a new database in the file; with `time` POSTS LOOKS FILE, makes the
+//! look-ups and the load in the store of POSTS postings in the file.
 //!
-//! With `load` RESOURCES POSTINGS TIMES: loads a generated store of this size TIMES times, and prints the number of
-//! cores. With `rows` and the same arguments: generates the rows only, and prints their number.
+//! With `load` RESOURCES POSTINGS TIMES: loads a generated store of this size TIMES times, and
+//! prints the number of cores. With `rows` and the same arguments: generates the rows only, and
+//! prints their number.
 ghost use Rattle.std.specs.Prelude.{◌≡◌, false};
 ghost use Rattle.test_keeper.specs.PostedTables.{AwaitsPosting};
 
@@ -231,7 +232,8 @@ fn run_benchmark(rt: &HostRuntime, name: &str, words: &[String]) -> Result<(), F
     }
 }
 
-/// Runs the benchmark of this name with its arguments. If it stopped, prints the reason, and returns an error.
+/// Runs the benchmark of this name with its arguments. If it stopped, prints the reason, and
+/// returns an error.
 pub fn print_benchmark(rt: &HostRuntime, name: &str, words: &[String]) -> io::Result<()> {
     match run_benchmark(rt, name, words) {
         Ok(()) => Ok(()),

@@ -1,4 +1,5 @@
-//! The result of each call to a storage in memory, and the results if one call of each kind fails once.
+//! The result of each call to a storage in memory, and the results if one call of each kind fails
+//! once.
 mod answers;
 mod failing;
 

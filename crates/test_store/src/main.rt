@@ -1,8 +1,11 @@
-//! Tests and benchmarks of stores in memory, in databases and in files. The first argument names what to do:
+//! Tests and benchmarks of stores in memory, in databases and in files. The first argument names
+//! what to do:
 //!
 //! - `tests FILE`: all tests, those that the next two lines name
-//! - `calls`: prints the result of each call to a storage in memory, and the results if one call of each kind fails once
-//! - `make FILE`: creates a store in the file, makes changes of each kind in it, and prints its rows
+//! - `calls`: prints the result of each call to a storage in memory, and the results if one call of
+//!   each kind fails once
+//! - `make FILE`: creates a store in the file, makes changes of each kind in it, and prints its
+//!   rows
 //! - `show FILE ..`: prints the rows of the stores in these files
 //! - `time`, `load` or `rows`, with numbers: a benchmark, for `bench/store` or `bench/load`
 #![tactic(auto)]

@@ -14,7 +14,8 @@ use std::rt::HostRuntime;
 use thes_base::text::Base;
 use thes_sqlite::keeper::SqlKeeper;
 
-// Appends the rows of a database to the lines, and the results of look-ups if `looks_up`; returns the connection.
+// Appends the rows of a database to the lines, and the results of look-ups if `looks_up`; returns
+// the connection.
 fn read<S: Alter>(
     alloc: Global,
     conn: Connection<S>,
@@ -42,7 +43,8 @@ fn create_store<S: Alter>(alloc: Global, conn: Connection<S>, base: &Base) -> Co
     }
 }
 
-// Creates and fills a store if there is a base for it, and appends the rows of the database to the lines.
+// Creates and fills a store if there is a base for it, and appends the rows of the database to the
+// lines.
 fn work<S: Alter>(
     alloc: Global,
     conn: Connection<S>,
@@ -80,7 +82,8 @@ fn make(rt: &HostRuntime, path: &str) -> io::Result<()> {
     work_in(rt, path, Some(&base))
 }
 
-/// Creates a store in the file that the first argument names, makes changes of each kind in it, and prints its rows.
+/// Creates a store in the file that the first argument names, makes changes of each kind in it, and
+/// prints its rows.
 pub fn print_new_store(rt: &HostRuntime, words: &[String]) -> io::Result<()> {
     match words.first() {
         Some(path) => make(rt, path.as_str()),

@@ -5,11 +5,10 @@ use Rattle.thes_base.specs.declared.fault.PipeFault.{PipeFault}
 use Rattle.thes_base.specs.declared.pipe.Pipe.{Pipe}
 use Rattle.thes_store.specs.Storage.{StorageView}
 use Rattle.thes_office.specs.Office.{OfficeView}
-use Rattle.thes_display.specs.DisplayWrites.{IsDisplayWritten, IsDisplayStopped}
+use Rattle.thes_display.specs.DisplayWrites.{IsDisplay, IsDisplayWritten, IsDisplayStopped}
 use Rattle.thes_display.specs.declared.writing.DisplayOutcome.{DisplayOutcome}
 use Rattle.thes_display.specs.declared.writing.DisplayOutcome.TheVariants.{Written, No}
 use Rattle.thes_requests.specs.declared.request.Display.{Display}
-use Rattle.thes_service.specs.Service.{IsDisplay}
 use Rattle.thes_command_line.specs.Printing.{Prints, fault_line, refusal_line}
 use Rattle.thes_cli.specs.Writing.{WritesState}
 

@@ -1,8 +1,6 @@
 //! The commands `alphabetical` and `hierarchical`: write a display of a scheme in a language.
-ghost use Rattle.std.specs.Prelude.{◌≡◌, false, Ok};
+ghost use Rattle.std.specs.Prelude.{Ok};
 ghost use Rattle.thes_base.specs.Pipe.{IsFresh};
-ghost use Rattle.thes_display.specs.DisplayWrites.{DisplayResult};
-ghost use Rattle.thes_service.specs.Service.{IsDisplay};
 ghost use Rattle.thes_command_line.specs.Printing.{AreFreshOutputs};
 ghost use Rattle.thes_cli.specs.Displaying.{DisplaysStore, EndsDisplay, WritesDisplay};
 
@@ -13,48 +11,26 @@ use thes_base::number::ResNo;
 use thes_base::pipe::Pipe;
 use thes_base::text::Tag;
 use thes_command_line::printing::{report_fault, report_refusal};
-use thes_core::Core;
-use thes_display::writing::{DisplayOutcome, alphabetical, hierarchical};
+use thes_display::writing::{DisplayOutcome, DisplayRequest, write_display};
 use thes_office::Office;
 use thes_requests::request::Display;
 use thes_store::keeper::Keeper;
 
-// Writes a display of the state that the core holds, or returns the refusal of the scheme's number.
-fn write_core_display<W: Write>(
-    alloc: Global,
-    core: &Core,
-    display: Display,
-    scheme: ResNo,
-    tag: &Tag,
-    output: &mut Pipe<W>,
-) -> Result<DisplayOutcome, PipeFault>
-    requires unspent { core.now.spent ≡ false }
-    requires output { IsFresh output.old }
-    ensures { let is_text = IsDisplay display scheme tag.now in
-        DisplayResult W.contents core.now scheme is_text output.old output.new result }
-{
-    match display {
-        Display::Alphabetical => alphabetical(alloc, core, scheme, tag, output),
-        Display::Hierarchical => hierarchical(alloc, core, scheme, tag, output),
-    }
-}
-
 // Writes a display of the state that the office's tables encode, or returns the refusal of the
 // scheme's number.
-fn write_display<K: Keeper, W: Write>(
+fn write_office_display<K: Keeper, W: Write>(
     alloc: Global,
     office: &mut Office<K>,
-    display: Display,
-    scheme: ResNo,
-    tag: &Tag,
+    wanted: &DisplayRequest<'_>,
     output: &mut Pipe<W>,
 ) -> Result<DisplayOutcome, PipeFault>
     requires { IsFresh output.old }
-    ensures { WritesDisplay K.view W.contents display scheme tag.now office.old
+    ensures { let asked = wanted.now in
+        WritesDisplay K.view W.contents asked.kind asked.scheme asked.tag.now office.old
         output.old result office.new output.new }
 {
     let core = office.ready()?;
-    write_core_display(alloc, core, display, scheme, tag, output)
+    write_display(alloc, core, wanted, output)
 }
 
 // Prints the refusal, if there is one, and returns the exit status: 1 for a refusal, and else 0.
@@ -97,6 +73,11 @@ pub fn display_store<K: Keeper, W: Write, E: Write>(
     ensures { DisplaysStore K.view W.contents display scheme tag.now E.contents
         office.old output.old output.new errors.old errors.new result office.new }
 {
-    let shown = write_display(alloc, office, display, scheme, tag, output);
+    let wanted = DisplayRequest {
+        kind: display,
+        scheme,
+        tag,
+    };
+    let shown = write_office_display(alloc, office, &wanted, output);
     report_display(errors, shown)
 }

@@ -1,8 +1,8 @@
 //! The command `import`: imports a posting file into a store.
 ghost use Rattle.std.specs.Prelude.{Ok};
-ghost use Rattle.thes_base.specs.Pipe.{IsFresh, KeepsSharedCallLimit};
+ghost use Rattle.thes_base.specs.Pipe.{IsFresh};
 ghost use Rattle.thes_command_line.specs.Printing.{AreFreshOutputs};
-ghost use Rattle.thes_cli.specs.Importing.{EndsImport, ImportsPipe, ImportsStore, PrintsCounts};
+ghost use Rattle.thes_cli.specs.Importing.{EndsImport, ImportsStore, PrintsCounts};
 
 use crate::ending::counts_line;
 use std::alloc::Global;
@@ -14,22 +14,6 @@ use thes_import::import::{ImportEnd, ImportStop, import};
 use thes_import::report::Counts;
 use thes_office::Office;
 use thes_store::keeper::Keeper;
-
-// Imports a posting file, and writes the outcomes of its rows.
-fn import_rows<K: Keeper, F: Read, W: Write>(
-    alloc: Global,
-    file: &mut Pipe<F>,
-    office: &mut Office<K>,
-    output: &mut Pipe<W>,
-) -> Result<ImportEnd, ImportStop>
-    requires file { IsFresh file.old }
-    requires output { IsFresh output.old }
-    ensures imports { ImportsPipe K.view F.remaining W.contents file.old office.old
-        output.old result file.new office.new output.new }
-    ensures calls { KeepsSharedCallLimit file.old file.new output.old output.new }
-{
-    import(alloc, file, output, office)
-}
 
 // Prints the line of counts to standard error, if `prints_it`.
 fn print_counts<E: Write>(errors: &mut Pipe<E>, prints_it: bool, counts: Counts)
@@ -91,6 +75,6 @@ pub fn import_file<K: Keeper, F: Read + Drop, W: Write, E: Write>(
         office.old output.old output.new errors.old errors.new result office.new }
 {
     let mut given = Pipe::new(file);
-    let ended = import_rows(alloc, &mut given, office, output);
+    let ended = import(alloc, &mut given, output, office);
     report_import(errors, prints_it, ended)
 }

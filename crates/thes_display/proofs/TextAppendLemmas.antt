@@ -8,7 +8,8 @@ module _ {A : Type 0} (IsOf : A → List ℕ → Type 0) where
   pub texts_more : (xs : List A) (x : A) (text more : List ℕ) → AreTexts IsOf xs text → IsOf x more
       → AreTexts IsOf (xs ++ x ∷ []) (text ++ more)
   texts_more [] x text more e one = (more, one, ([], refl, ap (λ t. t ++ more) e ∙ sym (append-nil more)))
-  texts_more (y ∷ xs) x text more (first, rank_is, (rest, are, is)) one = grind (arith, common_steps, append_assoc, texts_more xs x rest more are one)
+  texts_more (y ∷ xs) x text more (first, rank_is, (rest, are, is)) one = grind
+      (arith, common_steps, append_assoc, texts_more xs x rest more are one)
 
   -- One more element appends its text.
   pub added_more : (xs : List A) (x : A) (old text new : List ℕ) → AppendsText (AreTexts IsOf xs) old text

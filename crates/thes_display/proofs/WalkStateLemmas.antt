@@ -61,13 +61,15 @@ module _ (terms : List Term) (tops : List Child) (below : List (List Child)) (n 
   onto_more (x ∷ r) k u = onto_more r k (x ∷ u)
 
   -- A path of homes ends at a top concept.
-  top_of : (u : List ℕ) → Homeward tops below n o u → (x : ℕ) × IsTopRank tops below x × ((r : List ℕ) × (u ≡ path_onto r (x ∷ [])))
+  top_of : (u : List ℕ) → Homeward tops below n o u → (x : ℕ) × IsTopRank tops below x
+      × ((r : List ℕ) × (u ≡ path_onto r (x ∷ [])))
   top_of [] p = absurd p
   top_of (k ∷ []) p = (k, p, ([], refl))
   top_of (k ∷ b ∷ above) p = let t = top_of (b ∷ above) p.1 in
       (t.0, t.1, (t.2.0 ++ k ∷ [], ap (λ z. k ∷ z) t.2.1 ∙ sym (onto_more t.2.0 k (t.0 ∷ []))))
 
-  top_above : (h : Bool) (k : ℕ) (above : List ℕ) → IsPlacedHere tops below n o h (k ∷ above) → (x : ℕ) × IsTopRank tops below x
+  top_above : (h : Bool) (k : ℕ) (above : List ℕ) → IsPlacedHere tops below n o h (k ∷ above)
+      → (x : ℕ) × IsTopRank tops below x
       × ((r : List ℕ) × (k ∷ above ≡ path_onto r (x ∷ [])))
   top_above true k above p = top_of (k ∷ above) p
   top_above false k [] p = absurd p
@@ -78,8 +80,11 @@ module _ (terms : List Term) (tops : List Child) (below : List (List Child)) (n 
   top_line c a =
       let h = o.tops_home c (contains_of c tops a) in
       let at_top = subst (λ t. IsOneOf (child c.rank t true) tops) h.1
-      (subst (λ b. IsOneOf (child c.rank c.types b) tops) h.0 a) in
-      (subst (λ b. IsPlacedHere tops below n o b (c.rank ∷ [])) (sym h.0) (contains_of (child c.rank untyped true) tops at_top), h.1)
+      (subst (λ b. IsOneOf (child c.rank c.types b) tops) h.0 a) in (
+        subst (λ b. IsPlacedHere tops below n o b (c.rank ∷ [])) (sym h.0)
+            (contains_of (child c.rank untyped true) tops at_top),
+        h.1,
+      )
 
   walk_at_start : IsWalk IsIt [] (map (child_line []) tops)
   walk_at_start = record {

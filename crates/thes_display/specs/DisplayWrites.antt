@@ -12,8 +12,17 @@ use Rattle.thes_base.specs.Pipe.{IsPartialWrite, KeepsCallLimit, written_bytes}
 use Rattle.thes_base.specs.Resources.{Exists, IsScheme}
 use Rattle.thes_base.specs.State.{State}
 use Rattle.thes_core.specs.CoreView.{CoreView, IsViewOf}
+use Rattle.thes_requests.specs.declared.request.Display.{Display}
+use Rattle.thes_requests.specs.declared.request.Display.TheVariants as which
+use Rattle.thes_display.specs.Alphabetical.{IsAlphabetical}
+use Rattle.thes_display.specs.Hierarchical.{IsHierarchicalDisplay}
 use Rattle.thes_display.specs.declared.writing.DisplayOutcome.{DisplayOutcome}
 use Rattle.thes_display.specs.declared.writing.DisplayOutcome.TheVariants.{Written, No}
+
+-- The text of a display of a scheme in a language.
+abbrev pub IsDisplay : Display → ℕ → List ℕ → State → List ℕ → Type 0
+IsDisplay which.Alphabetical scheme tag s text = IsAlphabetical s scheme tag text
+IsDisplay which.Hierarchical scheme tag s text = IsHierarchicalDisplay s scheme tag text
 
 -- The refusal of a number that isn't a scheme's.
 abbrev pub IsSchemeRefusal : List Resource → ℕ → Refusal → Type 0
@@ -35,8 +44,8 @@ module _ {W : Type 0} (contents : W → Option (List ℕ)) where
   IsDisplayStopped IsText old new fault = (text : List ℕ) × IsText text × IsPartialWrite contents text old new fault
 
 -- The whole display of the scheme was written; or the number was refused, and nothing was written; or, after a fault,
--- only a prefix of the display was written, or nothing if memory ran out. The display is that of the state that the core
--- holds: `IsText s` is the property of its text. No more writes were made than one call may make.
+-- only a prefix of the display was written, or nothing if memory ran out. The display is that of the state that the
+-- core holds: `IsText s` is the property of its text. No more writes were made than one call may make.
 pub record DisplayResult {W : Type 0} (contents : W → Option (List ℕ)) (core : CoreView) (scheme : ℕ)
     (IsText : State → List ℕ → Type 0) (old new : Pipe W) (result : Result DisplayOutcome PipeFault) : Type 0 where
   pub outcome : (s : State) → IsViewOf core s → IfOk result

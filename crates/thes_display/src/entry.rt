@@ -25,14 +25,16 @@ pub struct Heading {
 }
 
 impl Heading {
-    // Returns 0 for a concept's term and 1 for a lead-in term, so that the term comes first among equal texts.
+    // Returns 0 for a concept's term and 1 for a lead-in term, so that the term comes first among
+    // equal texts.
     fn rank(&self) -> u8
         ensures { result ≡ cond self.now.lead_in 1 0 }
     {
         if self.lead_in { 1 } else { 0 }
     }
 
-    // Compares two headings: alphabetically by text, then by concept, then the term before lead-in terms.
+    // Compares two headings: alphabetically by text, then by concept, then the term before lead-in
+    // terms.
     fn order(&self, other: &Heading) -> Ordering
         ensures { result ≡ heading_cmp self.now other.now }
     {
@@ -43,7 +45,8 @@ impl Heading {
     }
 }
 
-// Returns the headings of one concept: its term, and then its alternative labels in alphabetical order.
+// Returns the headings of one concept: its term, and then its alternative labels in alphabetical
+// order.
 fn headings_at(alloc: Global, core: &Core, n: ResNo, tag: &Tag) -> Result<Vec<Heading>, AllocError>
     requires { core.now.spent ≡ false }
     ensures { let is_heading = IsHeadingAt (with_histories [] core.now) tag.now n in

@@ -58,6 +58,8 @@ fn ranks_at(
 {
     let mut found = Vec::new(alloc);
     for concept in concepts {
+        // A core doesn't know that its links are legal, so one may lead to another scheme's concept
+        // (DECISIONS.md, Displays and exports).
         if let Some(rank) = ranks.get(concept) {
             found.push(*rank)?;
         }

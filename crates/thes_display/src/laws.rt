@@ -2,12 +2,14 @@
 ghost use Rattle.thes_display.specs.Alphabetical.{HasOneAlphabetical};
 ghost use Rattle.thes_display.specs.Hierarchical.{EachHasOneHome, HasOneHierarchical};
 
-/// No effect; states for the proof that a scheme of a state has at most one alphabetical display in a language.
+/// No effect; states for the proof that a scheme of a state has at most one alphabetical display in
+/// a language.
 pub fn one_alphabetical()
     ensures { HasOneAlphabetical }
 {}
 
-/// No effect; states for the proof that a scheme of a state has at most one hierarchical display in a language.
+/// No effect; states for the proof that a scheme of a state has at most one hierarchical display in
+/// a language.
 pub fn one_hierarchical()
     ensures { HasOneHierarchical }
 {}

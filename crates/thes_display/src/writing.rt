@@ -1,15 +1,16 @@
-//! Displays of a scheme in a language, written to a pipe.
-ghost use Rattle.std.specs.Prelude.{◌≡◌, false, MatchOption};
+//! Displays of a scheme in a language: the text of each kind, and its writing to a pipe.
+ghost use Rattle.std.specs.Prelude.{◌≡◌, false, IfOk, MatchOption};
 ghost use Rattle.thes_base.specs.Pipe.{IsFresh};
 ghost use Rattle.thes_base.specs.Resources.{IsScheme};
 ghost use Rattle.thes_base.specs.State.{State};
+ghost use Rattle.thes_core.specs.CoreView.{IsViewOf};
 ghost use Rattle.thes_display.specs.Alphabetical.{IsAlphabetical};
 ghost use Rattle.thes_display.specs.Hierarchical.{IsHierarchicalDisplay};
-ghost use Rattle.thes_display.specs.DisplayWrites.{DisplayResult, IsSchemeRefusal};
+ghost use Rattle.thes_display.specs.DisplayWrites.{DisplayResult, IsDisplay, IsSchemeRefusal};
 
 use crate::entry::alphabetical_text;
 use crate::gather::hierarchical_text;
-use std::alloc::Global;
+use std::alloc::{AllocError, Global};
 use std::io::Write;
 use thes_base::data::ResourceKind;
 use thes_base::fault::{PipeFault, Refusal};
@@ -17,6 +18,7 @@ use thes_base::number::ResNo;
 use thes_base::pipe::Pipe;
 use thes_base::text::Tag;
 use thes_core::Core;
+use thes_requests::request::Display;
 
 /// The outcome of writing a display that no fault stopped.
 #[derive(Clone, Copy, Debug, PartialEq, Eq)]
@@ -25,6 +27,14 @@ pub enum DisplayOutcome {
     Written,
     /// The number isn't a scheme's, and nothing was written.
     No(Refusal),
+}
+
+/// What is asked for: the kind of a display, the number of a scheme, and a language.
+#[derive(Clone, Copy)]
+pub struct DisplayRequest<'a> {
+    pub kind: Display,
+    pub scheme: ResNo,
+    pub tag: &'a Tag,
 }
 
 /// Checks that the number is a scheme's: returns None if it is, or else UnknownResource or
@@ -43,8 +53,45 @@ pub fn check_scheme(core: &Core, scheme: ResNo) -> Option<Refusal>
     }
 }
 
-/// Writes the hierarchical display of a scheme in a language, or returns the refusal of its number. All memory is
-/// allocated before the first byte is written.
+/// Returns the text of a display, in UTF-8.
+pub fn display_text(
+    alloc: Global,
+    core: &Core,
+    wanted: &DisplayRequest<'_>,
+) -> Result<Vec<u8>, AllocError>
+    requires { core.now.spent ≡ false }
+    ensures { let asked = wanted.now in (s : State) → IsViewOf core.now s →
+        IfOk result (λ text. IsDisplay asked.kind asked.scheme asked.tag.now s text.items) }
+{
+    match wanted.kind {
+        Display::Alphabetical => alphabetical_text(alloc, core, wanted.scheme, wanted.tag),
+        Display::Hierarchical => hierarchical_text(alloc, core, wanted.scheme, wanted.tag),
+    }
+}
+
+/// Writes a display, or returns the refusal of the scheme's number. All memory is allocated before
+/// the first byte is written.
+pub fn write_display<W: Write>(
+    alloc: Global,
+    core: &Core,
+    wanted: &DisplayRequest<'_>,
+    writer: &mut Pipe<W>,
+) -> Result<DisplayOutcome, PipeFault>
+    requires unspent { core.now.spent ≡ false }
+    requires writer { IsFresh writer.old }
+    ensures { let asked = wanted.now in
+        let is_text = IsDisplay asked.kind asked.scheme asked.tag.now in
+        DisplayResult W.contents core.now asked.scheme is_text writer.old writer.new result }
+{
+    if let Some(refusal) = check_scheme(core, wanted.scheme) {
+        return Ok(DisplayOutcome::No(refusal));
+    }
+    let text = display_text(alloc, core, wanted)?;
+    writer.write_text(text.as_slice())?;
+    Ok(DisplayOutcome::Written)
+}
+
+/// Writes the hierarchical display of a scheme in a language, or returns the refusal of its number.
 pub fn hierarchical<W: Write>(
     alloc: Global,
     core: &Core,
@@ -57,16 +104,15 @@ pub fn hierarchical<W: Write>(
     ensures { let is_text = λ (s : State). IsHierarchicalDisplay s scheme tag.now in
         DisplayResult W.contents core.now scheme is_text writer.old writer.new result }
 {
-    if let Some(refusal) = check_scheme(core, scheme) {
-        return Ok(DisplayOutcome::No(refusal));
-    }
-    let text = hierarchical_text(alloc, core, scheme, tag)?;
-    writer.write_text(text.as_slice())?;
-    Ok(DisplayOutcome::Written)
+    let wanted = DisplayRequest {
+        kind: Display::Hierarchical,
+        scheme,
+        tag,
+    };
+    write_display(alloc, core, &wanted, writer)
 }
 
-/// Writes the alphabetical display of a scheme in a language, or returns the refusal of its number. All memory is
-/// allocated before the first byte is written.
+/// Writes the alphabetical display of a scheme in a language, or returns the refusal of its number.
 pub fn alphabetical<W: Write>(
     alloc: Global,
     core: &Core,
@@ -79,10 +125,10 @@ pub fn alphabetical<W: Write>(
     ensures { let is_text = λ (s : State). IsAlphabetical s scheme tag.now in
         DisplayResult W.contents core.now scheme is_text writer.old writer.new result }
 {
-    if let Some(refusal) = check_scheme(core, scheme) {
-        return Ok(DisplayOutcome::No(refusal));
-    }
-    let text = alphabetical_text(alloc, core, scheme, tag)?;
-    writer.write_text(text.as_slice())?;
-    Ok(DisplayOutcome::Written)
+    let wanted = DisplayRequest {
+        kind: Display::Alphabetical,
+        scheme,
+        tag,
+    };
+    write_display(alloc, core, &wanted, writer)
 }

@@ -138,8 +138,10 @@ module _ {S : Type 0} (d : ServiceBehaviour S) where
     same_answer bytes more (inr (inl a)) (inr (inl b)) =
         let one = one_head (bytes ++ more) b.1 (a.1 ++ more) b.0 a.0 b.2 (has_more bytes a.0 a.1 more a.2) in
         inl (same_head (head_request_of (d.requests.takes_plans old) (parts_of a.0)) a.1 more a.3
-        (subst (λ (t : List ℕ). AnswersHead d old q y (head_request_of (d.requests.takes_plans old) (parts_of a.0)) t) one.1
-        (subst (λ (h : RequestHead). AnswersHead d old q y (head_request_of (d.requests.takes_plans old) (parts_of h)) b.1) one.0 b.3)))
+        (subst (λ (t : List ℕ). AnswersHead d old q y (head_request_of (d.requests.takes_plans old) (parts_of a.0)) t)
+        one.1
+        (subst (λ (h : RequestHead). AnswersHead d old q y (head_request_of (d.requests.takes_plans old) (parts_of h))
+        b.1) one.0 b.3)))
     same_answer bytes more (inr (inl a)) (inr (inr b)) = inr (inr b)
     same_answer bytes more (inr (inr a)) b = inr (inl a)
 
@@ -164,9 +166,11 @@ module _ {S : Type 0} (d : ServiceBehaviour S) where
       → Determined x r y q
   unfolding Determined
   same_call old x y r q one (command_answers command a b p p' e e') = same_results command_response
-      (λ c. d.requests.performs old command c) x y r q (λ f. refl) (λ a' b'. one.performs command a' b' x y) a b p p' e e'
+      (λ c. d.requests.performs old command c) x y r q (λ f. refl) (λ a' b'. one.performs command a' b' x y) a b p p' e
+      e'
   same_call old x y r q one (plan_answers body a b p p' e e') = same_results plan_response
-      (λ c. ServesPlan d.requests old (json_in body) c) x y r q (λ f. refl) (λ a' b'. one.plans body a' b' x y) a b p p' e e'
+      (λ c. ServesPlan d.requests old (json_in body) c) x y r q (λ f. refl) (λ a' b'. one.plans body a' b' x y) a b p p'
+      e e'
   same_call old x y r q one (query_answers query a b p p' e e') = same_results query_response
       (λ c. d.requests.shows old query c) x y r q (λ f. refl) (λ a' b'. one.shows query a' b' x y) a b p p' e e'
   same_call old x y r q one (import_answers file a b p p' e e') = same_results import_response
@@ -202,7 +206,10 @@ module _ {S : Type 0} (d : ServiceBehaviour S) where
       absurd (whole_is_not_bad bytes cut.1 cut.0 cut.3 a.0)
   cut_has_no_answer old new response bytes (inr cut) (inr (inl a)) =
       let one = one_head bytes a.1 cut.1 a.0 cut.0 a.2 cut.3 in
-      absurd (cut_head_answered old new response cut.0 cut.1 cut.2 (head_request_of (d.requests.takes_plans old) (parts_of cut.0)) cut.4 cut.5
-      (subst (λ (t : List ℕ). AnswersHead d old response new (head_request_of (d.requests.takes_plans old) (parts_of cut.0)) t) one.1
-      (subst (λ (h : RequestHead). AnswersHead d old response new (head_request_of (d.requests.takes_plans old) (parts_of h)) a.1) one.0 a.3)))
+      absurd (cut_head_answered old new response cut.0 cut.1 cut.2
+      (head_request_of (d.requests.takes_plans old) (parts_of cut.0)) cut.4 cut.5
+      (subst (λ (t : List ℕ). AnswersHead d old response new (head_request_of (d.requests.takes_plans old)
+      (parts_of cut.0)) t) one.1
+      (subst (λ (h : RequestHead). AnswersHead d old response new
+      (head_request_of (d.requests.takes_plans old) (parts_of h)) a.1) one.0 a.3)))
   cut_has_no_answer old new response bytes cut (inr (inr a)) = a

@@ -44,7 +44,8 @@ answer_memory_more d known mid left old bytes t k = answer_memory d known left o
 
 -- Bytes have the outcome of a prefix with a complete head.
 pub head_outcome_all : (takes_plans : Bool) (bytes : List ℕ) (len : ℕ) (outcome : Result HeadRequest Problem) → len
-    ≤ length (take head_limit bytes) → HeadOutcome takes_plans (take head_limit bytes) (drop len (take head_limit bytes)) outcome
+    ≤ length (take head_limit bytes) → HeadOutcome takes_plans (take head_limit bytes)
+    (drop len (take head_limit bytes)) outcome
     → HeadOutcome takes_plans bytes (drop len bytes) outcome
 head_outcome_all takes_plans bytes len outcome l a =
     let front = take head_limit bytes in
@@ -60,8 +61,9 @@ head_outcome_all takes_plans bytes len outcome l a =
       wants = a.wants;
     }
 
-pub head_outcome_front : (takes_plans : Bool) (bytes front : List ℕ) (len : ℕ) (outcome : Result HeadRequest Problem) → front
-    ≡ take head_limit bytes → len ≤ length (take head_limit bytes) → HeadOutcome takes_plans front (drop len front) outcome
+pub head_outcome_front : (takes_plans : Bool) (bytes front : List ℕ) (len : ℕ) (outcome : Result HeadRequest Problem)
+    → front ≡ take head_limit bytes → len ≤ length (take head_limit bytes)
+    → HeadOutcome takes_plans front (drop len front) outcome
     → HeadOutcome takes_plans bytes (drop len bytes) outcome
 head_outcome_front takes_plans bytes front len outcome e l a = head_outcome_all takes_plans bytes len outcome l
     (subst (λ (t : List ℕ). HeadOutcome takes_plans t (drop len t) outcome) e a)
@@ -78,7 +80,8 @@ pub len_within : (bytes : List ℕ) (len : ℕ) → len ≤ length (take head_li
 len_within bytes len h = let is = length-take head_limit bytes in omega (arith, is, h)
 
 pub answer_problem : {S : Type 0} (d : ServiceBehaviour S) (known left : Option (List ℕ)) (old : S)
-    (bytes rest : List ℕ) (p : Problem) → Consumes known left bytes → HeadOutcome (d.requests.takes_plans old) bytes rest (Err p)
+    (bytes rest : List ℕ) (p : Problem) → Consumes known left bytes
+    → HeadOutcome (d.requests.takes_plans old) bytes rest (Err p)
     → IsConnectionAnswer d known left old (problem_response p) old
 answer_problem d known left old bytes rest p t a =
     record { bytes = bytes; taken = t; answers = inr (inl (a.head, rest, a.has, rw a.wants (refl, refl))) }
@@ -86,7 +89,8 @@ answer_problem d known left old bytes rest p t a =
 -- A head with its complete body is answered by the effect of its endpoint.
 pub answer_done : {S : Type 0} (d : ServiceBehaviour S) (known mid left : Option (List ℕ)) (old new : S)
     (bytes rest body : List ℕ) (w : HeadRequest) (r : Response)
-    → Consumes known mid bytes → HeadOutcome (d.requests.takes_plans old) bytes rest (Ok w) → ReadsBody mid left rest w.body body
+    → Consumes known mid bytes → HeadOutcome (d.requests.takes_plans old) bytes rest (Ok w)
+    → ReadsBody mid left rest w.body body
     → EndpointEffectOrFailure d old r new w.endpoint w.number w.query body → IsConnectionAnswer d known left old r new
 answer_done d known mid left old new bytes rest body w r t a b does =
     let taken = Consumes-trans known mid left bytes b.more t b.taken in
@@ -105,7 +109,8 @@ answer_done d known mid left old new bytes rest body w r t a b does =
       | inr failed ↦ record { bytes = bytes ++ b.more; taken = taken; answers = inr (inr failed) }
     ]
 
-pub cut_body : (takes_plans : Bool) (known mid left : Option (List ℕ)) (bytes rest : List ℕ) (w : HeadRequest) → Consumes known mid bytes
+pub cut_body : (takes_plans : Bool) (known mid left : Option (List ℕ)) (bytes rest : List ℕ) (w : HeadRequest)
+    → Consumes known mid bytes
     → HeadOutcome takes_plans bytes rest (Ok w) → CutsBody mid left rest w.body → IsCutOff takes_plans known left
 cut_body takes_plans known mid left bytes rest w t a c = record {
   bytes = bytes ++ c.more;
@@ -128,16 +133,19 @@ answer_all d known mid left old new bytes front start body text len w r t e l a 
     (subst (λ (x : List ℕ). ReadsBody mid left x w.body body) s b)
     (subst (λ (x : List ℕ). EndpointEffectOrFailure d old r new w.endpoint w.number w.query x) is does)
 
-pub cut_all : (takes_plans : Bool) (known mid left : Option (List ℕ)) (bytes front start : List ℕ) (len : ℕ) (w : HeadRequest)
+pub cut_all : (takes_plans : Bool) (known mid left : Option (List ℕ)) (bytes front start : List ℕ) (len : ℕ)
+    (w : HeadRequest)
     → Consumes known mid bytes → front ≡ take head_limit bytes → len ≤ length (take head_limit bytes)
     → HeadOutcome takes_plans front (drop len front) (Ok w) → start ≡ drop len bytes → CutsBody mid left start w.body
     → IsCutOff takes_plans known left
 cut_all takes_plans known mid left bytes front start len w t e l a s c =
-    cut_body takes_plans known mid left bytes (drop len bytes) w t (head_outcome_front takes_plans bytes front len (Ok w) e l a)
+    cut_body takes_plans known mid left bytes (drop len bytes) w t
+    (head_outcome_front takes_plans bytes front len (Ok w) e l a)
     (subst (λ (x : List ℕ). CutsBody mid left x w.body) s c)
 
 -- A response is the outcome of a request.
-pub outcome_of_answer : {R S : Type 0} {remaining : R → Option (List ℕ)} {d : ServiceBehaviour S} {reader reader' : Pipe R}
+pub outcome_of_answer : {R S : Type 0} {remaining : R → Option (List ℕ)} {d : ServiceBehaviour S}
+    {reader reader' : Pipe R}
     {before after : ℕ} {old new : S} {response : Response}
     → IsConnectionAnswer d (unread_bytes remaining reader) (unread_bytes remaining reader') old response new
     → PaysCalls reader reader' before after

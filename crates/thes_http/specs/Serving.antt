@@ -58,7 +58,8 @@ module _ {S : Type 0} (d : ServiceBehaviour S) (old : S) (r : Response) (new : S
   -- The effect of the body of a plan, and its response.
   abbrev pub PlanEffect : List ℕ → Type 0
   PlanEffect body =
-      (answer : Result PlanReply Fault) × ServesPlan d.requests old (json_in body) answer new × (r ≡ plan_response answer)
+      (answer : Result PlanReply Fault) × ServesPlan d.requests old (json_in body) answer new
+      × (r ≡ plan_response answer)
 
   -- The effect of importing a posting file, and its response.
   abbrev pub ImportEffect : List ℕ → Type 0

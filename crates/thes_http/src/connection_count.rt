@@ -26,7 +26,8 @@ impl Model for ConnectionCount {
     ghost view = { λ connections. connections.count };
 }
 
-// Returns the stream of an accept, or `None` if the client closed its connection before; any other error is final.
+// Returns the stream of an accept, or `None` if the client closed its connection before; any other
+// error is final.
 fn accepted_stream<T: Drop>(accept: io::Result<(T, SocketAddr)>) -> io::Result<Option<T>>
     ensures { IsAcceptOutcome accept result }
 {
@@ -37,7 +38,8 @@ fn accepted_stream<T: Drop>(accept: io::Result<(T, SocketAddr)>) -> io::Result<O
     }
 }
 
-// Returns the two ends of a connection, given its stream and the clone of it, or `None` if it can't be cloned.
+// Returns the two ends of a connection, given its stream and the clone of it, or `None` if it can't
+// be cloned.
 fn ends_of<T: Drop>(stream: T, clone: io::Result<T>) -> Option<Ends<T>>
     ensures { result ≡ cloned_ends stream clone }
 {

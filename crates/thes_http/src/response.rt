@@ -143,7 +143,8 @@ fn plan_status(reply: &PlanReply) -> Status
     }
 }
 
-/// The content of a response: a problem, a reply, the line of a view, the reply to a plan, or a page.
+/// The content of a response: a problem, a reply, the line of a view, the reply to a plan, or a
+/// page.
 #[derive(Drop)]
 pub enum Body {
     Problem(Problem),
@@ -225,8 +226,8 @@ impl Response {
         }
     }
 
-    /// Returns the response to a plan: 200 for answers, 409 for a refusal, 400 for a text that isn't
-    /// a plan, or 503 for a fault.
+    /// Returns the response to a plan: 200 for answers, 409 for a refusal, 400 for a text that
+    /// isn't a plan, or 503 for a fault.
     pub fn for_plan(reply: Result<PlanReply, Fault>) -> Response
         ensures { result ≡ plan_response reply }
     {

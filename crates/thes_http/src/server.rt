@@ -12,9 +12,10 @@ use std::net::Net;
 use std::rt::Clock;
 use thes_http_request::endpoint::Routes;
 
-/// Takes `count` connections from the listener and serves them, one after another, and returns their number; one that
-/// its client closed before it was accepted, or whose stream can't be cloned, counts as well. A client has 30 seconds
-/// to send its request and 30 to read the response, by the clock, and one more second for each 100,000 bytes.
+/// Takes `count` connections from the listener and serves them, one after another, and returns
+/// their number; one that its client closed before it was accepted, or whose stream can't be
+/// cloned, counts as well. A client has 30 seconds to send its request and 30 to read the response,
+/// by the clock, and one more second for each 100,000 bytes.
 ///
 /// A client that closes its connection early loses only its own response. An error is that of
 /// accepting a connection, or `OutOfMemory`: memory for the routes ran out before the first
@@ -33,6 +34,7 @@ pub fn serve<N: Net + Clock, S: Service>(
     ensures leads { LeadsBy S.behaviour count service.old service.new }
     ensures open { OnOk result (S.is_open service.new ≡ true) }
 {
+    // Made once, so that OutOfMemory never takes the place of NoSuchPath (DECISIONS.md, HTTP).
     let Ok(routes) = Routes::new(alloc) else {
         return Err(io::Error::from(ErrorKind::OutOfMemory));
     };

@@ -58,6 +58,8 @@ pub enum DisplayAnswer {
 
 /// A request handler that also imports posting files, exports the vocabulary, and displays schemes.
 pub trait Service: RequestHandler {
+    // A trait, so that the proofs of a connection see no office and no storage (DECISIONS.md, The
+    // office).
     // What each call does, those of a request handler included.
     ghost behaviour: { ServiceBehaviour Self };
 

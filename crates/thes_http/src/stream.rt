@@ -30,7 +30,8 @@ pub(crate) struct Ends<T> {
     pub(crate) output: T,
 }
 
-/// A connection that was served: its outcome, and its reader and writer. Only `serve_ends` makes one.
+/// A connection that was served: its outcome, and its reader and writer. Only `serve_ends` makes
+/// one.
 #[derive(Drop)]
 pub(crate) struct ServedStream<'c, C, T> {
     end: ConnectionEnd,
@@ -38,8 +39,8 @@ pub(crate) struct ServedStream<'c, C, T> {
     writer: Pipe<TimedStream<'c, C, T>>,
 }
 
-/// Reads a request from one end of a connection, performs it, and writes the response to the other end. Reads and
-/// writes fail once the client exceeds its time.
+/// Reads a request from one end of a connection, performs it, and writes the response to the other
+/// end. Reads and writes fail once the client exceeds its time.
 pub(crate) fn serve_ends<'c, C: Clock, T: Read + Write + OpenStream + Drop, S: Service>(
     alloc: Global,
     routes: &Routes,
@@ -48,7 +49,8 @@ pub(crate) fn serve_ends<'c, C: Clock, T: Read + Write + OpenStream + Drop, S: S
     service: &mut S,
 ) -> ServedStream<'c, C, T>
     requires { S.is_open service.old ≡ true }
-    ensures served { IsServedBy T.remaining T.contents S.behaviour ends service.old result service.new }
+    ensures served { IsServedBy T.remaining T.contents S.behaviour ends service.old result
+        service.new }
     ensures leads { LeadsBy S.behaviour 1 service.old service.new }
 {
     let Ends { input, output } = ends;
@@ -127,6 +129,7 @@ pub(crate) fn close_stream<C: Clock, T: Read + OpenStream + Drop>(
     clock: &C,
     served: ServedStream<'_, C, T>,
 ) {
+    // Else an early answer would be lost while the client still sends (DECISIONS.md, HTTP).
     if is_answered(served.end) {
         drain_input(clock, served.reader.into_device().into_stream());
     }

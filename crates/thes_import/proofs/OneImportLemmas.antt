@@ -24,8 +24,8 @@ use Rattle.thes_office.proofs.StateTableLemmas.{state_is_unique}
 use Rattle.thes_office.proofs.StepLemmas.{setting_fits}
 use Rattle.thes_import.specs.Imports.{Imports}
 use Rattle.thes_import.specs.OneImport.{HasOneImport, ReportSame}
-use Rattle.thes_import.specs.declared.postings.FileImport.{FileImport}
-use Rattle.thes_import.specs.declared.postings.FileImport.TheVariants.{Rows, Malformed}
+use Rattle.thes_import.specs.declared.postings.ReportEnd.{ReportEnd}
+use Rattle.thes_import.specs.declared.postings.ReportEnd.TheVariants.{Rows, Malformed}
 
 -- The rows and the answers of their postings determine the outcomes.
 one_list_of_outcomes : (rows : List CsvRow) (os qs : List Outcome) → AllZip IsOutcome rows os
@@ -59,7 +59,7 @@ run_from_state limits base s old new commands answers shows ran =
     × TablesOfState new p.0 t) (λ i. (one.0 i, one.1 i)) (ran.state_after, ran.run, ran.shows)
 
 -- The import of a file leads from the one state to the other: a run of the machine over the postings of its rows.
-abbrev pub IsImportOf : Setting → State → List ℕ → FileImport → State → Type 0
+abbrev pub IsImportOf : Setting → State → List ℕ → ReportEnd → State → Type 0
 IsImportOf setting s file (Rows report) t =
     (rows : List CsvRow) × (outcomes : List Outcome) × IsPostingFile file rows × AllZip IsOutcome rows outcomes
     × ReportsOutcomes outcomes report × Run setting s (posts_of rows) (answers_of outcomes) t
@@ -67,7 +67,7 @@ IsImportOf setting s file Malformed t = HasNoHeader file × (t ≡ s)
 
 -- A file has at most one import from a legal state.
 pub one_import_of : (setting : Setting) → IsSetting setting → (s t u : State) → IsLegalState setting.base s
-    → (file : List ℕ) (a b : FileImport) → IsImportOf setting s file a t → IsImportOf setting s file b u
+    → (file : List ℕ) (a b : ReportEnd) → IsImportOf setting s file a t → IsImportOf setting s file b u
     → ReportSame a b × (t ≡ u)
 one_import_of setting fit s t u legal file (Rows report) (Rows other) x y =
     let rows = one_file.rows file y.0 x.0 y.2 x.2 in
@@ -83,9 +83,10 @@ one_import_of setting fit s t u legal file Malformed Malformed x y = (tt, x.1 �
 
 module _ {K : Type 0} (view : K → StorageView) where
   -- The import by an office is one of the machine, between the states that its tables encode.
-  pub import_from_state : (base : List ℕ) (s : State) (file : List ℕ) (old new : OfficeView K) (done : FileImport)
+  pub import_from_state : (base : List ℕ) (s : State) (file : List ℕ) (old new : OfficeView K) (done : ReportEnd)
       → TablesOfState (view old.keeper).rows base s → (view new.keeper).is_up → Imports view old file (Ok done) new
-      → (t : State) × IsImportOf (setting_of base old.limits) s file done t × TablesOfState (view new.keeper).rows base t
+      → (t : State) × IsImportOf (setting_of base old.limits) s file done t
+      × TablesOfState (view new.keeper).rows base t
   import_from_state base s file old new (Rows report) shows up (rows, is_file, all) =
       let performs = all.performs up in
       let ran = run_from_state old.limits base s (view old.keeper).rows (view new.keeper).rows (posts_of rows)

@@ -11,9 +11,9 @@ use Rattle.thes_posting_files.specs.declared.csv_row.CsvRow.{CsvRow}
 use Rattle.thes_office.specs.Office.{ChangesNothing, TablesAfterRun, OfficeView}
 use Rattle.thes_posting_files.specs.Outcomes.{AddsOutcomes, IsBlankReport, IsOutcome, ReportsOutcomes, answers_of, posts_of}
 use Rattle.thes_posting_files.specs.declared.outcome.Outcome.{Outcome}
-use Rattle.thes_import.specs.declared.postings.ImportHalt.{ImportHalt}
-use Rattle.thes_import.specs.declared.postings.FileImport.{FileImport}
-use Rattle.thes_import.specs.declared.postings.FileImport.TheVariants.{Rows, Malformed}
+use Rattle.thes_import.specs.declared.postings.ReportStop.{ReportStop}
+use Rattle.thes_import.specs.declared.postings.ReportEnd.{ReportEnd}
+use Rattle.thes_import.specs.declared.postings.ReportEnd.TheVariants.{Rows, Malformed}
 use Rattle.thes_posting_files.specs.RowReading.{HasReadRows}
 use Rattle.thes_posting_files.specs.declared.reading.RowReader.{RowReader}
 use Rattle.thes_posting_files.specs.declared.report.Report.{Report}
@@ -104,7 +104,7 @@ module _ {K : Type 0} (view : K → StorageView) where
 
   -- All rows of the file were performed, or some of them before a fault, or none if the file has no
   -- header.
-  abbrev pub Imports : OfficeView K → List ℕ → Result FileImport ImportHalt → OfficeView K → Type 0
+  abbrev pub Imports : OfficeView K → List ℕ → Result ReportEnd ReportStop → OfficeView K → Type 0
   Imports old file (Ok (Rows report)) new =
       (rows : List CsvRow) × IsPostingFile file rows × ImportsRows old rows report new
   Imports old file (Ok Malformed) new = HasNoHeader file × (new ≡ old)
@@ -113,6 +113,6 @@ module _ {K : Type 0} (view : K → StorageView) where
       ⊎ ((rows : List CsvRow) × IsPostingFile file rows × ImportsSome old rows halted.report new)
 
 -- The result of an import, with its fault but without reports.
-abbrev pub fault_in : {A : Type 0} → Result A ImportHalt → Result (Unit {0}) Fault
+abbrev pub fault_in : {A : Type 0} → Result A ReportStop → Result (Unit {0}) Fault
 fault_in (Ok x) = Ok tt
 fault_in (Err halted) = Err halted.fault

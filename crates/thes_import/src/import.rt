@@ -98,6 +98,9 @@ fn import_bytes<W: Write, K: Keeper>(
     write_report(writer, budget, &mut report)?;
     while reader.unread > 0 {
         let done = import_block(alloc, office, &mut reader, &mut report);
+        // Before the next block, so that a killed import has reported all but one (DECISIONS.md,
+        // Posting files); and before the fault of the office, whose report may be cut short (The
+        // office).
         write_report(writer, budget, &mut report)?;
         if let Err(fault) = done {
             return Err(ImportStop {

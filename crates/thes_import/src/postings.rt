@@ -1,4 +1,6 @@
-//! Performs the postings of a file over an office.
+//! Performs the postings of a file over an office, and keeps the report in memory, for HTTP.
+//! `import` over a vector as its writer wouldn't do: memory for the last lines could run out after
+//! all rows are performed. Here each block's lines are allocated before its rows are performed.
 ghost use Rattle.std.specs.Prelude.{◌≡◌};
 ghost use Rattle.thes_import.specs.Imports.{Imports, fault_in};
 ghost use Rattle.thes_posting_files.specs.Outcomes.{IsBlankReport};
@@ -14,7 +16,7 @@ use thes_store::keeper::Keeper;
 
 /// The result of an import that no fault halted.
 #[derive(Debug, Drop)]
-pub enum FileImport {
+pub enum ReportEnd {
     /// All rows were performed, with the outcomes in this report.
     Rows(Report),
     /// The file has no header, and nothing was performed.
@@ -23,18 +25,18 @@ pub enum FileImport {
 
 /// A fault before all rows were performed; exactly the rows in the report were performed.
 #[derive(Debug, Drop)]
-pub struct ImportHalt {
+pub struct ReportStop {
     pub fault: Fault,
     pub report: Report,
 }
 
-impl ImportHalt {
-    // Returns the halt for memory that runs out before the report has its heading.
-    fn at_start(alloc: Global) -> ImportHalt
+impl ReportStop {
+    // Returns the stop for memory that runs out before the report has its heading.
+    fn at_start(alloc: Global) -> ReportStop
         ensures fault { result.fault ≡ Fault.OutOfMemory }
         ensures blank { IsBlankReport result.report }
     {
-        ImportHalt {
+        ReportStop {
             fault: Fault::OutOfMemory,
             report: Report::blank(alloc),
         }
@@ -49,7 +51,7 @@ pub fn import_postings<K: Keeper>(
     alloc: Global,
     file: &[u8],
     office: &mut Office<K>,
-) -> Result<FileImport, ImportHalt>
+) -> Result<ReportEnd, ReportStop>
     ensures fault_behaviour { FaultBehaviour K.view office.old office.new
         (fault_in result) }
     ensures imports { Imports K.view office.old file.now result office.new }
@@ -58,16 +60,16 @@ pub fn import_postings<K: Keeper>(
     let _ = office.is_stale();
     let mut reader = match open_rows(alloc, file) {
         Ok(reader) => reader,
-        Err(ReadStop::Form(_)) => return Ok(FileImport::Malformed),
-        Err(ReadStop::OutOfMemory) => return Err(ImportHalt::at_start(alloc)),
+        Err(ReadStop::Form(_)) => return Ok(ReportEnd::Malformed),
+        Err(ReadStop::OutOfMemory) => return Err(ReportStop::at_start(alloc)),
     };
     let Ok(mut report) = Report::new(alloc) else {
-        return Err(ImportHalt::at_start(alloc));
+        return Err(ReportStop::at_start(alloc));
     };
     while reader.unread > 0 {
         if let Err(fault) = import_block(alloc, office, &mut reader, &mut report) {
-            return Err(ImportHalt { fault, report });
+            return Err(ReportStop { fault, report });
         }
     }
-    Ok(FileImport::Rows(report))
+    Ok(ReportEnd::Rows(report))
 }

@@ -49,8 +49,8 @@ pub record AreRefused (raw : Raw) (fault : Fault) : Type 0 where
   pub none : (base : List ℕ) (s : State) → AreRowsOfState base s raw → ⊥
   pub verdict : (other sorted : Raw) → AreArranged raw other → AreSorted other sorted → HasVerdict sorted (Err fault)
 
--- The core is built from these rows, and can be used: it holds the state that they encode, and was loaded from them once
--- numbered tables were sorted by number.
+-- The core is built from these rows, and can be used: it holds the state that they encode, and was loaded from them
+-- once numbered tables were sorted by number.
 pub record IsCoreOfRows (raw : Raw) (given : Limits) (core : CoreView) : Type 0 where
   pub content : HoldsRows raw core
   pub origin : (sorted : Raw) × AreSorted raw sorted × IsLoaded sorted core

@@ -11,9 +11,9 @@ use Rattle.thes_office.specs.TablesOfState.{TablesOfState}
 use Rattle.thes_requests.specs.declared.request.Query.{Query}
 use Rattle.thes_requests.specs.Requests.{json_in}
 use Rattle.thes_import.specs.Imports as importer
-use Rattle.thes_import.specs.declared.postings.ImportHalt.{ImportHalt}
-use Rattle.thes_import.specs.declared.postings.FileImport as performed
-use Rattle.thes_import.specs.declared.postings.FileImport.TheVariants as done
+use Rattle.thes_import.specs.declared.postings.ReportStop.{ReportStop}
+use Rattle.thes_import.specs.declared.postings.ReportEnd as performed
+use Rattle.thes_import.specs.declared.postings.ReportEnd.TheVariants as done
 use Rattle.thes_http_request.specs.declared.endpoint.Endpoint.{Endpoint}
 use Rattle.thes_http_request.specs.declared.endpoint.Endpoint.TheVariants as endpoint
 use Rattle.thes_http_request.specs.declared.problem.Problem.{Problem}
@@ -40,7 +40,7 @@ module _ {K : Type 0} (view : K → StorageView) (takes : Bool) where
   Office = office_behaviour view takes
 
   import_reached : {T : Type 0} (old mid new : OfficeView K) (result : Result T Fault) (file : List ℕ)
-      (is : Result performed.FileImport ImportHalt) → FaultBehaviour view mid new result
+      (is : Result performed.ReportEnd ReportStop) → FaultBehaviour view mid new result
       → importer.Imports view mid file is new → IsReached old mid → IsReached old new
   import_reached old mid new result file (Ok (done.Rows report)) fault_behaviour x reached = let all = x.2 in
       led_run view old mid new result _ _ reached fault_behaviour (λ up. let ran = all.performs up in ran.goes_on)

@@ -31,11 +31,17 @@ module _ {K : Type 0} (view : K → StorageView) (takes : Bool) where
   -- If the storage is up after an exchange, it was up before.
   was_up : (old mid new : OfficeView K) (exchanges : List Exchange) (e : Exchange) → Shows old
       → AreAnswered (office_behaviour view takes) old exchanges mid
-      → Answers (office_behaviour view takes) mid e.response new e.bytes → (view new.keeper).is_up → (view mid.keeper).is_up
+      → Answers (office_behaviour view takes) mid e.response new e.bytes → (view new.keeper).is_up
+      → (view mid.keeper).is_up
   was_up old mid new exchanges e shows answered answers up =
       let reached = exchanges_lead old mid exchanges shows answered in
       let last = exchanges_lead mid new (e ∷ [])
-      (λ is_up. let run = reached.goes_on is_up in let ran = run.2 in (ran.base, ran.state_after, ran.shows, ran.in_order))
+      (λ is_up. let run = reached.goes_on is_up in let ran = run.2 in (
+        ran.base,
+        ran.state_after,
+        ran.shows,
+        ran.in_order,
+      ))
       (mid, refl, answers) in
       last.was up
 
@@ -65,14 +71,16 @@ module _ {K : Type 0} (view : K → StorageView) (takes : Bool) where
       )
 
   -- Without exchanges the tables are the same.
-  shows_without : (setting : Setting) (s : State) (old new : OfficeView K) → ExchangesInState view takes setting s old [] new
+  shows_without : (setting : Setting) (s : State) (old new : OfficeView K)
+      → ExchangesInState view takes setting s old [] new
       → TablesOfState (view new.keeper).rows setting.base s
   shows_without setting s old new x =
       subst (λ (o : OfficeView K). TablesOfState (view o.keeper).rows setting.base s) (sym x.answers) x.shows
 
 module _ {K L : Type 0} (view : K → StorageView) (other : L → StorageView) where
   -- The last responses to the same bytes are the same.
-  last_response : (takes : Bool) (setting : Setting) → AreLimits setting.limits → (mid new : OfficeView K) (mid' new' : OfficeView L)
+  last_response : (takes : Bool) (setting : Setting) → AreLimits setting.limits
+      → (mid new : OfficeView K) (mid' new' : OfficeView L)
       (e f : Exchange) → e.bytes ≡ f.bytes → mid.limits ≡ setting.limits → mid'.limits ≡ setting.limits
       → EncodeOneState setting.base (view mid.keeper).rows (other mid'.keeper).rows
       → Answers (office_behaviour view takes) mid e.response new e.bytes
@@ -107,14 +115,17 @@ module _ {K L : Type 0} (view : K → StorageView) (other : L → StorageView) w
   one_list_of_responses takes setting few s old new old' new' [] (f ∷ others) same x y = absurd (cc)
   one_list_of_responses takes setting few s old new old' new' (e ∷ exchanges) [] same x y = absurd (cc)
   one_list_of_responses takes setting few s old new old' new' (e ∷ exchanges) (f ∷ others) same x y =
-      let both : e.bytes ∷ map (λ (g : Exchange). g.bytes) exchanges ≡ f.bytes ∷ map (λ (g : Exchange). g.bytes) others =
+      let both : e.bytes ∷ map (λ (g : Exchange). g.bytes) exchanges
+      ≡ f.bytes ∷ map (λ (g : Exchange). g.bytes) others =
       same in
       let bytes : e.bytes ≡ f.bytes = cc in
       let before : map (λ (g : Exchange). g.bytes) exchanges ≡ map (λ (g : Exchange). g.bytes) others = cc in
       let mine = earlier view takes setting s old new e exchanges x in
       let theirs = earlier other takes setting s old' new' f others y in
-      let rest = one_list_of_responses takes setting few s old mine.0 old' theirs.0 exchanges others before mine.1 theirs.1 in
+      let rest = one_list_of_responses takes setting few s old mine.0 old' theirs.0 exchanges others before mine.1
+      theirs.1 in
       let fine = x.no_failure in let fine' = y.no_failure in
-      let last = last_response takes setting few mine.0 new theirs.0 new' e f bytes mine.2 theirs.2 rest.1 mine.3 theirs.3
+      let last = last_response takes setting few mine.0 new theirs.0 new' e f bytes mine.2 theirs.2 rest.1 mine.3
+      theirs.3
       x.is_up y.is_up fine.0 fine'.0 in
       (λ i. last.0 i ∷ rest.0 i, last.1)

@@ -21,13 +21,13 @@ use Rattle.thes_requests.specs.Serving.{ServesPlan}
 use Rattle.thes_service.proofs.PlanAnswerLemmas.{one_plan_reply}
 use Rattle.thes_exchange.specs.QueryAnswers.{IsQueryAnswer}
 use Rattle.thes_exchange.proofs.OneViewLemmas.{one_view}
-use Rattle.thes_display.specs.DisplayWrites.{IsSchemeRefusal}
+use Rattle.thes_display.specs.DisplayWrites.{IsDisplay, IsSchemeRefusal}
 use Rattle.thes_display.proofs.OneTextLemmas.{one_alphabetical, one_hierarchical}
 use Rattle.thes_export.specs.Export.{IsExport}
 use Rattle.thes_export.proofs.ExportLemmas.{one_text}
 use Rattle.thes_import.specs.OneImport.{ReportSame}
-use Rattle.thes_import.specs.declared.postings.FileImport as performed
-use Rattle.thes_import.specs.declared.postings.FileImport.TheVariants as ends
+use Rattle.thes_import.specs.declared.postings.ReportEnd as performed
+use Rattle.thes_import.specs.declared.postings.ReportEnd.TheVariants as ends
 use Rattle.thes_import.proofs.OneImportLemmas.{IsImportOf, one_import_of}
 use Rattle.thes_http.specs.declared.response.Response.{Response}
 use Rattle.thes_requests.specs.declared.request.Display.{Display}
@@ -44,7 +44,7 @@ use Rattle.thes_http.specs.ServiceBehaviour.{ServiceBehaviour}
 use Rattle.thes_http.specs.Serving.{Answers}
 use Rattle.thes_http.proofs.AnswerLemmas.{one_call}
 use Rattle.thes_service.specs.Laws.{ReportsFailure}
-use Rattle.thes_service.specs.Service.{IsDisplay, IsDisplayed, import_answer}
+use Rattle.thes_service.specs.Service.{IsDisplayed, import_answer}
 
 -- Memory ran out, or the storage failed.
 abbrev pub IsFailure : Fault → Type 0
@@ -59,7 +59,7 @@ module _ (setting : Setting) where
   -- The answer reports an import of the file from the one state to the other.
   abbrev pub ImportAnswers : State → List ℕ → ImportAnswer → State → Type 0
   ImportAnswers s file answer t =
-      (done : performed.FileImport) × IsImportOf setting s file done t × (Ok answer ≡ import_answer (Ok done))
+      (done : performed.ReportEnd) × IsImportOf setting s file done t × (Ok answer ≡ import_answer (Ok done))
 
   -- The machine as a service, which takes plans or doesn't; where it fails, nothing is said of the state after.
   abbrev pub machine_service : Bool → ServiceBehaviour State
@@ -108,14 +108,15 @@ one_display_answer display scheme tag s (displayed.No r) (displayed.Lines y) a b
 one_display_answer display scheme tag s (displayed.No r) (displayed.No q) a b =
     ap displayed.No (one_scheme_refusal s.resources scheme r q a b)
 
-same_import_answer : (a b : performed.FileImport) → ReportSame a b → import_answer (Ok a) ≡ import_answer (Ok b)
+same_import_answer : (a b : performed.ReportEnd) → ReportSame a b → import_answer (Ok a) ≡ import_answer (Ok b)
 same_import_answer (ends.Rows report) (ends.Rows other) same = ap (λ text. Ok (imported.Outcomes text)) same.0
 same_import_answer (ends.Rows report) ends.Malformed same = absurd same
 same_import_answer ends.Malformed (ends.Rows other) same = absurd same
 same_import_answer ends.Malformed ends.Malformed same = refl
 
 module _ (setting : Setting) (fit : IsSetting setting) (s : State) (legal : IsLegalState setting.base s) where
-  pub one_step : (command : Command) (a b : Answer) (t u : State) → Step setting s command a t → Step setting s command b u
+  pub one_step : (command : Command) (a b : Answer) (t u : State) → Step setting s command a t
+      → Step setting s command b u
       → (a ≡ b) × (t ≡ u)
   one_step command a b t u x y =
       let one = one_outcome setting fit s legal (command ∷ []) (a ∷ []) (b ∷ []) t u (t, x, refl) (u, y, refl) in
@@ -170,7 +171,8 @@ module _ (setting : Setting) (takes : Bool) (fit : IsSetting setting) (s : State
   Machine = machine_service setting takes
 
   -- A plan that isn't answered failed.
-  plan_fails : (value : Option Data) (f : Fault) (v : State) → ServesPlan Machine.requests s value (Err f) v → IsFailure f
+  plan_fails : (value : Option Data) (f : Fault) (v : State) → ServesPlan Machine.requests s value (Err f) v
+      → IsFailure f
   plan_fails value f v (inl x) = inl x.0
   plan_fails value f v (inr x) = x.2
 

@@ -22,8 +22,8 @@ use Rattle.thes_office.proofs.StepLemmas.{setting_fits}
 use Rattle.thes_requests.specs.declared.handler.QueryAnswer.{QueryAnswer}
 use Rattle.thes_requests.specs.declared.request.Query.{Query}
 use Rattle.thes_import.specs.Imports as importer
-use Rattle.thes_import.specs.declared.postings.ImportHalt.{ImportHalt}
-use Rattle.thes_import.specs.declared.postings.FileImport as performed
+use Rattle.thes_import.specs.declared.postings.ReportStop.{ReportStop}
+use Rattle.thes_import.specs.declared.postings.ReportEnd as performed
 use Rattle.thes_import.proofs.OneImportLemmas.{IsImportOf, import_from_state, run_from_state}
 use Rattle.thes_http.specs.declared.response.Response.{Response}
 use Rattle.thes_requests.specs.declared.request.Display.{Display}
@@ -90,7 +90,7 @@ module _ {K : Type 0} (view : K → StorageView) (takes : Bool) where
         (view new.keeper).rows plan outcome x y (does.performed up)
     performs_plan plan (Err fault) does = let behaviour = does.fault_behaviour in behaviour.fault up
 
-    import_answers : (file : List ℕ) (answer : ImportAnswer) (done : Result performed.FileImport ImportHalt)
+    import_answers : (file : List ℕ) (answer : ImportAnswer) (done : Result performed.ReportEnd ReportStop)
         → importer.Imports view old file done new → Ok answer ≡ import_answer done
         → ImportAnswers (setting_of base old.limits) s file answer t
     import_answers file answer (Ok done) imports reports =
@@ -132,7 +132,8 @@ module _ {K : Type 0} (view : K → StorageView) (takes : Bool) where
   -- The tables after a connection encode a state.
   state_after : (base : List ℕ) (s : State) (old new : OfficeView K) (r : Response) (bytes : List ℕ)
       → TablesOfState (view old.keeper).rows base s → (view new.keeper).is_up
-      → Answers (office_behaviour view takes) old r new bytes → (t : State) × TablesOfState (view new.keeper).rows base t
+      → Answers (office_behaviour view takes) old r new bytes
+      → (t : State) × TablesOfState (view new.keeper).rows base t
   state_after base s old new r bytes x up answers =
       let leads : LeadsBy (office_behaviour view takes) 1 old new = record {
         exchanges = record { bytes = bytes; response = r } ∷ [];
@@ -152,7 +153,8 @@ module _ {K : Type 0} (view : K → StorageView) (takes : Bool) where
       × Answers (machine_service setting takes) s r t bytes
   answers_as_machine setting s old new r bytes x =
       let after = state_after setting.base s old new r bytes x.shows x.is_up x.answers in
-      let same = answers_as_much (office_behaviour view takes) (machine_service (setting_of setting.base old.limits) takes) old new s
+      let same = answers_as_much (office_behaviour view takes)
+      (machine_service (setting_of setting.base old.limits) takes) old new s
       after.0 (does_as_machine setting.base s after.0 old new x.is_up x.shows after.1) r bytes x.answers in (
         after.0,
         after.1,
@@ -166,7 +168,8 @@ one_office_answer view other takes setting few s old new old' new' r q bytes mor
     let mine = answers_as_machine view takes setting s old new r bytes x in
     let theirs = answers_as_machine other takes setting s old' new' q (bytes ++ more) y in
     let legal = (let shows = x.shows in shows.legal) in
-    elim (one_machine_answer setting takes (setting_fits setting s few legal) s legal mine.0 theirs.0 r q bytes more mine.2
+    elim (one_machine_answer setting takes (setting_fits setting s few legal) s legal mine.0 theirs.0 r q bytes more
+    mine.2
     theirs.2) [
       | inl same ↦ inl (
         same.0,

@@ -62,7 +62,8 @@ Rest setting m before (a ∷ plan) (x ∷ answers) refusal t =
     (mid : State) × Step setting m (resolved_command before a) x mid × IsNoRefusal x
     × Rest setting mid (before ++ x ∷ []) plan answers refusal t
 
-accepted_rest : (setting : Setting) (m t : State) (before : List Answer) (plan : List PlanRequest) (answers : List Answer)
+accepted_rest : (setting : Setting) (m t : State) (before : List Answer) (plan : List PlanRequest)
+    (answers : List Answer)
     → length answers ≡ length plan → Run setting m (resolved_commands before plan answers) answers t
     → AllByRecursion IsNoRefusal answers → Rest setting m before plan answers None t
 accepted_rest setting m t before [] [] each run accepted = run
@@ -91,7 +92,8 @@ refused_rest setting m t before own [] (x ∷ answers) asked refusal at run acce
 refused_rest setting m t before own (a ∷ plan) [] asked refusal at run accepted is step =
     let same : a ≡ asked = cc in
     let all = is ∙ append-nil before in (
-      subst (λ (p : List Answer × PlanRequest × State). Step setting p.2 (resolved_command p.0 p.1) (reply.No refusal) p.2)
+      subst (λ (p : List Answer × PlanRequest × State). Step setting p.2 (resolved_command p.0 p.1) (reply.No refusal)
+          p.2)
           (λ i. (all i, (sym same) i, run i)) step,
       run,
     )

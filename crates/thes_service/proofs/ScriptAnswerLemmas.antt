@@ -90,7 +90,8 @@ one_request_effect setting few s t u legal line a b x y =
     one_effect setting few s t u legal x.0 a b x.2
     (subst (λ (r : Result Request FormFault). Effect setting s r b u) same y.2)
 
-one_plan_effect : (takes : Bool) (setting : Setting) → AreLimits setting.limits → (s t u : State) → IsLegalState setting.base s
+one_plan_effect : (takes : Bool) (setting : Setting) → AreLimits setting.limits → (s t u : State)
+    → IsLegalState setting.base s
     → (line : List ℕ) (a b : LineAnswer) → PlanEffect takes setting s line a t → PlanEffect takes setting s line b u
     → (a ≡ b) × (t ≡ u)
 one_plan_effect takes setting few s t u legal line a b x y =
@@ -130,7 +131,8 @@ OutcomeEffect takes setting s line Unheld t = ⊥
 OutcomeEffect takes setting s line (Answered answer) t =
     (is_blank line ≡ false) × LineEffect takes setting s line answer t
 
-one_outcome_effect : (takes : Bool) (setting : Setting) → AreLimits setting.limits → (s t u : State) → IsLegalState setting.base s
+one_outcome_effect : (takes : Bool) (setting : Setting) → AreLimits setting.limits → (s t u : State)
+    → IsLegalState setting.base s
     → (line : List ℕ) (f g : LineOutcome) → OutcomeEffect takes setting s line f t
     → OutcomeEffect takes setting s line g u
     → (f ≡ g) × (t ≡ u)
@@ -163,7 +165,8 @@ module _ {K : Type 0} (view : K → StorageView) (takes : Bool) where
     request_effect request answer reads effect =
         effect_of_kind false (no_plan_line takes line request reads) answer (Ok request, reads, effect)
 
-    line_effect : (answer : LineAnswer) → OfficeServes view takes old line answer new → (¬ IsFailedLine (Answered answer))
+    line_effect : (answer : LineAnswer) → OfficeServes view takes old line answer new
+        → (¬ IsFailedLine (Answered answer))
         → LineEffect takes (setting_of base old.limits) s line answer t
     line_effect (Reply (reply.Answer a)) (inl p) fine =
         let does = does_as_machine view takes base s t old new up x y in
@@ -185,7 +188,8 @@ module _ {K : Type 0} (view : K → StorageView) (takes : Bool) where
         let does = does_as_machine view takes base s t old new up x y in
         effect_of_kind true p.0 (Plan own) (
           own,
-          serves_plan (office_behaviour view takes) (machine_service (setting_of base old.limits) takes) old new s t does
+          serves_plan (office_behaviour view takes) (machine_service (setting_of base old.limits) takes) old new s t
+              does
               (json_in line) (Ok own) p.1,
           refl,
         )
@@ -251,7 +255,8 @@ module _ {K L : Type 0} (view : K → StorageView) (other : L → StorageView) (
   one_run (line ∷ more) (f ∷ fs) (g ∷ gs) s old new old' new' limits limits' x y r q up up' fine fine' =
       let mine = between_lines view takes setting s old r.0 new line f more fs limits x r.1 r.2 up fine.0 in
       let theirs = between_lines other takes setting s old' q.0 new' line g more gs limits' y q.1 q.2 up' fine'.0 in
-      let one = one_outcome_effect takes setting few s mine.state theirs.state x.legal line f g mine.effect theirs.effect in
+      let one = one_outcome_effect takes setting few s mine.state theirs.state x.legal line f g mine.effect
+      theirs.effect in
       let rest = one_run more fs gs mine.state r.0 new q.0 new' mine.limits theirs.limits mine.shows
       (shows_state q.0 theirs.state mine.state (sym one.1) theirs.shows) r.2 q.2 up up' fine.1 fine'.1 in
       (λ i. one.0 i ∷ rest.0 i, rest.1)
@@ -263,5 +268,6 @@ module _ {K L : Type 0} (view : K → StorageView) (other : L → StorageView) (
 pub one_script : {K L : Type 0} (view : K → StorageView) (other : L → StorageView) → HasOneScript view other
 one_script view other takes setting few s old new old' new' bytes os qs x y =
     let mine = x.lines in let theirs = y.lines in
-    one_run view other takes setting few (lines bytes) os qs s old new old' new' x.limits y.limits x.shows y.shows mine.run
+    one_run view other takes setting few (lines bytes) os qs s old new old' new' x.limits y.limits x.shows y.shows
+    mine.run
     theirs.run x.is_up y.is_up x.no_failure y.no_failure

@@ -134,7 +134,8 @@ module _ {K : Type 0} (view : K → StorageView) where
   plan_reached takes value (Err f) old mid new (inl p) reached = led_kept old mid new reached p.1
   plan_reached takes value (Err f) old mid new (inr p) reached = led_plan old mid new p.0 _ p.2 reached
 
-  line_reached : (takes : Bool) (line : List ℕ) (o : LineAnswer) (old mid new : OfficeView K) → OfficeServes view takes mid
+  line_reached : (takes : Bool) (line : List ℕ) (o : LineAnswer) (old mid new : OfficeView K)
+      → OfficeServes view takes mid
       line o new → IsReachedByRun view old mid → IsReachedByRun view old new
   line_reached takes line (Reply (reply.Answer a)) old mid new (inl p) reached = led_step old mid new p.0 a reached
       p.2.fault_behaviour
@@ -152,7 +153,8 @@ module _ {K : Type 0} (view : K → StorageView) where
       plan_reached takes (json_in line) (Err f) old mid new p.1 reached
   line_reached takes line (Plan answer) old mid new p reached =
       plan_reached takes (json_in line) (Ok answer) old mid new p.1 reached
-  line_reached takes line (View text) old mid new p reached = led_same old mid new _ reached p.2.fault_behaviour p.2.same
+  line_reached takes line (View text) old mid new p reached = led_same old mid new _ reached p.2.fault_behaviour
+      p.2.same
 
   -- A line extends the run, or leaves it unchanged.
   pub step_reached : (takes : Bool) (line : List ℕ) (f : LineOutcome) (old mid new : OfficeView K)
@@ -164,12 +166,14 @@ module _ {K : Type 0} (view : K → StorageView) where
 
   -- Lines extend the run.
   pub lines_reached : (takes : Bool) (lines : List (List ℕ)) (line_outcomes : List LineOutcome)
-      (old mid new : OfficeView K) → RunLines (OfficeServes view takes) mid lines line_outcomes new → IsReachedByRun view old
+      (old mid new : OfficeView K) → RunLines (OfficeServes view takes) mid lines line_outcomes new
+      → IsReachedByRun view old
       mid → IsReachedByRun view old new
   lines_reached takes [] [] old mid new r so_far = led_kept old mid new so_far r
   lines_reached takes [] (f ∷ line_outcomes) old mid new r so_far = absurd r
   lines_reached takes (line ∷ more) [] old mid new r so_far = absurd r
-  lines_reached takes (line ∷ more) (f ∷ line_outcomes) old mid new r so_far = lines_reached takes more line_outcomes old r.0 new r.2
+  lines_reached takes (line ∷ more) (f ∷ line_outcomes) old mid new r so_far = lines_reached takes more line_outcomes
+      old r.0 new r.2
       (step_reached takes line f old mid r.0 r.1 so_far)
 
   -- A script is a run of the machine, whether or not a fault stopped it.

@@ -117,6 +117,7 @@ module _ {S T : Type 0} (d : ServiceBehaviour S) (e : ServiceBehaviour T) (old n
     a.1,
     a.2,
     answers_head (head_request_of (e.requests.takes_plans s) (parts_of a.0)) a.1
-        (subst (λ (takes : Bool). AnswersHead d old r new (head_request_of takes (parts_of a.0)) a.1) does.takes_plans a.3),
+        (subst (λ (takes : Bool). AnswersHead d old r new (head_request_of takes (parts_of a.0)) a.1) does.takes_plans
+        a.3),
   ))
   answers_as_much bytes (inr (inr a)) = inr (inr (responds _ a))

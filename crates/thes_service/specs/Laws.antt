@@ -66,7 +66,8 @@ module _ {K : Type 0} (view : K → StorageView) (takes : Bool) where
 -- unless a response reports a failure. More bytes may have been read for one response than for the other.
 abbrev pub HasOneOfficeAnswer : {K L : Type 0} → (K → StorageView) → (L → StorageView) → Type 0
 HasOneOfficeAnswer {K} {L} view other =
-    (takes : Bool) (setting : Setting) → AreLimits setting.limits → (s : State) (old new : OfficeView K) (old' new' : OfficeView L)
+    (takes : Bool) (setting : Setting) → AreLimits setting.limits
+    → (s : State) (old new : OfficeView K) (old' new' : OfficeView L)
     (r q : Response) (bytes more : List ℕ)
     → AnswersInState view takes setting s old bytes r new
     → AnswersInState other takes setting s old' (bytes ++ more) q new'
@@ -77,17 +78,19 @@ HasOneOfficeAnswer {K} {L} view other =
 -- any two storages, unless a response reports a failure.
 abbrev pub HasOneListOfResponses : {K L : Type 0} → (K → StorageView) → (L → StorageView) → Type 0
 HasOneListOfResponses {K} {L} view other =
-    (takes : Bool) (setting : Setting) → AreLimits setting.limits → (s : State) (old new : OfficeView K) (old' new' : OfficeView L)
+    (takes : Bool) (setting : Setting) → AreLimits setting.limits
+    → (s : State) (old new : OfficeView K) (old' new' : OfficeView L)
     (exchanges others : List Exchange) → map (λ e. e.bytes) exchanges ≡ map (λ e. e.bytes) others
     → ExchangesInState view takes setting s old exchanges new
     → ExchangesInState other takes setting s old' others new'
     → (exchanges ≡ others) × EncodeOneState setting.base (view new.keeper).rows (other new'.keeper).rows
 
--- The bytes of a script and the state before determine the outcomes of its lines, and so its output, and the state after
--- them, over any two storages, unless a line is answered with a fault.
+-- The bytes of a script and the state before determine the outcomes of its lines, and so its output, and the state
+-- after them, over any two storages, unless a line is answered with a fault.
 abbrev pub HasOneScript : {K L : Type 0} → (K → StorageView) → (L → StorageView) → Type 0
 HasOneScript {K} {L} view other =
-    (takes : Bool) (setting : Setting) → AreLimits setting.limits → (s : State) (old new : OfficeView K) (old' new' : OfficeView L)
+    (takes : Bool) (setting : Setting) → AreLimits setting.limits
+    → (s : State) (old new : OfficeView K) (old' new' : OfficeView L)
     (bytes : List ℕ) (outcomes others : List LineOutcome)
     → ScriptInState view takes setting s old bytes outcomes new
     → ScriptInState other takes setting s old' bytes others new'

@@ -4,20 +4,17 @@ use Rattle.thes_base.specs.declared.fault.Fault.{Fault}
 use Rattle.thes_base.specs.Resources.{IsScheme}
 use Rattle.thes_base.specs.State.{State}
 use Rattle.thes_store.specs.Storage.{StorageView}
-use Rattle.thes_display.specs.Alphabetical.{IsAlphabetical}
-use Rattle.thes_display.specs.Hierarchical.{IsHierarchicalDisplay}
-use Rattle.thes_display.specs.DisplayWrites.{IsSchemeRefusal}
+use Rattle.thes_display.specs.DisplayWrites.{IsDisplay, IsSchemeRefusal}
 use Rattle.thes_export.specs.Export.{IsExport, IsReadAs}
 use Rattle.thes_office.specs.Office.{FaultBehaviour, OfficeView, SameTables}
 use Rattle.thes_office.specs.TablesOfState.{TablesOfState}
 use Rattle.thes_import.specs.Imports as importer
-use Rattle.thes_import.specs.declared.postings.ImportHalt.{ImportHalt}
-use Rattle.thes_import.specs.declared.postings.FileImport as performed
-use Rattle.thes_import.specs.declared.postings.FileImport.TheVariants as ends
+use Rattle.thes_import.specs.declared.postings.ReportStop.{ReportStop}
+use Rattle.thes_import.specs.declared.postings.ReportEnd as performed
+use Rattle.thes_import.specs.declared.postings.ReportEnd.TheVariants as ends
 use Rattle.thes_service.specs.OfficeRequests.{office_requests}
 use Rattle.thes_http.specs.ServiceBehaviour.{ServiceBehaviour}
 use Rattle.thes_requests.specs.declared.request.Display.{Display}
-use Rattle.thes_requests.specs.declared.request.Display.TheVariants as which
 use Rattle.thes_http.specs.declared.service.DisplayAnswer.{DisplayAnswer}
 use Rattle.thes_http.specs.declared.service.DisplayAnswer.TheVariants as displayed
 use Rattle.thes_http.specs.declared.service.ImportAnswer.{ImportAnswer}
@@ -27,11 +24,6 @@ use Rattle.thes_http.specs.declared.service.ImportAnswer.TheVariants as imported
 abbrev pub IsExportRead : List ℕ → State → List ℕ → Type 0
 IsExportRead base s text = IsExport base s text × IsReadAs base s text
 
--- The text of a display of a scheme in a language.
-abbrev pub IsDisplay : Display → ℕ → List ℕ → State → List ℕ → Type 0
-IsDisplay which.Alphabetical scheme tag s text = IsAlphabetical s scheme tag text
-IsDisplay which.Hierarchical scheme tag s text = IsHierarchicalDisplay s scheme tag text
-
 -- The answer to a request for a display: its text, or the refusal of a number that isn't a scheme's.
 abbrev pub IsDisplayed : Display → ℕ → List ℕ → State → DisplayAnswer → Type 0
 IsDisplayed display scheme tag s (displayed.Lines page) =
@@ -39,7 +31,7 @@ IsDisplayed display scheme tag s (displayed.Lines page) =
 IsDisplayed display scheme tag s (displayed.No refusal) = IsSchemeRefusal s.resources scheme refusal
 
 -- The answer to an import: the lines of all outcomes, the form fault of a malformed file, or the fault that halted it.
-abbrev pub import_answer : Result performed.FileImport ImportHalt → Result ImportAnswer Fault
+abbrev pub import_answer : Result performed.ReportEnd ReportStop → Result ImportAnswer Fault
 import_answer (Ok (ends.Rows report)) = Ok (imported.Outcomes report.text.items)
 import_answer (Ok ends.Malformed) = Ok imported.Malformed
 import_answer (Err halted) = Err halted.fault
@@ -67,7 +59,7 @@ module _ {K : Type 0} (view : K → StorageView) where
   pub record OfficeImports (old : OfficeView K) (file : List ℕ) (result : Result ImportAnswer Fault)
       (new : OfficeView K) : Type 0 where
     pub fault_behaviour : FaultBehaviour view old new result
-    pub done : Result performed.FileImport ImportHalt
+    pub done : Result performed.ReportEnd ReportStop
     pub imports : importer.Imports view old file done new
     pub reports : result ≡ import_answer done
 

@@ -2,35 +2,15 @@
 ghost use Rattle.std.specs.Prelude.{◌≡◌, false, IfOk};
 ghost use Rattle.thes_base.specs.State.{State};
 ghost use Rattle.thes_core.specs.CoreView.{IsViewOf};
-ghost use Rattle.thes_service.specs.Service.{IsDisplay, IsDisplayed};
+ghost use Rattle.thes_service.specs.Service.{IsDisplayed};
 
 use std::alloc::{AllocError, Global};
 use thes_base::number::ResNo;
 use thes_base::text::Tag;
 use thes_core::Core;
-use thes_display::entry::alphabetical_text;
-use thes_display::gather::hierarchical_text;
-use thes_display::writing::check_scheme;
+use thes_display::writing::{DisplayRequest, check_scheme, display_text};
 use thes_http::service::{DisplayAnswer, Page};
 use thes_requests::request::Display;
-
-// Returns the text of the display of a scheme in the language of the tag.
-fn display_text(
-    core: &Core,
-    alloc: Global,
-    display: Display,
-    scheme: ResNo,
-    tag: &Tag,
-) -> Result<Vec<u8>, AllocError>
-    requires { core.now.spent ≡ false }
-    ensures { (s : State) → IsViewOf core.now s →
-        IfOk result (λ text. IsDisplay display scheme tag.now s text.items) }
-{
-    match display {
-        Display::Alphabetical => alphabetical_text(alloc, core, scheme, tag),
-        Display::Hierarchical => hierarchical_text(alloc, core, scheme, tag),
-    }
-}
 
 /// Returns a display of a scheme in the state that the core holds, or the refusal of the scheme's
 /// number.
@@ -48,6 +28,11 @@ pub(crate) fn display_of_core(
     if let Some(refusal) = check_scheme(core, scheme) {
         return Ok(DisplayAnswer::No(refusal));
     }
-    let text = display_text(core, alloc, display, scheme, tag)?;
+    let wanted = DisplayRequest {
+        kind: display,
+        scheme,
+        tag,
+    };
+    let text = display_text(alloc, core, &wanted)?;
     Ok(DisplayAnswer::Lines(Page::new(text)))
 }

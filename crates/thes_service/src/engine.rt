@@ -26,7 +26,7 @@ use thes_http::connection_count::ConnectionCount;
 use thes_http::server::serve;
 use thes_http::service::{DisplayAnswer, ImportAnswer, Page, Service};
 use thes_import::postings;
-use thes_import::postings::{ImportHalt, import_postings};
+use thes_import::postings::{ReportStop, import_postings};
 use thes_import::report::Report;
 use thes_office::Office;
 use thes_plans::plan::{PlanOutcome, PlanRequest};
@@ -35,10 +35,11 @@ use thes_requests::request::{Display, Query};
 use thes_requests::script::{ScriptEnd, script};
 use thes_store::keeper::Keeper;
 
-/// An office that performs the requests of scripts and connections, and plans if its mode says so. In
-/// contracts its value is that of the office.
+/// An office that performs the requests of scripts and connections, and plans if its mode says so.
+/// In contracts its value is that of the office.
 #[derive(Drop)]
 pub struct OfficeHandler<K: Keeper, M: PlanMode> {
+    // The crates of handlers and of the office don't know each other (DECISIONS.md, The office).
     pub office: Office<K>,
     pub mode: M,
 }
@@ -71,9 +72,9 @@ impl<K: Keeper, M: PlanMode + Copy> OfficeHandler<K, M> {
     }
 }
 
-/// Each command is performed by a step of the machine over the tables of the storage, each plan by a
-/// run of it or not at all, and each view is of the state that they encode. A stale copy is reloaded
-/// first; a fault leaves the tables unchanged.
+/// Each command is performed by a step of the machine over the tables of the storage, each plan by
+/// a run of it or not at all, and each view is of the state that they encode. A stale copy is
+/// reloaded first; a fault leaves the tables unchanged.
 impl<K: Keeper, M: PlanMode> RequestHandler for OfficeHandler<K, M> {
     ghost use Rattle.thes_service.specs.OfficeRequests.{office_requests, is_always_open};
 
@@ -133,9 +134,10 @@ impl<K: Keeper, M: PlanMode> Service for OfficeHandler<K, M> {
 
     fn import(&mut self, alloc: Global, file: &[u8]) -> Result<ImportAnswer, Fault> {
         match import_postings(alloc, file, &mut self.office) {
-            Ok(postings::FileImport::Rows(report)) => Ok(ImportAnswer::Outcomes(page_of(report))),
-            Ok(postings::FileImport::Malformed) => Ok(ImportAnswer::Malformed),
-            Err(ImportHalt { fault, report: _ }) => Err(fault),
+            Ok(postings::ReportEnd::Rows(report)) => Ok(ImportAnswer::Outcomes(page_of(report))),
+            Ok(postings::ReportEnd::Malformed) => Ok(ImportAnswer::Malformed),
+            // An answer has one status (DECISIONS.md, HTTP).
+            Err(ReportStop { fault, report: _ }) => Err(fault),
         }
     }
 

@@ -3,6 +3,7 @@ ghost use Rattle.std.specs.Prelude.{◌≡◌, Bool, false, true};
 
 /// Whether an office takes plans from scripts and connections.
 pub trait PlanMode {
+    // A type, not a field: in contracts a handler is its office (DECISIONS.md, The office).
     ghost takes: { Bool };
 
     /// Returns whether plans are taken.

@@ -17,71 +17,85 @@
 //! }
 //! ```
 //!
-//! The office is from `open` below, and `perform_read` calls `Office::perform`. Each example on this page is a function
-//! of a program of tests, most of them of test_library, as it is there.
+//! The office is from `open` below, and `perform_read` calls `Office::perform`. Each example on
+//! this page is a function of a program of tests, most of them of test_library, as it is there.
 //!
 //! # What a caller must know
 //!
-//! **Allocators.** A call that may allocate takes an allocator, which `rt.alloc()` gives to a program, or uses the one
-//! that its value was made with. Memory may run out in each such call: that is an error like others. So texts, labels
-//! and commands are copied by `try_clone`.
+//! **Allocators.** A call that may allocate takes an allocator, which `rt.alloc()` gives to a
+//! program, or uses the one that its value was made with. Memory may run out in each such call:
+//! that is an error like others. So texts, labels and commands are copied by `try_clone`.
 //!
-//! **Storage.** What has `K: Keeper` works over any storage of the eight tables: `MemKeeper` keeps them in memory,
-//! `SqlKeeper` in a database of the crate `sqlite`, and a program may have its own. A commit makes all changes or none;
-//! a load yields all rows, table after table; the other calls look postings up, which are in the storage alone. An
-//! office owns its storage until `Office::into_keeper`, and nothing else may change the tables. What contracts say of
-//! rows holds while the storage is up (`is_up`); a database stays down once a failure of the disk has shut it.
+//! **Storage.** What has `K: Keeper` works over any storage of the eight tables: `MemKeeper` keeps
+//! them in memory, `SqlKeeper` in a database of the crate `sqlite`, and a program may have its own.
+//! A commit makes all changes or none; a load yields all rows, table after table; the other calls
+//! look postings up, which are in the storage alone. An office owns its storage until
+//! `Office::into_keeper`, and nothing else may change the tables. What contracts say of rows holds
+//! while the storage is up (`is_up`); a database stays down once a failure of the disk has shut it.
 //!
-//! **Copies.** An office and a core have all but the postings in memory. If memory runs out after a commit, or the
-//! storage fails, the copy is stale (`Office::is_stale`), and the next call reloads it. A core whose change ran out of
-//! memory is spent (`Core::is_spent`): calls of a core require that it isn't.
+//! **Copies.** An office and a core have all but the postings in memory. If memory runs out after a
+//! commit, or the storage fails, the copy is stale (`Office::is_stale`), and the next call reloads
+//! it. A core whose change ran out of memory is spent (`Core::is_spent`): calls of a core require
+//! that it isn't.
 //!
-//! **Facts.** A core has only counts of postings. What the decision on a command depends on is passed to it as `Facts`:
-//! for a Post the posting with its key, for a Withdraw or a Split the postings that it lists, for a Merge the numbers
-//! of those at its source, and for any other command none. An office asks its storage for them. An answer is right if
-//! the facts are.
+//! **Facts.** A core has only counts of postings. What the decision on a command depends on is
+//! passed to it as `Facts`: for a Post the posting with its key, for a Withdraw or a Split the
+//! postings that it lists, for a Merge the numbers of those at its source, and for any other
+//! command none. An office asks its storage for them. An answer is right if the facts are.
 //!
-//! **Checks.** A check changes nothing, and returns the first refusal. A change of a part requires what its check
-//! found, as `Vocab::add_label` after `Vocab::check_label`, and `Core::apply` after `Core::decide`. An office and
-//! `Core::step` check for themselves.
+//! **Checks.** A check changes nothing, and returns the first refusal. A change of a part requires
+//! what its check found, as `Vocab::add_label` after `Vocab::check_label`, and `Core::apply` after
+//! `Core::decide`. An office and `Core::step` check for themselves.
 //!
-//! **Pipes.** Readers and writers are passed in a `Pipe`, which records failures. A call requires one that is fresh:
-//! its device hasn't failed or ended. Calls of the device are at most 100,000,000 for each call of the library.
+//! **Pipes.** Readers and writers are passed in a `Pipe`, which records failures. A call requires
+//! one that is fresh: its device hasn't failed or ended. Calls of the device are at most
+//! 100,000,000 for each call of the library.
 //!
 //! # Errors
 //!
-//! - `AllocError`: memory ran out, and nothing is changed; visits of links that were made are counted.
-//!   `Base::try_clone`, `Book::move_all`, `Book::move_listed`, `Book::post`, `CellBytes::new`, `CellText::new`,
-//!   `Command::try_clone`, `Core::broader_of`, `Core::collections_of`, `Core::labels_of_kind`, `Core::mappings`,
-//!   `Core::narrower_of`, `Core::related_of`, `Core::replacements`, `Core::term`, `Core::typed_of`, `Delta::push`,
-//!   `Graph::add`, `Graph::broader_of`, `Graph::check_whole`, `Graph::collections_of`, `Graph::contract`,
-//!   `Graph::mappings`, `Graph::mark_outside`, `Graph::narrower_of`, `Graph::related_of`, `Graph::typed_of`,
-//!   `History::try_clone`, `Iri::try_clone`, `Key::try_clone`, `Label::try_clone`, `LabelValue::try_clone`,
-//!   `NewResource::try_clone`, `Note::try_clone`, `PostingRow::try_clone`, `RecordName::try_clone`, `Routes::new`,
-//!   `Sequence::push`, `Sequence::try_clone`, `Tag::try_clone`, `Text::try_clone`, `Vocab::add_label`,
-//!   `Vocab::add_resource`, `Vocab::relabel`, `Vocab::replacements`, `Vocab::take_labels`, `check_at`, `concept_view`,
-//!   `judge_add`, `judge_contract`, `sort_key`
-//! - `ReadStop`: a text lacks its form, or a line is no request, or memory ran out. `Base::read`, `Iri::read`,
-//!   `Key::read`, `Note::read`, `RecordName::read`, `Tag::read`, `Text::read`, `read_request`
-//! - `FormFault`: a text is no number from 1 to 4,294,967,295. `MoveNo::read`, `PostNo::read`, `ResNo::read`
-//! - `Fault`: memory ran out (`OutOfMemory`), the storage failed (`Store`), or its rows have another version or aren't
-//!   those of a state. Nothing is committed; of an `Office::run` the commands that were answered stay performed. A
-//!   `Core::apply` or `Core::step` may leave the core spent. `Core::apply`, `Core::decide`, `Core::step`,
-//!   `Keeper::commit`, `Keeper::find`, `Keeper::load`, `Keeper::posting`, `Keeper::row`, `Keeper::standing`,
-//!   `Keeper::standing_numbers`, `Loader::finish`, `Office::perform`, `Office::posting`, `Office::postings`,
-//!   `Office::ready`, `Office::run`, `Office::run_plan`, `Office::totals`, `PostingSink::posting`,
-//!   `RequestHandler::perform`, `RequestHandler::show`, `RowSink::report_unqueried`, `RowSink::row`,
+//! - `AllocError`: memory ran out, and nothing is changed; visits of links that were made are
+//!   counted. `Base::try_clone`, `Book::move_all`, `Book::move_listed`, `Book::post`,
+//!   `CellBytes::new`, `CellText::new`, `Command::try_clone`, `Core::broader_of`,
+//!   `Core::collections_of`, `Core::labels_of_kind`, `Core::mappings`, `Core::narrower_of`,
+//!   `Core::related_of`, `Core::replacements`, `Core::term`, `Core::typed_of`, `Delta::push`,
+//!   `Graph::add`, `Graph::broader_of`, `Graph::check_whole`, `Graph::collections_of`,
+//!   `Graph::contract`, `Graph::mappings`, `Graph::mark_outside`, `Graph::narrower_of`,
+//!   `Graph::related_of`, `Graph::typed_of`, `History::try_clone`, `Iri::try_clone`,
+//!   `Key::try_clone`, `Label::try_clone`, `LabelValue::try_clone`, `NewResource::try_clone`,
+//!   `Note::try_clone`, `PostingRow::try_clone`, `RecordName::try_clone`, `Routes::new`,
+//!   `Sequence::push`, `Sequence::try_clone`, `Tag::try_clone`, `Text::try_clone`,
+//!   `Vocab::add_label`, `Vocab::add_resource`, `Vocab::relabel`, `Vocab::replacements`,
+//!   `Vocab::take_labels`, `check_at`, `concept_view`, `judge_add`, `judge_contract`, `sort_key`
+//! - `ReadStop`: a text lacks its form, or a line is no request, or memory ran out. `Base::read`,
+//!   `Iri::read`, `Key::read`, `Note::read`, `RecordName::read`, `Tag::read`, `Text::read`,
+//!   `read_request`
+//! - `PlanStop`: a line is no plan, or memory ran out. `read_plan`
+//! - `FormFault`: a text is no number from 1 to 4,294,967,295. `MoveNo::read`, `PostNo::read`,
+//!   `ResNo::read`
+//! - `Fault`: memory ran out (`OutOfMemory`), the storage failed (`Store`), or its rows have
+//!   another version or aren't those of a state. Nothing is committed; of an `Office::run` the
+//!   commands that were answered stay performed. A `Core::apply` or `Core::step` may leave the core
+//!   spent. `Core::apply`, `Core::decide`, `Core::step`, `Keeper::commit`, `Keeper::find`,
+//!   `Keeper::load`, `Keeper::posting`, `Keeper::row`, `Keeper::standing`,
+//!   `Keeper::standing_numbers`, `Loader::finish`, `Office::perform`, `Office::posting`,
+//!   `Office::postings`, `Office::ready`, `Office::run`, `Office::run_plan`, `Office::totals`,
+//!   `PostingSink::posting`, `RequestHandler::perform`, `RequestHandler::perform_plan`,
+//!   `RequestHandler::show`, `RowSink::report_unqueried`, `RowSink::row`,
 //!   `SqlKeeper::commit_changes`, `SqlKeeper::migrate`, `from_rows`
-//! - A fault with what was passed in: `Office::start` returns the storage, `SqlKeeper::create` the connection.
-//! - `Stop`: the device of a pipe failed, or the budget of its calls is used up. `Pipe::read`, `Pipe::write_all`
+//! - A fault with what was passed in: `Office::start` returns the storage, `SqlKeeper::create` the
+//!   connection.
+//! - `Stop`: the device of a pipe failed, or the budget of its calls is used up. `Pipe::read`,
+//!   `Pipe::write_all`
 //! - `io::Error`: what the device returns. `Pipe::read_once`, `Pipe::write_once`
-//! - `PipeFault`: a reader or a writer failed, the input is too long or the calls too many, or a `Fault`. A prefix may
-//!   have been written; of a `script` the lines before stay performed. `Pipe::write_text`, `alphabetical`, `export`,
-//!   `hierarchical`, `script`, `write_answer`, `write_view`
+//! - `PipeFault`: a reader or a writer failed, the input is too long or the calls too many, or a
+//!   `Fault`. A prefix may have been written; of a `script` the lines before stay performed.
+//!   `Pipe::write_text`, `alphabetical`, `export`, `hierarchical`, `script`, `write_answer`,
+//!   `write_view`
 //! - `ImportStop`: such a fault, with the counts of the rows that stay performed. `import`
-//! - No errors but refusals, the first that applies: `Answer::No`, `PlanOutcome::Refused`, `QueryAnswer::No`,
-//!   `View::No`, `Shown::No`, and what `Office::postings`, the checks of `Vocab` and of links, and `Graph::check_whole`
-//!   return. docs/REQUESTS.md lists those of each command. `serve_one` puts all of these into its response.
+//! - No errors but refusals, the first that applies: `Answer::No`, `PlanOutcome::Refused`,
+//!   `QueryAnswer::No`, `View::No`, `Shown::No`, and what `Office::postings`, the checks of `Vocab`
+//!   and of links, and `Graph::check_whole` return. docs/REQUESTS.md lists those of each command.
+//!   `serve_one` puts all of these into its response.
 #![tactic(auto)]
 
 // Values: texts, numbers, resources, labels and links; commands and their answers.
@@ -119,14 +133,14 @@
 //     Ok(Command::Outside(Iri::read(alloc, iri)?))
 // }
 //
-// fn split(alloc: Global, source: ResNo, text: &str, posting: PostNo) -> Result<Command, ReadStop> {
+// fn split(alloc: Global, from: ResNo, text: &str, posting: PostNo) -> Result<Command, ReadStop> {
 //     let mut postings: PostNos = Sequence::new(alloc);
 //     postings.push(posting)?;
 //     let ((tag, text), postings) = both(
 //         both(english(alloc), Text::read(alloc, text)),
 //         Ok(postings),
 //     )?;
-//     Ok(Command::Split(source, tag, text, postings))
+//     Ok(Command::Split(from, tag, text, postings))
 // }
 //
 // fn outcome_name(outcome: Result<Answer, Fault>) -> &'static str {
@@ -197,8 +211,8 @@ pub use thes_base::sequence::Sequence;
 pub use thes_base::text::{Base, Iri, Key, Note, RecordName, Tag, Text};
 pub use thes_display::sort_key;
 
-// The parts of the machine: resources and labels, links, and counts of postings. Checks of links read them through
-// `Links`, which counts the visits.
+// The parts of the machine: resources and labels, links, and counts of postings. Checks of links
+// read them through `Links`, which counts the visits.
 // ```
 // fn vocab_with_scheme(alloc: Global) -> Result<Vocab, ReadStop> {
 //     let base = base(alloc)?;
@@ -497,7 +511,17 @@ pub use thes_store::sink::{PostingSink, RowSink};
 //     plan.len() <= REQUEST_LIMIT && first_bad_reference(plan).is_none()
 // }
 //
-// fn perform<K: Keeper>(office: &mut Office<K>, plan: &[PlanRequest]) -> Result<PlanOutcome, Fault> {
+// fn plan_name(memory: &mut RequestScratch, line: &str) -> &'static str {
+//     match read_plan(memory, line.as_bytes()) {
+//         Ok(_) => "a plan",
+//         Err(PlanStop::Bad(PlanFault::Whole(fault))) => fault.name(),
+//         Err(PlanStop::Bad(PlanFault::Request(_, fault))) => fault.name(),
+//         Err(PlanStop::Bad(PlanFault::Reference(_))) => "a reference to nothing",
+//         Err(PlanStop::OutOfMemory) => Fault::OutOfMemory.name(),
+//     }
+// }
+//
+// fn apply<K: Keeper>(office: &mut Office<K>, plan: &[PlanRequest]) -> Result<PlanOutcome, Fault> {
 //     office.run_plan(plan)
 // }
 // ```
@@ -530,11 +554,15 @@ pub use thes_requests::plan::{PlanFault, PlanStop, read_plan};
 //     on_success(writer.into_device(), result)
 // }
 //
+// fn handler_of<K: Keeper, M: PlanMode + Copy>(office: Office<K>, mode: M) -> OfficeHandler<K, M> {
+//     OfficeHandler::new(office, mode)
+// }
+//
 // fn serve<K: Keeper, R: Read, W: Write>(
 //     alloc: Global,
 //     reader: &mut Pipe<R>,
 //     writer: &mut Pipe<W>,
-//     handler: &mut OfficeHandler<K>,
+//     handler: &mut OfficeHandler<K, WithPlans>,
 // ) -> Result<Ended, PipeFault>
 //     requires reader { IsFresh reader.old }
 //     requires writer { IsFresh writer.old }
@@ -544,7 +572,7 @@ pub use thes_requests::plan::{PlanFault, PlanStop, read_plan};
 //
 // fn write_answers<K: Keeper>(
 //     alloc: Global,
-//     handler: &mut OfficeHandler<K>,
+//     handler: &mut OfficeHandler<K, WithPlans>,
 //     report: &mut String,
 // ) -> Result<(), Failure> {
 //     push(report, &answers(alloc, handler)?)?;
@@ -645,7 +673,7 @@ pub use thes_service::{OfficeHandler, office_script as script};
 //
 // fn serve_connection<K: Keeper, R: Read, W: Write>(
 //     alloc: Global,
-//     handler: &mut OfficeHandler<K>,
+//     handler: &mut OfficeHandler<K, NoPlans>,
 //     reader: &mut Pipe<R>,
 //     writer: &mut Pipe<W>,
 // ) -> Option<Status>

@@ -130,103 +130,121 @@ static ROWS: [FaultCase; 17] = [
         b"POST /requests HTTP/1.1\r\nContent-Length: 29\r\n\r\n{\"do\":\"withdraw\",\"posting\":1}",
         Status::Fine,
         1,
-        "HTTP/1.1 200 OK\r\nContent-Type: application/json\r\nContent-Length: 9\r\nConnection: close\r\n\r\n{\"ok\":1}\n",
+        "HTTP/1.1 200 OK\r\nContent-Type: application/json\r\nContent-Length: 9\r\n\
+        Connection: close\r\n\r\n{\"ok\":1}\n",
     ),
     (
-        b"POST /requests HTTP/1.1\r\nContent-Length: 30\r\n\r\n{\"do\":\"deprecate\",\"concept\":1}",
+        b"POST /requests HTTP/1.1\r\nContent-Length: 30\r\n\r\n\
+        {\"do\":\"deprecate\",\"concept\":1}",
         Status::Conflict,
         0,
-        "HTTP/1.1 409 Conflict\r\nContent-Type: application/json\r\nContent-Length: 22\r\nConnection: close\r\n\r\n{\"no\":\"SameResource\"}\n",
+        "HTTP/1.1 409 Conflict\r\nContent-Type: application/json\r\nContent-Length: 22\r\n\
+        Connection: close\r\n\r\n{\"no\":\"SameResource\"}\n",
     ),
     (
         b"POST /requests HTTP/1.1\r\nContent-Length: 16\r\n\r\n{\"get\":\"totals\"}",
         Status::BadRequest,
         0,
-        "HTTP/1.1 400 Bad Request\r\nContent-Type: application/json\r\nContent-Length: 19\r\nConnection: close\r\n\r\n{\"bad\":\"BadShape\"}\n",
+        "HTTP/1.1 400 Bad Request\r\nContent-Type: application/json\r\nContent-Length: 19\r\n\
+        Connection: close\r\n\r\n{\"bad\":\"BadShape\"}\n",
     ),
     (
         b"POST /import HTTP/1.1\r\nContent-Length: 4\r\n\r\na,b\n",
         Status::Fine,
         1,
-        "HTTP/1.1 200 OK\r\nContent-Type: text/csv; charset=utf-8\r\nContent-Length: 4\r\nConnection: close\r\n\r\na,b\n",
+        "HTTP/1.1 200 OK\r\nContent-Type: text/csv; charset=utf-8\r\nContent-Length: 4\r\n\
+        Connection: close\r\n\r\na,b\n",
     ),
     (
         b"GET /totals HTTP/1.1\r\n\r\n",
         Status::Fine,
         0,
-        "HTTP/1.1 200 OK\r\nContent-Type: application/json\r\nContent-Length: 42\r\nConnection: close\r\n\r\n{\"accepted\":0,\"standing\":0,\"withdrawn\":0}\n",
+        "HTTP/1.1 200 OK\r\nContent-Type: application/json\r\nContent-Length: 42\r\n\
+        Connection: close\r\n\r\n{\"accepted\":0,\"standing\":0,\"withdrawn\":0}\n",
     ),
     (
         b"GET /concepts/2 HTTP/1.1\r\n\r\n",
         Status::NotFound,
         0,
-        "HTTP/1.1 404 Not Found\r\nContent-Type: application/json\r\nContent-Length: 25\r\nConnection: close\r\n\r\n{\"no\":\"UnknownResource\"}\n",
+        "HTTP/1.1 404 Not Found\r\nContent-Type: application/json\r\nContent-Length: 25\r\n\
+        Connection: close\r\n\r\n{\"no\":\"UnknownResource\"}\n",
     ),
     (
         b"GET /concepts/2/postings HTTP/1.0\r\n\r\n",
         Status::NotFound,
         0,
-        "HTTP/1.1 404 Not Found\r\nContent-Type: application/json\r\nContent-Length: 25\r\nConnection: close\r\n\r\n{\"no\":\"UnknownResource\"}\n",
+        "HTTP/1.1 404 Not Found\r\nContent-Type: application/json\r\nContent-Length: 25\r\n\
+        Connection: close\r\n\r\n{\"no\":\"UnknownResource\"}\n",
     ),
     (
         b"GET /postings/0 HTTP/1.1\r\n\r\n",
         Status::BadRequest,
         0,
-        "HTTP/1.1 400 Bad Request\r\nContent-Type: application/json\r\nContent-Length: 20\r\nConnection: close\r\n\r\n{\"bad\":\"BadNumber\"}\n",
+        "HTTP/1.1 400 Bad Request\r\nContent-Type: application/json\r\nContent-Length: 20\r\n\
+        Connection: close\r\n\r\n{\"bad\":\"BadNumber\"}\n",
     ),
     (
         b"GET /export HTTP/1.1\r\n\r\n",
         Status::Fine,
         0,
-        "HTTP/1.1 200 OK\r\nContent-Type: application/n-triples\r\nContent-Length: 20\r\nConnection: close\r\n\r\n<a:b> <a:c> <a:d> .\n",
+        "HTTP/1.1 200 OK\r\nContent-Type: application/n-triples\r\nContent-Length: 20\r\n\
+        Connection: close\r\n\r\n<a:b> <a:c> <a:d> .\n",
     ),
     (
         b"GET /display/alphabetical?scheme=1&lang=en HTTP/1.1\r\n\r\n",
         Status::Fine,
         0,
-        "HTTP/1.1 200 OK\r\nContent-Type: text/plain; charset=utf-8\r\nContent-Length: 2\r\nConnection: close\r\n\r\nen",
+        "HTTP/1.1 200 OK\r\nContent-Type: text/plain; charset=utf-8\r\nContent-Length: 2\r\n\
+        Connection: close\r\n\r\nen",
     ),
     (
         b"GET /display/hierarchical?scheme=1 HTTP/1.1\r\n\r\n",
         Status::BadRequest,
         0,
-        "HTTP/1.1 400 Bad Request\r\nContent-Type: application/json\r\nContent-Length: 19\r\nConnection: close\r\n\r\n{\"bad\":\"BadQuery\"}\n",
+        "HTTP/1.1 400 Bad Request\r\nContent-Type: application/json\r\nContent-Length: 19\r\n\
+        Connection: close\r\n\r\n{\"bad\":\"BadQuery\"}\n",
     ),
     (
         b"GET /nothing HTTP/1.1\r\n\r\n",
         Status::NotFound,
         0,
-        "HTTP/1.1 404 Not Found\r\nContent-Type: application/json\r\nContent-Length: 21\r\nConnection: close\r\n\r\n{\"bad\":\"NoSuchPath\"}\n",
+        "HTTP/1.1 404 Not Found\r\nContent-Type: application/json\r\nContent-Length: 21\r\n\
+        Connection: close\r\n\r\n{\"bad\":\"NoSuchPath\"}\n",
     ),
     (
         b"DELETE /totals HTTP/1.1\r\n\r\n",
         Status::MethodNotAllowed,
         0,
-        "HTTP/1.1 405 Method Not Allowed\r\nContent-Type: application/json\r\nContent-Length: 20\r\nConnection: close\r\nAllow: GET\r\n\r\n{\"bad\":\"BadMethod\"}\n",
+        "HTTP/1.1 405 Method Not Allowed\r\nContent-Type: application/json\r\n\
+        Content-Length: 20\r\nConnection: close\r\nAllow: GET\r\n\r\n{\"bad\":\"BadMethod\"}\n",
     ),
     (
         b"POST /requests HTTP/1.1\r\n\r\n",
         Status::LengthRequired,
         0,
-        "HTTP/1.1 411 Length Required\r\nContent-Type: application/json\r\nContent-Length: 19\r\nConnection: close\r\n\r\n{\"bad\":\"NoLength\"}\n",
+        "HTTP/1.1 411 Length Required\r\nContent-Type: application/json\r\nContent-Length: 19\r\n\
+        Connection: close\r\n\r\n{\"bad\":\"NoLength\"}\n",
     ),
     (
         b"POST /import HTTP/1.1\r\nContent-Length: +1\r\n\r\n",
         Status::BadRequest,
         0,
-        "HTTP/1.1 400 Bad Request\r\nContent-Type: application/json\r\nContent-Length: 18\r\nConnection: close\r\n\r\n{\"bad\":\"BadHead\"}\n",
+        "HTTP/1.1 400 Bad Request\r\nContent-Type: application/json\r\nContent-Length: 18\r\n\
+        Connection: close\r\n\r\n{\"bad\":\"BadHead\"}\n",
     ),
     (
         b"POST /import HTTP/1.1\r\nContent-Length: 16777217\r\n\r\n",
         Status::PayloadTooLarge,
         0,
-        "HTTP/1.1 413 Payload Too Large\r\nContent-Type: application/json\r\nContent-Length: 18\r\nConnection: close\r\n\r\n{\"bad\":\"TooLong\"}\n",
+        "HTTP/1.1 413 Payload Too Large\r\nContent-Type: application/json\r\nContent-Length: 18\r\n\
+        Connection: close\r\n\r\n{\"bad\":\"TooLong\"}\n",
     ),
     (
         b"POST /import HTTP/1.1\r\nTransfer-Encoding: a\r\n\r\n",
         Status::NotImplemented,
         0,
-        "HTTP/1.1 501 Not Implemented\r\nContent-Type: application/json\r\nContent-Length: 25\r\nConnection: close\r\n\r\n{\"bad\":\"TransferCoding\"}\n",
+        "HTTP/1.1 501 Not Implemented\r\nContent-Type: application/json\r\nContent-Length: 25\r\n\
+        Connection: close\r\n\r\n{\"bad\":\"TransferCoding\"}\n",
     ),
 ];
 
@@ -247,7 +265,8 @@ static LONG: &[u8] = b"GET /display/hierarchical?scheme=3&lang=en HTTP/1.1\r\n\r
 // Returns the response to `LONG`, whose head and body exceed 512 bytes and so take two writes.
 fn long_answer(alloc: Global) -> Result<Vec<u8>, AllocError> {
     let head =
-        b"HTTP/1.1 200 OK\r\nContent-Type: text/plain; charset=utf-8\r\nContent-Length: 600\r\nConnection: close\r\n\r\n";
+        b"HTTP/1.1 200 OK\r\nContent-Type: text/plain; charset=utf-8\r\nContent-Length: 600\r\n\
+        Connection: close\r\n\r\n";
     let mut answer = Vec::from_slice(alloc, head)?;
     answer.extend_from_slice(&PAGE)?;
     Ok(answer)

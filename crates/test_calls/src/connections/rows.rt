@@ -41,25 +41,31 @@ static REQUESTS: [ResponseCase; 5] = [
         b"POST /requests HTTP/1.1\r\nTransfer-Encoding: chunked\r\n\r\n",
         ConnectionEnd::Answered(Status::NotImplemented),
         0,
-        "HTTP/1.1 501 Not Implemented\r\nContent-Type: application/json\r\nContent-Length: 25\r\nConnection: close\r\n\r\n{\"bad\":\"TransferCoding\"}\n",
+        "HTTP/1.1 501 Not Implemented\r\nContent-Type: application/json\r\nContent-Length: 25\r\n\
+        Connection: close\r\n\r\n{\"bad\":\"TransferCoding\"}\n",
     ),
     (
-        b"POST /requests HTTP/1.1\r\ncontent-LENGTH: 31\r\n\r\n{\"do\":\"withdraw\",\"posting\":  1}",
+        b"POST /requests HTTP/1.1\r\ncontent-LENGTH: 31\r\n\r\n\
+        {\"do\":\"withdraw\",\"posting\":  1}",
         ConnectionEnd::Answered(Status::Fine),
         1,
-        "HTTP/1.1 200 OK\r\nContent-Type: application/json\r\nContent-Length: 9\r\nConnection: close\r\n\r\n{\"ok\":1}\n",
+        "HTTP/1.1 200 OK\r\nContent-Type: application/json\r\nContent-Length: 9\r\n\
+        Connection: close\r\n\r\n{\"ok\":1}\n",
     ),
     (
         b"POST /requests HTTP/1.0\r\nContent-Length: 22\r\n\r\n{\"get\":\"totals\"}      ",
         ConnectionEnd::Answered(Status::BadRequest),
         0,
-        "HTTP/1.1 400 Bad Request\r\nContent-Type: application/json\r\nContent-Length: 19\r\nConnection: close\r\n\r\n{\"bad\":\"BadShape\"}\n",
+        "HTTP/1.1 400 Bad Request\r\nContent-Type: application/json\r\nContent-Length: 19\r\n\
+        Connection: close\r\n\r\n{\"bad\":\"BadShape\"}\n",
     ),
     (
-        b"POST /requests HTTP/1.1\r\nContent-Length: 2\r\n\r\n{}{\"do\":\"withdraw\",\"posting\":1}",
+        b"POST /requests HTTP/1.1\r\nContent-Length: 2\r\n\r\n\
+        {}{\"do\":\"withdraw\",\"posting\":1}",
         ConnectionEnd::Answered(Status::BadRequest),
         0,
-        "HTTP/1.1 400 Bad Request\r\nContent-Type: application/json\r\nContent-Length: 19\r\nConnection: close\r\n\r\n{\"bad\":\"BadShape\"}\n",
+        "HTTP/1.1 400 Bad Request\r\nContent-Type: application/json\r\nContent-Length: 19\r\n\
+        Connection: close\r\n\r\n{\"bad\":\"BadShape\"}\n",
     ),
 ];
 
@@ -73,49 +79,57 @@ static PATHS: [ResponseCase; 8] = [
         b"GET /nothing HTTP/1.1\r\n\r\n",
         ConnectionEnd::Answered(Status::NotFound),
         0,
-        "HTTP/1.1 404 Not Found\r\nContent-Type: application/json\r\nContent-Length: 21\r\nConnection: close\r\n\r\n{\"bad\":\"NoSuchPath\"}\n",
+        "HTTP/1.1 404 Not Found\r\nContent-Type: application/json\r\nContent-Length: 21\r\n\
+        Connection: close\r\n\r\n{\"bad\":\"NoSuchPath\"}\n",
     ),
     (
         b"DELETE /totals HTTP/1.1\r\n\r\n",
         ConnectionEnd::Answered(Status::MethodNotAllowed),
         0,
-        "HTTP/1.1 405 Method Not Allowed\r\nContent-Type: application/json\r\nContent-Length: 20\r\nConnection: close\r\nAllow: GET\r\n\r\n{\"bad\":\"BadMethod\"}\n",
+        "HTTP/1.1 405 Method Not Allowed\r\nContent-Type: application/json\r\n\
+        Content-Length: 20\r\nConnection: close\r\nAllow: GET\r\n\r\n{\"bad\":\"BadMethod\"}\n",
     ),
     (
         b"get /import HTTP/1.1\r\n\r\n",
         ConnectionEnd::Answered(Status::MethodNotAllowed),
         0,
-        "HTTP/1.1 405 Method Not Allowed\r\nContent-Type: application/json\r\nContent-Length: 20\r\nConnection: close\r\nAllow: POST\r\n\r\n{\"bad\":\"BadMethod\"}\n",
+        "HTTP/1.1 405 Method Not Allowed\r\nContent-Type: application/json\r\n\
+        Content-Length: 20\r\nConnection: close\r\nAllow: POST\r\n\r\n{\"bad\":\"BadMethod\"}\n",
     ),
     (
         b"GET /concepts/4294967295 HTTP/1.1\r\n\r\n",
         ConnectionEnd::Answered(Status::NotFound),
         0,
-        "HTTP/1.1 404 Not Found\r\nContent-Type: application/json\r\nContent-Length: 25\r\nConnection: close\r\n\r\n{\"no\":\"UnknownResource\"}\n",
+        "HTTP/1.1 404 Not Found\r\nContent-Type: application/json\r\nContent-Length: 25\r\n\
+        Connection: close\r\n\r\n{\"no\":\"UnknownResource\"}\n",
     ),
     (
         b"GET /concepts/4294967296 HTTP/1.1\r\n\r\n",
         ConnectionEnd::Answered(Status::BadRequest),
         0,
-        "HTTP/1.1 400 Bad Request\r\nContent-Type: application/json\r\nContent-Length: 20\r\nConnection: close\r\n\r\n{\"bad\":\"BadNumber\"}\n",
+        "HTTP/1.1 400 Bad Request\r\nContent-Type: application/json\r\nContent-Length: 20\r\n\
+        Connection: close\r\n\r\n{\"bad\":\"BadNumber\"}\n",
     ),
     (
         b"GET /totals?what=ever HTTP/1.1\r\nContent-Length: no\r\n\r\n",
         ConnectionEnd::Answered(Status::Fine),
         0,
-        "HTTP/1.1 200 OK\r\nContent-Type: application/json\r\nContent-Length: 42\r\nConnection: close\r\n\r\n{\"accepted\":0,\"standing\":0,\"withdrawn\":0}\n",
+        "HTTP/1.1 200 OK\r\nContent-Type: application/json\r\nContent-Length: 42\r\n\
+        Connection: close\r\n\r\n{\"accepted\":0,\"standing\":0,\"withdrawn\":0}\n",
     ),
     (
         b"GET /export HTTP/1.1\r\n\r\n",
         ConnectionEnd::Answered(Status::Fine),
         0,
-        "HTTP/1.1 200 OK\r\nContent-Type: application/n-triples\r\nContent-Length: 20\r\nConnection: close\r\n\r\n<a:b> <a:c> <a:d> .\n",
+        "HTTP/1.1 200 OK\r\nContent-Type: application/n-triples\r\nContent-Length: 20\r\n\
+        Connection: close\r\n\r\n<a:b> <a:c> <a:d> .\n",
     ),
     (
         b"POST /import HTTP/1.1\r\nContent-Length: 4\r\n\r\na,b\n",
         ConnectionEnd::Answered(Status::Fine),
         1,
-        "HTTP/1.1 200 OK\r\nContent-Type: text/csv; charset=utf-8\r\nContent-Length: 4\r\nConnection: close\r\n\r\na,b\n",
+        "HTTP/1.1 200 OK\r\nContent-Type: text/csv; charset=utf-8\r\nContent-Length: 4\r\n\
+        Connection: close\r\n\r\na,b\n",
     ),
 ];
 
@@ -188,7 +202,8 @@ static STATUSES: [(&[u8], ConnectionEnd); 20] = [
         ConnectionEnd::Cut,
     ),
     (
-        b"POST /requests HTTP/1.1\r\nContent-Length: 9999999999999999999999999999999999999999\r\n\r\n",
+        b"POST /requests HTTP/1.1\r\n\
+        Content-Length: 9999999999999999999999999999999999999999\r\n\r\n",
         ConnectionEnd::Answered(Status::PayloadTooLarge),
     ),
     (
@@ -232,7 +247,8 @@ fn each_front_of_a_request_is_cut(rt: HostRuntime) {
     expect_cuts(
         &rt,
         rt.alloc(),
-        b"\r\nPOST /requests HTTP/1.1\r\nHost: a\r\nContent-Length: 29\r\n\r\n{\"do\":\"withdraw\",\"posting\":1}",
+        b"\r\nPOST /requests HTTP/1.1\r\nHost: a\r\nContent-Length: 29\r\n\r\n\
+        {\"do\":\"withdraw\",\"posting\":1}",
     );
     expect_cuts(&rt, rt.alloc(), b"GET /totals HTTP/1.0\nHost: a\n\n");
 }

@@ -9,6 +9,7 @@ use test_office::ways::{display_in, export_in};
 use thes_base::fault::{Fault, PipeFault, ReadStop};
 use thes_base::number::ResNo;
 use thes_base::text::Tag;
+use thes_display::writing::DisplayRequest;
 use thes_requests::request::Display;
 
 /// Writes texts of a store. If memory runs out for a text, nothing of it may be written.
@@ -49,7 +50,12 @@ fn write_display<W: Write>(
     match (ResNo::read(scheme), Tag::read(alloc, language)) {
         (Ok(scheme), Ok(tag)) => {
             let handler = &mut store.handler;
-            let (output, shown) = display_in(alloc, handler, display, scheme, &tag, output);
+            let wanted = DisplayRequest {
+                kind: display,
+                scheme,
+                tag: &tag,
+            };
+            let (output, shown) = display_in(alloc, handler, &wanted, output);
             (output, shown.map(|_| ()))
         }
         (_, Err(ReadStop::OutOfMemory)) => (output, Err(PipeFault::Fault(Fault::OutOfMemory))),

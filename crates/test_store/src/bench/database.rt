@@ -30,7 +30,8 @@ fn store_posting<S: Alter>(
     commit(conn, &delta)
 }
 
-/// Inserts `count` postings, each in a commit of its own, and assigns them in turn to the concepts from number 2 on.
+/// Inserts `count` postings, each in a commit of its own, and assigns them in turn to the concepts
+/// from number 2 on.
 pub fn store_all<S: Alter>(
     alloc: Global,
     conn: &mut Connection<S>,

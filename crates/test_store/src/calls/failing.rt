@@ -36,8 +36,8 @@ fn call_report(alloc: Global, keeper: &mut FailOnce, kind: Next) -> Result<Strin
     }
 }
 
-/// Reports a failing call: its result, whether the storage is unchanged, the result of the same call made again, and
-/// the count of failures after each.
+/// Reports a failing call: its result, whether the storage is unchanged, the result of the same
+/// call made again, and the count of failures after each.
 ///
 /// The storage is dropped by one call, since a function that drops it at each `?` is slow to prove.
 pub fn fail_once_report(alloc: Global, next: Next) -> Result<String, Failure> {

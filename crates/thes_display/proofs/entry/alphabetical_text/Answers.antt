@@ -16,4 +16,12 @@ loop-heading-preserved c =
     ∙ ap (λ z. take i xs ++ z ∷ []) (sym c.heading-item.is))
 
 pub returns : goal.returns
-returns c = grind (arith, common_steps, alphabetical_held, take_all, c.deref-heading-items.ensures.value, c.in_ok-headings.ensures, c.loop-heading.invariant)
+returns c = grind (
+  arith,
+  common_steps,
+  alphabetical_held,
+  take_all,
+  c.deref-heading-items.ensures.value,
+  c.in_ok-headings.ensures,
+  c.loop-heading.invariant,
+)

@@ -73,7 +73,8 @@ loop-child-preserved c =
 pub returns : goal.returns
 returns c =
     let ks : List ℕ = c.deref-child-items.result.now in
-    children_are c.args.core.now.links c.args.terms.now c.args.rank (get nat_cmp c.args.ranks.now) c.requires.links.ranks
+    children_are c.args.core.now.links c.args.terms.now c.args.rank (get nat_cmp c.args.ranks.now)
+    c.requires.links.ranks
     c.concept.ensures c.requires.within c.index-terms-rank.is c.in_ok-narrower.ensures
     c.deref-child-items.ensures.value c.as_slice.ensures.value c.in_ok-found.ensures c.loop-child.children.items _
     (subst (λ (xs : List ℕ). AreChildren c.args.core.now.links c.args.terms.now c.args.rank xs

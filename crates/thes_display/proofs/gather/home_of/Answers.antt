@@ -14,7 +14,8 @@ returns c =
     let here : HasRank c.args.terms.now n c.args.rank = subst (λ m. HasRank c.args.terms.now m c.args.rank)
     (sym c.concept.ensures) (rank_of_term c.args.terms.now c.args.rank c.index-terms-rank.result c.requires.within
     c.index-terms-rank.is) in
-    home_from c.args.core.now.links c.args.terms.now (get nat_cmp c.args.ranks.now) c.requires.links.ranks n c.args.rank here
+    home_from c.args.core.now.links c.args.terms.now (get nat_cmp c.args.ranks.now) c.requires.links.ranks n c.args.rank
+    here
     c.in_ok-broader.broader.items c.in_ok-found.found.items c.in_ok-broader.ensures
     (c.in_ok-found.ensures ∙ ap (filter_map (get nat_cmp c.args.ranks.now)) c.as_slice.ensures.value) c.least.result
     (subst (λ (ks : List ℕ). MatchOption c.least.result (length ks ≡ 0)

@@ -9,7 +9,8 @@ returns-in_ok-into_line-in-Ok-None g c = record {
       c.in-Ok-None.field-0 _ c.in-Ok-None.ensures.frame.fault_behaviour;
   same = c.in-Ok-None.ensures.frame.same;
   viewed = λ up.
-      listing_viewed (g.K.Keeper.view c.postings.new.self.keeper).rows c.args.concept c.new-rows.result c.postings.new.sink
+      listing_viewed (g.K.Keeper.view c.postings.new.self.keeper).rows c.args.concept c.new-rows.result
+      c.postings.new.sink
       c.in-Ok-None.field-0 c.new.result c.in-Ok-None.field-0-is (c.in-Ok-None.ensures.lists up) c.new-rows.ensures
       (c.new.ensures ∙ c.in_ok-into_line-in-Ok-None.ensures);
 }
@@ -20,6 +21,7 @@ returns-in-Ok-Some g c = record {
       c.in-Ok-Some.field-0 _ c.in-Ok-Some.ensures.frame.fault_behaviour;
   same = c.in-Ok-Some.ensures.frame.same;
   viewed = λ up.
-      refusal_viewed (g.K.Keeper.view c.postings.new.self.keeper).rows c.args.concept c.new-rows.result c.postings.new.sink
+      refusal_viewed (g.K.Keeper.view c.postings.new.self.keeper).rows c.args.concept c.new-rows.result
+      c.postings.new.sink
       c.in-Ok-Some.field-0 c.in-Ok-Some.refusal c.in-Ok-Some.field-0-is (c.in-Ok-Some.ensures.lists up);
 }
