@@ -1,13 +1,17 @@
 -- The terms in the entry of a concept, below its own term.
-use Rattle.std.specs.Prelude.{◌≡◌, ℕ, List}
+use Rattle.std.specs.Prelude.{◌≡◌, ℕ, List, false}
+use Rattle.std.specs.Ordering.{nat_cmp}
 use Rattle.thes_base.specs.declared.data.LabelKind.{LabelKind}
 use Rattle.thes_base.specs.declared.data.LinkKind.{LinkKind}
 use Rattle.thes_base.specs.Labels.{Labels, HasLabel}
 use Rattle.thes_base.specs.Links.{Links}
-use Rattle.thes_base.specs.Views.{HasBroader, HasLink}
+use Rattle.thes_base.specs.Listing.{IsListing}
+use Rattle.thes_base.specs.Views.{HasBroader, HasLink, IsTypedLink}
+use Rattle.thes_base.specs.declared.data.TypedKind.{TypedKind}
 use Rattle.thes_core.specs.Terms.{term_text}
 use Rattle.thes_display.specs.declared.entry_terms.Side.{Side}
 use Rattle.thes_display.specs.declared.entry_terms.Side.TheVariants.{Broader, Narrower}
+use Rattle.thes_display.specs.declared.entry_terms.Sides.{Sides}
 use Rattle.thes_display.specs.Order.{Term}
 
 -- The term is that of a concept with the property `P`.
@@ -27,3 +31,17 @@ IsOnSide links Narrower n = λ m. HasBroader links m n
 abbrev pub IsLinkedOnSide : Links → Side → LinkKind → ℕ → ℕ → Type 0
 IsLinkedOnSide links Broader kind n m = HasLink links kind n m
 IsLinkedOnSide links Narrower kind n m = HasLink links kind m n
+
+-- The concepts of the record that are on this side.
+abbrev pub concepts_on : Sides → Side → List ℕ
+concepts_on sides Broader = sides.broader.items
+concepts_on sides Narrower = sides.narrower.items
+
+-- Concept `n` has no typed hierarchical link.
+abbrev pub HasNoTypedLink : Links → ℕ → Type 0
+HasNoTypedLink links n = (t : TypedKind × ℕ) → IsTypedLink links n t → ⊥
+
+-- The record lists the concepts on both sides of its concept, and says that no link to them has a type only if none has.
+pub record AreSides (links : Links) (sides : Sides) : Type 0 where
+  pub listed : (side : Side) → IsListing nat_cmp (IsOnSide links side sides.concept) (concepts_on sides side)
+  pub untyped : sides.is_typed ≡ false → HasNoTypedLink links sides.concept

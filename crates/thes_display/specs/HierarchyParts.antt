@@ -1,5 +1,5 @@
 -- The lists that are computed from a state before its hierarchy is written.
-use Rattle.std.specs.Prelude.{◌≡◌, ℕ, List, Bool, true, false, Option, None, Some, ◌<◌, length, slice_get}
+use Rattle.std.specs.Prelude.{◌≡◌, ℕ, List, Bool, true, false, Option, None, Some, ◌<◌, length, get_or, slice_get}
 use Rattle.thes_base.specs.Listing.{IsListing}
 use Rattle.thes_base.specs.Views.{HasLink}
 use Rattle.thes_base.specs.declared.data.LinkKind.{LinkKind}
@@ -15,6 +15,10 @@ use Rattle.thes_display.specs.Hierarchical.{HasRank, IsNarrowerTerm, IsHome, IsA
 -- Each concept has at most one rank.
 pub record HaveOneRank (terms : List Term) : Type 0 where
   pub one : (n j k : ℕ) → HasRank terms n j → HasRank terms n k → j ≡ k
+
+-- The rank of a concept in a list that has ranks at the numbers of concepts.
+abbrev pub rank_at : List (Option ℕ) → ℕ → Option ℕ
+rank_at ranks n = get_or ranks n None
 
 -- The map has the rank of each concept that has one, and no other.
 pub record AreRanks (terms : List Term) (ranks : ℕ → Option ℕ) : Type 0 where

@@ -5,9 +5,10 @@ ghost use Rattle.thes_base.specs.State.{State};
 ghost use Rattle.thes_core.specs.CoreView.{IsViewOf, with_histories};
 ghost use Rattle.thes_display.specs.TextAppends.{AppendsText};
 ghost use Rattle.thes_display.specs.Alphabetical.{AreLinesOf, AreTexts, IsAlphabetical, IsEntry, IsHeading, heading_cmp, entry_line, symbols};
+ghost use Rattle.thes_display.specs.EntryTerms.{AreSides};
 ghost use Rattle.thes_display.specs.Headings.{heading_key, IsHeadingAt};
 
-use crate::entry_terms::{labels_in, terms_under};
+use crate::entry_terms::{Sides, labels_in, sides_of, terms_under};
 use crate::symbol::Symbol;
 use crate::term::Term;
 use std::alloc::{AllocError, Global};
@@ -110,15 +111,17 @@ fn write_symbol(
     alloc: Global,
     text: &mut Vec<u8>,
     core: &Core,
-    n: ResNo,
+    sides: &Sides,
     tag: &Tag,
     symbol: Symbol,
 ) -> Result<(), AllocError>
-    requires { core.now.spent ≡ false }
-    ensures { let are_lines = AreLinesOf (with_histories [] core.now) tag.now n symbol in
+    requires unspent { core.now.spent ≡ false }
+    requires sides { AreSides core.now.links sides.now }
+    ensures { let n = sides.now.concept in
+        let are_lines = AreLinesOf (with_histories [] core.now) tag.now n symbol in
         OnOk result (AppendsText are_lines text.old.items text.new.items) }
 {
-    let terms = terms_under(alloc, core, n, tag, symbol)?;
+    let terms = terms_under(alloc, core, sides, tag, symbol)?;
     for term in &terms {
         push_entry_line(text, symbol.text().as_bytes(), term.text())?;
     }
@@ -130,17 +133,18 @@ fn write_symbols(
     alloc: Global,
     text: &mut Vec<u8>,
     core: &Core,
-    n: ResNo,
+    sides: &Sides,
     tag: &Tag,
 ) -> Result<(), AllocError>
-    requires { core.now.spent ≡ false }
+    requires unspent { core.now.spent ≡ false }
+    requires sides { AreSides core.now.links sides.now }
     ensures { let are_lines = AreTexts
-        (AreLinesOf (with_histories [] core.now) tag.now n) symbols in
+        (AreLinesOf (with_histories [] core.now) tag.now sides.now.concept) symbols in
         OnOk result (AppendsText are_lines text.old.items text.new.items) }
 {
     let symbols = Symbol::all();
     for symbol in &symbols {
-        write_symbol(alloc, text, core, n, tag, *symbol)?;
+        write_symbol(alloc, text, core, sides, tag, *symbol)?;
     }
     Ok(())
 }
@@ -164,7 +168,8 @@ fn write_entry(
         let preferred = core.term(alloc, n, tag)?;
         push_entry_line(text, b"USE", preferred.as_bytes())?;
     } else {
-        write_symbols(alloc, text, core, n, tag)?;
+        let sides = sides_of(alloc, core, n)?;
+        write_symbols(alloc, text, core, &sides, tag)?;
     }
     Ok(())
 }

@@ -1,22 +1,20 @@
 //! Computes the hierarchy of a scheme from the links of a core, and the text of its display.
 ghost use Rattle.std.specs.Prelude.{◌≡◌, ◌<◌, ◌≤◌, Contains, true, OnOk, IsPermutation, IsSorted, ◌↔◌, ℕ, Some, false, length, slice_get, IfOk, MatchOption, IsTrue};
-ghost use Rattle.std.specs.BTreeMap.{get};
-ghost use Rattle.std.specs.List.{filter_map};
-ghost use Rattle.std.specs.Ordering.{nat_cmp};
 ghost use Rattle.thes_base.specs.Listing.{IsListing};
 ghost use Rattle.thes_base.specs.State.{State};
 ghost use Rattle.thes_core.specs.CoreView.{IsViewOf};
 ghost use Rattle.thes_vocab.specs.Vocabulary.{IsConceptOf};
 ghost use Rattle.thes_display.specs.ChildLists.{child_cmp, lists};
 ghost use Rattle.thes_display.specs.Lines.{untyped as no_types};
-ghost use Rattle.thes_display.specs.Hierarchical.{AreTerms, AreTypes, IsHierarchicalDisplay};
-ghost use Rattle.thes_display.specs.HierarchyParts.{AreHomes, AreRanks, CanFollowLinks, HaveOneRank, IsClosed, IsChild, IsHomeRank, AreBelow, IsTopByHomes};
+ghost use Rattle.thes_display.specs.EntryTerms.{HasNoTypedLink};
+ghost use Rattle.thes_display.specs.Hierarchical.{AreTerms, AreTypes, HasRank, IsHierarchicalDisplay};
+ghost use Rattle.thes_display.specs.HierarchyParts.{AreHomes, CanFollowLinks, rank_at, HaveOneRank, IsClosed, IsChild, IsHomeRank, AreBelow, IsTopByHomes};
 
-use crate::entry_terms::{has_link, sorted_terms_of};
+use crate::entry_terms::{has_link, has_typed_link, sorted_terms_of};
+use crate::ranks::{ranks_at, ranks_of};
 use crate::term::Term;
 use crate::walk::{Child, Types, hierarchy_text};
 use std::alloc::{AllocError, Global};
-use std::collections::BTreeMap;
 use thes_base::data::LinkKind;
 use thes_base::number::ResNo;
 use thes_base::text::Tag;
@@ -33,36 +31,6 @@ fn terms_of(alloc: Global, core: &Core, scheme: ResNo, tag: &Tag) -> Result<Vec<
 {
     let terms = sorted_terms_of(alloc, core, core.live_of(scheme), tag)?;
     Ok(terms)
-}
-
-// Maps each concept to its rank: the index of its term in alphabetical order.
-#[tactic(auto, using(crate::proofs::RankLemmas::ranks_more, crate::proofs::RankLemmas::all_ranks))]
-fn ranks_of(alloc: Global, terms: &[Term]) -> Result<BTreeMap<ResNo, usize>, AllocError>
-    requires { HaveOneRank terms.now }
-    ensures { IfOk result (λ ranks. AreRanks terms.now (get nat_cmp ranks)) }
-{
-    let mut ranks = BTreeMap::new(alloc);
-    for (rank, term) in terms.iter().enumerate() {
-        ranks.insert(term.concept(), rank)?;
-    }
-    Ok(ranks)
-}
-
-// Returns the ranks of the concepts, in their order, without those that have no rank.
-fn ranks_at(
-    alloc: Global,
-    ranks: &BTreeMap<ResNo, usize>,
-    concepts: &[ResNo],
-) -> Result<Vec<usize>, AllocError>
-    ensures { IfOk result (λ found. found.items ≡ filter_map (get nat_cmp ranks.now) concepts.now) }
-{
-    let mut found = Vec::new(alloc);
-    for concept in concepts {
-        if let Some(rank) = ranks.get(concept) {
-            found.push(*rank)?;
-        }
-    }
-    Ok(found)
 }
 
 // Returns the least of the ranks, if there is one.
@@ -86,10 +54,10 @@ fn home_of(
     alloc: Global,
     core: &Core,
     terms: &[Term],
-    ranks: &BTreeMap<ResNo, usize>,
+    ranks: &[Option<usize>],
     rank: usize,
 ) -> Result<Option<usize>, AllocError>
-    requires links { CanFollowLinks core.now terms.now (get nat_cmp ranks.now) }
+    requires links { CanFollowLinks core.now terms.now (rank_at ranks.now) }
     requires within { rank < length terms.now }
     ensures { IfOk result (λ home. IsHomeRank core.now.links terms.now rank home) }
 {
@@ -119,13 +87,29 @@ fn sort_children(children: &mut Vec<Child>) -> Result<(), AllocError>
     Ok(())
 }
 
+// Returns the types of a line without a typed link.
+fn untyped() -> Types
+    ensures { result ≡ no_types }
+{
+    Types {
+        generic: false,
+        partitive: false,
+        instantial: false,
+    }
+}
+
 // Returns the types of the links from a concept to a broader one, both given by rank.
-#[tactic(auto, using(crate::proofs::RankLemmas::rank_of_term))]
-fn types_at(core: &Core, terms: &[Term], child: usize, rank: usize) -> Types
+#[tactic(auto, using(crate::proofs::RankLemmas::rank_of_term, crate::proofs::SideLemmas::no_type))]
+fn types_at(core: &Core, terms: &[Term], is_typed: bool, child: usize, rank: usize) -> Types
     requires unspent { core.now.spent ≡ false }
     requires within { (child < length terms.now) × (rank < length terms.now) }
+    requires typed { is_typed ≡ false → (n : ℕ) → HasRank terms.now n rank
+        → HasNoTypedLink core.now.links n }
     ensures { AreTypes core.now.links terms.now result child rank }
 {
+    if !is_typed {
+        return untyped();
+    }
     let (a, b) = (terms[child].concept(), terms[rank].concept());
     Types {
         generic: has_link(core, LinkKind::BroaderGeneric, a, b),
@@ -140,21 +124,23 @@ fn children_of(
     alloc: Global,
     core: &Core,
     terms: &[Term],
-    ranks: &BTreeMap<ResNo, usize>,
+    ranks: &[Option<usize>],
     homes: &[Option<usize>],
     rank: usize,
 ) -> Result<Vec<Child>, AllocError>
-    requires links { CanFollowLinks core.now terms.now (get nat_cmp ranks.now) }
+    requires links { CanFollowLinks core.now terms.now (rank_at ranks.now) }
     requires within { rank < length terms.now }
     requires homes { AreHomes core.now.links terms.now (length terms.now) homes.now }
     ensures { IfOk result
         (λ children. IsListing child_cmp (IsChild core.now.links terms.now rank) children.items) }
 {
-    let narrower = core.narrower_of(alloc, terms[rank].concept())?;
+    let n = terms[rank].concept();
+    let narrower = core.narrower_of(alloc, n)?;
+    let is_typed = has_typed_link(alloc, core, n)?;
     let found = ranks_at(alloc, ranks, narrower.as_slice())?;
     let mut children = Vec::new(alloc);
     for child in &found {
-        let types = types_at(core, terms, *child, rank);
+        let types = types_at(core, terms, is_typed, *child, rank);
         let at_home = is_home(homes, *child, rank);
         children.push(Child {
             rank: *child,
@@ -171,9 +157,9 @@ fn homes_of(
     alloc: Global,
     core: &Core,
     terms: &[Term],
-    ranks: &BTreeMap<ResNo, usize>,
+    ranks: &[Option<usize>],
 ) -> Result<Vec<Option<usize>>, AllocError>
-    requires { CanFollowLinks core.now terms.now (get nat_cmp ranks.now) }
+    requires { CanFollowLinks core.now terms.now (rank_at ranks.now) }
     ensures { IfOk result
         (λ homes. AreHomes core.now.links terms.now (length terms.now) homes.items) }
 {
@@ -189,10 +175,10 @@ fn below_of(
     alloc: Global,
     core: &Core,
     terms: &[Term],
-    ranks: &BTreeMap<ResNo, usize>,
+    ranks: &[Option<usize>],
     homes: &[Option<usize>],
 ) -> Result<Vec<Vec<Child>>, AllocError>
-    requires links { CanFollowLinks core.now terms.now (get nat_cmp ranks.now) }
+    requires links { CanFollowLinks core.now terms.now (rank_at ranks.now) }
     requires homes { AreHomes core.now.links terms.now (length terms.now) homes.now }
     ensures { IfOk result
         (λ below. AreBelow core.now.links terms.now (length terms.now) (lists below.items)) }
@@ -202,17 +188,6 @@ fn below_of(
         below.push(children_of(alloc, core, terms, ranks, homes, rank)?)?;
     }
     Ok(below)
-}
-
-// Returns the types of a line without a typed link.
-fn untyped() -> Types
-    ensures { result ≡ no_types }
-{
-    Types {
-        generic: false,
-        partitive: false,
-        instantial: false,
-    }
 }
 
 // Returns the top concepts, sorted by rank: those without a home.
@@ -245,10 +220,11 @@ pub fn hierarchical_text(
 {
     let owned = terms_of(alloc, core, scheme, tag)?;
     let terms = owned.as_slice();
-    let ranks = ranks_of(alloc, terms)?;
-    let homes = homes_of(alloc, core, terms, &ranks)?;
+    let owned_ranks = ranks_of(alloc, terms)?;
+    let ranks = owned_ranks.as_slice();
+    let homes = homes_of(alloc, core, terms, ranks)?;
     let tops = tops_of(alloc, homes.as_slice())?;
-    let below = below_of(alloc, core, terms, &ranks, homes.as_slice())?;
+    let below = below_of(alloc, core, terms, ranks, homes.as_slice())?;
     let text = hierarchy_text(alloc, terms, tops, below)?;
     Ok(text)
 }
