@@ -17,7 +17,7 @@ pub rank_of_term : (terms : List Term) (k : ℕ) (t : Term) → k < length terms
     → HasRank terms t.concept k
 rank_of_term terms k t l e = grind (arith, common_steps, slice_get_read)
 
-same_or : (m n : ℕ) → (m ≡ n) ⊎ (m ≢ n)
+pub same_or : (m n : ℕ) → (m ≡ n) ⊎ (m ≢ n)
 same_or m n = ⊎_elim (λ l. inr (λ e. omega (arith, l, e))) (λ ge. ⊎_elim (λ l. inr (λ e. omega (arith, l, e)))
     (λ le. inl (omega (arith, ge, le))) (cases_lt n m)) (cases_lt m n)
 

@@ -1,5 +1,5 @@
 //! Computes the hierarchy of a scheme from the links of a core, and the text of its display.
-ghost use Rattle.std.specs.Prelude.{◌≡◌, ◌<◌, ◌≤◌, Contains, true, OnOk, IsPermutation, IsSorted, ◌↔◌, ℕ, Some, false, length, slice_get, IfOk, MatchOption, IsTrue};
+ghost use Rattle.std.specs.Prelude.{◌≡◌, ◌<◌, ◌↔◌, [], true, false, OnOk, IsPermutation, IsSorted, ℕ, Some, None, length, IfOk, IsTrue};
 ghost use Rattle.thes_base.specs.Listing.{IsListing};
 ghost use Rattle.thes_base.specs.State.{State};
 ghost use Rattle.thes_core.specs.CoreView.{IsViewOf};
@@ -8,10 +8,10 @@ ghost use Rattle.thes_display.specs.ChildLists.{child_cmp, lists};
 ghost use Rattle.thes_display.specs.Lines.{untyped as no_types};
 ghost use Rattle.thes_display.specs.EntryTerms.{HasNoTypedLink};
 ghost use Rattle.thes_display.specs.Hierarchical.{AreTerms, AreTypes, HasRank, IsHierarchicalDisplay};
-ghost use Rattle.thes_display.specs.HierarchyParts.{AreHomes, CanFollowLinks, rank_at, HaveOneRank, IsClosed, IsChild, IsHomeRank, AreBelow, IsTopByHomes};
+ghost use Rattle.thes_display.specs.HierarchyParts.{AreBelow, AreHomes, AreHomesSet, CanFollowLinks, HaveOneRank, IsChild, IsClosed, IsTopByHomes, rank_at};
 
 use crate::entry_terms::{has_link, has_typed_link, sorted_terms_of};
-use crate::ranks::{ranks_at, ranks_of};
+use crate::ranks::{rank_of, ranks_at, ranks_of, set_rank};
 use crate::term::Term;
 use crate::walk::{Child, Types, hierarchy_text};
 use std::alloc::{AllocError, Global};
@@ -33,48 +33,14 @@ fn terms_of(alloc: Global, core: &Core, scheme: ResNo, tag: &Tag) -> Result<Vec<
     Ok(terms)
 }
 
-// Returns the least of the ranks, if there is one.
-fn least(ranks: &[usize]) -> Option<usize>
-    ensures { MatchOption result (length ranks.now ≡ 0)
-        (λ m. Contains ranks.now m × ((k : ℕ) → Contains ranks.now k → m ≤ k)) }
+// Checks whether the list has no home of a concept.
+fn is_homeless(homes: &[Option<usize>], child: usize) -> bool
+    ensures none { result ≡ true → rank_at homes.now child ≡ None }
+    ensures some { result ≡ false → (home : ℕ) × (rank_at homes.now child ≡ Some home) }
 {
-    let mut found: Option<usize> = None;
-    for rank in ranks {
-        found = match found {
-            Some(least) if least <= *rank => Some(least),
-            _ => Some(*rank),
-        };
-    }
-    found
-}
-
-// Returns the home of a concept: the least rank among its broader concepts, or None if none has a
-// rank.
-fn home_of(
-    alloc: Global,
-    core: &Core,
-    terms: &[Term],
-    ranks: &[Option<usize>],
-    rank: usize,
-) -> Result<Option<usize>, AllocError>
-    requires links { CanFollowLinks core.now terms.now (rank_at ranks.now) }
-    requires within { rank < length terms.now }
-    ensures { IfOk result (λ home. IsHomeRank core.now.links terms.now rank home) }
-{
-    let broader = core.broader_of(alloc, terms[rank].concept())?;
-    let found = ranks_at(alloc, ranks, broader.as_slice())?;
-    Ok(least(found.as_slice()))
-}
-
-// Checks whether `rank` is the home of `child`.
-fn is_home(homes: &[Option<usize>], child: usize, rank: usize) -> bool
-    requires { child < length homes.now }
-    ensures at { result ≡ true → slice_get homes.now child ≡ Some (Some rank) }
-    ensures other { result ≡ false → slice_get homes.now child ≡ Some (Some rank) → ⊥ }
-{
-    match homes[child] {
-        Some(home) => home == rank,
-        None => false,
+    match rank_of(homes, child) {
+        Some(_) => false,
+        None => true,
     }
 }
 
@@ -118,8 +84,8 @@ fn types_at(core: &Core, terms: &[Term], is_typed: bool, child: usize, rank: usi
     }
 }
 
-// Returns the children of a concept, sorted by rank: its narrower concepts that have a rank,
-// whether or not the concept is their home.
+// Returns the children of a concept, sorted by rank: its narrower concepts that have a rank. It is the home of those
+// that have none among the concepts before it.
 fn children_of(
     alloc: Global,
     core: &Core,
@@ -130,7 +96,7 @@ fn children_of(
 ) -> Result<Vec<Child>, AllocError>
     requires links { CanFollowLinks core.now terms.now (rank_at ranks.now) }
     requires within { rank < length terms.now }
-    requires homes { AreHomes core.now.links terms.now (length terms.now) homes.now }
+    requires homes { AreHomes core.now.links terms.now rank homes.now }
     ensures { IfOk result
         (λ children. IsListing child_cmp (IsChild core.now.links terms.now rank) children.items) }
 {
@@ -141,7 +107,7 @@ fn children_of(
     let mut children = Vec::new(alloc);
     for child in &found {
         let types = types_at(core, terms, is_typed, *child, rank);
-        let at_home = is_home(homes, *child, rank);
+        let at_home = is_homeless(homes, *child);
         children.push(Child {
             rank: *child,
             types,
@@ -152,51 +118,54 @@ fn children_of(
     Ok(children)
 }
 
-// Returns the homes of all concepts, in the order of their ranks.
-fn homes_of(
-    alloc: Global,
-    core: &Core,
-    terms: &[Term],
-    ranks: &[Option<usize>],
-) -> Result<Vec<Option<usize>>, AllocError>
-    requires { CanFollowLinks core.now terms.now (rank_at ranks.now) }
-    ensures { IfOk result
-        (λ homes. AreHomes core.now.links terms.now (length terms.now) homes.items) }
+// Makes a concept the home of those of its children that are at home.
+fn set_homes(
+    homes: &mut Vec<Option<usize>>,
+    children: &[Child],
+    rank: usize,
+) -> Result<(), AllocError>
+    ensures { OnOk result (AreHomesSet rank children.now homes.old.items homes.new.items) }
 {
-    let mut homes = Vec::new(alloc);
-    for rank in 0..terms.len() {
-        homes.push(home_of(alloc, core, terms, ranks, rank)?)?;
+    for child in children {
+        if child.at_home {
+            set_rank(homes, child.rank, rank)?;
+        }
     }
-    Ok(homes)
+    Ok(())
 }
 
-// Returns the children of all concepts, in the order of their ranks.
+// Returns the children of all concepts, in the order of their ranks, and lists the homes.
 fn below_of(
     alloc: Global,
     core: &Core,
     terms: &[Term],
     ranks: &[Option<usize>],
-    homes: &[Option<usize>],
+    homes: &mut Vec<Option<usize>>,
 ) -> Result<Vec<Vec<Child>>, AllocError>
     requires links { CanFollowLinks core.now terms.now (rank_at ranks.now) }
-    requires homes { AreHomes core.now.links terms.now (length terms.now) homes.now }
-    ensures { IfOk result
+    requires none { homes.old.items ≡ [] }
+    ensures below { IfOk result
         (λ below. AreBelow core.now.links terms.now (length terms.now) (lists below.items)) }
+    ensures homes { OnOk result
+        (AreHomes core.now.links terms.now (length terms.now) homes.new.items) }
 {
     let mut below = Vec::new(alloc);
     for rank in 0..terms.len() {
-        below.push(children_of(alloc, core, terms, ranks, homes, rank)?)?;
+        let children = children_of(alloc, core, terms, ranks, homes, rank)?;
+        set_homes(homes, children.as_slice(), rank)?;
+        below.push(children)?;
     }
     Ok(below)
 }
 
-// Returns the top concepts, sorted by rank: those without a home.
-fn tops_of(alloc: Global, homes: &[Option<usize>]) -> Result<Vec<Child>, AllocError>
-    ensures { IfOk result (λ tops. IsListing child_cmp (IsTopByHomes homes.now) tops.items) }
+// Returns the top concepts, sorted by rank: those of the first `count` ranks that have no home.
+fn tops_of(alloc: Global, homes: &[Option<usize>], count: usize) -> Result<Vec<Child>, AllocError>
+    ensures { IfOk result
+        (λ tops. IsListing child_cmp (IsTopByHomes homes.now count) tops.items) }
 {
     let mut tops = Vec::new(alloc);
-    for rank in 0..homes.len() {
-        if homes[rank].is_none() {
+    for rank in 0..count {
+        if is_homeless(homes, rank) {
             tops.push(Child {
                 rank,
                 types: untyped(),
@@ -222,9 +191,9 @@ pub fn hierarchical_text(
     let terms = owned.as_slice();
     let owned_ranks = ranks_of(alloc, terms)?;
     let ranks = owned_ranks.as_slice();
-    let homes = homes_of(alloc, core, terms, ranks)?;
-    let tops = tops_of(alloc, homes.as_slice())?;
-    let below = below_of(alloc, core, terms, ranks, homes.as_slice())?;
+    let mut homes = Vec::new(alloc);
+    let below = below_of(alloc, core, terms, ranks, &mut homes)?;
+    let tops = tops_of(alloc, homes.as_slice(), terms.len())?;
     let text = hierarchy_text(alloc, terms, tops, below)?;
     Ok(text)
 }

@@ -7,15 +7,14 @@ use crate::term::Term;
 use std::alloc::{AllocError, Global};
 use thes_base::number::ResNo;
 
-// Sets the rank of a concept.
-fn set_rank(ranks: &mut Vec<Option<usize>>, n: ResNo, rank: usize) -> Result<(), AllocError>
-    ensures here { OnOk result (rank_at ranks.new.items n ≡ Some rank) }
+/// Sets the rank at this place, and extends the list if it ends before it.
+pub fn set_rank(ranks: &mut Vec<Option<usize>>, place: usize, rank: usize) -> Result<(), AllocError>
+    ensures here { OnOk result (rank_at ranks.new.items place ≡ Some rank) }
     ensures other { OnOk result
-        ((m : ℕ) → m ≢ n → rank_at ranks.new.items m ≡ rank_at ranks.old.items m) }
+        ((m : ℕ) → m ≢ place → rank_at ranks.new.items m ≡ rank_at ranks.old.items m) }
 {
-    let place = n.get() as usize;
-    if ranks.len() <= place {
-        ranks.resize(place + 1, None)?;
+    'opening: while ranks.len() <= place {
+        ranks.push(None)?;
     }
     ranks[place] = Some(rank);
     Ok(())
@@ -29,16 +28,16 @@ pub fn ranks_of(alloc: Global, terms: &[Term]) -> Result<Vec<Option<usize>>, All
 {
     let mut ranks = Vec::new(alloc);
     for (rank, term) in terms.iter().enumerate() {
-        set_rank(&mut ranks, term.concept(), rank)?;
+        set_rank(&mut ranks, term.concept().get() as usize, rank)?;
     }
     Ok(ranks)
 }
 
-// Returns the rank of a concept, if it has one.
-fn rank_of(ranks: &[Option<usize>], n: ResNo) -> Option<usize>
-    ensures { result ≡ rank_at ranks.now n }
+/// Returns the rank at this place; None past the end.
+pub fn rank_of(ranks: &[Option<usize>], place: usize) -> Option<usize>
+    ensures { result ≡ rank_at ranks.now place }
 {
-    match ranks.get(n.get() as usize) {
+    match ranks.get(place) {
         Some(rank) => *rank,
         None => None,
     }
@@ -54,7 +53,7 @@ pub fn ranks_at(
 {
     let mut found = Vec::new(alloc);
     for concept in concepts {
-        if let Some(rank) = rank_of(ranks, *concept) {
+        if let Some(rank) = rank_of(ranks, concept.get() as usize) {
             found.push(rank)?;
         }
     }

@@ -16,7 +16,6 @@ use Rattle.thes_display.specs.HierarchyParts.{AreRanks, IsChild, rank_at}
 use Rattle.thes_display.proofs.RankLemmas.{rank_of_term}
 use Rattle.thes_display.proofs.GatherLemmas.{one_concept, rank_within}
 use Rattle.thes_display.proofs.ChildLemmas.{AreChildren, children_none, children_more, children_listed, broader_at}
-use Rattle.thes_display.proofs.ChildLemmas.{known_home}
 use Rattle.thes_display.proofs.gather.children_of.Goals as goal
 
 -- The ranks found are those of the narrower concepts.
@@ -40,14 +39,6 @@ module _ (links : Links) (terms : List Term) (rank : ℕ) (ranks : ℕ → Optio
 
 pub loop-child-init : goal.loop-child-init
 loop-child-init c = children_none c.args.core.now.links c.args.terms.now c.args.rank _ c.new-children.ensures.items
-
-pub is_home-at_home-requires : goal.is_home-at_home-requires
-is_home-at_home-requires c =
-    let r = narrower_at c.args.core.now.links c.args.terms.now c.args.rank (rank_at c.args.ranks.now)
-    c.requires.links.ranks c.concept-n.ensures c.requires.within c.index-terms-rank.is c.in_ok-narrower.ensures
-    c.deref-child-items.ensures.value c.as_slice.ensures.value c.in_ok-found.ensures c.loop-child.child-index
-    (omega arith) in
-    known_home c.args.core.now.links c.args.terms.now c.args.rank c.args.homes.now c.requires.homes _ r
 
 pub types_at-types-requires-clause-within : goal.types_at-types-requires-clause-within
 types_at-types-requires-clause-within c =
@@ -74,8 +65,8 @@ loop-child-preserved c =
     c.requires.links.ranks c.concept-n.ensures c.requires.within c.index-terms-rank.is c.in_ok-narrower.ensures
     c.deref-child-items.ensures.value c.as_slice.ensures.value c.in_ok-found.ensures i (omega arith) in
     children_more c.args.core.now.links c.args.terms.now c.args.rank c.args.homes.now c.requires.homes (take i ks)
-    (take (i + 1) ks) _ _ _ c.types_at-types.result c.is_home-at_home.result c.loop-child.invariant r
-    c.types_at-types.ensures c.is_home-at_home.ensures.at c.is_home-at_home.ensures.other
+    (take (i + 1) ks) _ _ _ c.types_at-types.result c.is_homeless-at_home.result c.loop-child.invariant r
+    c.types_at-types.ensures c.is_homeless-at_home.ensures.none c.is_homeless-at_home.ensures.some
     c.in_ok-push.ensures.items
     (take_more ks i 0 (omega arith))
 

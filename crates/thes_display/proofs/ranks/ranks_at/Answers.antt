@@ -19,13 +19,14 @@ loop-concept-preserved c =
     let i = c.loop-concept.concept-index in
     let n : ℕ = c.concept-item.result in
     let more = take_more xs i n (omega arith) ∙ ap (λ z. take i xs ++ z ∷ []) (sym c.concept-item.is) in
+    let at_concept = ap (rank_at c.args.ranks.now) (sym c.get.ensures.value) ∙ sym c.rank_of.ensures in
     elim c.match-rank_of.branch [
       | in-Some+in_ok-push w ↦ one_more (rank_at c.args.ranks.now) c.loop-concept.found.items
           c.match-rank_of.found.items (take i xs) (take (i + 1) xs) n _ c.loop-concept.invariant more
-          (sym c.rank_of.ensures ∙ w.in-Some.is) (ap (λ v. v.items) w.found-is
+          (at_concept ∙ w.in-Some.is) (ap (λ v. v.items) w.found-is
           ∙ w.in_ok-push.ensures.items)
       | in_default w ↦ one_more (rank_at c.args.ranks.now) c.loop-concept.found.items c.match-rank_of.found.items
           (take i xs) (take (i + 1) xs) n None c.loop-concept.invariant more
-          (sym c.rank_of.ensures ∙ w.in_default.is) (ap (λ v. v.items) w.found-is
+          (at_concept ∙ w.in_default.is) (ap (λ v. v.items) w.found-is
           ∙ sym (append-nil c.loop-concept.found.items))
     ]
