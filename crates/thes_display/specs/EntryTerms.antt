@@ -1,5 +1,5 @@
 -- The terms in the entry of a concept, below its own term.
-use Rattle.std.specs.Prelude.{◌≡◌, ℕ, List, false}
+use Rattle.std.specs.Prelude.{◌≡◌, ◌⊎◌, ℕ, List, false}
 use Rattle.std.specs.Ordering.{nat_cmp}
 use Rattle.thes_base.specs.declared.data.LabelKind.{LabelKind}
 use Rattle.thes_base.specs.declared.data.LinkKind.{LinkKind}
@@ -12,6 +12,10 @@ use Rattle.thes_core.specs.Terms.{term_text}
 use Rattle.thes_display.specs.declared.entry_terms.Side.{Side}
 use Rattle.thes_display.specs.declared.entry_terms.Side.TheVariants.{Broader, Narrower}
 use Rattle.thes_display.specs.declared.entry_terms.Sides.{Sides}
+use Rattle.thes_display.specs.Alphabetical.{hierarchy_kind}
+use Rattle.thes_display.specs.declared.symbol.Symbol.{Symbol}
+use Rattle.thes_display.specs.declared.symbol.Symbol.TheVariants as symbol
+use Rattle.thes_base.specs.declared.data.LinkKind.TheVariants as kinds
 use Rattle.thes_display.specs.Order.{Term}
 
 -- The term is that of a concept with the property `P`.
@@ -45,3 +49,12 @@ HasNoTypedLink links n = (t : TypedKind × ℕ) → IsTypedLink links n t → �
 pub record AreSides (links : Links) (sides : Sides) : Type 0 where
   pub listed : (side : Side) → IsListing nat_cmp (IsOnSide links side sides.concept) (concepts_on sides side)
   pub untyped : sides.is_typed ≡ false → HasNoTypedLink links sides.concept
+
+-- The symbol is for linked concepts, and the list has those of concept `n`.
+abbrev pub AreLinkedUnder : Links → ℕ → Symbol → List ℕ → Type 0
+AreLinkedUnder links n symbol.ScopeNote ms = ⊥
+AreLinkedUnder links n symbol.UsedFor ms = ⊥
+AreLinkedUnder links n (symbol.Broader type) ms = IsListing nat_cmp (HasLink links (hierarchy_kind type) n) ms
+AreLinkedUnder links n (symbol.Narrower type) ms = IsListing nat_cmp (λ m. HasLink links (hierarchy_kind type) m n) ms
+AreLinkedUnder links n symbol.Related ms = IsListing nat_cmp
+    (λ m. HasLink links kinds.Related n m ⊎ HasLink links kinds.Related m n) ms

@@ -145,7 +145,7 @@ fn is_linked(core: &Core, sides: &Sides, side: Side, kind: LinkKind, m: ResNo) -
 }
 
 // Returns the concepts that are on this side by links of this kind, in ascending order.
-fn linked_concepts(
+pub(crate) fn linked_concepts(
     alloc: Global,
     core: &Core,
     sides: &Sides,
