@@ -65,7 +65,7 @@ module _ (headings : List Heading) where
   concept_at k = (term_at headings k).concept
 
   term_is : (n k : ℕ) (o : IsOwnAt headings n k) → term_at headings k ≡ o.heading.term
-  term_is n k o = ap (λ x. option_map_or (λ (h : Heading). h.term) x (record { text = []; concept = 0 })) o.at
+  term_is n k o = ap (λ x. option_map_or (λ (h : Heading). h.term) x (record { text = []; concept = 0 })) o.heading_at
 
   own_concept : (n k : ℕ) → IsOwnAt headings n k → (term_at headings k).concept ≡ n
   own_concept n k o = ap (λ (t : Term). t.concept) (term_is n k o) ∙ o.concept
@@ -78,9 +78,9 @@ module _ (headings : List Heading) where
       → nat_cmp j k ≡ Less → term_cmp (term_at headings j) (term_at headings k) ≡ Less
   less_terms rises m n j k a b e =
       let below = Less-from_sorted heading_cmp headings j k b.heading rises (less_than j k e)
-      (slice_get_within headings k b.heading b.at) in
-      let x = get_or_from_slice_get headings j a.heading b.heading a.at in
-      let y = get_or_from_slice_get headings k b.heading b.heading b.at in
+      (slice_get_within headings k b.heading b.heading_at) in
+      let x = get_or_from_slice_get headings j a.heading b.heading a.heading_at in
+      let y = get_or_from_slice_get headings k b.heading b.heading b.heading_at in
       let less : heading_cmp a.heading b.heading ≡ Less = subst (λ z. heading_cmp z b.heading ≡ Less) x
       (subst (λ z. heading_cmp (get_or headings j b.heading) z ≡ Less) y below) in
       ap₂ term_cmp (term_is m j a) (term_is n k b)
@@ -133,20 +133,20 @@ module _ (s : State) (tag : List ℕ) (index : HeadingIndex) (is : IsHeadingInde
         rises = rises_by (concept_at Hs) Zs (subst (IsStrictlySortedBy nat_cmp) (sym zs_back) listed.rises);
         sound = λ k c. among_from k Zs c;
         complete = λ k i. contains_of k Zs i;
-      }) are.same are.sorted
+      }) are.same are.order
 
   own_at : (k : ℕ) → IsOneOf k ks → (n : ℕ) × IsOneOf n xs × IsOwnAt Hs n k
   own_at k a = own_of k (in_order.sound k (contains_of k ks a))
 
   text_at : (h : Heading) → Contains Hs h → (b : Bool) → h.lead_in ≡ b → b ≡ false → h.term.text
       ≡ term_text s.labels tag h.term.concept
-  text_at h c b e f = subst (λ x. IsHeadedBy s tag x h.term) (e ∙ f) (is.headed h c)
+  text_at h c b e f = subst (λ x. IsHeadedBy s tag x h.term) (e ∙ f) (is.texts h c)
 
   own_text : (n k : ℕ) (o : IsOwnAt Hs n k) → o.heading.term.text ≡ term_text s.labels tag o.heading.term.concept
   own_text n k o = text_at o.heading (
     k,
-    slice_get_within Hs k o.heading o.at,
-    get_or_from_slice_get Hs k o.heading o.heading o.at,
+    slice_get_within Hs k o.heading o.heading_at,
+    get_or_from_slice_get Hs k o.heading o.heading o.heading_at,
   ) false o.own refl
 
   term_sound : (t : Term) → IsOneOf t (map (term_at Hs) ks) → IsTermOf s.labels tag P t
@@ -171,7 +171,7 @@ module _ (s : State) (tag : List ℕ) (index : HeadingIndex) (is : IsHeadingInde
 
   pub are_places : AreTermPlaces Hs (IsTermOf s.labels tag P) ks
   are_places = record {
-    within = λ k c. let o = own_at k (among_from k ks c) in slice_get_within Hs k o.2.heading o.2.at;
+    bound = λ k c. let o = own_at k (among_from k ks c) in slice_get_within Hs k o.2.heading o.2.heading_at;
     listing = record {
       rises = terms_rise Hs is.rises ks in_order.rises (λ k a. let o = own_at k a in (o.0, o.2));
       sound = λ t c. term_sound t (among_from t _ c);

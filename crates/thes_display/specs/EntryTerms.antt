@@ -47,8 +47,8 @@ HasNoTypedLink links n = (t : TypedKind × ℕ) → IsTypedLink links n t → �
 
 -- The record lists the concepts on both sides of its concept, and says that no link to them has a type only if none has.
 pub record AreSides (links : Links) (sides : Sides) : Type 0 where
-  pub listed : (side : Side) → IsListing nat_cmp (IsOnSide links side sides.concept) (concepts_on sides side)
-  pub untyped : sides.is_typed ≡ false → HasNoTypedLink links sides.concept
+  pub each_side : (side : Side) → IsListing nat_cmp (IsOnSide links side sides.concept) (concepts_on sides side)
+  pub no_typed_link : sides.is_typed ≡ false → HasNoTypedLink links sides.concept
 
 -- The symbol is for linked concepts, and the list has those of concept `n`.
 abbrev pub AreLinkedUnder : Links → ℕ → Symbol → List ℕ → Type 0

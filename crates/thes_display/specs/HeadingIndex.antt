@@ -16,7 +16,7 @@ use Rattle.thes_display.specs.declared.heading_index.HeadingIndex.{HeadingIndex}
 -- The heading at this place is the concept's own.
 pub record IsOwnAt (headings : List Heading) (n k : ℕ) : Type 0 where
   pub heading : Heading
-  pub at : slice_get headings k ≡ Some heading
+  pub heading_at : slice_get headings k ≡ Some heading
   pub own : heading.lead_in ≡ false
   pub concept : heading.term.concept ≡ n
 
@@ -27,7 +27,7 @@ ArePlaces headings place = (n k : ℕ) → place n ≡ Some k → IsOwnAt headin
 -- The headings are sorted, and have texts of the state in the language; the places are those of concepts' own ones.
 pub record IsHeadingIndex (s : State) (tag : List ℕ) (index : HeadingIndex) : Type 0 where
   pub rises : IsStrictlySortedBy heading_cmp index.headings.items
-  pub headed : (h : Heading) → Contains index.headings.items h → IsHeadedBy s tag h.lead_in h.term
+  pub texts : (h : Heading) → Contains index.headings.items h → IsHeadedBy s tag h.lead_in h.term
   pub places : ArePlaces index.headings.items (rank_at index.places.items)
 
 -- The term of the heading at this place; an empty one past the end.
@@ -38,9 +38,9 @@ term_at headings k = option_map_or (λ (h : Heading). h.term) (slice_get heading
 pub record AreSortedPlaces (place : ℕ → Option ℕ) (concepts ks : List ℕ) : Type 0 where
   pub all : length concepts ≤ length (filter_map place concepts)
   pub same : IsPermutation (filter_map place concepts) ks
-  pub sorted : IsSorted nat_cmp ks
+  pub order : IsSorted nat_cmp ks
 
 -- The places are within the list of headings, whose terms at these places are those with the property.
 pub record AreTermPlaces (headings : List Heading) (Is : Term → Type 0) (ks : List ℕ) : Type 0 where
-  pub within : (k : ℕ) → Contains ks k → k < length headings
+  pub bound : (k : ℕ) → Contains ks k → k < length headings
   pub listing : IsListing term_cmp Is (map (term_at headings) ks)

@@ -29,7 +29,7 @@ write_entry-requires-clause-index c =
     (IsHeading (with_histories [] c.args.core.now) c.args.tag.now c.args.scheme) hs) same c.in_ok-headings.ensures in
     record {
       rises = listed.rises;
-      headed = λ h i. (listed.sound h i).1;
+      texts = λ h i. (listed.sound h i).1;
       places = subst (λ (hs : List Heading). ArePlaces hs (rank_at c.in_ok-index.index.places.items)) same
           c.in_ok-index.ensures.places;
     }

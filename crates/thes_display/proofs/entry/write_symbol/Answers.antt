@@ -30,4 +30,4 @@ write_places-requires c = λ k i.
     let are = subst (λ o. IfSome o (λ places. AreTermPlaces hs under places.items)) c.in-Some.is
     (c.in_ok-places.ensures c.args.tag.now c.requires.index) in
     subst (λ (h : List Heading). k < length h) (sym c.as_slice.ensures.value)
-    (are.within k (subst (λ (js : List ℕ). Contains js k) c.as_slice-in-Some.ensures.value i))
+    (are.bound k (subst (λ (js : List ℕ). Contains js k) c.as_slice-in-Some.ensures.value i))

@@ -21,12 +21,12 @@ listed_of links side n xs ys e = subst (IsListing nat_cmp (IsOnSide links side n
 
 pub loop-m-init : goal.loop-m-init
 loop-m-init c = chosen_none nat_cmp _ (listed_of c.args.core.now.links c.args.side c.args.sides.now.concept _ _
-    c.concepts-m-items.ensures (c.requires.sides.listed c.args.side)).rises _ _ c.new-found.ensures.items
+    c.concepts-m-items.ensures (c.requires.sides.each_side c.args.side)).rises _ _ c.new-found.ensures.items
 
 pub is_linked-requires-clause-on_side : goal.is_linked-requires-clause-on_side
 is_linked-requires-clause-on_side c =
     let listed = listed_of c.args.core.now.links c.args.side c.args.sides.now.concept _ _ c.concepts-m-items.ensures
-    (c.requires.sides.listed c.args.side) in
+    (c.requires.sides.each_side c.args.side) in
     listed.sound c.m-item.result (c.loop-m.m-index, c.loop-m-test.true, sym c.m-item.is)
 
 -- A concept linked by this kind extends the listing.
@@ -34,7 +34,7 @@ pub loop-m-preserved : goal.loop-m-preserved
 loop-m-preserved c =
     let xs : List ℕ = c.concepts-m-items.result.now in
     let rises = (listed_of c.args.core.now.links c.args.side c.args.sides.now.concept _ _ c.concepts-m-items.ensures
-    (c.requires.sides.listed c.args.side)).rises in
+    (c.requires.sides.each_side c.args.side)).rises in
     let i = c.loop-m.m-index in
     let n : ℕ = c.m-item.result in
     let t = take_more xs i n (omega arith) ∙ ap (λ z. take i xs ++ z ∷ []) (sym c.m-item.is) in
@@ -52,7 +52,7 @@ returns c =
     let xs : List ℕ = c.concepts-m-items.result.now in
     let Is = IsOnSide c.args.core.now.links c.args.side c.args.sides.now.concept in
     let listed = listed_of c.args.core.now.links c.args.side c.args.sides.now.concept _ _ c.concepts-m-items.ensures
-    (c.requires.sides.listed c.args.side) in
+    (c.requires.sides.each_side c.args.side) in
     chosen_whole nat_cmp xs listed.rises _ Is c.loop-m.m-index _ listed (omega arith)
     (λ m l. beside_linked c.args.core.now.links c.args.side c.args.kind c.args.sides.now.concept m
     c.requires.hierarchical l) c.loop-m.invariant

@@ -22,6 +22,6 @@ returns-clause-sides c =
       is_typed = c.in_ok-has_typed_link.field-0;
     } in
     record {
-      listed = on_both c.args.core.now.links sides c.in_ok-broader_of.ensures c.in_ok-narrower_of.ensures;
-      untyped = c.in_ok-has_typed_link.ensures;
+      each_side = on_both c.args.core.now.links sides c.in_ok-broader_of.ensures c.in_ok-narrower_of.ensures;
+      no_typed_link = c.in_ok-has_typed_link.ensures;
     }
