@@ -1,7 +1,7 @@
 -- Proves that the children computed for a concept are exactly its children, sorted by rank.
 use Rattle.std.proofs.lemmas.Grind.{common_steps}
-use Rattle.std.proofs.Common.{◌≡◌, ◌∙◌, ◌<◌, sym, ap, refl, subst, ℕ, Bool, true, false, List, [], ◌∷◌, ◌++◌, map}
-use Rattle.std.proofs.Common.{length, Option, Some, None, arith, rules, ⊎_elim, inl, inr, IsPermutation, IsSorted}
+use Rattle.std.proofs.Common.{◌≡◌, ◌∙◌, sym, ap, refl, subst, ℕ, Bool, true, false, List, [], ◌∷◌, ◌++◌, map}
+use Rattle.std.proofs.Common.{Option, Some, None, arith, rules, ⊎_elim, inl, inr, IsPermutation, IsSorted}
 use Rattle.std.specs.Prelude.{Contains, slice_get, is_some, IsTrue, ◌↔◌}
 use Rattle.std.specs.Option.{option_map_or}
 use Rattle.std.specs.List.{filter, filter_map}
@@ -20,7 +20,7 @@ use Rattle.thes_display.specs.declared.walk.Child.{Child}
 use Rattle.thes_display.specs.declared.walk.Types.{Types}
 use Rattle.thes_display.specs.Order.{Term}
 use Rattle.thes_display.specs.ChildLists.{child, child_cmp}
-use Rattle.thes_display.specs.Hierarchical.{HasRank, IsNarrowerTerm, IsHome, AreTypes}
+use Rattle.thes_display.specs.Hierarchical.{HasRank, IsNarrowerTerm, AreTypes}
 use Rattle.thes_display.specs.HierarchyParts.{AreRanks, AreHomes, IsChildAt, IsChild, IsHomeBelow, rank_at}
 use Rattle.thes_display.proofs.WalkLemmas.{IsOneOf, among_from, contains_of, among_append}
 use Rattle.thes_display.proofs.GatherLemmas.{one_concept}

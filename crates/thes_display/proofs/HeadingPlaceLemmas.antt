@@ -1,8 +1,8 @@
 -- Proves that the places of the headings of concepts, sorted, are those of the terms of the concepts.
 use Rattle.std.proofs.lemmas.Grind.{common_steps}
 use Rattle.std.proofs.Common.{◌≡◌, ◌∙◌, ◌<◌, ◌≤◌, ◌+◌, sym, ap, ap₂, refl, subst, ℕ, List, [], ◌∷◌, map, length, Option, Some}
-use Rattle.std.proofs.Common.{None, arith, inl, inr, Ordering, Less, Equal, Greater, IsPermutation, IsSorted, false, Bool, get_or}
-use Rattle.std.proofs.Common.{Result, Ok, Err, IfOk, IfSome, OnOk, ◌++◌}
+use Rattle.std.proofs.Common.{None, arith, inl, inr, Ordering, Less, Equal, Greater, false, Bool, get_or}
+use Rattle.std.proofs.Common.{Result, Ok, Err, IfOk, IfSome, OnOk, ◌++◌, true, true≢false}
 use Rattle.std.specs.Prelude.{Contains, flat_map}
 use Rattle.std.specs.List.{AllByRecursion, filter_map, cons_option}
 use Rattle.std.specs.List.Sorted.{IsStrictlySortedBy}
@@ -21,13 +21,15 @@ use Rattle.thes_display.specs.declared.symbol.Symbol.{Symbol}
 use Rattle.thes_display.specs.declared.symbol.Symbol.TheVariants as symbol
 use Rattle.thes_display.specs.Alphabetical.{AreLinesOf, IsHeadedBy, IsUnder, entry_line, heading_cmp, symbol_text}
 use Rattle.thes_core.specs.Terms.{term_text}
-use Rattle.thes_display.specs.EntryTerms.{AreLinkedUnder, IsTermOf}
+use Rattle.thes_base.specs.declared.data.TypedKind.TheVariants as typed
+use Rattle.thes_display.specs.declared.symbol.Hierarchy.TheVariants as hier
+use Rattle.thes_display.specs.EntryTerms.{AreLinkedUnder, HasNoTypedLink, IsTermOf, is_typed_symbol}
 use Rattle.thes_display.specs.HeadingIndex.{AreSortedPlaces, AreTermPlaces, IsHeadingIndex, IsOwnAt, term_at}
 use Rattle.thes_display.specs.HierarchyParts.{rank_at}
 use Rattle.thes_display.specs.Order.{Term, term_cmp}
 use Rattle.thes_display.specs.TextAppends.{AppendsText}
 use Rattle.thes_display.proofs.HomeLemmas.{rank_from}
-use Rattle.thes_display.proofs.ListingLemmas.{listing_as}
+use Rattle.thes_display.proofs.ListingLemmas.{listing_none}
 use Rattle.thes_display.proofs.SortLemmas.{listing_in_order, rises_by}
 use Rattle.thes_display.proofs.TermLemmas.{same_term}
 use Rattle.thes_display.proofs.WalkLemmas.{IsOneOf, among_from, among_map, contains_of, map_among}
@@ -224,3 +226,25 @@ lines_at s tag n z headings ks old new are e = record {
   };
   is = e;
 }
+
+-- Without typed links there are no terms for a typed symbol.
+module _ (s : State) (tag : List ℕ) (n : ℕ) (none : HasNoTypedLink s.links n) where
+  no_under : (z : Symbol) → is_typed_symbol z ≡ true → (t : Term) → IsUnder s tag n z t → ⊥
+  no_under symbol.ScopeNote e t u = true≢false (sym e)
+  no_under symbol.UsedFor e t u = true≢false (sym e)
+  no_under symbol.Related e t u = true≢false (sym e)
+  no_under (symbol.Broader hier.Untyped) e t u = true≢false (sym e)
+  no_under (symbol.Broader hier.Generic) e t u = none (typed.BroaderGeneric, t.concept) u.0
+  no_under (symbol.Broader hier.Partitive) e t u = none (typed.BroaderPartitive, t.concept) u.0
+  no_under (symbol.Broader hier.Instantial) e t u = none (typed.BroaderInstantial, t.concept) u.0
+  no_under (symbol.Narrower hier.Untyped) e t u = true≢false (sym e)
+  no_under (symbol.Narrower hier.Generic) e t u = none (typed.NarrowerGeneric, t.concept) u.0
+  no_under (symbol.Narrower hier.Partitive) e t u = none (typed.NarrowerPartitive, t.concept) u.0
+  no_under (symbol.Narrower hier.Instantial) e t u = none (typed.NarrowerInstantial, t.concept) u.0
+
+  pub none_under : (headings : List Heading) (z : Symbol) (ks : List ℕ) → is_typed_symbol z ≡ true → ks ≡ []
+      → AreTermPlaces headings (IsUnder s tag n z) ks
+  none_under headings z ks e f = subst (AreTermPlaces headings (IsUnder s tag n z)) (sym f) (record {
+    bound = λ k c. absurd (among_from k [] c);
+    listing = listing_none term_cmp _ [] refl (no_under z e);
+  })

@@ -1,5 +1,5 @@
 -- The terms in the entry of a concept, below its own term.
-use Rattle.std.specs.Prelude.{◌≡◌, ◌⊎◌, ℕ, List, false}
+use Rattle.std.specs.Prelude.{◌≡◌, ◌⊎◌, ℕ, List, Bool, false, true}
 use Rattle.std.specs.Ordering.{nat_cmp}
 use Rattle.thes_base.specs.declared.data.LabelKind.{LabelKind}
 use Rattle.thes_base.specs.declared.data.LinkKind.{LinkKind}
@@ -13,6 +13,7 @@ use Rattle.thes_display.specs.declared.entry_terms.Side.{Side}
 use Rattle.thes_display.specs.declared.entry_terms.Side.TheVariants.{Broader, Narrower}
 use Rattle.thes_display.specs.declared.entry_terms.Sides.{Sides}
 use Rattle.thes_display.specs.Alphabetical.{hierarchy_kind}
+use Rattle.thes_display.specs.declared.symbol.Hierarchy.TheVariants.{Untyped}
 use Rattle.thes_display.specs.declared.symbol.Symbol.{Symbol}
 use Rattle.thes_display.specs.declared.symbol.Symbol.TheVariants as symbol
 use Rattle.thes_base.specs.declared.data.LinkKind.TheVariants as kinds
@@ -58,3 +59,11 @@ AreLinkedUnder links n (symbol.Broader type) ms = IsListing nat_cmp (HasLink lin
 AreLinkedUnder links n (symbol.Narrower type) ms = IsListing nat_cmp (λ m. HasLink links (hierarchy_kind type) m n) ms
 AreLinkedUnder links n symbol.Related ms = IsListing nat_cmp
     (λ m. HasLink links kinds.Related n m ⊎ HasLink links kinds.Related m n) ms
+
+-- The symbol is for hierarchical links with a type.
+abbrev pub is_typed_symbol : Symbol → Bool
+is_typed_symbol (symbol.Broader Untyped) = false
+is_typed_symbol (symbol.Narrower Untyped) = false
+is_typed_symbol (symbol.Broader _) = true
+is_typed_symbol (symbol.Narrower _) = true
+is_typed_symbol _ = false

@@ -1,5 +1,5 @@
 -- The lists that are computed from a state before its hierarchy is written.
-use Rattle.std.specs.Prelude.{◌≡◌, ◌≤◌, ◌⊎◌, Contains, ℕ, List, Bool, true, false, Option, None, Some, ◌<◌, length, get_or, slice_get}
+use Rattle.std.specs.Prelude.{◌≡◌, ◌≤◌, ◌⊎◌, Contains, ℕ, List, Bool, true, false, Option, None, Some, ◌<◌, length, get_or}
 use Rattle.thes_base.specs.Listing.{IsListing}
 use Rattle.thes_base.specs.Views.{HasLink}
 use Rattle.thes_base.specs.declared.data.LinkKind.{LinkKind}

@@ -102,6 +102,10 @@ pub fn places_under(
         IfOk result (λ found. IfSome found
         (λ ks. AreTermPlaces index.now.headings.items is_under ks.items)) }
 {
+    if !sides.is_typed && symbol.is_typed() {
+        let none = Vec::new(alloc);
+        return Ok(Some(none));
+    }
     let places = index.places.as_slice();
     match concepts_under(alloc, core, sides, symbol)? {
         Some(concepts) => sorted_places(alloc, places, concepts.as_slice()),
