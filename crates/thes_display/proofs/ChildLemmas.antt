@@ -1,7 +1,7 @@
 -- Proves that the children computed for a concept are exactly its children, sorted by rank.
 use Rattle.std.proofs.lemmas.Grind.{common_steps}
-use Rattle.std.proofs.Common.{◌≡◌, ◌∙◌, ◌<◌, sym, ap, refl, subst, ℕ, Bool, true, false, List, [], ◌∷◌, ◌++◌, map}
-use Rattle.std.proofs.Common.{length, Option, Some, None, arith, rules, ⊎_elim, inl, inr, IsPermutation, IsSorted}
+use Rattle.std.proofs.Common.{◌≡◌, ◌∙◌, sym, ap, refl, subst, ℕ, Bool, true, false, List, [], ◌∷◌, ◌++◌, map}
+use Rattle.std.proofs.Common.{Option, Some, None, arith, rules, ⊎_elim, inl, inr, IsPermutation, IsSorted}
 use Rattle.std.specs.Prelude.{Contains, slice_get, is_some, IsTrue, ◌↔◌}
 use Rattle.std.specs.Option.{option_map_or}
 use Rattle.std.specs.List.{filter, filter_map}
@@ -12,7 +12,6 @@ use Rattle.std.proofs.lemmas.List.{map-append}
 use Rattle.std.proofs.lemmas.List.Kept.{IsStrictlySortedBy-filter}
 use Rattle.std.proofs.lemmas.Simd.{map-map}
 use Rattle.std.specs.List.Sorted.{IsStrictlySortedBy}
-use Rattle.std.proofs.lemmas.Option.{slice_get-get_or}
 use Rattle.std.proofs.lemmas.Map.Lookups.{exact_unsigned}
 use Rattle.thes_base.specs.Links.{Links}
 use Rattle.thes_base.specs.Listing.{IsListing}
@@ -21,10 +20,10 @@ use Rattle.thes_display.specs.declared.walk.Child.{Child}
 use Rattle.thes_display.specs.declared.walk.Types.{Types}
 use Rattle.thes_display.specs.Order.{Term}
 use Rattle.thes_display.specs.ChildLists.{child, child_cmp}
-use Rattle.thes_display.specs.Hierarchical.{HasRank, IsNarrowerTerm, IsHome, AreTypes}
-use Rattle.thes_display.specs.HierarchyParts.{AreRanks, AreHomes, IsChildAt, IsChild}
+use Rattle.thes_display.specs.Hierarchical.{HasRank, IsNarrowerTerm, AreTypes}
+use Rattle.thes_display.specs.HierarchyParts.{AreRanks, AreHomes, IsChildAt, IsChild, IsHomeBelow, rank_at}
 use Rattle.thes_display.proofs.WalkLemmas.{IsOneOf, among_from, contains_of, among_append}
-use Rattle.thes_display.proofs.GatherLemmas.{one_concept, rank_within}
+use Rattle.thes_display.proofs.GatherLemmas.{one_concept}
 use Rattle.thes_display.proofs.SortLemmas.{rises_by, listing_in_order}
 use Rattle.thes_display.proofs.HomeLemmas.{rank_from, rank_to}
 
@@ -37,36 +36,30 @@ module _ (links : Links) (terms : List Term) (b : ℕ) where
   pub children_none : (children : List Child) → children ≡ [] → AreChildren [] children
   children_none children e = grind (arith, common_steps)
 
-  -- A broader concept is the home or not, depending on the table of homes.
-  kind_of : (homes : List (Option ℕ)) → AreHomes links terms (length terms) homes → (k : ℕ) (h : Bool)
-      → IsNarrowerTerm links terms k b → (h ≡ true → slice_get homes k ≡ Some (Some b))
-      → (h ≡ false → slice_get homes k ≡ Some (Some b) → ⊥) → IsChildAt links terms h k b
-  kind_of homes are k true r is_at is_not = are.each k (Some b) (is_at refl)
-  kind_of homes are k false r is_at is_not = record { broader = r; other = λ home. by_home home (homes_at k r) }
-    where
-      homes_at : (k : ℕ) → IsNarrowerTerm links terms k b → (home : Option ℕ) × (slice_get homes k ≡ Some home)
-      homes_at k r = let s = are.size in let w = rank_within terms r.lower k r.lower_rank in
-          (_, slice_get-get_or homes k None (omega (arith, s, w)))
+  -- The concept is the home of a narrower one that has none before it, and not of another one.
+  kind_of : (homes : List (Option ℕ)) → AreHomes links terms b homes → (k : ℕ) (h : Bool)
+      → IsNarrowerTerm links terms k b → (h ≡ true → rank_at homes k ≡ None)
+      → (h ≡ false → (home : ℕ) × (rank_at homes k ≡ Some home)) → IsChildAt links terms h k b
+  kind_of homes are k true r none some =
+      record { broader = r; least = subst (IsHomeBelow links terms b k) (none refl) (are k) }
+  kind_of homes are k false r none some =
+      let home = some refl in
+      let before = subst (IsHomeBelow links terms b k) home.1 (are k) in
+      record {
+        broader = r;
+        other = λ is. let l = is.least home.0 before.0.broader in let m = before.1 in omega (arith, l, m);
+      }
 
-      by_home : IsHome links terms k b → ((home : Option ℕ) × (slice_get homes k ≡ Some home)) → ⊥
-      by_home home (None, e) = (are.each k None e).none b home.broader
-      by_home home (Some j, e) =
-          let other = are.each k (Some j) e in
-          let l = home.least j other.broader in
-          let m = other.least b home.broader in
-          let same : j ≡ b = omega (arith, l, m) in
-          is_not refl (e ∙ ap (λ i. Some (Some i)) same)
-
-  pub children_more : (homes : List (Option ℕ)) → AreHomes links terms (length terms) homes
+  pub children_more : (homes : List (Option ℕ)) → AreHomes links terms b homes
       → (ks more : List ℕ) (children new : List Child) (k : ℕ) (types : Types) (h : Bool) → AreChildren ks children
       → IsNarrowerTerm links terms k b → AreTypes links terms types k b
-      → (h ≡ true → slice_get homes k ≡ Some (Some b)) → (h ≡ false → slice_get homes k ≡ Some (Some b) → ⊥) → new
+      → (h ≡ true → rank_at homes k ≡ None) → (h ≡ false → (home : ℕ) × (rank_at homes k ≡ Some home)) → new
       ≡ children ++ child k types h ∷ [] → more ≡ ks ++ k ∷ [] → AreChildren more new
-  children_more homes are ks more children new k types h a r ty is_at is_not e f = record {
+  children_more homes are ks more children new k types h a r ty none some e f = record {
     ranks_are = ap (map (λ (c : Child). c.rank)) e ∙ map-append (λ (c : Child). c.rank) children (child k types h ∷ [])
         ∙ ap (λ t. t ++ k ∷ []) a.ranks_are ∙ sym f;
     kinds = λ c i. ⊎_elim (λ old. a.kinds c old)
-        (λ last. ⊎_elim (λ same. subst (IsChild links terms b) (sym same) (kind_of homes are k h r is_at is_not, ty))
+        (λ last. ⊎_elim (λ same. subst (IsChild links terms b) (sym same) (kind_of homes are k h r none some, ty))
         (λ n. absurd n) last) (among_append c children (child k types h ∷ []) (subst (IsOneOf c) e i));
   }
 
@@ -176,7 +169,3 @@ module _ (links : Links) (terms : List Term) (b : ℕ) where
         upper_rank = here;
         link = listed.sound x.0 (contains_of x.0 xs x.1);
       }
-
-  pub known_home : (homes : List (Option ℕ)) → AreHomes links terms (length terms) homes → (k : ℕ)
-      → IsNarrowerTerm links terms k b → k < length homes
-  known_home homes are k r = let s = are.size in let w = rank_within terms r.lower k r.lower_rank in omega (arith, s, w)

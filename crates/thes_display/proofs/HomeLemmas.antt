@@ -1,18 +1,20 @@
--- Proves that the least rank of the broader concepts is the home.
+-- Proves that the first of the broader concepts, in the order of ranks, is the home.
 use Rattle.std.proofs.lemmas.Grind.{common_steps}
-use Rattle.std.proofs.Common.{◌≡◌, ◌≤◌, sym, refl, subst, ℕ, List, [], ◌∷◌, length, Option, Some, None}
-use Rattle.std.proofs.Common.{arith, inl, inr}
-use Rattle.std.specs.Prelude.{Contains, MatchOption}
+use Rattle.std.proofs.Common.{◌≡◌, ◌≢◌, ◌⊎◌, ◌∙◌, ◌+◌, ◌≤◌, sym, ap, refl, subst, ℕ, List, [], ◌∷◌, ◌++◌, true, false}
+use Rattle.std.proofs.Common.{Option, Some, None, arith, inl, inr, ⊎_elim, true≢false}
+use Rattle.std.specs.Prelude.{Contains}
 use Rattle.std.specs.List.{filter_map, cons_option}
-use Rattle.std.specs.Ordering.{nat_cmp}
+use Rattle.std.proofs.lemmas.Option.{same_Some}
 use Rattle.thes_base.specs.Links.{Links}
 use Rattle.thes_base.specs.Listing.{IsListing}
-use Rattle.thes_base.specs.Views.{HasBroader}
+use Rattle.thes_display.specs.declared.walk.Child.{Child}
+use Rattle.thes_display.specs.ChildLists.{child, child_cmp}
 use Rattle.thes_display.specs.Order.{Term}
-use Rattle.thes_display.specs.Hierarchical.{HasRank}
-use Rattle.thes_display.specs.HierarchyParts.{AreRanks, IsHomeRank}
-use Rattle.thes_display.proofs.WalkLemmas.{IsOneOf, among_from, contains_of}
-use Rattle.thes_display.proofs.GatherLemmas.{one_concept}
+use Rattle.thes_display.specs.Hierarchical.{IsHome, IsNarrowerTerm}
+use Rattle.thes_display.specs.HierarchyParts.{AreHomes, AreHomesSet, IsChild, IsChildAt, IsHomeBelow, rank_at}
+use Rattle.thes_display.proofs.WalkLemmas.{IsOneOf, among_append, among_from, among_left, among_right, contains_of}
+use Rattle.thes_display.proofs.RankLemmas.{same_or}
+use Rattle.thes_display.proofs.GatherLemmas.{types_are, types_between}
 
 -- A rank found for a list with one more concept is that concept's rank, or was found before.
 from_one : (f : ℕ → Option ℕ) (x k : ℕ) (xs : List ℕ) (o : Option ℕ) → f x ≡ o
@@ -45,38 +47,80 @@ pub rank_to : (f : ℕ → Option ℕ) (ks xs : List ℕ) (x k : ℕ) → ks ≡
     → IsOneOf k ks
 rank_to f ks xs x k e a g = subst (IsOneOf k) (sym e) (found_of f xs x k a g)
 
-module _ (links : Links) (terms : List Term) (ranks : ℕ → Option ℕ) (are : AreRanks terms ranks) (n rank : ℕ)
-    (here : HasRank terms n rank)
-    (xs ks : List ℕ) (listed : IsListing nat_cmp (λ b. HasBroader links n b) xs)
-    (found : ks ≡ filter_map ranks xs) where
-  none_among : (ks : List ℕ) → length ks ≡ 0 → (b : ℕ) → IsOneOf b ks → ⊥
-  none_among [] e b a = a
-  none_among (k ∷ ks) e b a = absurd (omega (arith, e))
+-- One more child is set, if it is at home.
+module _ (rank : ℕ) (seen more : List Child) (c : Child) (e : more ≡ seen ++ c ∷ []) (old mid new : List (Option ℕ))
+    (a : AreHomesSet rank seen old mid) where
+  in_more : (d : Child) → Contains seen d → Contains more d
+  in_more d i = contains_of d more (subst (IsOneOf d) (sym e) (among_left d seen (c ∷ []) (among_from d seen i)))
 
-  pub home_from : (home : Option ℕ) → MatchOption home (length ks ≡ 0)
-      (λ m. Contains ks m × ((c : ℕ) → Contains ks c → m ≤ c)) → IsHomeRank links terms rank home
-  home_from None e = record {
-    concept = n;
-    rank = here;
-    none = λ b r.
-        let same = one_concept terms r.lower n rank r.lower_rank here in
-        let l = listed.complete r.upper (subst (λ z. HasBroader links z r.upper) same r.link) in
-        none_among ks e b (rank_to ranks ks xs r.upper b found (among_from r.upper xs l)
-        (are.all r.upper b r.upper_rank));
+  last_in : Contains more c
+  last_in = contains_of c more (subst (IsOneOf c) (sym e) (among_right c seen (c ∷ []) (inl refl)))
+
+  of_more : (d : Child) → Contains more d → Contains seen d ⊎ (d ≡ c)
+  of_more d i = ⊎_elim (λ old. inl (contains_of d seen old)) (λ last. ⊎_elim (λ same. inr same) (λ n. absurd n) last)
+      (among_append d seen (c ∷ []) (subst (IsOneOf d) e (among_from d more i)))
+
+  pub home_set : c.at_home ≡ true → rank_at new c.rank ≡ Some rank
+      → ((m : ℕ) → m ≢ c.rank → rank_at new m ≡ rank_at mid m) → AreHomesSet rank more old new
+  home_set h here other = record {
+    set = λ d i at. ⊎_elim (λ same. ap (rank_at new) same ∙ here)
+        (λ ne. ⊎_elim (λ old. other d.rank ne ∙ a.set d old at) (λ last. ap (λ (x : Child). rank_at new x.rank) last
+        ∙ here) (of_more d i)) (same_or d.rank c.rank);
+    same = λ k. ⊎_elim (λ same. inr (c, last_in, h, sym same, ap (rank_at new) same ∙ here))
+        (λ ne. ⊎_elim (λ kept. inl (other k ne ∙ kept))
+        (λ set. inr (set.0, in_more set.0 set.1, set.2, set.3, other k ne ∙ set.4)) (a.same k)) (same_or k c.rank);
   }
-  home_from (Some b) m =
-      let x = rank_from ranks ks xs b found (among_from b ks m.0) in
-      record {
-        broader = record {
-          lower = n;
-          upper = x.0;
-          lower_rank = here;
-          upper_rank = are.rank_is x.0 b x.2;
-          link = listed.sound x.0 (contains_of x.0 xs x.1);
-        };
-        least = λ c r.
-            let same = one_concept terms r.lower n rank r.lower_rank here in
-            let l = listed.complete r.upper (subst (λ z. HasBroader links z r.upper) same r.link) in
-            m.1 c (contains_of c ks (rank_to ranks ks xs r.upper c found (among_from r.upper xs l)
-            (are.all r.upper c r.upper_rank)));
-      }
+
+  pub home_kept : c.at_home ≡ false → new ≡ mid → AreHomesSet rank more old new
+  home_kept h kept = record {
+    set = λ d i at. ⊎_elim (λ old. ap (λ hs. rank_at hs d.rank) kept ∙ a.set d old at)
+        (λ last. absurd (true≢false (sym at ∙ ap (λ (x : Child). x.at_home) last ∙ h))) (of_more d i);
+    same = λ k. ⊎_elim (λ same. inl (ap (λ hs. rank_at hs k) kept ∙ same))
+        (λ set. inr (set.0, in_more set.0 set.1, set.2, set.3, ap (λ hs. rank_at hs k) kept ∙ set.4)) (a.same k);
+  }
+
+pub homes_start : (rank : ℕ) (homes : List (Option ℕ)) → AreHomesSet rank [] homes homes
+homes_start rank homes = record { set = λ d i at. absurd (among_from d [] i); same = λ k. inl refl }
+
+module _ (links : Links) (terms : List Term) where
+  pub homes_none : (homes : List (Option ℕ)) → homes ≡ [] → AreHomes links terms 0 homes
+  homes_none homes e k = subst (λ hs. IsHomeBelow links terms 0 k (rank_at hs k)) (sym e) (λ b r. omega arith)
+
+  -- The homes below `m`, with that of the children of `m`, are those below the next rank.
+  pub homes_more : (m : ℕ) (children : List Child) (old new : List (Option ℕ)) → AreHomes links terms m old
+      → IsListing child_cmp (IsChild links terms m) children → AreHomesSet m children old new
+      → AreHomes links terms (m + 1) new
+  homes_more m children old new are listed set k = at_rank (rank_at new k) refl
+    where
+      kept : (o : Option ℕ) → rank_at new k ≡ o → rank_at new k ≡ rank_at old k → IsHomeBelow links terms m k o
+      kept o e same = subst (IsHomeBelow links terms m k) (sym same ∙ e) (are k)
+
+      home_of_child : (c : Child) → IsChild links terms m c → c.at_home ≡ true → IsHome links terms c.rank m
+      home_of_child c i h = subst (λ b. IsChildAt links terms b c.rank m) h i.0
+
+      not_narrower : rank_at new k ≡ None → ((b : ℕ) → IsNarrowerTerm links terms k b → m ≤ b)
+          → IsNarrowerTerm links terms k m → ⊥
+      not_narrower e least r =
+          let c = child k (types_between links r.lower r.upper) true in
+          let at = listed.complete c (record { broader = r; least = least }, types_are links terms k m r) in
+          none_some (sym e ∙ set.set c at refl)
+        where
+          none_some : None ≡ Some m → ⊥
+          none_some q = cc
+
+      at_rank : (o : Option ℕ) → rank_at new k ≡ o → IsHomeBelow links terms (m + 1) k o
+      at_rank None e = ⊎_elim
+          (λ same. λ b r.
+          let l = kept None e same b r in
+          let ne : m ≡ b → ⊥ = λ q. not_narrower e (kept None e same) (subst (IsNarrowerTerm links terms k) (sym q) r) in
+          omega (arith, l, ne))
+          (λ s. absurd (none_some (sym e ∙ s.4))) (set.same k)
+        where
+          none_some : None ≡ Some m → ⊥
+          none_some q = cc
+      at_rank (Some b) e = ⊎_elim (λ same. let h = kept (Some b) e same in (h.0, let l = h.1 in omega (arith, l)))
+          (λ s.
+          let is : m ≡ b = same_Some m b (sym s.4 ∙ e) in
+          let h = home_of_child s.0 (listed.sound s.0 s.1) s.2 in
+          (subst (IsHome links terms k) is (subst (λ j. IsHome links terms j m) s.3 h), omega (arith, is)))
+          (set.same k)

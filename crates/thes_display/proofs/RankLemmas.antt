@@ -1,11 +1,9 @@
 -- Proves that the map of ranks, built term by term, has the rank of each concept.
 use Rattle.std.proofs.lemmas.Grind.{common_steps}
-use Rattle.std.proofs.Common.{◌≡◌, ◌∙◌, ◌<◌, ◌≤◌, ◌+◌, sym, ap, refl, subst, ℕ, Bool, true, false, cond, List, length}
-use Rattle.std.proofs.Common.{get_or, Option, Some, arith, true≢false}
-use Rattle.std.specs.Ordering.{nat_cmp, is_eq}
-use Rattle.std.specs.Cmp.{tied_itself, nat_cmp_total}
+use Rattle.std.proofs.Common.{◌≡◌, ◌≢◌, ◌⊎◌, ◌∙◌, ◌<◌, ◌≤◌, ◌+◌, sym, ap, subst, ℕ, List, length}
+use Rattle.std.proofs.Common.{get_or, Option, Some, arith, ⊎_elim, inl, inr}
+use Rattle.std.proofs.lemmas.Bool.{cases_lt}
 use Rattle.std.proofs.lemmas.Option.{slice_get_read, slice_get_within, same_Some}
-use Rattle.std.proofs.lemmas.Map.Lookups.{exact_unsigned}
 use Rattle.thes_display.specs.Order.{Term}
 use Rattle.thes_display.specs.Hierarchical.{HasRank}
 use Rattle.thes_display.specs.HierarchyParts.{HaveOneRank, AreRanks}
@@ -19,39 +17,37 @@ pub rank_of_term : (terms : List Term) (k : ℕ) (t : Term) → k < length terms
     → HasRank terms t.concept k
 rank_of_term terms k t l e = grind (arith, common_steps, slice_get_read)
 
+pub same_or : (m n : ℕ) → (m ≡ n) ⊎ (m ≢ n)
+same_or m n = ⊎_elim (λ l. inr (λ e. omega (arith, l, e))) (λ ge. ⊎_elim (λ l. inr (λ e. omega (arith, l, e)))
+    (λ le. inl (omega (arith, ge, le))) (cases_lt n m)) (cases_lt m n)
+
 pub ranks_more : (terms : List Term) (one : HaveOneRank terms) (k : ℕ) (t : Term) → k < length terms → t
-    ≡ get_or terms k t → (old new : ℕ → Option ℕ)
-    → AreRanksBelow terms k old → ((q : ℕ) → new q ≡ cond (is_eq (nat_cmp t.concept q)) (Some k) (old q))
-    → AreRanksBelow terms (k + 1) new
-ranks_more terms one k t l e old new a step = record {
-  rank_is = λ n j f. of_case n j (is_eq (nat_cmp t.concept n)) refl (sym (step n) ∙ f);
-  all = λ n j h m. all_case n j h m (is_eq (nat_cmp t.concept n)) refl;
+    ≡ get_or terms k t → (old new : ℕ → Option ℕ) → AreRanksBelow terms k old → new t.concept ≡ Some k
+    → ((q : ℕ) → q ≢ t.concept → new q ≡ old q) → AreRanksBelow terms (k + 1) new
+ranks_more terms one k t l e old new a here other = record {
+  rank_is = λ n j f. ⊎_elim (λ same. is_here n j f same) (λ ne. is_old n j f ne) (same_or n t.concept);
+  all = λ n j h m. ⊎_elim (λ same. ap new same ∙ here ∙ ap Some (one.one n k j (at_here n same) h))
+      (λ ne. other n ne ∙ a.all n j h (before n j h m ne)) (same_or n t.concept);
 }
   where
-    same : (n : ℕ) → is_eq (nat_cmp t.concept n) ≡ true → t.concept ≡ n
-    same n f = grind (arith, common_steps, exact_unsigned)
+    at_here : (n : ℕ) → n ≡ t.concept → HasRank terms n k
+    at_here n same = subst (λ i. HasRank terms i k) (sym same) (rank_of_term terms k t l e)
 
-    of_case : (n j : ℕ) (b : Bool) → is_eq (nat_cmp t.concept n) ≡ b → cond (is_eq (nat_cmp t.concept n)) (Some k)
-        (old n) ≡ Some j → HasRank terms n j × (j < k + 1)
-    of_case n j true f g = grind (arith, common_steps, rank_of_term, same, same_Some)
-    of_case n j false f g =
-        let r = a.rank_is n j (sym (ap (λ b. cond b (Some k) (old n)) f) ∙ g) in
-        (r.0, let s = r.1 in omega arith)
+    is_here : (n j : ℕ) → new n ≡ Some j → n ≡ t.concept → HasRank terms n j × (j < k + 1)
+    is_here n j f same =
+        let k_is : k ≡ j = same_Some k j (sym here ∙ ap new (sym same) ∙ f) in
+        (subst (HasRank terms n) k_is (at_here n same), omega (arith, k_is))
 
-    -- After one more term the map has the rank of each concept up to it.
-    all_case : (n j : ℕ) → HasRank terms n j → j < k + 1 → (b : Bool) → is_eq (nat_cmp t.concept n) ≡ b → new n ≡ Some j
-    all_case n j h m true f =
-        let here = subst (λ i. HasRank terms i k) (same n f) (rank_of_term terms k t l e) in
-        step n ∙ ap (λ b. cond b (Some k) (old n)) f ∙ ap Some (one.one n k j here h)
-    all_case n j h m false f =
-        let ne : j ≡ k → ⊥ =
-        λ q. true≢false
-        (sym (ap is_eq (ap (λ i. nat_cmp t.concept i) (sym (concept_at n (subst (HasRank terms n) q h)))
-        ∙ tied_itself nat_cmp_total t.concept)) ∙ f) in
-        step n ∙ ap (λ b. cond b (Some k) (old n)) f ∙ a.all n j h (omega arith)
-      where
-        concept_at : (n : ℕ) → HasRank terms n k → t.concept ≡ n
-        concept_at n h = grind (arith, common_steps, same_Some, slice_get_read)
+    is_old : (n j : ℕ) → new n ≡ Some j → n ≢ t.concept → HasRank terms n j × (j < k + 1)
+    is_old n j f ne = let r = a.rank_is n j (sym (other n ne) ∙ f) in (r.0, let s = r.1 in omega (arith, s))
+
+    concept_at : (n : ℕ) → HasRank terms n k → t.concept ≡ n
+    concept_at n h = grind (arith, common_steps, same_Some, slice_get_read)
+
+    before : (n j : ℕ) → HasRank terms n j → j < k + 1 → n ≢ t.concept → j < k
+    before n j h m ne =
+        let not_here : j ≡ k → ⊥ = λ q. ne (sym (concept_at n (subst (HasRank terms n) q h))) in
+        omega (arith, m, not_here)
 
 pub all_ranks : (terms : List Term) (m : ℕ) (ranks : ℕ → Option ℕ) → length terms ≤ m → AreRanksBelow terms m ranks
     → AreRanks terms ranks

@@ -1,13 +1,22 @@
 -- The terms in the entry of a concept, below its own term.
-use Rattle.std.specs.Prelude.{◌≡◌, ℕ, List}
+use Rattle.std.specs.Prelude.{◌≡◌, ◌⊎◌, ℕ, List, Bool, false, true}
+use Rattle.std.specs.Ordering.{nat_cmp}
 use Rattle.thes_base.specs.declared.data.LabelKind.{LabelKind}
 use Rattle.thes_base.specs.declared.data.LinkKind.{LinkKind}
 use Rattle.thes_base.specs.Labels.{Labels, HasLabel}
 use Rattle.thes_base.specs.Links.{Links}
-use Rattle.thes_base.specs.Views.{HasBroader, HasLink}
+use Rattle.thes_base.specs.Listing.{IsListing}
+use Rattle.thes_base.specs.Views.{HasBroader, HasLink, IsTypedLink}
+use Rattle.thes_base.specs.declared.data.TypedKind.{TypedKind}
 use Rattle.thes_core.specs.Terms.{term_text}
 use Rattle.thes_display.specs.declared.entry_terms.Side.{Side}
 use Rattle.thes_display.specs.declared.entry_terms.Side.TheVariants.{Broader, Narrower}
+use Rattle.thes_display.specs.declared.entry_terms.Sides.{Sides}
+use Rattle.thes_display.specs.Alphabetical.{hierarchy_kind}
+use Rattle.thes_display.specs.declared.symbol.Hierarchy.TheVariants.{Untyped}
+use Rattle.thes_display.specs.declared.symbol.Symbol.{Symbol}
+use Rattle.thes_display.specs.declared.symbol.Symbol.TheVariants as symbol
+use Rattle.thes_base.specs.declared.data.LinkKind.TheVariants as kinds
 use Rattle.thes_display.specs.Order.{Term}
 
 -- The term is that of a concept with the property `P`.
@@ -27,3 +36,34 @@ IsOnSide links Narrower n = λ m. HasBroader links m n
 abbrev pub IsLinkedOnSide : Links → Side → LinkKind → ℕ → ℕ → Type 0
 IsLinkedOnSide links Broader kind n m = HasLink links kind n m
 IsLinkedOnSide links Narrower kind n m = HasLink links kind m n
+
+-- The concepts of the record that are on this side.
+abbrev pub concepts_on : Sides → Side → List ℕ
+concepts_on sides Broader = sides.broader.items
+concepts_on sides Narrower = sides.narrower.items
+
+-- Concept `n` has no typed hierarchical link.
+abbrev pub HasNoTypedLink : Links → ℕ → Type 0
+HasNoTypedLink links n = (t : TypedKind × ℕ) → IsTypedLink links n t → ⊥
+
+-- The record lists the concepts on both sides of its concept, and says that no link to them has a type only if none has.
+pub record AreSides (links : Links) (sides : Sides) : Type 0 where
+  pub each_side : (side : Side) → IsListing nat_cmp (IsOnSide links side sides.concept) (concepts_on sides side)
+  pub no_typed_link : sides.is_typed ≡ false → HasNoTypedLink links sides.concept
+
+-- The symbol is for linked concepts, and the list has those of concept `n`.
+abbrev pub AreLinkedUnder : Links → ℕ → Symbol → List ℕ → Type 0
+AreLinkedUnder links n symbol.ScopeNote ms = ⊥
+AreLinkedUnder links n symbol.UsedFor ms = ⊥
+AreLinkedUnder links n (symbol.Broader type) ms = IsListing nat_cmp (HasLink links (hierarchy_kind type) n) ms
+AreLinkedUnder links n (symbol.Narrower type) ms = IsListing nat_cmp (λ m. HasLink links (hierarchy_kind type) m n) ms
+AreLinkedUnder links n symbol.Related ms = IsListing nat_cmp
+    (λ m. HasLink links kinds.Related n m ⊎ HasLink links kinds.Related m n) ms
+
+-- The symbol is for hierarchical links with a type.
+abbrev pub is_typed_symbol : Symbol → Bool
+is_typed_symbol (symbol.Broader Untyped) = false
+is_typed_symbol (symbol.Narrower Untyped) = false
+is_typed_symbol (symbol.Broader _) = true
+is_typed_symbol (symbol.Narrower _) = true
+is_typed_symbol _ = false

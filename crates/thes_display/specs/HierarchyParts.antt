@@ -1,5 +1,5 @@
 -- The lists that are computed from a state before its hierarchy is written.
-use Rattle.std.specs.Prelude.{◌≡◌, ℕ, List, Bool, true, false, Option, None, Some, ◌<◌, length, slice_get}
+use Rattle.std.specs.Prelude.{◌≡◌, ◌≤◌, ◌⊎◌, Contains, ℕ, List, Bool, true, false, Option, None, Some, ◌<◌, length, get_or}
 use Rattle.thes_base.specs.Listing.{IsListing}
 use Rattle.thes_base.specs.Views.{HasLink}
 use Rattle.thes_base.specs.declared.data.LinkKind.{LinkKind}
@@ -15,6 +15,10 @@ use Rattle.thes_display.specs.Hierarchical.{HasRank, IsNarrowerTerm, IsHome, IsA
 -- Each concept has at most one rank.
 pub record HaveOneRank (terms : List Term) : Type 0 where
   pub one : (n j k : ℕ) → HasRank terms n j → HasRank terms n k → j ≡ k
+
+-- The rank of a concept in a list that has ranks at the numbers of concepts.
+abbrev pub rank_at : List (Option ℕ) → ℕ → Option ℕ
+rank_at ranks n = get_or ranks n None
 
 -- The map has the rank of each concept that has one, and no other.
 pub record AreRanks (terms : List Term) (ranks : ℕ → Option ℕ) : Type 0 where
@@ -33,10 +37,14 @@ module _ (links : Links) (terms : List Term) where
     pub rank : HasRank terms concept k
     pub none : (b : ℕ) → IsNarrowerTerm links terms k b → ⊥
 
-  -- The option is the home of the rank `k`, or None if no broader concept has a rank.
-  abbrev pub IsHomeRank : ℕ → Option ℕ → Type 0
-  IsHomeRank k None = IsRoot k
-  IsHomeRank k (Some b) = IsHome links terms k b
+  -- The option is the home of the rank `k`, if that is below `m`; or None, if no broader concept has a rank below `m`.
+  abbrev pub IsHomeBelow : (m k : ℕ) → Option ℕ → Type 0
+  IsHomeBelow m k None = (b : ℕ) → IsNarrowerTerm links terms k b → m ≤ b
+  IsHomeBelow m k (Some b) = IsHome links terms k b × (b < m)
+
+  -- The list has the homes that are below `m`, at the ranks of their children.
+  abbrev pub AreHomes : ℕ → List (Option ℕ) → Type 0
+  AreHomes m homes = (k : ℕ) → IsHomeBelow m k (rank_at homes k)
 
   -- The concept with the rank `k` is a child of that with the rank `b`; the Boolean states whether that is its home.
   abbrev pub IsChildAt : Bool → ℕ → ℕ → Type 0
@@ -47,10 +55,11 @@ module _ (links : Links) (terms : List Term) where
   abbrev pub IsChild : ℕ → Child → Type 0
   IsChild b c = IsChildAt c.at_home c.rank b × AreTypes links terms c.types c.rank b
 
--- The list has the homes of the ranks below `m`, in order.
-pub record AreHomes (links : Links) (terms : List Term) (m : ℕ) (homes : List (Option ℕ)) : Type 0 where
-  pub size : length homes ≡ m
-  pub each : (k : ℕ) (home : Option ℕ) → slice_get homes k ≡ Some home → IsHomeRank links terms k home
+-- The new homes are the old ones, with this rank as the home of the children at home.
+pub record AreHomesSet (rank : ℕ) (children : List Child) (old new : List (Option ℕ)) : Type 0 where
+  pub set : (c : Child) → Contains children c → c.at_home ≡ true → rank_at new c.rank ≡ Some rank
+  pub same : (k : ℕ) → (rank_at new k ≡ rank_at old k)
+      ⊎ ((c : Child) × Contains children c × (c.at_home ≡ true) × (c.rank ≡ k) × (rank_at new k ≡ Some rank))
 
 -- The child is listed as a top concept is: at home, and without types.
 abbrev pub IsTopChild : Child → Type 0
@@ -74,6 +83,6 @@ pub record AreBelow (links : Links) (terms : List Term) (m : ℕ) (below : List 
   pub size : length below ≡ m
   pub each : (b : ℕ) → b < m → IsListing child_cmp (IsChild links terms b) (children_at below b)
 
--- The child is a top concept: the list of homes has None at its rank.
-abbrev pub IsTopByHomes : List (Option ℕ) → Child → Type 0
-IsTopByHomes homes c = IsTopChild c × (slice_get homes c.rank ≡ Some None)
+-- The child is a top concept: its rank is below `m`, and the list of homes has none for it.
+abbrev pub IsTopByHomes : List (Option ℕ) → ℕ → Child → Type 0
+IsTopByHomes homes m c = IsTopChild c × (c.rank < m) × (rank_at homes c.rank ≡ None)

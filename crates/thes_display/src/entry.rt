@@ -1,13 +1,16 @@
 //! The alphabetical display: its headings, in order, with an entry for each.
-ghost use Rattle.std.specs.Prelude.{[], ◌≡◌, ◌++◌, false, IfOk, OnOk, IsPermutation, IsSorted, cond};
+ghost use Rattle.std.specs.Prelude.{[], ◌≡◌, ◌<◌, ◌++◌, ℕ, false, Contains, IfOk, OnOk, IsPermutation, IsSorted, cond, flat_map, length};
 ghost use Rattle.thes_base.specs.Listing.{IsListing};
 ghost use Rattle.thes_base.specs.State.{State};
 ghost use Rattle.thes_core.specs.CoreView.{IsViewOf, with_histories};
 ghost use Rattle.thes_display.specs.TextAppends.{AppendsText};
-ghost use Rattle.thes_display.specs.Alphabetical.{AreLinesOf, AreTexts, IsAlphabetical, IsEntry, IsHeading, heading_cmp, entry_line, symbols};
+ghost use Rattle.thes_display.specs.Alphabetical.{AreLinesOf, AreTexts, IsAlphabetical, IsEntry, IsHeading, heading_cmp, entry_line, symbol_text, symbols};
+ghost use Rattle.thes_display.specs.EntryTerms.{AreSides};
+ghost use Rattle.thes_display.specs.HeadingIndex.{IsHeadingIndex, term_at};
 ghost use Rattle.thes_display.specs.Headings.{heading_key, IsHeadingAt};
 
-use crate::entry_terms::{labels_in, terms_under};
+use crate::entry_terms::{Sides, labels_in, sides_of, terms_under};
+use crate::heading_index::{HeadingIndex, index_of, places_under};
 use crate::symbol::Symbol;
 use crate::term::Term;
 use std::alloc::{AllocError, Global};
@@ -108,24 +111,75 @@ fn push_entry_line(text: &mut Vec<u8>, symbol: &[u8], shown: &[u8]) -> Result<()
     Ok(())
 }
 
+// Appends the lines of one symbol, with terms made for it.
+fn write_terms(
+    alloc: Global,
+    text: &mut Vec<u8>,
+    core: &Core,
+    sides: &Sides,
+    tag: &Tag,
+    symbol: Symbol,
+) -> Result<(), AllocError>
+    requires unspent { core.now.spent ≡ false }
+    requires sides { AreSides core.now.links sides.now }
+    ensures { let n = sides.now.concept in
+        let are_lines = AreLinesOf (with_histories [] core.now) tag.now n symbol in
+        OnOk result (AppendsText are_lines text.old.items text.new.items) }
+{
+    let terms = terms_under(alloc, core, sides, tag, symbol)?;
+    for term in &terms {
+        push_entry_line(text, symbol.text().as_bytes(), term.text())?;
+    }
+    Ok(())
+}
+
+// Returns the text of the heading at this place.
+#[tactic(auto, using(crate::proofs::HeadingPlaceLemmas::term_read))]
+fn text_of(headings: &[Heading], place: usize) -> &[u8]
+    requires { place < length headings.now }
+    ensures { result.now ≡ (term_at headings.now place).text }
+{
+    headings[place].term.text()
+}
+
+// Appends the lines of one symbol for the terms of the headings at these places.
+fn write_places(
+    text: &mut Vec<u8>,
+    headings: &[Heading],
+    places: &[usize],
+    symbol: Symbol,
+) -> Result<(), AllocError>
+    requires { (k : ℕ) → Contains places.now k → k < length headings.now }
+    ensures { let line = λ (k : ℕ). entry_line (symbol_text symbol) (term_at headings.now k).text in
+        OnOk result (text.new.items ≡ text.old.items ++ flat_map line places.now) }
+{
+    for place in places {
+        push_entry_line(text, symbol.text().as_bytes(), text_of(headings, *place))?;
+    }
+    Ok(())
+}
+
 // Appends the lines of one symbol, in alphabetical order.
 fn write_symbol(
     alloc: Global,
     text: &mut Vec<u8>,
     core: &Core,
-    n: ResNo,
+    index: &HeadingIndex,
+    sides: &Sides,
     tag: &Tag,
     symbol: Symbol,
 ) -> Result<(), AllocError>
-    requires { core.now.spent ≡ false }
-    ensures { let are_lines = AreLinesOf (with_histories [] core.now) tag.now n symbol in
+    requires unspent { core.now.spent ≡ false }
+    requires index { IsHeadingIndex (with_histories [] core.now) tag.now index.now }
+    requires sides { AreSides core.now.links sides.now }
+    ensures { let n = sides.now.concept in
+        let are_lines = AreLinesOf (with_histories [] core.now) tag.now n symbol in
         OnOk result (AppendsText are_lines text.old.items text.new.items) }
 {
-    let terms = terms_under(alloc, core, n, tag, symbol)?;
-    for term in &terms {
-        push_entry_line(text, symbol.text().as_bytes(), term.text())?;
+    match places_under(alloc, core, index, sides, symbol)? {
+        Some(places) => { write_places(text, index.headings.as_slice(), places.as_slice(), symbol) }
+        None => write_terms(alloc, text, core, sides, tag, symbol),
     }
-    Ok(())
 }
 
 // Appends the lines of all symbols, in the order of `Symbol::all`.
@@ -133,17 +187,20 @@ fn write_symbols(
     alloc: Global,
     text: &mut Vec<u8>,
     core: &Core,
-    n: ResNo,
+    index: &HeadingIndex,
+    sides: &Sides,
     tag: &Tag,
 ) -> Result<(), AllocError>
-    requires { core.now.spent ≡ false }
+    requires unspent { core.now.spent ≡ false }
+    requires index { IsHeadingIndex (with_histories [] core.now) tag.now index.now }
+    requires sides { AreSides core.now.links sides.now }
     ensures { let are_lines = AreTexts
-        (AreLinesOf (with_histories [] core.now) tag.now n) symbols in
+        (AreLinesOf (with_histories [] core.now) tag.now sides.now.concept) symbols in
         OnOk result (AppendsText are_lines text.old.items text.new.items) }
 {
     let symbols = Symbol::all();
     for symbol in &symbols {
-        write_symbol(alloc, text, core, n, tag, *symbol)?;
+        write_symbol(alloc, text, core, index, sides, tag, *symbol)?;
     }
     Ok(())
 }
@@ -153,10 +210,12 @@ fn write_entry(
     alloc: Global,
     text: &mut Vec<u8>,
     core: &Core,
+    index: &HeadingIndex,
     heading: &Heading,
     tag: &Tag,
 ) -> Result<(), AllocError>
-    requires { core.now.spent ≡ false }
+    requires unspent { core.now.spent ≡ false }
+    requires index { IsHeadingIndex (with_histories [] core.now) tag.now index.now }
     ensures { let is_entry = IsEntry (with_histories [] core.now) tag.now heading.now in
         OnOk result (AppendsText is_entry text.old.items text.new.items) }
 {
@@ -167,7 +226,8 @@ fn write_entry(
         let preferred = core.term(alloc, n, tag)?;
         push_entry_line(text, b"USE", preferred.as_bytes())?;
     } else {
-        write_symbols(alloc, text, core, n, tag)?;
+        let sides = sides_of(alloc, core, n)?;
+        write_symbols(alloc, text, core, index, &sides, tag)?;
     }
     Ok(())
 }
@@ -184,9 +244,10 @@ pub fn alphabetical_text(
         IfOk result (λ text. IsAlphabetical s scheme tag.now text.items) }
 {
     let headings = headings_of(alloc, core, scheme, tag)?;
+    let index = index_of(alloc, headings)?;
     let mut text = Vec::new(alloc);
-    for heading in &headings {
-        write_entry(alloc, &mut text, core, heading, tag)?;
+    for heading in &index.headings {
+        write_entry(alloc, &mut text, core, &index, heading, tag)?;
     }
     Ok(text)
 }

@@ -7,7 +7,7 @@ ghost use Rattle.thes_base.specs.Listing.{IsListing};
 ghost use Rattle.thes_base.specs.Views.{HasLink};
 ghost use Rattle.thes_core.specs.CoreView.{with_histories};
 ghost use Rattle.thes_display.specs.Alphabetical.{IsUnder};
-ghost use Rattle.thes_display.specs.EntryTerms.{IsOnSide, IsLabelTerm, IsLinkedOnSide, IsTermOf};
+ghost use Rattle.thes_display.specs.EntryTerms.{AreSides, HasNoTypedLink, IsOnSide, IsLabelTerm, IsLinkedOnSide, IsTermOf, concepts_on};
 ghost use Rattle.thes_display.specs.Order.{term_cmp};
 
 use crate::symbol::Symbol;
@@ -81,52 +81,86 @@ pub(crate) enum Side {
     Narrower,
 }
 
-// Returns the concepts on this side of a concept, by any hierarchical link, in ascending order.
-fn concepts_on_side(
-    alloc: Global,
-    core: &Core,
-    side: Side,
-    n: ResNo,
-) -> Result<Vec<ResNo>, AllocError>
+/// The concepts that hierarchical links of any kind join to one, in ascending order on each side, and whether one of
+/// these links has a type.
+#[derive(Drop)]
+pub struct Sides {
+    pub concept: ResNo,
+    pub broader: Vec<ResNo>,
+    pub narrower: Vec<ResNo>,
+    pub is_typed: bool,
+}
+
+// Checks whether a hierarchical link of the concept has a type.
+pub(crate) fn has_typed_link(alloc: Global, core: &Core, n: ResNo) -> Result<bool, AllocError>
     requires { core.now.spent ≡ false }
-    ensures { IfOk result
-        (λ found. IsListing nat_cmp (IsOnSide core.now.links side n) found.items) }
+    ensures { IfOk result (λ found. found ≡ false → HasNoTypedLink core.now.links n) }
 {
-    match side {
-        Side::Broader => core.broader_of(alloc, n),
-        Side::Narrower => core.narrower_of(alloc, n),
+    let typed = core.typed_of(alloc, n)?;
+    Ok(!typed.is_empty())
+}
+
+/// Returns the concepts on both sides of a concept.
+pub fn sides_of(alloc: Global, core: &Core, n: ResNo) -> Result<Sides, AllocError>
+    requires { core.now.spent ≡ false }
+    ensures concept { IfOk result (λ sides. sides.concept ≡ n) }
+    ensures sides { IfOk result (λ sides. AreSides core.now.links sides) }
+{
+    Ok(Sides {
+        concept: n,
+        broader: core.broader_of(alloc, n)?,
+        narrower: core.narrower_of(alloc, n)?,
+        is_typed: has_typed_link(alloc, core, n)?,
+    })
+}
+
+impl Sides {
+    // Returns the concepts on this side.
+    fn concepts(&self, side: Side) -> &[ResNo]
+        ensures { result.now ≡ concepts_on self.now side }
+    {
+        match side {
+            Side::Broader => self.broader.as_slice(),
+            Side::Narrower => self.narrower.as_slice(),
+        }
     }
 }
 
-// Checks whether `m` is on this side of `n` by a link of this kind.
-fn is_linked(core: &Core, side: Side, kind: LinkKind, n: ResNo, m: ResNo) -> bool
+// Checks whether `m`, one of the concepts on this side, is there by a link of this kind.
+#[tactic(auto, using(crate::proofs::SideLemmas::untyped_link, crate::proofs::SideLemmas::only_untyped))]
+fn is_linked(core: &Core, sides: &Sides, side: Side, kind: LinkKind, m: ResNo) -> bool
     requires unspent { core.now.spent ≡ false }
     requires hierarchical { IsHierarchical kind }
-    ensures { IsTrue result ↔ IsLinkedOnSide core.now.links side kind n m }
+    requires sides { AreSides core.now.links sides.now }
+    requires on_side { IsOnSide core.now.links side sides.now.concept m }
+    ensures { IsTrue result ↔ IsLinkedOnSide core.now.links side kind sides.now.concept m }
 {
+    if !sides.is_typed {
+        return kind == LinkKind::Broader;
+    }
     match side {
-        Side::Broader => has_link(core, kind, n, m),
-        Side::Narrower => has_link(core, kind, m, n),
+        Side::Broader => has_link(core, kind, sides.concept, m),
+        Side::Narrower => has_link(core, kind, m, sides.concept),
     }
 }
 
-// Returns the concepts on this side of `n` by links of this kind, in ascending order.
-fn linked_concepts(
+// Returns the concepts that are on this side by links of this kind, in ascending order.
+pub(crate) fn linked_concepts(
     alloc: Global,
     core: &Core,
+    sides: &Sides,
     side: Side,
     kind: LinkKind,
-    n: ResNo,
 ) -> Result<Vec<ResNo>, AllocError>
     requires unspent { core.now.spent ≡ false }
     requires hierarchical { IsHierarchical kind }
-    ensures { let is_linked = IsLinkedOnSide core.now.links side kind n in
+    requires sides { AreSides core.now.links sides.now }
+    ensures { let is_linked = IsLinkedOnSide core.now.links side kind sides.now.concept in
         IfOk result (λ found. IsListing nat_cmp is_linked found.items) }
 {
-    let among = concepts_on_side(alloc, core, side, n)?;
     let mut found = Vec::new(alloc);
-    for m in &among {
-        if is_linked(core, side, kind, n, *m) {
+    for m in sides.concepts(side) {
+        if is_linked(core, sides, side, kind, *m) {
             found.push(*m)?;
         }
     }
@@ -137,27 +171,28 @@ fn linked_concepts(
 pub fn terms_under(
     alloc: Global,
     core: &Core,
-    n: ResNo,
+    sides: &Sides,
     tag: &Tag,
     symbol: Symbol,
 ) -> Result<Vec<Term>, AllocError>
-    requires { core.now.spent ≡ false }
-    ensures { let is_under = IsUnder (with_histories [] core.now) tag.now n symbol in
-        IfOk result (λ terms. IsListing term_cmp is_under terms.items) }
+    requires unspent { core.now.spent ≡ false }
+    requires sides { AreSides core.now.links sides.now }
+    ensures { let is_under = IsUnder (with_histories [] core.now) tag.now sides.now.concept symbol
+        in IfOk result (λ terms. IsListing term_cmp is_under terms.items) }
 {
     match symbol {
-        Symbol::ScopeNote => labels_in(alloc, core, n, LabelKind::Scope, tag),
-        Symbol::UsedFor => labels_in(alloc, core, n, LabelKind::Alt, tag),
+        Symbol::ScopeNote => labels_in(alloc, core, sides.concept, LabelKind::Scope, tag),
+        Symbol::UsedFor => labels_in(alloc, core, sides.concept, LabelKind::Alt, tag),
         Symbol::Broader(hierarchy) => {
-            let broader = linked_concepts(alloc, core, Side::Broader, hierarchy.kind(), n)?;
+            let broader = linked_concepts(alloc, core, sides, Side::Broader, hierarchy.kind())?;
             Ok(sorted_terms_of(alloc, core, broader.as_slice(), tag)?)
         }
         Symbol::Narrower(hierarchy) => {
-            let narrower = linked_concepts(alloc, core, Side::Narrower, hierarchy.kind(), n)?;
+            let narrower = linked_concepts(alloc, core, sides, Side::Narrower, hierarchy.kind())?;
             Ok(sorted_terms_of(alloc, core, narrower.as_slice(), tag)?)
         }
         Symbol::Related => {
-            let related = core.related_of(alloc, n)?;
+            let related = core.related_of(alloc, sides.concept)?;
             Ok(sorted_terms_of(alloc, core, related.as_slice(), tag)?)
         }
     }

@@ -1,22 +1,20 @@
 //! Computes the hierarchy of a scheme from the links of a core, and the text of its display.
-ghost use Rattle.std.specs.Prelude.{◌≡◌, ◌<◌, ◌≤◌, Contains, true, OnOk, IsPermutation, IsSorted, ◌↔◌, ℕ, Some, false, length, slice_get, IfOk, MatchOption, IsTrue};
-ghost use Rattle.std.specs.BTreeMap.{get};
-ghost use Rattle.std.specs.List.{filter_map};
-ghost use Rattle.std.specs.Ordering.{nat_cmp};
+ghost use Rattle.std.specs.Prelude.{◌≡◌, ◌<◌, ◌↔◌, [], true, false, OnOk, IsPermutation, IsSorted, ℕ, Some, None, length, IfOk, IsTrue};
 ghost use Rattle.thes_base.specs.Listing.{IsListing};
 ghost use Rattle.thes_base.specs.State.{State};
 ghost use Rattle.thes_core.specs.CoreView.{IsViewOf};
 ghost use Rattle.thes_vocab.specs.Vocabulary.{IsConceptOf};
 ghost use Rattle.thes_display.specs.ChildLists.{child_cmp, lists};
 ghost use Rattle.thes_display.specs.Lines.{untyped as no_types};
-ghost use Rattle.thes_display.specs.Hierarchical.{AreTerms, AreTypes, IsHierarchicalDisplay};
-ghost use Rattle.thes_display.specs.HierarchyParts.{AreHomes, AreRanks, CanFollowLinks, HaveOneRank, IsClosed, IsChild, IsHomeRank, AreBelow, IsTopByHomes};
+ghost use Rattle.thes_display.specs.EntryTerms.{HasNoTypedLink};
+ghost use Rattle.thes_display.specs.Hierarchical.{AreTerms, AreTypes, HasRank, IsHierarchicalDisplay};
+ghost use Rattle.thes_display.specs.HierarchyParts.{AreBelow, AreHomes, AreHomesSet, CanFollowLinks, HaveOneRank, IsChild, IsClosed, IsTopByHomes, rank_at};
 
-use crate::entry_terms::{has_link, sorted_terms_of};
+use crate::entry_terms::{has_link, has_typed_link, sorted_terms_of};
+use crate::ranks::{rank_of, ranks_at, ranks_of, set_rank};
 use crate::term::Term;
 use crate::walk::{Child, Types, hierarchy_text};
 use std::alloc::{AllocError, Global};
-use std::collections::BTreeMap;
 use thes_base::data::LinkKind;
 use thes_base::number::ResNo;
 use thes_base::text::Tag;
@@ -35,80 +33,14 @@ fn terms_of(alloc: Global, core: &Core, scheme: ResNo, tag: &Tag) -> Result<Vec<
     Ok(terms)
 }
 
-// Maps each concept to its rank: the index of its term in alphabetical order.
-#[tactic(auto, using(crate::proofs::RankLemmas::ranks_more, crate::proofs::RankLemmas::all_ranks))]
-fn ranks_of(alloc: Global, terms: &[Term]) -> Result<BTreeMap<ResNo, usize>, AllocError>
-    requires { HaveOneRank terms.now }
-    ensures { IfOk result (λ ranks. AreRanks terms.now (get nat_cmp ranks)) }
+// Checks whether the list has no home of a concept.
+fn is_homeless(homes: &[Option<usize>], child: usize) -> bool
+    ensures none { result ≡ true → rank_at homes.now child ≡ None }
+    ensures some { result ≡ false → (home : ℕ) × (rank_at homes.now child ≡ Some home) }
 {
-    let mut ranks = BTreeMap::new(alloc);
-    for (rank, term) in terms.iter().enumerate() {
-        ranks.insert(term.concept(), rank)?;
-    }
-    Ok(ranks)
-}
-
-// Returns the ranks of the concepts, in their order, without those that have no rank.
-fn ranks_at(
-    alloc: Global,
-    ranks: &BTreeMap<ResNo, usize>,
-    concepts: &[ResNo],
-) -> Result<Vec<usize>, AllocError>
-    ensures { IfOk result (λ found. found.items ≡ filter_map (get nat_cmp ranks.now) concepts.now) }
-{
-    let mut found = Vec::new(alloc);
-    for concept in concepts {
-        // A core doesn't know that its links are legal, so one may lead to another scheme's concept
-        // (DECISIONS.md, Displays and exports).
-        if let Some(rank) = ranks.get(concept) {
-            found.push(*rank)?;
-        }
-    }
-    Ok(found)
-}
-
-// Returns the least of the ranks, if there is one.
-fn least(ranks: &[usize]) -> Option<usize>
-    ensures { MatchOption result (length ranks.now ≡ 0)
-        (λ m. Contains ranks.now m × ((k : ℕ) → Contains ranks.now k → m ≤ k)) }
-{
-    let mut found: Option<usize> = None;
-    for rank in ranks {
-        found = match found {
-            Some(least) if least <= *rank => Some(least),
-            _ => Some(*rank),
-        };
-    }
-    found
-}
-
-// Returns the home of a concept: the least rank among its broader concepts, or None if none has a
-// rank.
-fn home_of(
-    alloc: Global,
-    core: &Core,
-    terms: &[Term],
-    ranks: &BTreeMap<ResNo, usize>,
-    rank: usize,
-) -> Result<Option<usize>, AllocError>
-    requires links { CanFollowLinks core.now terms.now (get nat_cmp ranks.now) }
-    requires within { rank < length terms.now }
-    ensures { IfOk result (λ home. IsHomeRank core.now.links terms.now rank home) }
-{
-    let broader = core.broader_of(alloc, terms[rank].concept())?;
-    let found = ranks_at(alloc, ranks, broader.as_slice())?;
-    Ok(least(found.as_slice()))
-}
-
-// Checks whether `rank` is the home of `child`.
-fn is_home(homes: &[Option<usize>], child: usize, rank: usize) -> bool
-    requires { child < length homes.now }
-    ensures at { result ≡ true → slice_get homes.now child ≡ Some (Some rank) }
-    ensures other { result ≡ false → slice_get homes.now child ≡ Some (Some rank) → ⊥ }
-{
-    match homes[child] {
-        Some(home) => home == rank,
-        None => false,
+    match rank_of(homes, child) {
+        Some(_) => false,
+        None => true,
     }
 }
 
@@ -119,91 +51,6 @@ fn sort_children(children: &mut Vec<Child>) -> Result<(), AllocError>
 {
     children.sort_by_key(|child| child.rank)?;
     Ok(())
-}
-
-// Returns the types of the links from a concept to a broader one, both given by rank.
-#[tactic(auto, using(crate::proofs::RankLemmas::rank_of_term))]
-fn types_at(core: &Core, terms: &[Term], child: usize, rank: usize) -> Types
-    requires unspent { core.now.spent ≡ false }
-    requires within { (child < length terms.now) × (rank < length terms.now) }
-    ensures { AreTypes core.now.links terms.now result child rank }
-{
-    let (a, b) = (terms[child].concept(), terms[rank].concept());
-    Types {
-        generic: has_link(core, LinkKind::BroaderGeneric, a, b),
-        partitive: has_link(core, LinkKind::BroaderPartitive, a, b),
-        instantial: has_link(core, LinkKind::BroaderInstantial, a, b),
-    }
-}
-
-// Returns the children of a concept, sorted by rank: its narrower concepts that have a rank,
-// whether or not the concept is their home.
-fn children_of(
-    alloc: Global,
-    core: &Core,
-    terms: &[Term],
-    ranks: &BTreeMap<ResNo, usize>,
-    homes: &[Option<usize>],
-    rank: usize,
-) -> Result<Vec<Child>, AllocError>
-    requires links { CanFollowLinks core.now terms.now (get nat_cmp ranks.now) }
-    requires within { rank < length terms.now }
-    requires homes { AreHomes core.now.links terms.now (length terms.now) homes.now }
-    ensures { IfOk result
-        (λ children. IsListing child_cmp (IsChild core.now.links terms.now rank) children.items) }
-{
-    let narrower = core.narrower_of(alloc, terms[rank].concept())?;
-    let found = ranks_at(alloc, ranks, narrower.as_slice())?;
-    let mut children = Vec::new(alloc);
-    for child in &found {
-        let types = types_at(core, terms, *child, rank);
-        let at_home = is_home(homes, *child, rank);
-        children.push(Child {
-            rank: *child,
-            types,
-            at_home,
-        })?;
-    }
-    sort_children(&mut children)?;
-    Ok(children)
-}
-
-// Returns the homes of all concepts, in the order of their ranks.
-fn homes_of(
-    alloc: Global,
-    core: &Core,
-    terms: &[Term],
-    ranks: &BTreeMap<ResNo, usize>,
-) -> Result<Vec<Option<usize>>, AllocError>
-    requires { CanFollowLinks core.now terms.now (get nat_cmp ranks.now) }
-    ensures { IfOk result
-        (λ homes. AreHomes core.now.links terms.now (length terms.now) homes.items) }
-{
-    let mut homes = Vec::new(alloc);
-    for rank in 0..terms.len() {
-        homes.push(home_of(alloc, core, terms, ranks, rank)?)?;
-    }
-    Ok(homes)
-}
-
-// Returns the children of all concepts, in the order of their ranks.
-fn below_of(
-    alloc: Global,
-    core: &Core,
-    terms: &[Term],
-    ranks: &BTreeMap<ResNo, usize>,
-    homes: &[Option<usize>],
-) -> Result<Vec<Vec<Child>>, AllocError>
-    requires links { CanFollowLinks core.now terms.now (get nat_cmp ranks.now) }
-    requires homes { AreHomes core.now.links terms.now (length terms.now) homes.now }
-    ensures { IfOk result
-        (λ below. AreBelow core.now.links terms.now (length terms.now) (lists below.items)) }
-{
-    let mut below = Vec::new(alloc);
-    for rank in 0..terms.len() {
-        below.push(children_of(alloc, core, terms, ranks, homes, rank)?)?;
-    }
-    Ok(below)
 }
 
 // Returns the types of a line without a typed link.
@@ -217,13 +64,108 @@ fn untyped() -> Types
     }
 }
 
-// Returns the top concepts, sorted by rank: those without a home.
-fn tops_of(alloc: Global, homes: &[Option<usize>]) -> Result<Vec<Child>, AllocError>
-    ensures { IfOk result (λ tops. IsListing child_cmp (IsTopByHomes homes.now) tops.items) }
+// Returns the types of the links from a concept to a broader one, both given by rank.
+#[tactic(auto, using(crate::proofs::RankLemmas::rank_of_term, crate::proofs::SideLemmas::no_type))]
+fn types_at(core: &Core, terms: &[Term], is_typed: bool, child: usize, rank: usize) -> Types
+    requires unspent { core.now.spent ≡ false }
+    requires within { (child < length terms.now) × (rank < length terms.now) }
+    requires typed { is_typed ≡ false → (n : ℕ) → HasRank terms.now n rank
+        → HasNoTypedLink core.now.links n }
+    ensures { AreTypes core.now.links terms.now result child rank }
+{
+    if !is_typed {
+        return untyped();
+    }
+    let (a, b) = (terms[child].concept(), terms[rank].concept());
+    Types {
+        generic: has_link(core, LinkKind::BroaderGeneric, a, b),
+        partitive: has_link(core, LinkKind::BroaderPartitive, a, b),
+        instantial: has_link(core, LinkKind::BroaderInstantial, a, b),
+    }
+}
+
+// Returns the children of a concept, sorted by rank: its narrower concepts that have a rank. It is the home of those
+// that have none among the concepts before it.
+fn children_of(
+    alloc: Global,
+    core: &Core,
+    terms: &[Term],
+    ranks: &[Option<usize>],
+    homes: &[Option<usize>],
+    rank: usize,
+) -> Result<Vec<Child>, AllocError>
+    requires links { CanFollowLinks core.now terms.now (rank_at ranks.now) }
+    requires within { rank < length terms.now }
+    requires homes { AreHomes core.now.links terms.now rank homes.now }
+    ensures { IfOk result
+        (λ children. IsListing child_cmp (IsChild core.now.links terms.now rank) children.items) }
+{
+    let n = terms[rank].concept();
+    let narrower = core.narrower_of(alloc, n)?;
+    let is_typed = has_typed_link(alloc, core, n)?;
+    let found = ranks_at(alloc, ranks, narrower.as_slice())?;
+    let mut children = Vec::new(alloc);
+    for child in &found {
+        let types = types_at(core, terms, is_typed, *child, rank);
+        let at_home = is_homeless(homes, *child);
+        children.push(Child {
+            rank: *child,
+            types,
+            at_home,
+        })?;
+    }
+    sort_children(&mut children)?;
+    Ok(children)
+}
+
+// Makes a concept the home of those of its children that are at home.
+fn set_homes(
+    homes: &mut Vec<Option<usize>>,
+    children: &[Child],
+    rank: usize,
+) -> Result<(), AllocError>
+    ensures { OnOk result (AreHomesSet rank children.now homes.old.items homes.new.items) }
+{
+    for child in children {
+        if child.at_home {
+            set_rank(homes, child.rank, rank)?;
+        }
+    }
+    Ok(())
+}
+
+// Returns the children of all concepts, in the order of their ranks, and lists the homes.
+fn below_of(
+    alloc: Global,
+    core: &Core,
+    terms: &[Term],
+    ranks: &[Option<usize>],
+    homes: &mut Vec<Option<usize>>,
+) -> Result<Vec<Vec<Child>>, AllocError>
+    requires links { CanFollowLinks core.now terms.now (rank_at ranks.now) }
+    requires none { homes.old.items ≡ [] }
+    ensures below { IfOk result
+        (λ below. AreBelow core.now.links terms.now (length terms.now) (lists below.items)) }
+    ensures homes { OnOk result
+        (AreHomes core.now.links terms.now (length terms.now) homes.new.items) }
+{
+    let mut below = Vec::new(alloc);
+    for rank in 0..terms.len() {
+        let children = children_of(alloc, core, terms, ranks, homes, rank)?;
+        set_homes(homes, children.as_slice(), rank)?;
+        below.push(children)?;
+    }
+    Ok(below)
+}
+
+// Returns the top concepts, sorted by rank: those of the first `count` ranks that have no home.
+fn tops_of(alloc: Global, homes: &[Option<usize>], count: usize) -> Result<Vec<Child>, AllocError>
+    ensures { IfOk result
+        (λ tops. IsListing child_cmp (IsTopByHomes homes.now count) tops.items) }
 {
     let mut tops = Vec::new(alloc);
-    for rank in 0..homes.len() {
-        if homes[rank].is_none() {
+    for rank in 0..count {
+        if is_homeless(homes, rank) {
             tops.push(Child {
                 rank,
                 types: untyped(),
@@ -247,10 +189,11 @@ pub fn hierarchical_text(
 {
     let owned = terms_of(alloc, core, scheme, tag)?;
     let terms = owned.as_slice();
-    let ranks = ranks_of(alloc, terms)?;
-    let homes = homes_of(alloc, core, terms, &ranks)?;
-    let tops = tops_of(alloc, homes.as_slice())?;
-    let below = below_of(alloc, core, terms, &ranks, homes.as_slice())?;
+    let owned_ranks = ranks_of(alloc, terms)?;
+    let ranks = owned_ranks.as_slice();
+    let mut homes = Vec::new(alloc);
+    let below = below_of(alloc, core, terms, ranks, &mut homes)?;
+    let tops = tops_of(alloc, homes.as_slice(), terms.len())?;
     let text = hierarchy_text(alloc, terms, tops, below)?;
     Ok(text)
 }

@@ -1,8 +1,12 @@
 use Rattle.std.proofs.lemmas.Grind.{common_steps}
-use Rattle.std.proofs.Common.{◌∙◌, ◌++◌, ◌∷◌, [], ap, sym, take, arith}
+use Rattle.std.proofs.Common.{◌∙◌, ◌++◌, ◌∷◌, [], List, ap, subst, sym, take, arith}
 use Rattle.std.proofs.lemmas.List.{take_all, take_more}
 use Rattle.thes_core.specs.CoreView.{with_histories}
-use Rattle.thes_display.specs.Alphabetical.{IsEntry}
+use Rattle.thes_base.specs.Listing.{IsListing}
+use Rattle.thes_display.specs.declared.entry.Heading.{Heading}
+use Rattle.thes_display.specs.Alphabetical.{IsEntry, IsHeading, heading_cmp}
+use Rattle.thes_display.specs.HeadingIndex.{ArePlaces}
+use Rattle.thes_display.specs.HierarchyParts.{rank_at}
 use Rattle.thes_display.proofs.BareStateLemmas.{alphabetical_held}
 use Rattle.thes_display.proofs.TextAppendLemmas.{texts_more_at}
 use Rattle.thes_display.proofs.entry.alphabetical_text.Goals as goal
@@ -16,12 +20,16 @@ loop-heading-preserved c =
     ∙ ap (λ z. take i xs ++ z ∷ []) (sym c.heading-item.is))
 
 pub returns : goal.returns
-returns c = grind (
-  arith,
-  common_steps,
-  alphabetical_held,
-  take_all,
-  c.deref-heading-items.ensures.value,
-  c.in_ok-headings.ensures,
-  c.loop-heading.invariant,
-)
+returns c = grind (arith, common_steps, alphabetical_held, take_all, c.deref-heading-items.ensures.value, c.in_ok-headings.ensures, c.loop-heading.invariant)
+
+pub write_entry-requires-clause-index : goal.write_entry-requires-clause-index
+write_entry-requires-clause-index c =
+    let same = sym c.in_ok-index.ensures.headings in
+    let listed = subst (λ (hs : List Heading). IsListing heading_cmp
+    (IsHeading (with_histories [] c.args.core.now) c.args.tag.now c.args.scheme) hs) same c.in_ok-headings.ensures in
+    record {
+      rises = listed.rises;
+      texts = λ h i. (listed.sound h i).1;
+      places = subst (λ (hs : List Heading). ArePlaces hs (rank_at c.in_ok-index.index.places.items)) same
+          c.in_ok-index.ensures.places;
+    }

@@ -14,7 +14,7 @@ returns-in_ok-write_symbols c =
           c.args.heading.now.term (shown ++ (10 ∷ a.addition))) (sym c.if-heading.false) (
             a.addition,
             subst (λ n. AreTexts (AreLinesOf (with_histories [] c.args.core.now) c.args.tag.now n) symbols
-                a.addition) c.concept-n.ensures a.one,
+                a.addition) (c.in_ok-sides.ensures.concept ∙ c.concept-n.ensures) a.one,
             λ i. shown ++ (10 ∷ a.addition),
           );
       is = a.is ∙ ap (λ t. t ++ a.addition) (c.in_ok-push.ensures.items ∙ ap (λ t. t ++ 10 ∷ [])

@@ -1,5 +1,4 @@
-use Rattle.std.proofs.Common.{◌∙◌, ◌++◌, ◌∷◌, [], sym, ap, subst, take, ℕ, List, arith, true≢false}
-use Rattle.std.specs.List.Sorted.{IsStrictlySortedBy}
+use Rattle.std.proofs.Common.{◌≡◌, ◌∙◌, ◌++◌, ◌∷◌, [], sym, ap, subst, take, ℕ, List, arith, true≢false}
 use Rattle.std.specs.Ordering.{nat_cmp}
 use Rattle.std.proofs.lemmas.List.{take_more}
 use Rattle.thes_base.specs.declared.data.LinkKind.{LinkKind}
@@ -16,15 +15,26 @@ beside_linked : (links : Links) (side : Side) (kind : LinkKind) (n m : ℕ) → 
     → IsLinkedOnSide links side kind n m → IsOnSide links side n m
 beside_linked links side kind n m is l = grind (arith)
 
+abbrev listed_of : (links : Links) (side : Side) (n : ℕ) (xs ys : List ℕ) → xs ≡ ys
+    → IsListing nat_cmp (IsOnSide links side n) ys → IsListing nat_cmp (IsOnSide links side n) xs
+listed_of links side n xs ys e = subst (IsListing nat_cmp (IsOnSide links side n)) (sym e)
+
 pub loop-m-init : goal.loop-m-init
-loop-m-init c = chosen_none nat_cmp _ (subst (IsStrictlySortedBy nat_cmp) (sym c.deref-m-items.ensures.value)
-    c.in_ok-among.ensures.rises) _ _ c.new-found.ensures.items
+loop-m-init c = chosen_none nat_cmp _ (listed_of c.args.core.now.links c.args.side c.args.sides.now.concept _ _
+    c.concepts-m-items.ensures (c.requires.sides.each_side c.args.side)).rises _ _ c.new-found.ensures.items
+
+pub is_linked-requires-clause-on_side : goal.is_linked-requires-clause-on_side
+is_linked-requires-clause-on_side c =
+    let listed = listed_of c.args.core.now.links c.args.side c.args.sides.now.concept _ _ c.concepts-m-items.ensures
+    (c.requires.sides.each_side c.args.side) in
+    listed.sound c.m-item.result (c.loop-m.m-index, c.loop-m-test.true, sym c.m-item.is)
 
 -- A concept linked by this kind extends the listing.
 pub loop-m-preserved : goal.loop-m-preserved
 loop-m-preserved c =
-    let xs : List ℕ = c.deref-m-items.result.now in
-    let rises = subst (IsStrictlySortedBy nat_cmp) (sym c.deref-m-items.ensures.value) c.in_ok-among.ensures.rises in
+    let xs : List ℕ = c.concepts-m-items.result.now in
+    let rises = (listed_of c.args.core.now.links c.args.side c.args.sides.now.concept _ _ c.concepts-m-items.ensures
+    (c.requires.sides.each_side c.args.side)).rises in
     let i = c.loop-m.m-index in
     let n : ℕ = c.m-item.result in
     let t = take_more xs i n (omega arith) ∙ ap (λ z. take i xs ++ z ∷ []) (sym c.m-item.is) in
@@ -39,9 +49,10 @@ loop-m-preserved c =
 
 pub returns : goal.returns
 returns c =
-    let xs : List ℕ = c.deref-m-items.result.now in
-    let Is = IsOnSide c.args.core.now.links c.args.side c.args.n in
-    let listed = subst (IsListing nat_cmp Is) (sym c.deref-m-items.ensures.value) c.in_ok-among.ensures in
+    let xs : List ℕ = c.concepts-m-items.result.now in
+    let Is = IsOnSide c.args.core.now.links c.args.side c.args.sides.now.concept in
+    let listed = listed_of c.args.core.now.links c.args.side c.args.sides.now.concept _ _ c.concepts-m-items.ensures
+    (c.requires.sides.each_side c.args.side) in
     chosen_whole nat_cmp xs listed.rises _ Is c.loop-m.m-index _ listed (omega arith)
-    (λ m l. beside_linked c.args.core.now.links c.args.side c.args.kind c.args.n m c.requires.hierarchical l)
-    c.loop-m.invariant
+    (λ m l. beside_linked c.args.core.now.links c.args.side c.args.kind c.args.sides.now.concept m
+    c.requires.hierarchical l) c.loop-m.invariant

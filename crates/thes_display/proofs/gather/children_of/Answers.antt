@@ -2,7 +2,6 @@ use Rattle.std.proofs.Common.{◌≡◌, ◌∙◌, ◌<◌, ap, sym, subst, tak
 use Rattle.std.proofs.Common.{IsPermutation, IsSorted, arith}
 use Rattle.std.specs.List.{filter_map}
 use Rattle.std.specs.Ordering.{nat_cmp}
-use Rattle.std.specs.BTreeMap.{get}
 use Rattle.std.proofs.lemmas.List.{take_more}
 use Rattle.std.proofs.lemmas.List.Elements.{Contains-get_or}
 use Rattle.thes_base.specs.Links.{Links}
@@ -11,12 +10,12 @@ use Rattle.thes_base.specs.Views.{HasBroader}
 use Rattle.thes_display.specs.declared.walk.Child.{Child}
 use Rattle.thes_display.specs.Order.{Term}
 use Rattle.thes_display.specs.ChildLists.{child_cmp}
+use Rattle.thes_display.specs.EntryTerms.{HasNoTypedLink}
 use Rattle.thes_display.specs.Hierarchical.{HasRank, IsNarrowerTerm}
-use Rattle.thes_display.specs.HierarchyParts.{AreRanks, IsChild}
+use Rattle.thes_display.specs.HierarchyParts.{AreRanks, IsChild, rank_at}
 use Rattle.thes_display.proofs.RankLemmas.{rank_of_term}
-use Rattle.thes_display.proofs.GatherLemmas.{rank_within}
+use Rattle.thes_display.proofs.GatherLemmas.{one_concept, rank_within}
 use Rattle.thes_display.proofs.ChildLemmas.{AreChildren, children_none, children_more, children_listed, broader_at}
-use Rattle.thes_display.proofs.ChildLemmas.{known_home}
 use Rattle.thes_display.proofs.gather.children_of.Goals as goal
 
 -- The ranks found are those of the narrower concepts.
@@ -41,41 +40,41 @@ module _ (links : Links) (terms : List Term) (rank : ℕ) (ranks : ℕ → Optio
 pub loop-child-init : goal.loop-child-init
 loop-child-init c = children_none c.args.core.now.links c.args.terms.now c.args.rank _ c.new-children.ensures.items
 
-pub is_home-at_home-requires : goal.is_home-at_home-requires
-is_home-at_home-requires c =
-    let r = narrower_at c.args.core.now.links c.args.terms.now c.args.rank (get nat_cmp c.args.ranks.now)
-    c.requires.links.ranks c.concept.ensures c.requires.within c.index-terms-rank.is c.in_ok-narrower.ensures
-    c.deref-child-items.ensures.value c.as_slice.ensures.value c.in_ok-found.ensures c.loop-child.child-index
-    (omega arith) in
-    known_home c.args.core.now.links c.args.terms.now c.args.rank c.args.homes.now c.requires.homes _ r
-
 pub types_at-types-requires-clause-within : goal.types_at-types-requires-clause-within
 types_at-types-requires-clause-within c =
-    let r = narrower_at c.args.core.now.links c.args.terms.now c.args.rank (get nat_cmp c.args.ranks.now)
-    c.requires.links.ranks c.concept.ensures c.requires.within c.index-terms-rank.is c.in_ok-narrower.ensures
+    let r = narrower_at c.args.core.now.links c.args.terms.now c.args.rank (rank_at c.args.ranks.now)
+    c.requires.links.ranks c.concept-n.ensures c.requires.within c.index-terms-rank.is c.in_ok-narrower.ensures
     c.deref-child-items.ensures.value c.as_slice.ensures.value c.in_ok-found.ensures c.loop-child.child-index
     (omega arith) in
     (rank_within c.args.terms.now r.lower _ r.lower_rank, c.requires.within)
+
+-- The concept has only one number.
+pub types_at-types-requires-clause-typed : goal.types_at-types-requires-clause-typed
+types_at-types-requires-clause-typed c = λ f m h.
+    let terms = c.args.terms.now in
+    let here = subst (λ k. HasRank terms k c.args.rank) (sym c.concept-n.ensures)
+    (rank_of_term terms c.args.rank c.index-terms-rank.result c.requires.within c.index-terms-rank.is) in
+    subst (HasNoTypedLink c.args.core.now.links) (one_concept terms c.concept-n.result m c.args.rank here h)
+    (c.in_ok-is_typed.ensures f)
 
 pub loop-child-preserved : goal.loop-child-preserved
 loop-child-preserved c =
     let ks : List ℕ = c.deref-child-items.result.now in
     let i = c.loop-child.child-index in
-    let r = narrower_at c.args.core.now.links c.args.terms.now c.args.rank (get nat_cmp c.args.ranks.now)
-    c.requires.links.ranks c.concept.ensures c.requires.within c.index-terms-rank.is c.in_ok-narrower.ensures
+    let r = narrower_at c.args.core.now.links c.args.terms.now c.args.rank (rank_at c.args.ranks.now)
+    c.requires.links.ranks c.concept-n.ensures c.requires.within c.index-terms-rank.is c.in_ok-narrower.ensures
     c.deref-child-items.ensures.value c.as_slice.ensures.value c.in_ok-found.ensures i (omega arith) in
     children_more c.args.core.now.links c.args.terms.now c.args.rank c.args.homes.now c.requires.homes (take i ks)
-    (take (i + 1) ks) _ _ _ c.types_at-types.result c.is_home-at_home.result c.loop-child.invariant r
-    c.types_at-types.ensures c.is_home-at_home.ensures.at c.is_home-at_home.ensures.other
+    (take (i + 1) ks) _ _ _ c.types_at-types.result c.is_homeless-at_home.result c.loop-child.invariant r
+    c.types_at-types.ensures c.is_homeless-at_home.ensures.none c.is_homeless-at_home.ensures.some
     c.in_ok-push.ensures.items
     (take_more ks i 0 (omega arith))
 
 pub returns : goal.returns
 returns c =
     let ks : List ℕ = c.deref-child-items.result.now in
-    children_are c.args.core.now.links c.args.terms.now c.args.rank (get nat_cmp c.args.ranks.now)
-    c.requires.links.ranks
-    c.concept.ensures c.requires.within c.index-terms-rank.is c.in_ok-narrower.ensures
+    children_are c.args.core.now.links c.args.terms.now c.args.rank (rank_at c.args.ranks.now) c.requires.links.ranks
+    c.concept-n.ensures c.requires.within c.index-terms-rank.is c.in_ok-narrower.ensures
     c.deref-child-items.ensures.value c.as_slice.ensures.value c.in_ok-found.ensures c.loop-child.children.items _
     (subst (λ (xs : List ℕ). AreChildren c.args.core.now.links c.args.terms.now c.args.rank xs
     c.loop-child.children.items) (take_all c.loop-child.child-index ks (omega arith)) c.loop-child.invariant)

@@ -1,25 +1,29 @@
-use Rattle.std.proofs.Common.{◌∙◌, ◌++◌, ◌∷◌, [], ap, true, None}
-use Rattle.std.proofs.lemmas.Option.{slice_get-get_or}
-use Rattle.thes_display.specs.ChildLists.{child}
-use Rattle.thes_display.proofs.TopLemmas.{tops_none, tops_whole, by_home}
+use Rattle.std.proofs.Common.{◌≡◌, ◌∙◌, ◌++◌, ◌∷◌, [], ap, true, subst, arith}
+use Rattle.thes_base.specs.Listing.{IsListing}
+use Rattle.thes_display.specs.ChildLists.{child, child_cmp}
+use Rattle.thes_display.specs.HierarchyParts.{IsTopByHomes}
+use Rattle.thes_display.proofs.TopLemmas.{tops_none, tops_more, tops_same}
 use Rattle.thes_display.proofs.gather.tops_of.Goals as goal
-use Rattle.thes_display.proofs.gather.tops_of.Goals.{then-is_none+in_ok-push, else-is_none}
+use Rattle.thes_display.proofs.gather.tops_of.Goals.{then-is_homeless+in_ok-push, else-is_homeless}
 
 pub loop-rank-init : goal.loop-rank-init
 loop-rank-init c = tops_none c.args.homes.now _ c.new-tops.ensures.items
 
 pub loop-rank-preserved : goal.loop-rank-preserved
 loop-rank-preserved c =
-    let at = slice_get-get_or c.args.homes.now c.loop-rank.rank None c.loop-rank-test.true in
-    let is = c.is_none.ensures in
-    elim c.if-is_none.branch [
-      | then-is_none+in_ok-push w ↦ by_home c.args.homes.now c.loop-rank.rank c.loop-rank.tops.items
-          c.if-is_none.tops.items _ c.is_none.result c.loop-rank.invariant at is (λ e. ap (λ v. v.items) w.tops-is
-          ∙ w.in_ok-push.ensures.items ∙ ap (λ t. c.loop-rank.tops.items ++ child c.loop-rank.rank t true ∷ [])
-          w.untyped.ensures) (λ e. absurd (cc))
-      | else-is_none w ↦ by_home c.args.homes.now c.loop-rank.rank c.loop-rank.tops.items c.if-is_none.tops.items _
-          c.is_none.result c.loop-rank.invariant at is (λ e. absurd (cc)) (λ e. ap (λ v. v.items) w.tops-is)
+    elim c.if-is_homeless.branch [
+      | then-is_homeless+in_ok-push w ↦ tops_more c.args.homes.now c.loop-rank.rank c.loop-rank.tops.items
+          c.if-is_homeless.tops.items c.loop-rank.invariant (c.is_homeless.ensures.none w.if-is_homeless.true)
+          (ap (λ v. v.items) w.tops-is ∙ w.in_ok-push.ensures.items
+          ∙ ap (λ t. c.loop-rank.tops.items ++ child c.loop-rank.rank t true ∷ []) w.untyped.ensures)
+      | else-is_homeless w ↦ tops_same c.args.homes.now c.loop-rank.rank c.loop-rank.tops.items
+          c.if-is_homeless.tops.items c.loop-rank.invariant (c.is_homeless.ensures.some w.if-is_homeless.false)
+          (ap (λ v. v.items) w.tops-is)
     ]
 
 pub returns : goal.returns
-returns c = tops_whole c.args.homes.now c.loop-rank.rank _ c.loop-rank-test.false c.loop-rank.invariant
+returns c =
+    let past = c.loop-rank-test.false in
+    let within = c.loop-rank.auto.rank-end in
+    let all : c.loop-rank.rank ≡ c.args.count = omega (arith, past, within) in
+    subst (λ m. IsListing child_cmp (IsTopByHomes c.args.homes.now m) c.loop-rank.tops.items) all c.loop-rank.invariant

@@ -1,12 +1,10 @@
 use Rattle.std.proofs.Common.{◌≡◌, ◌∙◌, ◌++◌, ◌∷◌, [], ap, sym, take, ℕ, List, Option, None, arith, append-nil, ◌+◌}
 use Rattle.std.specs.List.{filter_map, cons_option}
-use Rattle.std.specs.Option.{option_copied}
-use Rattle.std.specs.Ordering.{nat_cmp}
-use Rattle.std.specs.BTreeMap.{get}
+use Rattle.thes_display.specs.HierarchyParts.{rank_at}
 use Rattle.std.proofs.lemmas.List.{take_more}
 use Rattle.std.proofs.lemmas.List.Elements.{filter_map-append}
-use Rattle.thes_display.proofs.gather.ranks_at.Goals as goal
-use Rattle.thes_display.proofs.gather.ranks_at.Goals.{in-Some+in_ok-push, in_default}
+use Rattle.thes_display.proofs.ranks.ranks_at.Goals as goal
+use Rattle.thes_display.proofs.ranks.ranks_at.Goals.{in-Some+in_ok-push, in_default}
 
 -- The ranks of a list with one more concept are those found before, followed by the rank of that concept if it has one.
 one_more : (f : ℕ → Option ℕ) (found new : List ℕ) (concepts more : List ℕ) (n : ℕ) (o : Option ℕ) → found
@@ -21,13 +19,14 @@ loop-concept-preserved c =
     let i = c.loop-concept.concept-index in
     let n : ℕ = c.concept-item.result in
     let more = take_more xs i n (omega arith) ∙ ap (λ z. take i xs ++ z ∷ []) (sym c.concept-item.is) in
-    elim c.match-get.branch [
-      | in-Some+in_ok-push w ↦ one_more (get nat_cmp c.args.ranks.now) c.loop-concept.found.items
-          c.match-get.found.items (take i xs) (take (i + 1) xs) n _ c.loop-concept.invariant more
-          (sym c.get.ensures.value ∙ ap option_copied w.in-Some.is) (ap (λ v. v.items) w.found-is
+    let at_concept = ap (rank_at c.args.ranks.now) (sym c.get.ensures.value) ∙ sym c.rank_of.ensures in
+    elim c.match-rank_of.branch [
+      | in-Some+in_ok-push w ↦ one_more (rank_at c.args.ranks.now) c.loop-concept.found.items
+          c.match-rank_of.found.items (take i xs) (take (i + 1) xs) n _ c.loop-concept.invariant more
+          (at_concept ∙ w.in-Some.is) (ap (λ v. v.items) w.found-is
           ∙ w.in_ok-push.ensures.items)
-      | in_default w ↦ one_more (get nat_cmp c.args.ranks.now) c.loop-concept.found.items c.match-get.found.items
+      | in_default w ↦ one_more (rank_at c.args.ranks.now) c.loop-concept.found.items c.match-rank_of.found.items
           (take i xs) (take (i + 1) xs) n None c.loop-concept.invariant more
-          (sym c.get.ensures.value ∙ ap option_copied w.in_default.is) (ap (λ v. v.items) w.found-is
+          (at_concept ∙ w.in_default.is) (ap (λ v. v.items) w.found-is
           ∙ sym (append-nil c.loop-concept.found.items))
     ]
