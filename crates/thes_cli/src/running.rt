@@ -2,7 +2,7 @@
 ghost use Rattle.std.specs.Prelude.{◌≡◌, false};
 ghost use Rattle.sqlite_wal.specs.Files.{image_at};
 ghost use Rattle.thes_sqlite.specs.DatabaseFiles.{HoldsStore};
-ghost use Rattle.thes_jobs.specs.Databases.{AreCleanFiles, HoldTables, KeepsStores};
+ghost use Rattle.thes_jobs.specs.Databases.{AreCleanFiles, ClosesFrom, HoldTables, KeepsStores, OpensFrom};
 ghost use Rattle.thes_jobs.specs.declared.store_files.StoreFiles.{StoreFiles};
 ghost use Rattle.thes_cli.specs.Running.{MigratesInFile, RunsPlan};
 ghost use Rattle.thes_cli.specs.Stores.{LeadsIfClosed};
@@ -34,7 +34,8 @@ fn migrate<S: Alter, O, L: Drop, D: Databases<Connection<S>, O, L>, R, W: Write,
 ) -> u8
     requires idle { conn.in_transaction ≡ false }
     requires streams { AreFresh streams.old }
-    ensures { MigratesInFile W.contents E.contents S.Store streams.old result streams.new file conn }
+    ensures { MigratesInFile W.contents E.contents S.Store streams.old result streams.new D.closes
+        file conn }
 {
     let (output, errors) = (&mut streams.output, &mut streams.errors);
     let (status, conn) = migrate_in_database(rt.alloc(), file.as_str(), conn, output, errors);
@@ -61,7 +62,8 @@ fn run_job<
     requires databases { KeepsStores S.Store O.held D.opens D.closes D.is_clean D.holds }
     requires streams { AreFresh streams.old }
     ensures runs { RunsPlan ⟦<File as Read>⟧.remaining R.remaining W.contents E.contents S.Store
-        O.held D.is_clean D.holds O planned streams.old result.0 result.1 streams.new }
+        O.held D.opens D.closes D.is_clean D.holds O planned streams.old result.0 result.1
+        streams.new }
     ensures leads { LeadsIfClosed E.contents O.held D.is_clean D.holds streams.old.errors
         streams.new.errors result.0 result.1 }
 {
@@ -95,6 +97,7 @@ pub fn run_in_files<S: Start + Contents, R: Read, W: Write, E: Write>(
     requires { AreFresh streams.old }
     ensures runs { RunsPlan ⟦<File as Read>⟧.remaining R.remaining W.contents E.contents
         ⟦<FileStore<FileFrom<S>> as Store>⟧ (λ t. HoldsStore (image_at S.Start) t)
+        (OpensFrom (image_at S.Start)) (ClosesFrom ⟦<FileFrom<S> as Disk>⟧)
         (AreCleanFiles ⟦<FileFrom<S> as Disk>⟧) (HoldTables ⟦<FileFrom<S> as Disk>⟧)
         (StoreFiles S) planned streams.old result.0 result.1 streams.new }
     ensures leads { LeadsIfClosed E.contents (λ t. HoldsStore (image_at S.Start) t)

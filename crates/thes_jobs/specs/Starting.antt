@@ -47,12 +47,13 @@ job_in_file task file setting = record { task = task; file = Some file; setting 
 abbrev pub job_in_memory : Task → StoreSetting → Job
 job_in_memory task setting = record { task = task; file = None; setting = setting }
 
-module _ {S : Type 0} (store : Ghosts S) where
-  -- The connection is that of a database that was opened for the task, and in which the tables of a new store were made,
-  -- with this base, if it was to have them.
+module _ {S : Type 0} (store : Ghosts S) (opens : Held S → Type 0) where
+  -- The connection is that of a database that was opened for the task, and in which nothing was done but that the tables
+  -- of a new store were made, with this base, if it was to have them.
   pub record IsPreparedFor (task : Task) (base : List ℕ) (conn : Held S) : Type 0 where
     pub database : StoreDatabase S
     pub opens_it : IsOpenedFor task database
+    pub opened : opens database.conn
     pub is_check : Bool
     pub checks : IsTrue is_check ↔ (task ≡ Check)
     pub prepares : PreparesStore store database.opening is_check base database.conn (Ok tt) conn
@@ -85,7 +86,7 @@ module _ {S : Type 0} (store : Ghosts S) where
   -- wasn't found.
   pub data IsUnpreparedStore (task : Task) (base : List ℕ) (reported : StoreTrouble × Fault) : Type 0 where
     unopened : IsUnopenedStore task reported → IsUnpreparedStore task base reported
-    unprepared : (opened : StoreDatabase S) → IsOpenedFor task opened → (is_check : Bool) → (left : Held S)
+    unprepared : (opened : StoreDatabase S) → IsOpenedFor task opened → opens opened.conn → (is_check : Bool) → (left : Held S)
         → PreparesStore store opened.opening is_check base opened.conn (Err reported) left
         → IsUnpreparedStore task base reported
     lost : reported.0 ≡ Unreadable → IsUnpreparedStore task base reported

@@ -63,18 +63,12 @@ impl<'r, S: Start + Contents> Databases<
     StoreFiles<'r, S>,
     Option<Files<FileFrom<S>>>,
 > for FileDatabases<'r, S> {
-    ghost use Rattle.std.specs.Prelude.{◌≡◌, false};
-    ghost use Rattle.sqlite.specs.Files.{file_state};
     ghost use Rattle.sqlite_wal.specs.Files.{image_at};
-    ghost use Rattle.thes_sqlite.specs.DatabaseFiles.{HoldsStore};
-    ghost use Rattle.thes_sqlite.specs.KeeperView.{ServesTables};
-    ghost use Rattle.thes_jobs.specs.Databases.{AreCleanFiles, ClosesStore, HoldTables};
+    ghost use Rattle.thes_jobs.specs.Databases.{AreCleanFiles, ClosesFrom, HoldTables, OpensFrom};
 
-    ghost opens = { λ conn. (conn.in_transaction ≡ false)
-        × ServesTables (λ t. HoldsStore (image_at S.Start) t) (file_state conn) };
+    ghost opens = { OpensFrom (image_at S.Start) };
 
-    ghost closes = { λ conn files. AreCleanFiles ⟦<FileFrom<S> as Disk>⟧ files
-        → ClosesStore (HoldTables ⟦<FileFrom<S> as Disk>⟧ files) (file_state conn) };
+    ghost closes = { ClosesFrom ⟦<FileFrom<S> as Disk>⟧ };
 
     ghost is_clean = { AreCleanFiles ⟦<FileFrom<S> as Disk>⟧ };
 

@@ -69,6 +69,7 @@ fn open_database<S: Alter + Drop, O: HeldTables, L, D: Databases<Connection<S>, 
     file: &str,
 ) -> Result<Connection<S>, (StoreTrouble, Fault)>
     requires { OpensStores S.Store O.held D.opens }
+    ensures opened { IfOk result D.opens }
     ensures ready { IfOk result (IsReadyConnection S.Store O.held) }
     ensures err { IfErr result IsUnopenedDatabase }
 {
@@ -126,6 +127,7 @@ fn open_store<'r, S: Alter + Drop, O: HeldTables, L, D: Databases<Connection<S>,
 ) -> Result<StoreDatabase<'r, S>, (StoreTrouble, Fault)>
     requires { OpensStores S.Store O.held D.opens }
     ensures opens { OpensStore task.now result }
+    ensures opened { IfOk result (λ store. D.opens store.conn) }
     ensures serves { IfOk result (λ store. ServesTables O.held (state S.Store store.conn)) }
 {
     let mark = match MakingMark::new(rt, file) {
@@ -262,8 +264,9 @@ fn open_over<'r, S: Alter + Drop, O: HeldTables + Drop, L, D: Databases<Connecti
     setting: StoreSetting,
 ) -> Result<OpenJob<'r, S, O>, StartFailure>
     requires opens { IsOpenedFor task store }
+    requires opened { D.opens store.conn }
     requires serves { ServesTables O.held (state S.Store store.conn) }
-    ensures opens { OpensJob S.Store (job_in_file task file setting) result }
+    ensures opens { OpensJob S.Store D.opens (job_in_file task file setting) result }
     ensures ready { IfOk result (IsReadyJob S.Store O.held) }
 {
     let StoreSetting { base, limits } = setting;
@@ -311,7 +314,7 @@ fn open_in_file<'r, S: Alter + Drop, O: HeldTables + Drop, L, D: Databases<Conne
     setting: StoreSetting,
 ) -> Result<OpenJob<'r, S, O>, StartFailure>
     requires { OpensStores S.Store O.held D.opens }
-    ensures opens { OpensJob S.Store (job_in_file task file setting) result }
+    ensures opens { OpensJob S.Store D.opens (job_in_file task file setting) result }
     ensures ready { IfOk result (IsReadyJob S.Store O.held) }
 {
     match open_store(rt, databases, &task, file.as_str()) {
@@ -321,12 +324,12 @@ fn open_in_file<'r, S: Alter + Drop, O: HeldTables + Drop, L, D: Databases<Conne
 }
 
 // Opens the job of a task over a new store in memory.
-fn open_in_memory<S: Alter, O: HeldTables>(
+fn open_in_memory<S: Alter, O: HeldTables, L, D: Databases<Connection<S>, O, L>>(
     rt: &HostRuntime,
     task: Task,
     setting: StoreSetting,
 ) -> Result<OpenJob<'_, S, O>, StartFailure>
-    ensures opens { OpensJob S.Store (job_in_memory task setting) result }
+    ensures opens { OpensJob S.Store D.opens (job_in_memory task setting) result }
     ensures ready { IfOk result (IsReadyJob S.Store O.held) }
 {
     let StoreSetting { base, limits } = setting;
@@ -351,7 +354,7 @@ pub fn open_job<'r, S: Alter + Drop, O: HeldTables + Drop, L, D: Databases<Conne
     planned: Result<Job, EarlyExit>,
 ) -> Result<OpenJob<'r, S, O>, StartFailure>
     requires { OpensStores S.Store O.held D.opens }
-    ensures opens { OpensPlan S.Store planned result }
+    ensures opens { OpensPlan S.Store D.opens planned result }
     ensures ready { IfOk result (IsReadyJob S.Store O.held) }
 {
     match planned {
@@ -363,7 +366,7 @@ pub fn open_job<'r, S: Alter + Drop, O: HeldTables + Drop, L, D: Databases<Conne
             },
         ) => match file {
             Some(file) => open_in_file(rt, databases, task, file, setting),
-            None => open_in_memory(rt, task, setting),
+            None => open_in_memory::<S, O, L, D>(rt, task, setting),
         },
         Err(early_exit) => Err(StartFailure::EarlyExit(early_exit)),
     }

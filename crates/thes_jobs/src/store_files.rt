@@ -1,10 +1,8 @@
 //! The files of a store, which are opened and closed, and can be opened again by their names.
-ghost use Rattle.std.specs.Prelude.{◌≡◌, false, Ok, IfOk};
-ghost use Rattle.sqlite.specs.Files.{file_state};
+ghost use Rattle.std.specs.Prelude.{◌≡◌, Ok, IfOk};
 ghost use Rattle.sqlite_wal.specs.Files.{image_at};
 ghost use Rattle.thes_sqlite.specs.DatabaseFiles.{HoldsStore};
-ghost use Rattle.thes_sqlite.specs.KeeperView.{ServesTables};
-ghost use Rattle.thes_jobs.specs.Databases.{AreCleanFiles, ClosesStore, HoldTables};
+ghost use Rattle.thes_jobs.specs.Databases.{ClosesFrom, OpensFrom};
 
 use sqlite::{Connection, FileFrom, FileStore, Start, Unknown};
 use sqlite_disk::{Disk, Files};
@@ -39,29 +37,24 @@ impl Contents for Unknown {
     }
 }
 
-// Opens the database in the files at a path; if they hold a store, it is this store. An error leaves
-// the files closed.
+// Opens the database in the files at a path. An error leaves the files closed.
 fn open_from<S: Start>(
     rt: &HostRuntime,
     file: &str,
     start: S,
 ) -> Result<Connection<FileStore<FileFrom<S>>>, Cause>
-    ensures idle { IfOk result (λ conn. conn.in_transaction ≡ false) }
-    ensures serves { IfOk result (λ conn. ServesTables (λ t. HoldsStore (image_at S.Start) t)
-        (file_state conn)) }
+    ensures { IfOk result (OpensFrom (image_at S.Start)) }
 {
     without_rest(open_files(rt, file, start))
 }
 
 /// Opens the database in the files at a path, which may hold anything; if there are none, makes
-/// them. If they hold a store, the database is this store.
+/// them.
 pub fn open_database_files<S: Start + Contents>(
     rt: &HostRuntime,
     file: &str,
 ) -> Result<Connection<FileStore<FileFrom<S>>>, Cause>
-    ensures idle { IfOk result (λ conn. conn.in_transaction ≡ false) }
-    ensures serves { IfOk result (λ conn. ServesTables (λ t. HoldsStore (image_at S.Start) t)
-        (file_state conn)) }
+    ensures { IfOk result (OpensFrom (image_at S.Start)) }
 {
     open_from(rt, file, S::new())
 }
@@ -69,8 +62,7 @@ pub fn open_database_files<S: Start + Contents>(
 /// Closes a database and returns its files; None after an error. The log holds every change that was
 /// answered; if it can't be copied into the file now, the next run copies it.
 pub fn close_database_files<D: Disk + Drop>(conn: Connection<FileStore<D>>) -> Option<Files<D>>
-    ensures { AreCleanFiles D.Disk result
-        → ClosesStore (HoldTables D.Disk result) (file_state conn) }
+    ensures { ClosesFrom D.Disk conn result }
 {
     match close_files(conn) {
         Ok(files) => Some(files),

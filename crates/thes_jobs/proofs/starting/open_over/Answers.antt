@@ -8,7 +8,7 @@ use Rattle.thes_jobs.proofs.starting.open_over.Goals as goal
 pub returns-in-Err-prepare_store-clause-opens : goal.returns-in-Err-prepare_store-clause-opens
 returns-in-Err-prepare_store-clause-opens g c = (
   refl,
-  unprepared c.args.store c.requires.opens c.is_check-is_check.result c.prepare_store.new.store.conn
+  unprepared c.args.store c.requires.opens c.requires.opened c.is_check-is_check.result c.prepare_store.new.store.conn
       c.in-Err-prepare_store.ensures.prepares,
 )
 
@@ -20,6 +20,7 @@ returns-in-Some-clause-opens g c = record {
   connects = record {
     database = c.args.store;
     opens_it = c.requires.opens;
+    opened = c.requires.opened;
     is_check = c.is_check-is_check.result;
     checks = c.is_check-is_check.ensures;
     prepares = c.in-Ok-prepare_store.ensures.prepares;
@@ -34,6 +35,7 @@ returns-clause-opens g c = (
   record {
     database = c.args.store;
     opens_it = c.requires.opens;
+    opened = c.requires.opened;
     is_check = c.is_check-is_check.result;
     checks = c.is_check-is_check.ensures;
     prepares = c.in-Ok-prepare_store.ensures.prepares;
