@@ -76,8 +76,8 @@ listed_references _ d = []
 abbrev pub keyword_in : Data → Option CommandKeyword
 keyword_in d = option_and_then verb_named (option_and_then as_str (get (codes "do") d))
 
--- Reads the command of a plan's request: as a request alone, with 1 in place of each reference that stands for a
--- number. A query is `BadShape`.
+-- Reads the command of a plan's request: as a request alone, with 1 in place of each reference to a number.
+-- A query is `BadShape`.
 abbrev pub plan_command_in : Data → RequestReading Command
 plan_command_in d = do
   verb ← present_or_bad_shape (keyword_in d)

@@ -120,7 +120,7 @@ fn references_in(alloc: Global, items: &[Value<'_>]) -> Result<Vec<Option<u32>>,
     Ok(found)
 }
 
-// Reads a request of a plan: a command, in which a reference may stand for each number.
+// Reads a request of a plan: a command, in which each number may be a reference.
 fn plan_request_in(alloc: Global, value: Value<'_>) -> Result<PlanRequest, ReadStop>
     ensures { GivesPlanRequest (view value.entry) result }
 {

@@ -121,7 +121,7 @@ fn is_number_name(name: &str) -> bool
     )
 }
 
-// Returns the value of a member with 1 in place of each reference that stands for a number.
+// Returns the value of a member with 1 in place of each reference to a number.
 fn member_without_references<'a>(
     alloc: Global,
     name: &str,
@@ -139,7 +139,7 @@ fn member_without_references<'a>(
     Ok(value)
 }
 
-// Returns the members with 1 in place of each reference that stands for a number.
+// Returns the members with 1 in place of each reference to a number.
 fn members_without_references<'a>(
     alloc: Global,
     members: Vec<(&'a str, Value<'a>)>,
@@ -155,7 +155,7 @@ fn members_without_references<'a>(
     Ok(found)
 }
 
-/// Returns an object with 1 in place of each reference that stands for a number, and any other value
+/// Returns an object with 1 in place of each reference to a number, and any other value
 /// unchanged.
 pub fn without_references<'a>(alloc: Global, value: Value<'a>) -> Result<Value<'a>, AllocError>
     ensures { IfOk result (λ v. view v ≡ plan.without_references (view value.entry)) }
