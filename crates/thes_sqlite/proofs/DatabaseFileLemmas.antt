@@ -1,6 +1,6 @@
 -- Proves that the files of a store are opened as this store, and hold it again once they are closed.
 use Rattle.std.proofs.lemmas.Grind.{common_steps}
-use Rattle.std.proofs.Common.{arith, ◌≡◌, ◌∙◌, inl, inr, ap, sym, subst}
+use Rattle.std.proofs.Common.{arith, ◌≡◌, ◌<◌, ◌∙◌, ℕ, List, length, inl, inr, ap, sym, subst}
 use Rattle.std.proofs.Math.Logic.{∥∥₁_elim}
 use Rattle.sqlite_disk.specs.declared.Disk as disk
 use Rattle.sqlite_disk.specs.declared.Files.{Files}
@@ -33,11 +33,17 @@ one_schema a b db x y =
 same_database : (a b : Database) → IsDatabase a → IsDatabase b → a.trees ≡ b.trees → a ≡ b
 same_database a b x y trees = grind (arith, common_steps, one_schema)
 
+-- A new file has no page.
+no_page : (image : Image) → IsNewFile image → 0 < length image.db → ⊥
+no_page image new present =
+    let none : length image.db ≡ 0 = ap (λ (db : List ℕ). length db) new in
+    omega (arith, none, present)
+
 -- A new file has no database, so that nothing is listed in what is opened.
 new_is_empty : (image : Image) (s : State) → FindsIn image s → s.now ≡ s.committed → IsDatabase s.committed
     → IsNewFile image → s.now.schema ≡ empty_schema
 new_is_empty image s found clean sound new = elim found.reads [
-  | inl adopted ↦ absurd (let adopts = adopted.3 in let some = adopts.found.present in rw (← new) omega (arith, some))
+  | inl adopted ↦ let adopts = adopted.3 in absurd (no_page image new adopts.found.present)
   | inr nothing ↦ let none = nothing.1 in ap (λ (d : Database). d.schema) clean
       ∙ one_schema s.committed.schema empty_schema s.committed.trees sound (empty_is_sound s.committed.trees none.1)
 ]
