@@ -28,13 +28,13 @@ module _ {R W E S : Type 0} (out : W → Option (List ℕ)) (err : E → Option 
   -- The store in the file with this name was migrated in its database, which was closed, and its version or the fault
   -- was printed.
   pub record MigratesInFile {C : Type 0} (closes : Held S → C → Type 0) (file : String Global) (conn : Held S) : Type 0
-      where
-    pub input : new.input ≡ old.input
-    pub conn_after : Held S
-    pub left : C
-    pub closed : closes conn_after left
-    pub migrates : MigratesDatabase out err old.output new.output old.errors new.errors store (string_bytes file) conn
-        status conn_after
+    where
+      pub input : new.input ≡ old.input
+      pub conn_after : Held S
+      pub files_left : C
+      pub closes_it : closes conn_after files_left
+      pub migrates : MigratesDatabase out err old.output new.output old.errors new.errors store (string_bytes file) conn
+          status conn_after
 
   -- Nothing was opened, for this reason, which is reported.
   pub record ReportsNoJob (failure : StartFailure) : Type 0 where

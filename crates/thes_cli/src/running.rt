@@ -21,7 +21,7 @@ use thes_command_line::start_failure::report_start_failure;
 use thes_jobs::databases::{Databases, FileDatabases};
 use thes_jobs::migrating::{migrate_in_database, print_version};
 use thes_jobs::starting::{OpenJob, open_job};
-use thes_jobs::store_files::Contents;
+use thes_jobs::store_files::ReopenedImage;
 use thes_sqlite::reopening::{HeldTables, Reopen};
 
 // Migrates the store in a database, closes it, and returns the exit status.
@@ -56,6 +56,7 @@ fn run_job<
 >(
     rt: &HostRuntime,
     databases: &D,
+    image: D::Image,
     planned: Result<Job, EarlyExit>,
     streams: &mut Streams<R, W, E>,
 ) -> (u8, Closed<L>)
@@ -67,7 +68,7 @@ fn run_job<
     ensures leads { LeadsIfClosed E.contents O.held D.is_clean D.holds streams.old.errors
         streams.new.errors result.0 result.1 }
 {
-    let status = match open_job::<S, O, L, D>(rt, databases, planned) {
+    let status = match open_job::<S, O, L, D>(rt, databases, image, planned) {
         Ok(OpenJob::InFile(job)) => {
             return work_and_close(rt.alloc(), rt, databases, job, streams);
         }
@@ -86,11 +87,12 @@ fn run_job<
     (status, closed)
 }
 
-/// Opens the store of a job in its files, does its work, and closes it. Returns the exit status with
-/// what is left of the files. If these held a store, as `S` supposes of them, they then hold the
-/// store after the requests, as they read and after a crash.
-pub fn run_in_files<S: Start + Contents, R: Read, W: Write, E: Write>(
+/// Opens the store of a job in its files, which held `image`, does its work, and closes it. Returns
+/// the exit status with what is left of the files. If these held a store, as `S` supposes of them,
+/// they then hold the store after the requests, as they read and after a crash.
+pub fn run_in_files<S: Start + ReopenedImage, R: Read, W: Write, E: Write>(
     rt: &HostRuntime,
+    image: S,
     planned: Result<Job, EarlyExit>,
     streams: &mut Streams<R, W, E>,
 ) -> (u8, Closed<Option<Files<FileFrom<S>>>>)
@@ -104,5 +106,5 @@ pub fn run_in_files<S: Start + Contents, R: Read, W: Write, E: Write>(
         (AreCleanFiles ⟦<FileFrom<S> as Disk>⟧) (HoldTables ⟦<FileFrom<S> as Disk>⟧)
         streams.old.errors streams.new.errors result.0 result.1 }
 {
-    run_job(rt, &FileDatabases::<S>::new(rt), planned, streams)
+    run_job(rt, &FileDatabases::<S>::new(rt), image, planned, streams)
 }

@@ -25,38 +25,33 @@ fn without_rest<T, L: Drop>(opened: Result<T, (Cause, L)>) -> Result<T, Cause>
     }
 }
 
-/// What files hold before they are opened, as a value for contracts: code can't read it.
-pub trait Contents {
+/// A sign that files are opened again, which only this module makes.
+#[derive(Drop)]
+pub struct Reopening(());
+
+/// What files hold before they are opened again, as a value for contracts. Since it takes a sign,
+/// no one else makes a second image of what files held at first.
+pub trait ReopenedImage {
     /// Creates a value.
-    fn new() -> Self;
+    fn image_of_reopened(sign: Reopening) -> Self;
 }
 
-impl Contents for Unknown {
-    fn new() -> Unknown {
+impl ReopenedImage for Unknown {
+    fn image_of_reopened(_sign: Reopening) -> Unknown {
         Unknown
     }
 }
 
-// Opens the database in the files at a path. An error leaves the files closed.
-fn open_from<S: Start>(
-    rt: &HostRuntime,
-    file: &str,
-    start: S,
-) -> Result<Connection<FileStore<FileFrom<S>>>, Cause>
-    ensures { IfOk result (OpensFrom (image_at S.Start)) }
-{
-    without_rest(open_files(rt, file, start))
-}
-
 /// Opens the database in the files at a path, which may hold anything; if there are none, makes
-/// them.
-pub fn open_database_files<S: Start + Contents>(
+/// them. An error leaves the files closed.
+pub fn open_database_files<S: Start>(
     rt: &HostRuntime,
+    image: S,
     file: &str,
 ) -> Result<Connection<FileStore<FileFrom<S>>>, Cause>
     ensures { IfOk result (OpensFrom (image_at S.Start)) }
 {
-    open_from(rt, file, S::new())
+    without_rest(open_files(rt, file, image))
 }
 
 /// Closes a database and returns its files; None after an error. The log holds every change that was
@@ -136,7 +131,7 @@ impl<S: Start> HeldTables for StoreFiles<'_, S> {
     ghost held = { λ t. HoldsStore (image_at S.Start) t };
 }
 
-impl<S: Start + Contents> Reopen<Connection<FileStore<FileFrom<S>>>> for StoreFiles<'_, S> {
+impl<S: Start + ReopenedImage> Reopen<Connection<FileStore<FileFrom<S>>>> for StoreFiles<'_, S> {
     fn is_in_place(&mut self) -> bool {
         self.open.0.is_some() && self.open == self.named_files()
     }
@@ -151,6 +146,7 @@ impl<S: Start + Contents> Reopen<Connection<FileStore<FileFrom<S>>>> for StoreFi
         if !self.is_in_place() {
             return Err(Cause::Missing);
         }
-        open_database_files(self.rt, self.file.as_str())
+        let image = S::image_of_reopened(Reopening(()));
+        open_database_files(self.rt, image, self.file.as_str())
     }
 }

@@ -1,6 +1,6 @@
 use Rattle.sqlite_wal.specs.Files.{image_at}
 use Rattle.thes_jobs.proofs.DatabaseLemmas.{opened_from}
-use Rattle.thes_jobs.proofs.store_files.open_from.Goals as goal
+use Rattle.thes_jobs.proofs.store_files.open_database_files.Goals as goal
 
 pub returns : goal.returns
 returns g c =
