@@ -16,13 +16,18 @@ from program import PROGRAM, built, fault, over
 TABLES = ("hier", "label", "link", "meta", "move", "outside", "posting", "resource")
 INDEXES = ("move_posting", "posting_at")
 NOBODY = 65534
+NO_SIZES = b"ok resources=0 labels=0 links=0 accepted=0 withdrawn=0 moves=0\n"
+SHOWN = ("--scheme", "1", "--lang", "en")
+# The commands that only read a store, with their options.
+READERS: dict[str, tuple[str, ...]] = {"check": (), "export": (), "alphabetical": SHOWN, "hierarchical": SHOWN}
 
 
 def test_empty_file_becomes_a_store(tmp_path: Path) -> None:
     path = tmp_path / "empty.db"
     path.touch()
-    assert over(path, "check") == fault(path, "Store", "not a database")
-    assert not path.stat().st_size and [*tmp_path.iterdir()] == [path]
+    for command, after in READERS.items():
+        assert over(path, command, after=after) == fault(path, "Store", "not a database")
+        assert not path.stat().st_size and [*tmp_path.iterdir()] == [path]
     assert over(path, "script", START) == (0, MADE, b"")
     assert over(path, "script", TOTALS) == (0, NO_TOTALS, b"")
 
@@ -80,10 +85,19 @@ def test_journal_that_sqlite_left(tmp_path: Path) -> None:
     assert over(cut, "check") == whole
 
 
-def test_check_makes_no_file(tmp_path: Path) -> None:
+@pytest.mark.parametrize(("command", "after"), READERS.items(), ids=READERS)
+def test_reading_makes_no_file(command: str, after: tuple[str, ...], tmp_path: Path) -> None:
     path = tmp_path / "absent.db"
-    assert over(path, "check") == fault(path, "Store", "no such file")
+    assert over(path, command, after=after) == fault(path, "Store", "no such file")
     assert not [*tmp_path.iterdir()]
+
+
+@pytest.mark.parametrize("command", ["script", "import", "migrate"])
+def test_what_may_write_makes_the_store(command: str, tmp_path: Path) -> None:
+    path, postings = tmp_path / "absent.db", tmp_path / "postings.csv"
+    postings.write_bytes(b"key,record,concept\n")
+    assert over(path, command, after=[postings] if command == "import" else ()).status == 0
+    assert over(path, "check") == (0, NO_SIZES, b"")
 
 
 def test_file_with_a_second_name_is_refused(tmp_path: Path) -> None:
@@ -117,6 +131,16 @@ def test_store_that_is_marked_as_unfinished_is_made(tmp_path: Path) -> None:
     path = tmp_path / "unfinished.db"
     assert len(begin_store(path)) == 4096 and (tmp_path / "unfinished.db-making").exists()
     assert over(path, "script", START) == (0, MADE, b"")
+
+
+@pytest.mark.parametrize(("command", "after"), READERS.items(), ids=READERS)
+def test_reading_leaves_an_unfinished_store_and_its_mark(command: str, after: tuple[str, ...], tmp_path: Path) -> None:
+    path, mark = tmp_path / "unfinished.db", tmp_path / "unfinished.db-making"
+    blank = begin_store(path)
+    assert over(path, command, after=after) == fault(path, "BadStore meta")
+    assert mark.exists() and path.read_bytes() == blank
+    assert over(path, "script", START) == (0, MADE, b"")
+    assert not mark.exists()
 
 
 def test_database_without_tables_and_mark_is_left(tmp_path: Path) -> None:

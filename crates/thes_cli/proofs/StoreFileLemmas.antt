@@ -6,6 +6,7 @@ use Rattle.sqlite_trees.specs.declared.store.Store.{Ghosts}
 use Rattle.thes_base.specs.declared.data.Limits.{Limits}
 use Rattle.thes_tables.specs.Cells.{Raw, cells_of_tables}
 use Rattle.thes_tables.specs.Tables.{Tables}
+use Rattle.thes_tables.proofs.CellLemmas.{listed_one}
 use Rattle.thes_sql.specs.StoredRows.{Keeps}
 use Rattle.thes_office.specs.Office.{TablesAfterRun}
 use Rattle.thes_sqlite.proofs.KeeperLemmas.{raw_of}
@@ -76,14 +77,18 @@ module _ {S : Type 0} (g : Ghosts S) where
 
   module _ {F R W E : Type 0} (given : F → Option (List ℕ)) (remaining : R → Option (List ℕ))
       (out : W → Option (List ℕ)) (err : E → Option (List ℕ)) (held : Tables → Type 0) where
-    -- If an office was opened, a run of the machine leads from the tables of the files to those of the storage.
+    -- If an office was opened, a run of the machine leads from the tables of the files to those of the storage; else they
+    -- are the same.
     tables_lead : {O P L : Type 0} (job : DatabaseWork S O P F L) (old new : Streams R W E) (status : ℕ)
         (keeper : ReopeningView S) (t after : Tables) → held t → ServesTables held (state g job.conn)
         → IsKeeperStillUp g keeper → rows_still g keeper ≡ cells_of_tables after
         → (works : WorksOverKeeper (storage_still g) (IsStillOpen g) (FindsStill g) given remaining out err
         job.work (Some (string_bytes job.file)) job.limits (storage_of_connection job.conn) old status keeper new)
         → RunsIfOpened works.0 job.limits t after
-    tables_lead job old new status keeper t after holds serves up rows (inr unopened, found) = tt
+    tables_lead job old new status keeper t after holds serves up rows (inr unopened, found) =
+        let keeps = unopened.fails_to_open.keeps in
+        let at_start = serves (keeps.was up).1 t holds in
+        listed_one after t (sym rows ∙ (keeps.same up ∙ raw_of (state g job.conn).now.trees t at_start.1.hold))
     tables_lead job old new status keeper t after holds serves up rows (inl opened, found) =
         let last = opened.new_office.keeper in
         let up_last : IsKeeperStillUp g last = subst (λ (v : ReopeningView S). IsKeeperStillUp g v) opened.back_is up in
@@ -124,12 +129,15 @@ module _ {S : Type 0} (g : Ghosts S) where
     to_leads job old new status keeper t holds (inr unopened) x = record {
       limits = job.limits;
       tables_after = x.tables_after;
-      run = inr record {
-        file = Some (string_bytes job.file);
-        fault = unopened.fault;
-        prints_it = unopened.prints_it;
-        status_is = unopened.status_is;
-      };
+      run = inr (
+        record {
+          file = Some (string_bytes job.file);
+          fault = unopened.fault;
+          prints_it = unopened.prints_it;
+          status_is = unopened.status_is;
+        },
+        x.run,
+      );
       holds_after = x.holds_after;
     }
 

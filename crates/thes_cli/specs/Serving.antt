@@ -1,8 +1,12 @@
 -- The command `serve`: HTTP connections over the store.
-use Rattle.std.specs.Prelude.{◌≡◌, ◌⊎◌, ◌++◌, ℕ, Bool, List, Option, codes, decimal}
+use Rattle.std.specs.Prelude.{◌≡◌, ◌≢◌, ◌⊎◌, ◌++◌, ℕ, Bool, List, Option, codes, decimal}
 use Rattle.std.specs.Io.KnownBytes.{Appends}
+use Rattle.std.specs.IoError.{error_kind}
+use Rattle.std.specs.declared.io.Error.{Error}
+use Rattle.std.specs.declared.io.ErrorKind.TheVariants as kinds
 use Rattle.thes_base.specs.Pipe.{written_bytes}
-use Rattle.thes_base.specs.declared.fault.PipeFault.TheVariants.{Write}
+use Rattle.thes_base.specs.declared.fault.Fault.TheVariants.{OutOfMemory}
+use Rattle.thes_base.specs.declared.fault.PipeFault.TheVariants.{Fault, Write}
 use Rattle.thes_base.specs.declared.pipe.Pipe.{Pipe}
 use Rattle.thes_store.specs.Storage.{StorageView}
 use Rattle.thes_office.specs.Office.{OfficeView}
@@ -19,18 +23,26 @@ listening_line port = codes "listening on 127.0.0.1:" ++ decimal port ++ codes "
 abbrev pub EndsWell : {E : Type 0} → ℕ → Pipe E → Pipe E → ℕ → ℕ → Type 0
 EndsWell count old new connections status = (new ≡ old) × (connections ≡ count) × (status ≡ 0)
 
--- A connection couldn't be accepted, or memory for the routes ran out: the fault is printed, and the status is 3.
-abbrev pub EndsUnserved : {E : Type 0} → (E → Option (List ℕ)) → Pipe E → Pipe E → ℕ → Type 0
-EndsUnserved err old new status = Prints err old new net_line × (status ≡ 3)
+-- The fault of a server is printed: OutOfMemory if memory ran out, for the routes or for a connection, and Net if a
+-- connection couldn't be accepted for another reason.
+abbrev pub PrintsUnserved : {E : Type 0} → (E → Option (List ℕ)) → Error → Pipe E → Pipe E → Type 0
+PrintsUnserved err error old new =
+    ((error_kind error ≡ kinds.OutOfMemory) × Prints err old new (fault_line (Fault OutOfMemory)))
+    ⊎ ((error_kind error ≢ kinds.OutOfMemory) × Prints err old new net_line)
+
+-- A connection couldn't be accepted, or memory ran out: the fault is printed, and the status is 3.
+abbrev pub EndsUnserved : {E : Type 0} → (E → Option (List ℕ)) → Error → Pipe E → Pipe E → ℕ → Type 0
+EndsUnserved err error old new status = PrintsUnserved err error old new × (status ≡ 3)
 
 module _ {K E : Type 0} (view : K → StorageView) (err : E → Option (List ℕ)) where
   -- Connections were served, one after another; the requests of their clients are a run of the machine. They are
-  -- exactly `count`, unless one couldn't be accepted or memory for the routes ran out. Plans are taken, or aren't.
+  -- exactly `count`, unless one couldn't be accepted or memory ran out. Plans are taken, or aren't.
   pub record ServesAll (takes : Bool) (count : ℕ) (old_office : OfficeView K) (errors errors' : Pipe E)
       (connections status : ℕ) (new_office : OfficeView K) : Type 0 where
     pub served : LeadsBy (office_behaviour view takes) count old_office new_office
     pub reached : IsReachedByRun view old_office new_office
-    pub ends : EndsWell count errors errors' connections status ⊎ EndsUnserved err errors errors' status
+    pub ends : EndsWell count errors errors' connections status
+        ⊎ ((error : Error) × EndsUnserved err error errors errors' status)
 
   -- The command `serve`: the address is printed, and connections are served; or printing the address failed, and none
   -- are.

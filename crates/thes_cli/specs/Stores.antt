@@ -42,10 +42,10 @@ abbrev pub RunLeads : Limits → Tables → Tables → Type 0
 RunLeads limits t t' = (commands : List Command) × (answers : List Answer)
     × TablesAfterRun limits (cells_of_tables t) commands answers (cells_of_tables t')
 
--- If an office was opened, a run of the machine leads from these tables to those.
+-- If an office was opened, a run of the machine leads from these tables to those; else they are the same.
 abbrev pub RunsIfOpened : {A B : Type 0} → A ⊎ B → Limits → Tables → Tables → Type 0
 RunsIfOpened (inl opened) limits t t' = RunLeads limits t t'
-RunsIfOpened (inr unopened) limits t t' = Unit {0}
+RunsIfOpened (inr unopened) limits t t' = t' ≡ t
 
 -- A fault of opening a store is printed, and the status is 3.
 pub record PrintsUnopened {E : Type 0} (err : E → Option (List ℕ)) (old new : Pipe E) (status : ℕ) : Type 0 where
@@ -55,12 +55,12 @@ pub record PrintsUnopened {E : Type 0} (err : E → Option (List ℕ)) (old new 
   pub status_is : status ≡ 3
 
 -- The files, which held a store with the tables `t`, hold a store with tables to which a run of the machine leads from
--- `t`; or a fault of opening the store is printed.
+-- `t`; or a fault of opening the store is printed, and they hold what they held.
 pub record LeadsInFiles {E : Type 0} (err : E → Option (List ℕ)) (old new : Pipe E) (status : ℕ) (t : Tables)
     (holds : Tables → Type 0) : Type 0 where
   pub limits : Limits
   pub tables_after : Tables
-  pub run : RunLeads limits t tables_after ⊎ PrintsUnopened err old new status
+  pub run : RunLeads limits t tables_after ⊎ (PrintsUnopened err old new status × (tables_after ≡ t))
   pub holds_after : holds tables_after
 
 -- If no failure has shut the database, the files held a store, and they are clean now, they hold the store after a run
@@ -81,7 +81,8 @@ module _ {S : Type 0} (store : Ghosts S) where
         is_clean files → ClosesStore (holds files) (state store conn)))
 
   -- The storage was up to the end of the work, so that all promises of the work hold. The files hold the tables that it
-  -- then had; if an office was opened, a run of the machine leads to these from the tables that the files held before.
+  -- then had; if an office was opened, a run of the machine leads to these from the tables that the files held before, and
+  -- else they are the same.
   pub record LeavesInFiles {A B : Type 0} (works : A ⊎ B) (limits : Limits) (t : Tables) (keeper : ReopeningView S)
       (holds : Tables → Type 0) : Type 0 where
     pub is_up : IsKeeperStillUp store keeper

@@ -2,6 +2,9 @@
 //! performs their task, and exits with its status.
 #![tactic(auto)]
 
+ghost use Rattle.std.specs.Prelude.{IsTrue};
+ghost use Rattle.thes_cli.specs.Streams.{AsksForDisplay};
+
 mod checking;
 mod closing;
 mod displaying;
@@ -35,7 +38,9 @@ fn plan_command_line<R: Env + Alloc<A = Global>>(rt: &R) -> Result<Job, EarlyExi
 }
 
 // Returns whether the output escapes what a terminal may obey: a display does, on a terminal.
-fn escapes_output(rt: &HostRuntime, planned: &Result<Job, EarlyExit>) -> bool {
+fn escapes_output(rt: &HostRuntime, planned: &Result<Job, EarlyExit>) -> bool
+    ensures { IsTrue result → AsksForDisplay planned.now }
+{
     match planned {
         Ok(job) => is_display(&job.task) && rt.stdout().is_terminal(),
         Err(_) => false,
@@ -61,7 +66,7 @@ fn main(rt: HostRuntime) -> ExitCode {
         errors: Pipe::new(rt.stderr()),
         connections: ConnectionCount::new(),
     };
-    let (status, closed) = run_in_files::<Unknown, _, _, _>(&rt, planned, &mut streams);
+    let (status, closed) = run_in_files(&rt, Unknown, planned, &mut streams);
     report_doubt(&rt, closed);
     ExitCode::from(status)
 }

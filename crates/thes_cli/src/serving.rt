@@ -1,5 +1,5 @@
 //! The command `serve`: serves HTTP connections over a store.
-ghost use Rattle.std.specs.Prelude.{◌≡◌, IfOk, OnErr};
+ghost use Rattle.std.specs.Prelude.{◌≡◌, IfErr, IfOk};
 ghost use Rattle.thes_base.specs.Pipe.{IsFresh};
 ghost use Rattle.thes_command_line.specs.Printing.{AreFreshOutputs};
 ghost use Rattle.thes_cli.specs.Serving as serving;
@@ -7,10 +7,10 @@ ghost use Rattle.thes_cli.specs.Serving.{EndsUnserved, EndsWell, ServesAll, Serv
 
 use std::alloc::Global;
 use std::io;
-use std::io::Write;
+use std::io::{ErrorKind, Write};
 use std::net::Net;
 use std::rt::Clock;
-use thes_base::fault::PipeFault;
+use thes_base::fault::{Fault, PipeFault};
 use thes_base::pipe::Pipe;
 use thes_command_line::printing::{print, report_fault, report_net_fault};
 use thes_http::connection_count::ConnectionCount;
@@ -31,8 +31,20 @@ fn listening_line(port: u16) -> ShortLine
     line
 }
 
-// Returns the exit status 0 with the number of connections, or, if a connection couldn't be accepted or memory for the
-// routes ran out, prints the fault and returns 3.
+// Prints the fault of this error, OutOfMemory or Net, and returns the exit status 3.
+fn report_unserved<E: Write>(errors: &mut Pipe<E>, error: &io::Error) -> u8
+    requires { IsFresh errors.old }
+    ensures { EndsUnserved E.contents error.now errors.old errors.new result }
+{
+    if error.kind() == ErrorKind::OutOfMemory {
+        report_fault(errors, PipeFault::Fault(Fault::OutOfMemory))
+    } else {
+        report_net_fault(errors)
+    }
+}
+
+// Returns the exit status 0 with the number of connections, or, if a connection couldn't be
+// accepted or memory ran out, prints the fault and returns 3.
 fn report_served<E: Write>(
     errors: &mut Pipe<E>,
     connections: &mut ConnectionCount,
@@ -40,14 +52,14 @@ fn report_served<E: Write>(
 ) -> u8
     requires { IsFresh errors.old }
     ensures ok { IfOk ended (λ served. EndsWell served errors.old errors.new connections.new result) }
-    ensures err { OnErr ended (EndsUnserved E.contents errors.old errors.new result) }
+    ensures err { IfErr ended (λ error. EndsUnserved E.contents error errors.old errors.new result) }
 {
     match ended {
         Ok(served) => {
             *connections = served;
             0
         }
-        Err(_) => report_net_fault(errors),
+        Err(error) => report_unserved(errors, &error),
     }
 }
 

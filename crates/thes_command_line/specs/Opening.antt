@@ -1,6 +1,6 @@
 -- Defines whether a task makes a store or uses the one in its file, and the reasons why a store
 -- can't be used.
-use Rattle.std.specs.Prelude.{◌≡◌, ◌≢◌, ◌==◌, ◌&&◌, nat_le, ℕ, Bool, true, false, if◌then◌else◌, Option, Some, None, Result, Ok, Err}
+use Rattle.std.specs.Prelude.{◌≡◌, ◌≢◌, ◌==◌, ◌&&◌, nat_le, not, ℕ, Bool, true, false, if◌then◌else◌, Option, Some, None, Result, Ok, Err}
 use Rattle.std.specs.Prelude.{codes}
 use Rattle.std.specs.Fs.{IsFile, file_type, metadata_len}
 use Rattle.std.specs.IoError.{error_kind}
@@ -30,10 +30,17 @@ IsFileState (Err error) found.Absent = error_kind error ≡ NotFound
 IsFileState (Err error) (found.Bytes n) = ⊥
 IsFileState (Err error) found.Other = error_kind error ≢ NotFound
 
--- Every task but a check makes the store; a check makes none, and fails with this trouble.
+-- Whether a task only reads the store: a check, an export and the displays do.
+abbrev pub only_reads : Task → Bool
+only_reads tasks.Check = true
+only_reads tasks.Export = true
+only_reads (tasks.Alphabetical options) = true
+only_reads (tasks.Hierarchical options) = true
+only_reads _ = false
+
+-- A task that only reads makes no store, and fails with this trouble; every other task makes the store.
 abbrev pub new_store : Task → StoreTrouble → Result Opening StoreTrouble
-new_store tasks.Check trouble = Err trouble
-new_store _ trouble = Ok New
+new_store task trouble = if only_reads task then Err trouble else Ok New
 
 -- Whether making the store in a file was cut short: a mark says so, and the file is no larger than
 -- a database without tables.
@@ -44,11 +51,11 @@ is_unfinished size is_marked = is_marked && nat_le size 4096
 abbrev pub opening_of_bytes : ℕ → Result Opening StoreTrouble
 opening_of_bytes n = if n == 1 then Err troubles.NotDatabase else Ok Existing
 
--- The way to open a file that isn't empty, for a task: every task but a check makes an unfinished
--- store.
+-- The way to open a file that isn't empty, for a task: if the store in it is unfinished, it is made,
+-- but not for a task that only reads.
 abbrev pub opening_of_file : Task → ℕ → Bool → Result Opening StoreTrouble
-opening_of_file tasks.Check n is_marked = opening_of_bytes n
-opening_of_file _ n is_marked = if is_unfinished n is_marked then Ok New else opening_of_bytes n
+opening_of_file task n is_marked =
+    if not (only_reads task) && is_unfinished n is_marked then Ok New else opening_of_bytes n
 
 -- The way to open the store in a file: it is made if the file is absent or empty, or the store in it is unfinished, and
 -- used otherwise.
@@ -64,11 +71,11 @@ is_import (tasks.Import file) = true
 is_import _ = false
 
 -- What to do with the database of a store once it is open: a blank one that was opened for a new store gets its tables;
--- else the mark of an unfinished store is removed, but by a check.
+-- else the mark of an unfinished store is removed, but not for a task that only reads.
 abbrev pub preparation_of : Opening → Bool → Bool → Preparation
-preparation_of New true is_check = MakeTables
-preparation_of New false is_check = if is_check then Nothing else RemoveMark
-preparation_of Existing is_blank is_check = if is_check then Nothing else RemoveMark
+preparation_of New true reads_only = MakeTables
+preparation_of New false reads_only = if reads_only then Nothing else RemoveMark
+preparation_of Existing is_blank reads_only = if reads_only then Nothing else RemoveMark
 
 -- The mark of an unfinished store is void if no database was made, unless another program has the file open.
 abbrev pub is_mark_void : StoreTrouble → FileState → Bool

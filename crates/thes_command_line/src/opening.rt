@@ -1,5 +1,5 @@
 //! Decides whether a task makes a store or uses the one in its file.
-ghost use Rattle.std.specs.Prelude.{◌≡◌, ◌↔◌, IsTrue};
+ghost use Rattle.std.specs.Prelude.{◌≡◌};
 ghost use Rattle.thes_command_line.specs.Opening as choices;
 ghost use Rattle.thes_command_line.specs.Opening.{IsFileState};
 
@@ -56,13 +56,24 @@ pub fn file_state(found: &io::Result<Metadata>) -> FileState
     }
 }
 
-// Returns `New`, except for a check, which makes no store and fails with this trouble.
+/// Returns whether a task only reads the store, and so makes none.
+pub fn only_reads(task: &Task) -> bool
+    ensures { result ≡ choices.only_reads task.now }
+{
+    match task {
+        Task::Check | Task::Export | Task::Alphabetical(_) | Task::Hierarchical(_) => true,
+        Task::Script(_) | Task::Import(_) | Task::Serve(_) | Task::Migrate => false,
+    }
+}
+
+// Returns `New`, or this trouble for a task that only reads.
 fn new_store(task: &Task, trouble: StoreTrouble) -> Result<Opening, StoreTrouble>
     ensures { result ≡ choices.new_store task.now trouble }
 {
-    match task {
-        Task::Check => Err(trouble),
-        _ => Ok(Opening::New),
+    if only_reads(task) {
+        Err(trouble)
+    } else {
+        Ok(Opening::New)
     }
 }
 
@@ -74,28 +85,31 @@ fn is_unfinished(size: u64, is_marked: bool) -> bool
     is_marked && size <= BLANK_SIZE
 }
 
-/// Chooses how a store is opened for a task. A check makes no store. Other tasks make none in a
-/// file of one byte, which SQLite takes for an empty database, unless the file is marked as that of
-/// an unfinished store.
-pub fn opening_of(task: &Task, found: FileState, is_marked: bool) -> Result<Opening, StoreTrouble>
-    ensures { result ≡ choices.opening_of task.now found is_marked }
+// Returns the way to open a file of this size, which isn't empty, for a task.
+fn opening_of_file(task: &Task, size: u64, is_marked: bool) -> Result<Opening, StoreTrouble>
+    ensures { result ≡ choices.opening_of_file task.now size is_marked }
 {
-    match (task, found) {
-        (_, FileState::Absent) => new_store(task, StoreTrouble::NoFile),
-        (_, FileState::Bytes(0)) => new_store(task, StoreTrouble::NotDatabase),
-        (Task::Check, FileState::Bytes(1)) => Err(StoreTrouble::NotDatabase),
-        (Task::Check, _) => Ok(Opening::Existing),
-        (_, FileState::Bytes(size)) if is_unfinished(size, is_marked) => Ok(Opening::New),
-        (_, FileState::Bytes(1)) => Err(StoreTrouble::NotDatabase),
-        (_, FileState::Bytes(_) | FileState::Other) => Ok(Opening::Existing),
+    if !only_reads(task) && is_unfinished(size, is_marked) {
+        Ok(Opening::New)
+    } else if size == 1 {
+        Err(StoreTrouble::NotDatabase)
+    } else {
+        Ok(Opening::Existing)
     }
 }
 
-/// Returns whether a task only checks the store.
-pub fn is_check(task: &Task) -> bool
-    ensures { IsTrue result ↔ (task.now ≡ Task.Check) }
+/// Chooses how a store is opened for a task. A task that only reads makes no store. Other tasks
+/// make none in a file of one byte, which SQLite takes for an empty database, unless the file is
+/// marked as that of an unfinished store.
+pub fn opening_of(task: &Task, found: FileState, is_marked: bool) -> Result<Opening, StoreTrouble>
+    ensures { result ≡ choices.opening_of task.now found is_marked }
 {
-    matches!(task, Task::Check)
+    match found {
+        FileState::Absent => new_store(task, StoreTrouble::NoFile),
+        FileState::Bytes(0) => new_store(task, StoreTrouble::NotDatabase),
+        FileState::Bytes(size) => opening_of_file(task, size, is_marked),
+        FileState::Other => Ok(Opening::Existing),
+    }
 }
 
 /// Returns whether a task imports a posting file.
@@ -106,13 +120,14 @@ pub fn is_import(task: &Task) -> bool
 }
 
 /// Returns what to do with the database of a store once it is open. `is_blank` says that it has no
-/// tables. Tables are made only in a database that was opened for a new store.
-pub fn preparation_of(opening: Opening, is_blank: bool, is_check: bool) -> Preparation
-    ensures { result ≡ choices.preparation_of opening is_blank is_check }
+/// tables, and `reads_only` that the task only reads. Tables are made only in a database that was
+/// opened for a new store.
+pub fn preparation_of(opening: Opening, is_blank: bool, reads_only: bool) -> Preparation
+    ensures { result ≡ choices.preparation_of opening is_blank reads_only }
 {
     match opening {
         Opening::New if is_blank => Preparation::MakeTables,
-        Opening::New | Opening::Existing if is_check => Preparation::Nothing,
+        Opening::New | Opening::Existing if reads_only => Preparation::Nothing,
         Opening::New | Opening::Existing => Preparation::RemoveMark,
     }
 }

@@ -1,6 +1,6 @@
 -- Proves that opening a database and closing it keep the store in its files.
 use Rattle.std.proofs.Common.{◌≡◌, subst}
-use Rattle.std.specs.Prelude.{Result, Ok, Err, Some, IfOk}
+use Rattle.std.specs.Prelude.{Result, Ok, Err, Some, IfOk, false}
 use Rattle.sqlite.specs.Files.{file_state}
 use Rattle.sqlite.specs.Held.{Held}
 use Rattle.sqlite.specs.State.{State, HasCleanDisk}
@@ -11,18 +11,21 @@ use Rattle.sqlite_wal.specs.Recovery.{Image}
 use Rattle.thes_tables.specs.Tables.{Tables}
 use Rattle.thes_sqlite.specs.DatabaseFiles.{ClosesFiles, HoldsStore, OpensFiles}
 use Rattle.thes_sqlite.specs.KeeperView.{ServesTables}
-use Rattle.thes_jobs.specs.Databases.{ClosesStore, HoldTables, KeepsTables}
+use Rattle.thes_jobs.specs.Databases.{ClosesStore, HoldTables, KeepsTables, OpensFrom}
 
--- A database that was opened serves the store that its files held.
-pub opened_serves : {D X E : Type 0} {g : disk.Ghosts D} (image : Image) (opened : Result (Held (FileStore D g)) X)
+-- A database that was opened is that of its files.
+pub opened_from : {D X E : Type 0} {g : disk.Ghosts D} (image : Image) (opened : Result (Held (FileStore D g)) X)
     (result : Result (Held (FileStore D g)) E) → IfOk result (λ conn. opened ≡ Ok conn)
     → IfOk opened (λ conn. HasCleanDisk (file_state conn) → OpensFiles image (file_state conn))
-    → IfOk result (λ conn. ServesTables (λ t. HoldsStore image t) (file_state conn))
-opened_serves image opened (Ok conn) is opens = λ up t store.
+    → IfOk opened (λ conn. conn.in_transaction ≡ false) → IfOk result (OpensFrom image)
+opened_from image opened (Ok conn) is opens idle =
     let opens_it = subst (λ r. IfOk r (λ c. HasCleanDisk (file_state c) → OpensFiles image (file_state c))) is opens in
-    let here = opens_it up.0 in
-    (here.settled, here.serves t store)
-opened_serves image opened (Err e) is opens = tt
+    record {
+      idle = subst (λ r. IfOk r (λ c. c.in_transaction ≡ false)) is idle;
+      serves = λ up t store. let here = opens_it up.0 in (here.settled, here.serves t store);
+      empty = λ up new. let here = opens_it up.0 in here.empty new;
+    }
+opened_from image opened (Err e) is opens idle = tt
 
 -- Files that were closed hold the store of their database.
 pub closed_holds : {D : Type 0} {g : disk.Ghosts D} (conn : Held (FileStore D g)) (files : Files D)
@@ -36,8 +39,3 @@ closed_holds conn files closes = record {
 pub serves_after : (held : Tables → Type 0) (old new : State) → ServesTables held old → KeepsTables old new
     → ServesTables held new
 serves_after held old new serves keeps = λ up t was_held. keeps up t (λ was_up. serves was_up t was_held)
-
--- What two clauses say of a value.
-pub both_hold : {A E : Type 0} (r : Result A E) (P Q : A → Type 0) → IfOk r P → IfOk r Q → IfOk r (λ x. P x × Q x)
-both_hold (Ok x) P Q p q = (p, q)
-both_hold (Err e) P Q p q = tt

@@ -1,17 +1,19 @@
 -- The databases of stores from opening to closing, and what their files hold afterwards.
 use Rattle.std.specs.Prelude.{◌≡◌, Option, Some, None, false}
-use Rattle.sqlite.specs.Files.{image_of}
+use Rattle.sqlite.specs.Files.{file_state, image_of}
 use Rattle.sqlite.specs.Held.{Held, state}
 use Rattle.sqlite.specs.State.{State}
 use Rattle.sqlite_disk.specs.declared.Disk as disk
 use Rattle.sqlite_disk.specs.declared.Files.{Files}
+use Rattle.sqlite_store.specs.declared.store.FileStore.{FileStore}
 use Rattle.sqlite_trees.specs.declared.store.Store.{Ghosts}
 use Rattle.sqlite_wal.specs.Files.{outcomes}
 use Rattle.sqlite_wal.specs.Reads.{AreClean}
 use Rattle.sqlite_wal.specs.Recovery.{Image}
 use Rattle.thes_tables.specs.Tables.{Tables}
+use Rattle.thes_sql.specs.Schema.{empty_schema}
 use Rattle.thes_sql.specs.StoredRows.{Keeps}
-use Rattle.thes_sqlite.specs.DatabaseFiles.{HoldsStore}
+use Rattle.thes_sqlite.specs.DatabaseFiles.{HoldsStore, IsNewFile}
 use Rattle.thes_sqlite.specs.KeeperView.{IsUp, ServesTables}
 
 -- A call leaves the tables of a store as they are: if the database was this store before, and nothing in it was
@@ -30,6 +32,13 @@ pub record ClosesStore (holds : Tables → Type 0) (s : State) : Type 0 where
 pub record IsReadyConnection {S : Type 0} (g : Ghosts S) (held : Tables → Type 0) (conn : Held S) : Type 0 where
   pub idle : conn.in_transaction ≡ false
   pub serves : ServesTables held (state g conn)
+
+-- A connection was opened in files with these contents, which may be anything: it is in no transaction. If they held a
+-- store, its database is this store; in a new file it has no tables.
+pub record OpensFrom {D : Type 0} {g : disk.Ghosts D} (image : Image) (conn : Held (FileStore D g)) : Type 0 where
+  pub idle : conn.in_transaction ≡ false
+  pub serves : ServesTables (λ t. HoldsStore image t) (file_state conn)
+  pub empty : IsUp (file_state conn) → IsNewFile image → (file_state conn).now.schema ≡ empty_schema
 
 -- A way to open databases gives connections that are ready for work.
 abbrev pub OpensStores : {S : Type 0} → Ghosts S → (Tables → Type 0) → (Held S → Type 0) → Type 0
@@ -57,3 +66,7 @@ abbrev pub HoldTables : {D : Type 0} → disk.Ghosts D → Option (Files D) → 
 HoldTables g None t = ⊥
 HoldTables g (Some files) t =
     HoldsStore (image_of g files) t × ((image : Image) → outcomes g files.log files.db image → HoldsStore image t)
+
+-- A connection was closed, and its files are left. If they are clean, they hold its store.
+abbrev pub ClosesFrom : {D : Type 0} → (g : disk.Ghosts D) → Held (FileStore D g) → Option (Files D) → Type 0
+ClosesFrom g conn files = AreCleanFiles g files → ClosesStore (HoldTables g files) (file_state conn)

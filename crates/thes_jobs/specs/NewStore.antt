@@ -43,8 +43,8 @@ module _ {S : Type 0} (store : Ghosts S) where
   Prepares Nothing base old result new = (result ≡ Ok tt) × (new ≡ old)
 
   -- The preparation of a database is that for how it was opened, and for whether it has tables.
-  pub record PreparesStore (opening : Opening) (is_check : Bool) (base : List ℕ) (old : Held S)
+  pub record PreparesStore (opening : Opening) (reads_only : Bool) (base : List ℕ) (old : Held S)
       (result : Result (Unit {0}) (StoreTrouble × Fault)) (new : Held S) : Type 0 where
     pub is_blank : Bool
     pub blank : IsTrue is_blank ↔ ((state store old).now.schema ≡ empty_schema)
-    pub prepares : Prepares (preparation_of opening is_blank is_check) base old result new
+    pub prepares : Prepares (preparation_of opening is_blank reads_only) base old result new

@@ -1,5 +1,5 @@
 -- The jobs that the program opens.
-use Rattle.std.specs.Prelude.{◌≡◌, ◌↔◌, IsTrue, Bool, false, List, ℕ, IfSome, is_some, Option, Some, None, Result, Ok, Err}
+use Rattle.std.specs.Prelude.{◌≡◌, Bool, false, List, ℕ, IfSome, is_some, Option, Some, None, Result, Ok, Err}
 use Rattle.std.specs.Global.{Global}
 use Rattle.std.specs.declared.fs.File.{File}
 use Rattle.std.specs.declared.net.tcp.TcpListener.{TcpListener}
@@ -8,11 +8,11 @@ use Rattle.sqlite.specs.Held.{Held}
 use Rattle.sqlite_trees.specs.declared.store.Store.{Ghosts}
 use Rattle.thes_base.specs.declared.fault.Fault.{Fault}
 use Rattle.thes_tables.specs.Tables.{Tables}
-use Rattle.thes_command_line.specs.Opening.{is_import}
+use Rattle.thes_command_line.specs.Opening.{is_import, only_reads}
 use Rattle.thes_command_line.specs.declared.arguments.EarlyExit.{EarlyExit}
 use Rattle.thes_command_line.specs.declared.arguments.Job.{Job}
 use Rattle.thes_command_line.specs.declared.arguments.Task.{Task}
-use Rattle.thes_command_line.specs.declared.arguments.Task.TheVariants.{Check, Migrate}
+use Rattle.thes_command_line.specs.declared.arguments.Task.TheVariants.{Migrate}
 use Rattle.thes_command_line.specs.declared.arguments.StoreSetting.{StoreSetting}
 use Rattle.thes_command_line.specs.declared.start_failure.StartFailure.{StartFailure}
 use Rattle.thes_command_line.specs.declared.start_failure.StartFailure.TheVariants as failures
@@ -47,15 +47,14 @@ job_in_file task file setting = record { task = task; file = Some file; setting 
 abbrev pub job_in_memory : Task → StoreSetting → Job
 job_in_memory task setting = record { task = task; file = None; setting = setting }
 
-module _ {S : Type 0} (store : Ghosts S) where
-  -- The connection is that of a database that was opened for the task, and in which the tables of a new store were made,
-  -- with this base, if it was to have them.
+module _ {S : Type 0} (store : Ghosts S) (opens : Held S → Type 0) where
+  -- The connection is that of a database that was opened for the task, and in which nothing was done but that the tables
+  -- of a new store were made, with this base, if it was to have them.
   pub record IsPreparedFor (task : Task) (base : List ℕ) (conn : Held S) : Type 0 where
     pub database : StoreDatabase S
     pub opens_it : IsOpenedFor task database
-    pub is_check : Bool
-    pub checks : IsTrue is_check ↔ (task ≡ Check)
-    pub prepares : PreparesStore store database.opening is_check base database.conn (Ok tt) conn
+    pub is_opened : opens database.conn
+    pub prepares : PreparesStore store database.opening (only_reads task) base database.conn (Ok tt) conn
 
   -- The work over the store in the file of a job.
   pub record IsDatabaseWork {O R F L : Type 0} (job : Job) (work : DatabaseWork S O (Option (Screen R)) F L) : Type 0 where
@@ -85,8 +84,8 @@ module _ {S : Type 0} (store : Ghosts S) where
   -- wasn't found.
   pub data IsUnpreparedStore (task : Task) (base : List ℕ) (reported : StoreTrouble × Fault) : Type 0 where
     unopened : IsUnopenedStore task reported → IsUnpreparedStore task base reported
-    unprepared : (opened : StoreDatabase S) → IsOpenedFor task opened → (is_check : Bool) → (left : Held S)
-        → PreparesStore store opened.opening is_check base opened.conn (Err reported) left
+    unprepared : (database : StoreDatabase S) → IsOpenedFor task database → opens database.conn → (back : Held S)
+        → PreparesStore store database.opening (only_reads task) base database.conn (Err reported) back
         → IsUnpreparedStore task base reported
     lost : reported.0 ≡ Unreadable → IsUnpreparedStore task base reported
 

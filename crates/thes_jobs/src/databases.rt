@@ -2,7 +2,7 @@
 ghost use Rattle.std.specs.Prelude.{IfOk};
 ghost use Rattle.thes_tables.specs.Tables.{Tables};
 
-use crate::store_files::{Contents, StoreFiles, close_database_files, open_database_files};
+use crate::store_files::{ReopenedImage, StoreFiles, close_database_files, open_database_files};
 use sqlite::{Connection, FileFrom, FileStore, Start};
 use sqlite_disk::{Disk, Files};
 use std::marker::PhantomData;
@@ -16,6 +16,9 @@ use thes_sqlite::cause::Cause;
 /// What opens a store and works over it is generic over this, since a proof about a connection to a
 /// file goes through all its parts.
 pub trait Databases<C, O, L> {
+    /// What files hold before they are opened, as a value for contracts: code can't read it.
+    type Image: Drop;
+
     // What holds for a connection that was opened.
     ghost opens: { C → Type 0 };
 
@@ -29,8 +32,9 @@ pub trait Databases<C, O, L> {
     // them.
     ghost holds: { L → Tables → Type 0 };
 
-    /// Opens the database in a file; if there is no such file, makes it.
-    fn open(&self, file: &str) -> Result<C, Cause>
+    /// Opens the database in a file; if there is no such file, makes it. The image of what the files
+    /// held is consumed, so that one opening alone is of them.
+    fn open(&self, image: Self::Image, file: &str) -> Result<C, Cause>
         ensures { IfOk result Self.opens };
 
     /// Returns what opens the database in a file again. The file must be open.
@@ -45,7 +49,7 @@ pub trait Databases<C, O, L> {
 #[derive(Drop)]
 pub struct FileDatabases<'r, S> {
     rt: &'r HostRuntime,
-    contents: PhantomData<S>,
+    image: PhantomData<S>,
 }
 
 impl<'r, S> FileDatabases<'r, S> {
@@ -53,35 +57,31 @@ impl<'r, S> FileDatabases<'r, S> {
     pub fn new(rt: &'r HostRuntime) -> FileDatabases<'r, S> {
         FileDatabases {
             rt,
-            contents: PhantomData,
+            image: PhantomData,
         }
     }
 }
 
-impl<'r, S: Start + Contents> Databases<
+impl<'r, S: Start + ReopenedImage> Databases<
     Connection<FileStore<FileFrom<S>>>,
     StoreFiles<'r, S>,
     Option<Files<FileFrom<S>>>,
 > for FileDatabases<'r, S> {
-    ghost use Rattle.std.specs.Prelude.{◌≡◌, false};
-    ghost use Rattle.sqlite.specs.Files.{file_state};
+    type Image = S;
+
     ghost use Rattle.sqlite_wal.specs.Files.{image_at};
-    ghost use Rattle.thes_sqlite.specs.DatabaseFiles.{HoldsStore};
-    ghost use Rattle.thes_sqlite.specs.KeeperView.{ServesTables};
-    ghost use Rattle.thes_jobs.specs.Databases.{AreCleanFiles, ClosesStore, HoldTables};
+    ghost use Rattle.thes_jobs.specs.Databases.{AreCleanFiles, ClosesFrom, HoldTables, OpensFrom};
 
-    ghost opens = { λ conn. (conn.in_transaction ≡ false)
-        × ServesTables (λ t. HoldsStore (image_at S.Start) t) (file_state conn) };
+    ghost opens = { OpensFrom (image_at S.Start) };
 
-    ghost closes = { λ conn files. AreCleanFiles ⟦<FileFrom<S> as Disk>⟧ files
-        → ClosesStore (HoldTables ⟦<FileFrom<S> as Disk>⟧ files) (file_state conn) };
+    ghost closes = { ClosesFrom ⟦<FileFrom<S> as Disk>⟧ };
 
     ghost is_clean = { AreCleanFiles ⟦<FileFrom<S> as Disk>⟧ };
 
     ghost holds = { HoldTables ⟦<FileFrom<S> as Disk>⟧ };
 
-    fn open(&self, file: &str) -> Result<Connection<FileStore<FileFrom<S>>>, Cause> {
-        open_database_files(self.rt, file)
+    fn open(&self, image: S, file: &str) -> Result<Connection<FileStore<FileFrom<S>>>, Cause> {
+        open_database_files(self.rt, image, file)
     }
 
     fn reopener(&self, file: &str) -> Result<StoreFiles<'r, S>, Fault> {

@@ -29,7 +29,7 @@ use thes_base::fault::Fault;
 use thes_base::text::Base;
 use thes_command_line::arguments::{EarlyExit, Job, StoreSetting, Task};
 use thes_command_line::opening::{
-    FileState, Opening, Preparation, file_state, is_check, is_import, is_mark_void, opening_of,
+    FileState, Opening, Preparation, file_state, is_import, is_mark_void, only_reads, opening_of,
     preparation_of,
 };
 use thes_command_line::printing::OpenFailure;
@@ -64,18 +64,20 @@ fn report_unread(rt: &HostRuntime, file: &str) {
 fn open_database<S: Alter + Drop, O: HeldTables, L, D: Databases<Connection<S>, O, L>>(
     rt: &HostRuntime,
     databases: &D,
+    image: D::Image,
     opening: Opening,
     mark: &MakingMark<'_>,
     file: &str,
 ) -> Result<Connection<S>, (StoreTrouble, Fault)>
     requires { OpensStores S.Store O.held D.opens }
+    ensures opened { IfOk result D.opens }
     ensures ready { IfOk result (IsReadyConnection S.Store O.held) }
     ensures err { IfErr result IsUnopenedDatabase }
 {
     if opening == Opening::New {
         mark.make();
     }
-    match databases.open(file) {
+    match databases.open(image, file) {
         Ok(conn) => Ok(conn),
         Err(cause) => {
             if cause == Cause::UnknownSchema {
@@ -121,11 +123,13 @@ struct StoreDatabase<'r, S: Alter> {
 fn open_store<'r, S: Alter + Drop, O: HeldTables, L, D: Databases<Connection<S>, O, L>>(
     rt: &'r HostRuntime,
     databases: &D,
+    image: D::Image,
     task: &Task,
     file: &str,
 ) -> Result<StoreDatabase<'r, S>, (StoreTrouble, Fault)>
     requires { OpensStores S.Store O.held D.opens }
     ensures opens { OpensStore task.now result }
+    ensures opened { IfOk result (λ store. D.opens store.conn) }
     ensures serves { IfOk result (λ store. ServesTables O.held (state S.Store store.conn)) }
 {
     let mark = match MakingMark::new(rt, file) {
@@ -134,7 +138,7 @@ fn open_store<'r, S: Alter + Drop, O: HeldTables, L, D: Databases<Connection<S>,
     };
     let found = file_state(&fs::metadata(rt, file));
     let opening = opening_for(rt, task, found, &mark, file)?;
-    let conn = open_database(rt, databases, opening, &mark, file)?;
+    let conn = open_database(rt, databases, image, opening, &mark, file)?;
     Ok(StoreDatabase {
         conn,
         mark,
@@ -165,21 +169,21 @@ fn make_marked_store<S: Alter>(
 }
 
 // Makes the store in an open database if it is a new one, and else removes its mark, but not for a
-// check. An error is the fault with its reason.
+// task that only reads. An error is the fault with its reason.
 fn prepare_store<S: Alter>(
     store: &mut StoreDatabase<'_, S>,
-    is_check: bool,
+    reads_only: bool,
     screen: Option<Screen<'_, HostRuntime>>,
     file: &str,
     base: &Base,
 ) -> Result<(), (StoreTrouble, Fault)>
     requires { store.old.conn.in_transaction ≡ false }
-    ensures prepares { PreparesStore S.Store store.old.opening is_check base.now store.old.conn
+    ensures prepares { PreparesStore S.Store store.old.opening reads_only base.now store.old.conn
         result store.new.conn }
     ensures idle { store.new.conn.in_transaction ≡ false }
     ensures keeps { KeepsTables (state S.Store store.old.conn) (state S.Store store.new.conn) }
 {
-    match preparation_of(store.opening, is_blank(&store.conn), is_check) {
+    match preparation_of(store.opening, is_blank(&store.conn), reads_only) {
         Preparation::MakeTables => make_marked_store(store, screen, file, base),
         Preparation::RemoveMark => {
             store.mark.remove();
@@ -262,18 +266,19 @@ fn open_over<'r, S: Alter + Drop, O: HeldTables + Drop, L, D: Databases<Connecti
     setting: StoreSetting,
 ) -> Result<OpenJob<'r, S, O>, StartFailure>
     requires opens { IsOpenedFor task store }
+    requires opened { D.opens store.conn }
     requires serves { ServesTables O.held (state S.Store store.conn) }
-    ensures opens { OpensJob S.Store (job_in_file task file setting) result }
+    ensures opens { OpensJob S.Store D.opens (job_in_file task file setting) result }
     ensures ready { IfOk result (IsReadyJob S.Store O.held) }
 {
     let StoreSetting { base, limits } = setting;
     let progress = screen_of(rt, &task);
-    let is_check = is_check(&task);
+    let reads_only = only_reads(&task);
     let work = match open_work(rt, task, &progress) {
         Ok(work) => work,
         Err(unopened) => return Err(StartFailure::Unopened(unopened)),
     };
-    match prepare_store(&mut store, is_check, progress, file.as_str(), &base) {
+    match prepare_store(&mut store, reads_only, progress, file.as_str(), &base) {
         Ok(()) => {}
         Err((trouble, fault)) => return Err(StartFailure::InStore(file, trouble, fault)),
     }
@@ -302,31 +307,32 @@ fn open_over<'r, S: Alter + Drop, O: HeldTables + Drop, L, D: Databases<Connecti
 }
 
 // Opens the job of a task over the store in a file. If the file is absent or empty, or making its
-// store was cut short, every task but a check makes the store.
+// store was cut short, every task makes the store that doesn't only read.
 fn open_in_file<'r, S: Alter + Drop, O: HeldTables + Drop, L, D: Databases<Connection<S>, O, L>>(
     rt: &'r HostRuntime,
     databases: &D,
+    image: D::Image,
     task: Task,
     file: String,
     setting: StoreSetting,
 ) -> Result<OpenJob<'r, S, O>, StartFailure>
     requires { OpensStores S.Store O.held D.opens }
-    ensures opens { OpensJob S.Store (job_in_file task file setting) result }
+    ensures opens { OpensJob S.Store D.opens (job_in_file task file setting) result }
     ensures ready { IfOk result (IsReadyJob S.Store O.held) }
 {
-    match open_store(rt, databases, &task, file.as_str()) {
+    match open_store(rt, databases, image, &task, file.as_str()) {
         Ok(store) => open_over(rt, databases, task, store, file, setting),
         Err((trouble, fault)) => Err(StartFailure::InStore(file, trouble, fault)),
     }
 }
 
 // Opens the job of a task over a new store in memory.
-fn open_in_memory<S: Alter, O: HeldTables>(
+fn open_in_memory<S: Alter, O: HeldTables, L, D: Databases<Connection<S>, O, L>>(
     rt: &HostRuntime,
     task: Task,
     setting: StoreSetting,
 ) -> Result<OpenJob<'_, S, O>, StartFailure>
-    ensures opens { OpensJob S.Store (job_in_memory task setting) result }
+    ensures opens { OpensJob S.Store D.opens (job_in_memory task setting) result }
     ensures ready { IfOk result (IsReadyJob S.Store O.held) }
 {
     let StoreSetting { base, limits } = setting;
@@ -348,10 +354,11 @@ fn open_in_memory<S: Alter, O: HeldTables>(
 pub fn open_job<'r, S: Alter + Drop, O: HeldTables + Drop, L, D: Databases<Connection<S>, O, L>>(
     rt: &'r HostRuntime,
     databases: &D,
+    image: D::Image,
     planned: Result<Job, EarlyExit>,
 ) -> Result<OpenJob<'r, S, O>, StartFailure>
     requires { OpensStores S.Store O.held D.opens }
-    ensures opens { OpensPlan S.Store planned result }
+    ensures opens { OpensPlan S.Store D.opens planned result }
     ensures ready { IfOk result (IsReadyJob S.Store O.held) }
 {
     match planned {
@@ -362,8 +369,8 @@ pub fn open_job<'r, S: Alter + Drop, O: HeldTables + Drop, L, D: Databases<Conne
                 setting,
             },
         ) => match file {
-            Some(file) => open_in_file(rt, databases, task, file, setting),
-            None => open_in_memory(rt, task, setting),
+            Some(file) => open_in_file(rt, databases, image, task, file, setting),
+            None => open_in_memory::<S, O, L, D>(rt, task, setting),
         },
         Err(early_exit) => Err(StartFailure::EarlyExit(early_exit)),
     }

@@ -1,10 +1,8 @@
 //! The files of a store, which are opened and closed, and can be opened again by their names.
-ghost use Rattle.std.specs.Prelude.{◌≡◌, false, Ok, IfOk};
-ghost use Rattle.sqlite.specs.Files.{file_state};
+ghost use Rattle.std.specs.Prelude.{◌≡◌, Ok, IfOk};
 ghost use Rattle.sqlite_wal.specs.Files.{image_at};
 ghost use Rattle.thes_sqlite.specs.DatabaseFiles.{HoldsStore};
-ghost use Rattle.thes_sqlite.specs.KeeperView.{ServesTables};
-ghost use Rattle.thes_jobs.specs.Databases.{AreCleanFiles, ClosesStore, HoldTables};
+ghost use Rattle.thes_jobs.specs.Databases.{ClosesFrom, OpensFrom};
 
 use sqlite::{Connection, FileFrom, FileStore, Start, Unknown};
 use sqlite_disk::{Disk, Files};
@@ -27,50 +25,39 @@ fn without_rest<T, L: Drop>(opened: Result<T, (Cause, L)>) -> Result<T, Cause>
     }
 }
 
-/// What files hold before they are opened, as a value for contracts: code can't read it.
-pub trait Contents {
+/// A sign that files are opened again, which only this module makes.
+#[derive(Drop)]
+pub struct Reopening(());
+
+/// What files hold before they are opened again, as a value for contracts. Since it takes a sign,
+/// no one else makes a second image of what files held at first.
+pub trait ReopenedImage {
     /// Creates a value.
-    fn new() -> Self;
+    fn image_of_reopened(sign: Reopening) -> Self;
 }
 
-impl Contents for Unknown {
-    fn new() -> Unknown {
+impl ReopenedImage for Unknown {
+    fn image_of_reopened(_sign: Reopening) -> Unknown {
         Unknown
     }
 }
 
-// Opens the database in the files at a path; if they hold a store, it is this store. An error leaves
-// the files closed.
-fn open_from<S: Start>(
-    rt: &HostRuntime,
-    file: &str,
-    start: S,
-) -> Result<Connection<FileStore<FileFrom<S>>>, Cause>
-    ensures idle { IfOk result (λ conn. conn.in_transaction ≡ false) }
-    ensures serves { IfOk result (λ conn. ServesTables (λ t. HoldsStore (image_at S.Start) t)
-        (file_state conn)) }
-{
-    without_rest(open_files(rt, file, start))
-}
-
 /// Opens the database in the files at a path, which may hold anything; if there are none, makes
-/// them. If they hold a store, the database is this store.
-pub fn open_database_files<S: Start + Contents>(
+/// them. An error leaves the files closed.
+pub fn open_database_files<S: Start>(
     rt: &HostRuntime,
+    image: S,
     file: &str,
 ) -> Result<Connection<FileStore<FileFrom<S>>>, Cause>
-    ensures idle { IfOk result (λ conn. conn.in_transaction ≡ false) }
-    ensures serves { IfOk result (λ conn. ServesTables (λ t. HoldsStore (image_at S.Start) t)
-        (file_state conn)) }
+    ensures { IfOk result (OpensFrom (image_at S.Start)) }
 {
-    open_from(rt, file, S::new())
+    without_rest(open_files(rt, file, image))
 }
 
 /// Closes a database and returns its files; None after an error. The log holds every change that was
 /// answered; if it can't be copied into the file now, the next run copies it.
 pub fn close_database_files<D: Disk + Drop>(conn: Connection<FileStore<D>>) -> Option<Files<D>>
-    ensures { AreCleanFiles D.Disk result
-        → ClosesStore (HoldTables D.Disk result) (file_state conn) }
+    ensures { ClosesFrom D.Disk conn result }
 {
     match close_files(conn) {
         Ok(files) => Some(files),
@@ -144,7 +131,7 @@ impl<S: Start> HeldTables for StoreFiles<'_, S> {
     ghost held = { λ t. HoldsStore (image_at S.Start) t };
 }
 
-impl<S: Start + Contents> Reopen<Connection<FileStore<FileFrom<S>>>> for StoreFiles<'_, S> {
+impl<S: Start + ReopenedImage> Reopen<Connection<FileStore<FileFrom<S>>>> for StoreFiles<'_, S> {
     fn is_in_place(&mut self) -> bool {
         self.open.0.is_some() && self.open == self.named_files()
     }
@@ -159,6 +146,7 @@ impl<S: Start + Contents> Reopen<Connection<FileStore<FileFrom<S>>>> for StoreFi
         if !self.is_in_place() {
             return Err(Cause::Missing);
         }
-        open_database_files(self.rt, self.file.as_str())
+        let image = S::image_of_reopened(Reopening(()));
+        open_database_files(self.rt, image, self.file.as_str())
     }
 }

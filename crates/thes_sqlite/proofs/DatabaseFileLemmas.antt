@@ -1,6 +1,6 @@
 -- Proves that the files of a store are opened as this store, and hold it again once they are closed.
 use Rattle.std.proofs.lemmas.Grind.{common_steps}
-use Rattle.std.proofs.Common.{arith, ◌≡◌, ◌∙◌, sym, subst}
+use Rattle.std.proofs.Common.{arith, ◌≡◌, ◌<◌, ◌∙◌, ℕ, List, length, inl, inr, ap, sym, subst}
 use Rattle.std.proofs.Math.Logic.{∥∥₁_elim}
 use Rattle.sqlite_disk.specs.declared.Disk as disk
 use Rattle.sqlite_disk.specs.declared.Files.{Files}
@@ -13,14 +13,16 @@ use Rattle.sqlite_catalog.proofs.ReadLemmas.{read_once, reads}
 use Rattle.sqlite_schema.specs.declared.schema.Schema.{Schema}
 use Rattle.sqlite_store.specs.declared.store.FileStore.{FileStore}
 use Rattle.sqlite.specs.Closing.{HoldsAlone, IsCopied}
+use Rattle.sqlite.proofs.ListingLemmas.{empty_is_sound}
 use Rattle.sqlite.specs.Effect.{Database, IsDatabase}
 use Rattle.sqlite.specs.Files.{file_state, image_of}
 use Rattle.sqlite.specs.Held.{Held}
 use Rattle.sqlite.specs.Start.{FindsIn}
 use Rattle.sqlite.specs.State.{State, IsLive, Opens}
 use Rattle.thes_tables.specs.Tables.{Tables}
+use Rattle.thes_sql.specs.Schema.{empty_schema}
 use Rattle.thes_sql.specs.StoredRows.{Keeps}
-use Rattle.thes_sqlite.specs.DatabaseFiles.{ClosesFiles, HoldsStore, OpensFiles}
+use Rattle.thes_sqlite.specs.DatabaseFiles.{ClosesFiles, HoldsStore, IsNewFile, OpensFiles}
 
 -- The trees of a database determine its schema.
 pub one_schema : (a b : Schema) (db : Trees) → IsSound a db → IsSound b db → a ≡ b
@@ -30,6 +32,21 @@ one_schema a b db x y =
 
 same_database : (a b : Database) → IsDatabase a → IsDatabase b → a.trees ≡ b.trees → a ≡ b
 same_database a b x y trees = grind (arith, common_steps, one_schema)
+
+-- A new file has no page.
+no_page : (image : Image) → IsNewFile image → 0 < length image.db → ⊥
+no_page image new present =
+    let none : length image.db ≡ 0 = ap (λ (db : List ℕ). length db) new in
+    omega (arith, none, present)
+
+-- A new file has no database, so that nothing is listed in what is opened.
+new_is_empty : (image : Image) (s : State) → FindsIn image s → s.now ≡ s.committed → IsDatabase s.committed
+    → IsNewFile image → s.now.schema ≡ empty_schema
+new_is_empty image s found clean sound new = elim found.reads [
+  | inl adopted ↦ let adopts = adopted.3 in absurd (no_page image new adopts.found.present)
+  | inr nothing ↦ let none = nothing.1 in ap (λ (d : Database). d.schema) clean
+      ∙ one_schema s.committed.schema empty_schema s.committed.trees sound (empty_is_sound s.committed.trees none.1)
+]
 
 -- A store that files hold is found by opening them.
 pub opens_files : (image : Image) (s : State) → FindsIn image s → Opens s → IsLive s → OpensFiles image s
@@ -42,6 +59,7 @@ opens_files image s found opened live = record {
       subst (λ (d : Database). Keeps d t)
       (sym (opened.clean ∙ same_database s.committed store.database (live opened.is_open).1 store.sound trees))
       store.keeps;
+  empty = new_is_empty image s found opened.clean (live opened.is_open).1;
 }
 
 -- Closing leaves the committed store in the files.

@@ -1,5 +1,5 @@
 -- Stores in the two files of a database: what opening finds, and what closing leaves.
-use Rattle.std.specs.Prelude.{◌≡◌}
+use Rattle.std.specs.Prelude.{◌≡◌, []}
 use Rattle.sqlite_disk.specs.declared.Disk.{Ghosts}
 use Rattle.sqlite_disk.specs.declared.Files.{Files}
 use Rattle.sqlite_wal.specs.Recovery.{Image}
@@ -9,6 +9,7 @@ use Rattle.sqlite.specs.Files.{HoldsDatabase, image_of}
 use Rattle.sqlite.specs.Start.{FindsIn}
 use Rattle.sqlite.specs.State.{State}
 use Rattle.thes_tables.specs.Tables.{Tables}
+use Rattle.thes_sql.specs.Schema.{empty_schema}
 use Rattle.thes_sql.specs.StoredRows.{Keeps}
 use Rattle.thes_sqlite.specs.KeeperView.{IsUp}
 
@@ -19,12 +20,17 @@ pub record HoldsStore (image : Image) (t : Tables) : Type 0 where
   pub sound : IsDatabase database
   pub keeps : Keeps database t
 
+-- The file of a database is absent or empty, whatever its log holds.
+abbrev pub IsNewFile : Image → Type 0
+IsNewFile image = image.db ≡ []
+
 -- A database was opened in files with these contents, which may be anything. If they are a store, the database is this
--- store, and nothing in it is uncommitted.
+-- store, and nothing in it is uncommitted. In a new file it has no tables.
 pub record OpensFiles (image : Image) (s : State) : Type 0 where
   pub finds : FindsIn image s
   pub settled : s.now ≡ s.committed
   pub serves : (t : Tables) → HoldsStore image t → Keeps s.now t
+  pub empty : IsNewFile image → s.now.schema ≡ empty_schema
 
 -- The files were closed. If the database was a store, and nothing in it was uncommitted, they hold this store, as they
 -- read now and whatever a crash leaves of them.

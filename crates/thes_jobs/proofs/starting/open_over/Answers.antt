@@ -8,8 +8,8 @@ use Rattle.thes_jobs.proofs.starting.open_over.Goals as goal
 pub returns-in-Err-prepare_store-clause-opens : goal.returns-in-Err-prepare_store-clause-opens
 returns-in-Err-prepare_store-clause-opens g c = (
   refl,
-  unprepared c.args.store c.requires.opens c.is_check-is_check.result c.prepare_store.new.store.conn
-      c.in-Err-prepare_store.ensures.prepares,
+  unprepared c.args.store c.requires.opens c.requires.opened c.prepare_store.new.store.conn
+      (rw (← c.only_reads-reads_only.ensures) c.in-Err-prepare_store.ensures.prepares),
 )
 
 pub returns-in-Some-clause-opens : goal.returns-in-Some-clause-opens
@@ -20,9 +20,8 @@ returns-in-Some-clause-opens g c = record {
   connects = record {
     database = c.args.store;
     opens_it = c.requires.opens;
-    is_check = c.is_check-is_check.result;
-    checks = c.is_check-is_check.ensures;
-    prepares = c.in-Ok-prepare_store.ensures.prepares;
+    is_opened = c.requires.opened;
+    prepares = rw (← c.only_reads-reads_only.ensures) c.in-Ok-prepare_store.ensures.prepares;
   };
   listens = c.screen_of-progress.ensures;
 }
@@ -34,9 +33,8 @@ returns-clause-opens g c = (
   record {
     database = c.args.store;
     opens_it = c.requires.opens;
-    is_check = c.is_check-is_check.result;
-    checks = c.is_check-is_check.ensures;
-    prepares = c.in-Ok-prepare_store.ensures.prepares;
+    is_opened = c.requires.opened;
+    prepares = rw (← c.only_reads-reads_only.ensures) c.in-Ok-prepare_store.ensures.prepares;
   },
 )
 
