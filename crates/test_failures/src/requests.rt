@@ -133,7 +133,7 @@ impl<'a> Requests<'a> {
 impl<'a> Trial for Requests<'a> {
     fn outcome(&self, alloc: Global, point: FailPoint) -> Result<StoreOutcome, TrialStop> {
         let mut run = Run::new(alloc, self.example)?;
-        self.outcome_in(alloc, failing, calls, &mut run)
+        self.outcome_in(alloc, point, &mut run)
     }
 }
 
