@@ -16,7 +16,7 @@ from dataclasses import asdict, dataclass
 from pathlib import Path
 
 from thesaurus_tools.command_line import REFUSED, ToolError
-from thesaurus_tools.files import synchronize
+from thesaurus_tools.files import give_copy_to_owner, give_to_owner, synchronize
 from thesaurus_tools.opening import open_file
 
 # The file of a backup that says which store it is.
@@ -90,6 +90,7 @@ class Backups:
         try:
             if not stat.S_ISREG(os.fstat(lock).st_mode):
                 raise ToolError(f"{path}: not this tool's lock, which is a file; move it away", REFUSED)
+            give_to_owner(lock, self.folder)
             try:
                 fcntl.flock(lock, fcntl.LOCK_EX | fcntl.LOCK_NB)
             except BlockingIOError:
@@ -125,7 +126,9 @@ class Backups:
     def put_away(self, room: Path, stem: str) -> Path:
         """Gives a backup its name, in one step. Returns its place.
 
-        It comes after those of the same second, also if the first of them are removed."""
+        It comes after those of the same second, also if the first of them are removed. The folder's owner can remove
+        it later, also if root has made it."""
+        give_copy_to_owner(room, self.folder)
         for path in (*room.iterdir(), room):
             synchronize(path)
         place = self.folder / f"{stem}-{time.strftime('%Y%m%dT%H%M%SZ', time.gmtime())}"

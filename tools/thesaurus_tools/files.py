@@ -97,3 +97,22 @@ def synchronize(path: Path) -> None:
         os.fsync(opened)
     finally:
         os.close(opened)
+
+
+def give_to_owner(file: int, folder: Path) -> None:
+    """Has an open file that root has made belong to the owner of its folder, who is to use it, too, if root may do so.
+
+    It is still empty and has one name, so nothing of somebody else's is given away."""
+    found, owner = os.fstat(file), folder.stat()
+    if os.geteuid() == 0 and (found.st_uid, found.st_size, found.st_nlink) == (0, 0, 1):
+        with contextlib.suppress(OSError):
+            os.fchown(file, owner.st_uid, owner.st_gid)
+
+
+def give_copy_to_owner(copy: Path, folder: Path) -> None:
+    """Has a folder of files that root has made belong to the owner of the folder around it, if root may do so."""
+    owner = folder.stat()
+    if os.geteuid() == 0:
+        with contextlib.suppress(OSError):
+            for path in (*copy.iterdir(), copy):
+                os.lchown(path, owner.st_uid, owner.st_gid)

@@ -3,9 +3,6 @@ from __future__ import annotations
 
 import contextlib
 import logging
-import os
-import subprocess
-import sys
 from collections.abc import Iterator
 from pathlib import Path
 from typing import Any
@@ -13,6 +10,7 @@ from typing import Any
 from thesaurus_tools.bounded import TooMuch, limited, watched
 from thesaurus_tools.command_line import REFUSED, USAGE, ToolError
 from thesaurus_tools.ntriples import Blank, Iri, Literal, Triple, read_ntriples
+from thesaurus_tools.system_python import run_by_system_python
 
 # The forms of files by the ends of their names, as rdflib calls them.
 FORMATS = {
@@ -27,9 +25,6 @@ FORMATS = {
     ".jsonld": "json-ld",
     ".json": "json-ld",
 }
-# The system's Python may have rdflib if this one, of another installation, has not.
-SYSTEM_PYTHON = "/usr/bin/python3"
-HAS_RDFLIB = "import sys, rdflib; sys.exit(sys.version_info < (3, 11))"
 # The most bytes of a file that rdflib is given, which takes a multiple of them.
 MOST_BYTES = 256 << 20
 # The time of a processor and the memory that rdflib may take for a file: these, and as much again for its size.
@@ -81,7 +76,7 @@ def read_by_rdflib(path: Path, form: str, may_fetch: bool) -> Iterator[Triple]:
     try:
         import rdflib
     except ImportError:
-        run_with_rdflib()
+        run_by_system_python("rdflib")
         raise ToolError(f"{path}: {NO_RDFLIB.format(path=path, stem=path.stem)}") from None
     graph = parse_by_rdflib(path, form, may_fetch)
 
@@ -92,13 +87,6 @@ def read_by_rdflib(path: Path, form: str, may_fetch: bool) -> Iterator[Triple]:
 
     for triple in graph:
         yield Triple(*map(node, triple))
-
-
-def run_with_rdflib() -> None:
-    """Begins this run again with the system's Python, if that is another one and has rdflib."""
-    if Path(sys.executable).resolve() != Path(SYSTEM_PYTHON).resolve() and os.access(SYSTEM_PYTHON, os.X_OK):
-        if subprocess.run([SYSTEM_PYTHON, "-c", HAS_RDFLIB], capture_output=True, check=False).returncode == 0:
-            os.execv(SYSTEM_PYTHON, [SYSTEM_PYTHON, *sys.argv])
 
 
 def read_triples(path: Path, form: str, may_fetch: bool = False) -> Iterator[Triple]:
