@@ -16,6 +16,7 @@ from thesaurus_desk.entry.roles import role_named
 from thesaurus_desk.entry.ways import Entry
 from thesaurus_desk.interfaces import Source, interfaces_of
 from thesaurus_desk.languages import install_languages, language_name
+from thesaurus_desk.pages.posting_keys import posting_name
 from thesaurus_desk.pages.saying import said
 from thesaurus_desk.performing import Desk
 from thesaurus_desk.program import NoAnswer
@@ -85,6 +86,7 @@ def install_words(app: Flask) -> None:
     app.jinja_env.globals.update(
         _=say, term=term, link=link, time=time_element, token=form_token, language_name=language_name, said=said
     )
+    app.jinja_env.globals["posting_name"] = posting_name
 
     @app.context_processor
     def context() -> dict[str, Any]:

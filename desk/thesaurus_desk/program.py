@@ -26,6 +26,8 @@ PATIENCE, LONG_PATIENCE, LAST_PATIENCE = 120.0, 3600.0, 60.0
 # Seconds between two starts of a program that ends again and again.
 PAUSE = 5.0
 USAGE = 2
+# What the program says if another one has taken its port in the meantime, and how many ports are tried.
+PORT_TAKEN, PORTS = "thesaurus: fault Net", 5
 
 
 class NoAnswer(Exception):
@@ -99,7 +101,14 @@ class Program:
 
     def run(self, options: list[str]) -> tuple[int, str | None]:
         """Starts the program, and returns its exit status and its error if it ends before it listens."""
-        port = free_port()
+        for _ in range(PORTS):
+            status, failure = self.run_at(free_port(), options)
+            if failure != PORT_TAKEN:
+                break
+        return status, failure
+
+    def run_at(self, port: int, options: list[str]) -> tuple[int, str | None]:
+        """Starts the program on a port, and returns its exit status and its error if it ends before it listens."""
         # (so that no program outlives its desk and keeps the store locked)
         before = ["setpriv", "--pdeathsig", "TERM", "--"] if shutil.which("setpriv") else []
         with tempfile.TemporaryFile() as errors:

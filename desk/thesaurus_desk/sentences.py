@@ -17,13 +17,14 @@ Row = dict[str, Any]
 
 @dataclass(frozen=True)
 class Telling:
-    """A request and its answer, with what is needed to put them into words."""
+    """A request and its answer, with what is needed to put them into words. `old`: the term that it replaced."""
 
     request: Row
     answer: Row
     mirror: Mirror
     words: Words
     links: Links
+    old: str | None = None
 
     def say(self, key: str, /, **values: object) -> Markup:
         return escape(self.words(f"sentences.{key}", **values))
@@ -38,7 +39,10 @@ class Telling:
         return escape(str(number))
 
     def label(self) -> Markup:
-        return label_of(self.words, self.request["text"], str(self.request["tag"]).lower())
+        return self.quoted(self.request["text"])
+
+    def quoted(self, text: str) -> Markup:
+        return label_of(self.words, text, str(self.request["tag"]).lower())
 
     def made(self) -> Markup:
         """Returns a link to what the request made, or its label."""
@@ -48,9 +52,12 @@ class Telling:
         return self.label()
 
 
-def sentence_of(request: Row, answer: Row | None, mirror: Mirror, words: Words, links: Links) -> Markup:
-    """Returns a request, with its answer if it has one, as a sentence without a stop."""
-    it = Telling(request, answer or {}, mirror, words, links)
+def sentence_of(
+    request: Row, answer: Row | None, mirror: Mirror, words: Words, links: Links, old: str | None = None
+) -> Markup:
+    """Returns a request, with its answer if it has one, as a sentence without a stop. `old`: the term that a rename
+    has replaced, if it is known."""
+    it = Telling(request, answer or {}, mirror, words, links, old)
     write = WRITERS.get(str(request.get("do")))
     return write(it) if write else it.say("other", name=str(request.get("do")))
 
@@ -61,7 +68,10 @@ def write_label(it: Telling) -> Markup:
 
 
 def write_relabel(it: Telling) -> Markup:
-    return it.say("relabel_keep" if it.request.get("keep") else "relabel", owner=it.link("owner"), label=it.label())
+    key = "relabel_keep" if it.request.get("keep") else "relabel"
+    if it.old is None:
+        return it.say(key, owner=it.link("owner"), label=it.label())
+    return it.say(f"{key}_from", owner=it.link("owner"), old=it.quoted(it.old), label=it.label())
 
 
 def write_link(it: Telling) -> Markup:

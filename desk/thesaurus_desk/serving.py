@@ -133,6 +133,8 @@ def run_server(desk: Desk, entry: Entry, given: argparse.Namespace, bound: socke
         max_request_body_size=MOST_BYTES,
         max_request_header_size=64 << 10,
         clear_untrusted_proxy_headers=False,
+        # (other programs are told whole addresses: those by which readers come)
+        url_scheme="https" if given.secure else "http",
     )
     address = f"http://{HOST}:{port}/"
     if isinstance(entry, Alone):

@@ -42,6 +42,8 @@ class TableRun:
     options: TableOptions
     plans: list[RowPlan] = field(default_factory=list)
     is_done: bool = False
+    # The numbers of what rows have made, by the names that the requests give.
+    numbers: dict[str, int] = field(default_factory=dict)
 
     @property
     def made(self) -> dict[str, str]:
@@ -112,6 +114,7 @@ def run_table(desk: Desk, run: TableRun, bringer: Bringer) -> None:
         return perform_row(names, row, bringer) if is_as_shown else bringer.words("bring_in.changed")
 
     run.plans = with_reasons(run.plans, done)
+    run.numbers = names.numbers
     run.is_done = True
 
 

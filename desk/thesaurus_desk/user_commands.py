@@ -12,14 +12,21 @@ from thesaurus_desk.words import Words
 from thesaurus_tools.command_line import DONE, REFUSED, ToolError
 
 
-def read_password(name: str) -> str:
-    """Returns a new password: asked for twice at a terminal, or the first line of standard input."""
-    if not sys.stdin.isatty():
-        password = sys.stdin.readline().rstrip("\r\n")
-    else:
+def ask_password(name: str) -> str:
+    """Returns what is typed twice at a terminal. Raises ToolError at the end of input (Ctrl+D)."""
+    try:
         password = getpass.getpass(f"Password of {name}: ")
         if getpass.getpass("The same password again: ") != password:
             raise AccountError("people.password_differs")
+    except EOFError:
+        print(file=sys.stderr)  # (the question has no end of line yet)
+        raise ToolError("no password was given", REFUSED) from None
+    return password
+
+
+def read_password(name: str) -> str:
+    """Returns a new password: asked for at a terminal, or the first line of standard input."""
+    password = ask_password(name) if sys.stdin.isatty() else sys.stdin.readline().rstrip("\r\n")
     fault = fault_of(password, name)
     if fault:
         raise AccountError(fault)

@@ -16,6 +16,7 @@ from pathlib import Path
 from thesaurus_desk.entry.passwords import hash_password, is_right
 from thesaurus_desk.entry.roles import Role, role_named
 from thesaurus_tools.command_line import ToolError
+from thesaurus_tools.files import give_to_owner
 
 LONGEST_NAME = 64
 
@@ -116,6 +117,7 @@ class Accounts:
         """Locks the file, yields what it holds, and writes it afterwards, unless an exception is raised."""
         with self.lock, open(os.open(f"{self.path}.lock", os.O_RDWR | os.O_CREAT, 0o600), "rb") as lock:
             fcntl.flock(lock, fcntl.LOCK_EX)
+            give_to_owner(lock.fileno(), self.path.parent)
             self.stamp = None
             kept = self.read()
             changed = UsersFile(kept.key, dict(kept.accounts), dict(kept.ended))
@@ -129,6 +131,7 @@ class Accounts:
         new = self.path.with_name(f".{self.path.name}.new")
         new.unlink(missing_ok=True)
         with open(os.open(new, os.O_WRONLY | os.O_CREAT | os.O_EXCL, 0o600), "w", encoding="utf-8") as file:
+            give_to_owner(file.fileno(), self.path.parent)
             file.write(data + "\n")
             file.flush()
             os.fsync(file.fileno())

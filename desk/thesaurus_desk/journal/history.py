@@ -73,6 +73,16 @@ class History:
         made = {it.answer.get("ok") for it in plan.steps if it.answer and it.request["do"] != "post"}
         return Dates(found["created"] if number in made else None, found["modified"])
 
+    def returned_as(self, number: int) -> int | None:
+        """Returns the new number of a concept whose merge or taking out of use was taken back."""
+        for plan in self.recent(number=number, states=("done",)):
+            is_its_end = any(ended_by(it) == number for it in plan.steps)
+            back = self.journal.plan(plan.taken_back_by) if is_its_end and plan.taken_back_by else None
+            made = [it for it in back.steps if it.request["do"] in ("split", "concept")] if back else []
+            if len(made) == 1 and made[0].answer:
+                return int(made[0].answer["ok"])
+        return None
+
     def changed_since(self, time: str, most: int = -1) -> list[tuple[int, str]]:
         """Returns the resources that were changed at a time or later, with the time of their last change, the last
         first: all of them, or at most a number."""
@@ -95,6 +105,12 @@ class History:
                     texts = (json.dumps(it.request, ensure_ascii=False), json.dumps(it.answer) if it.answer else "")
                     yield to_csv((*about, *texts, plan.takes_back or ""))
             last = plans[-1].id
+
+
+def ended_by(step: Step) -> int | None:
+    """Returns the concept that a step ends, or None."""
+    member = {"merge": "source", "deprecate": "concept"}.get(step.request["do"])
+    return step.request[member] if member else None
 
 
 def to_csv(cells: tuple[object, ...]) -> str:

@@ -12,6 +12,7 @@ from pathlib import Path
 from typing import Any
 
 from thesaurus_tools.command_line import ToolError
+from thesaurus_tools.files import give_to_owner
 
 VERSION = 1
 # Marks the file as a desk's journal ("Desk").
@@ -59,12 +60,15 @@ def now() -> str:
 
 
 def open_without_links(path: Path, flags: int) -> int:
-    """Opens a file that is no symbolic link; makes it, for its owner alone, if there is none. Raises ToolError."""
+    """Opens a file that is no symbolic link; makes it, for the owner of its folder alone, if there is none. Raises
+    ToolError."""
     try:
-        return os.open(path, flags | os.O_CREAT | os.O_NOFOLLOW | os.O_CLOEXEC, 0o600)
+        opened = os.open(path, flags | os.O_CREAT | os.O_NOFOLLOW | os.O_CLOEXEC, 0o600)
     except OSError as error:
         reason = "it is a symbolic link" if path.is_symlink() else error.strerror
         raise ToolError(f"{path}: {reason}") from None
+    give_to_owner(opened, path.parent)
+    return opened
 
 
 class Database:

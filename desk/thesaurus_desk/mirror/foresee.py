@@ -49,9 +49,17 @@ class Merge:
     links: tuple[Link, ...]
     there: tuple[Link, ...]
     between: tuple[Link, ...]
-    # The number of postings that move.
+    # The number of postings that move, and of those among them whose record the target has already.
     postings: int
+    doubles: int
     broken: Broken | None
+
+
+def count_doubles(mirror: Mirror, source: int, target: int) -> int:
+    """Returns the number of postings assigned to a concept whose record is also indexed with another one."""
+    records = mirror.postings.all
+    known = {records[it - 1].record for it in mirror.postings.numbers_at(target)}
+    return sum(records[it - 1].record in known for it in mirror.postings.numbers_at(source))
 
 
 def foresee_merge(mirror: Mirror, source: int, target: int) -> Merge:
@@ -75,6 +83,7 @@ def foresee_merge(mirror: Mirror, source: int, target: int) -> Merge:
             there=tuple(there),
             between=tuple(between),
             postings=mirror.postings.count_at(source),
+            doubles=count_doubles(mirror, source, target),
             broken=rule_broken_by_merge(mirror, source, target),
         )
 

@@ -7,9 +7,10 @@ from flask import Blueprint, Response, abort, current_app, render_template, requ
 from markupsafe import Markup
 
 from thesaurus_desk.bringing import MOST_BYTES, Brought, Row
-from thesaurus_desk.context import go, person, say, tags, the_desk, the_mirror, words
+from thesaurus_desk.context import go, link, person, say, tags, the_desk, the_mirror, words
 from thesaurus_desk.entry.guard import role
 from thesaurus_desk.forms import FormState, Problem
+from thesaurus_desk.journal.entries import Answer, Request
 from thesaurus_desk.journal.history import to_csv
 from thesaurus_desk.pages.telling import LINKS, PageLinks, tell_outcome
 from thesaurus_desk.refusals import explain, explain_state
@@ -19,6 +20,7 @@ from thesaurus_desk.skos_reports import Findings
 from thesaurus_desk.tables import Bringer, TableRun, plan_rows, read_sent_table, run_table
 from thesaurus_desk.vocabularies import SkosOptions, SkosRun, StoreBusy, perform_script, read_skos
 from thesaurus_tools.command_line import ToolError
+from thesaurus_tools.row_running import RowPlan
 from thesaurus_tools.table_plans import KINDS, TableOptions
 
 pages = Blueprint("bring_in", __name__)
@@ -150,9 +152,9 @@ def the_bringer() -> Bringer:
 def table_page(run: TableRun, name: str, status: int) -> Any:
     """Returns the preview of a table, or what came of it."""
     links = PageLinks(run.made)
-    shown = [it for it in run.plans if it.reason or it.changes][:SHOWN]
+    shown = sorted((it for it in run.plans if it.reason or it.changes), key=lambda it: not it.reason)[:SHOWN]
     lines = {
-        it.line: [sentence_of(one, None, the_mirror(), words(), links) for one in it.changes]
+        it.line: [sentence_of(one, answer_to(run, one), the_mirror(), words(), links) for one in it.changes]
         for it in shown
         if not it.reason
     }
@@ -161,12 +163,28 @@ def table_page(run: TableRun, name: str, status: int) -> Any:
         run=run,
         rows=shown,
         lines=lines,
+        meant={it.line: meant_by(it) for it in shown if it.error},
         changing=sum(it.does_something and not it.reason for it in run.plans),
         failed=sum(bool(it.reason) for it in run.plans),
         name=name,
         count=len(run.plans),
     )
     return page, status
+
+
+def answer_to(run: TableRun, request: Request) -> Answer:
+    """Returns the number of what a request of a table has made, as an answer; nothing if it has made nothing."""
+    number = run.numbers.get(str(request.get("as", "")))
+    return {"ok": number} if number else {}
+
+
+def meant_by(row: RowPlan) -> Markup:
+    """Returns a link to the concept that a row may mean whose term nothing has, or nothing."""
+    if row.error is None or row.error.key != "not_called":
+        return Markup()
+    kind, text = (str(row.error.values[it]) for it in ("kind", "text"))
+    hits = the_mirror().search(text, kinds=(kind,), live=True, prefer=tags()[0], most=1)
+    return link(hits[0].number) if hits else Markup()
 
 
 @pages.post("/bring-in/table/perform")

@@ -74,6 +74,7 @@ def resource_page(number: int, state: FormState, status: int = 200) -> Any:
             label_kinds=[(it, say(f"kinds.label.{it}")) for it in ("alt", "pref", "hidden", "scope")],
             new_key=new_key,
             final=the_mirror().final(number),
+            returned=None if view.is_live else returned_as(number),
             merged=the_mirror().merged_into(number),
             free_collections=free_collections(view),
             records=records_of(view),
@@ -86,6 +87,12 @@ def resource_page(number: int, state: FormState, status: int = 200) -> Any:
         ),
         status,
     )
+
+
+def returned_as(number: int) -> int | None:
+    """Returns the live concept as which one has come back, when its end was taken back."""
+    found = the_desk().history.returned_as(number)
+    return the_mirror().final(found) if found else None
 
 
 def near_tree(view: View) -> Near:

@@ -133,6 +133,9 @@ def search() -> Any:
     exact = [it for it in records if it == query]
     if exact and not hits and "all" not in request.args:
         return redirect(f"/record?{urlencode({'name': query})}", 303)
+    keyed = the_mirror().postings.with_key(query) if person().name and not hits and not records else None
+    if keyed is not None and "all" not in request.args:
+        return redirect(f"/posting/{keyed.number}", 303)
     return render_template(
         "search.html",
         query=query,

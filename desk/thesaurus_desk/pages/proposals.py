@@ -14,7 +14,7 @@ from thesaurus_desk.journal.entries import Request
 from thesaurus_desk.journal.proposals import LONGEST_TEXT, Proposal, Proposals
 from thesaurus_desk.pages.choosing import choose, undecided
 from thesaurus_desk.pages.find import number_of
-from thesaurus_desk.pages.telling import LINKS, tell_outcome
+from thesaurus_desk.pages.telling import LINKS, tell_outcome, tell_step
 from thesaurus_desk.sentences import sentence_of
 
 pages = Blueprint("proposals", __name__)
@@ -50,7 +50,10 @@ def proposals() -> Any:
 
 
 def tell_proposal(proposal: Proposal) -> list[Any]:
-    """Returns what a proposal would do, as sentences."""
+    """Returns what a proposal would do, or has done, as sentences."""
+    plan = the_desk().journal.plan(proposal.plan) if proposal.plan else None
+    if plan is not None and plan.state == "done":
+        return [tell_step(it) for it in plan.steps]
     return [sentence_of(it, None, the_mirror(), words(), LINKS) for it in proposal.requests]
 
 

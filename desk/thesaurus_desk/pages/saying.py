@@ -27,6 +27,8 @@ class Said:
     told: ToldPlan
     more: int
     take_back: str
+    # Whether what takes it back is shown first: a concept comes back under another number.
+    is_shown_first: bool
     # Of each term that it gave to a concept, which others have it, too.
     elsewhere: list[Markup]
 
@@ -40,10 +42,11 @@ def said() -> Said | None:
     if plan is None or person().name not in (plan.user, plan.proposer):
         return None
     path = url_for("changes.take_back", number=plan.id) if may_take_back(plan) else ""
+    is_shown_first = any(it.request["do"] in ("merge", "deprecate") for it in plan.steps)
     more = max(0, len(plan.steps) - MOST_STEPS)
     plan.steps = plan.steps[:MOST_STEPS]
     found = [terms_elsewhere(it) for it in plan.steps if it.state == "done"]
-    return Said(tell_plan(plan), more, path, [it for it in found if it])
+    return Said(tell_plan(plan), more, path, is_shown_first, [it for it in found if it])
 
 
 def terms_elsewhere(step: Step) -> Markup:

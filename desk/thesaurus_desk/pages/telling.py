@@ -72,7 +72,7 @@ def tell_restored(note: str) -> str | Markup:
 
 def tell_step(step: Step) -> Markup:
     """Returns a step as a sentence."""
-    return sentence_of(step.request, step.answer, the_mirror(), words(), LINKS)
+    return sentence_of(step.request, step.answer, the_mirror(), words(), LINKS, (step.kept or {}).get("old"))
 
 
 def why_refused(step: Step) -> Markup:
