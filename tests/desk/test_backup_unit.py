@@ -3,6 +3,7 @@ from __future__ import annotations
 
 import re
 import shlex
+import shutil
 import sqlite3
 import subprocess
 from collections.abc import Callable
@@ -14,6 +15,7 @@ from thesaurus_desk.performing import Desk
 
 ROOT = Path(__file__).resolve().parents[2]
 UNIT = ROOT / "share" / "thesaurus-desk-backup@.service"
+PAGE = ROOT / "docs" / "OPERATING.md"
 
 
 def commands_of(room: Path, program: str) -> list[list[str]]:
@@ -50,6 +52,41 @@ def test_what_is_copied(open_desk: Callable[[Path], Desk], store: Path, program:
         assert {"museum.db", "museum-desk.sqlite", "museum-users.json"} <= {file.name for file in it.iterdir()}
         with closing(sqlite3.connect(it / "museum-desk.sqlite")) as journal:
             assert "Fiddles too" in "\n".join(journal.iterdump())
+
+
+def restoring(program: str) -> str:
+    """Returns the commands of the document that restore a store and its journal, with the folders of this test."""
+    section = PAGE.read_text(encoding="utf-8").split("**To restore**")[1].split("\n## ")[0]
+    (store,) = re.findall(r"^```sh\n(.*?)^```$", section, re.M | re.S)
+    journal = re.findall(r"^ {4}(.*\n)", section, re.M)
+    assert "museum.db*" in store and len(journal) == 2
+    return f"set -e\n{store}{''.join(journal)}".replace("./thesaurus", program).replace("backups/", "../backups/")
+
+
+def test_a_restored_journal(open_desk: Callable[[Path], Desk], store: Path, program: str, tmp_path: Path) -> None:
+    """What a killed desk left in the journal's log doesn't come back."""
+    stores, left = tmp_path / "stores", tmp_path / "left"
+    for folder in (stores, left):
+        folder.mkdir()
+    (stores / "museum-users.json").write_text("{}", encoding="utf-8")
+    place = store.rename(stores / "museum.db")
+    for text in ("Before", "After"):
+        desk = open_desk(place)
+        label = {"do": "addLabel", "owner": 5, "kind": "alt", "tag": "en", "text": f"{text} the night"}
+        assert desk.perform("anna", "add_term", [label]).is_done
+        if text == "After":
+            for it in stores.glob("museum-desk.sqlite*"):
+                shutil.copy(it, left)
+        desk.stop()
+        for command in commands_of(tmp_path, program) if text == "Before" else ():
+            subprocess.run(command, check=True, capture_output=True)
+    assert (left / "museum-desk.sqlite-wal").stat().st_size
+    for it in left.iterdir():
+        shutil.copy(it, stores)
+    subprocess.run(["sh", "-c", restoring(program)], cwd=stores, check=True, capture_output=True)
+    with closing(sqlite3.connect(stores / "museum-desk.sqlite")) as journal:
+        rows = "\n".join(journal.iterdump())
+    assert "Before the night" in rows and "After the night" not in rows
 
 
 @pytest.mark.needs("systemd-analyze")

@@ -69,6 +69,11 @@ def test_an_indexer_brings_postings_and_no_tables(site: Site) -> None:
     assert site.client("ben").post("/bring-in/skos", {}).status_code == 403
 
 
+def test_the_table_of_changes_is_offered_first(anna: Client) -> None:
+    page = text_of(anna.get("/bring-in"))
+    assert 0 < page.index("New terms and changes (CSV, ODS, XLSX)") < page.index("Records and the concepts they get")
+
+
 def test_a_table_is_shown_and_then_performed(site: Site, anna: Client) -> None:
     harps = number(site, "Harps")
     data = f"number,term,pref@it,broader\n{harps},Harps,Arpe,\n{number(site, 'Violins')},Harps,x,\n".encode()
@@ -141,6 +146,16 @@ def test_a_preview_promises_nothing_that_is_refused(site: Site, anna: Client, ce
     done = perform(anna, page, "/bring-in/table/perform")
     assert "1 row was done." in done.text and "1 row was refused." in done.text, text_of(done)
     assert len(site.desk.mirror.resources) == before + 1
+
+
+def test_a_refused_row_is_first_and_says_what_may_be_meant(site: Site, anna: Client) -> None:
+    data = "Term,Broader term\nKotos,Harps\nTheorbos,Harsp\n".encode()
+    page = send(anna, "/bring-in/table", data, kind="new", tag="en")
+    text = " ".join(text_of(page).split())
+    assert "3 Theorbos Not done:" in text and "Did you mean Harps ?" in text
+    assert text.index("Theorbos Not done") < text.index("new concept")
+    done = perform(anna, page, "/bring-in/table/perform")
+    assert f'new concept <a href="/c/{number(site, "Kotos")}"' in done.text
 
 
 def test_a_preview_sees_what_rows_before_do(site: Site, anna: Client) -> None:

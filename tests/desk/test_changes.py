@@ -104,6 +104,34 @@ def test_taking_a_merge_back(site: Site, anna: Client) -> None:
     view = site.desk.mirror.view(back)
     assert view and back != source and set(view.pref) == set(before.pref)
     assert view.postings == before.postings and set(view.broader) == set(before.broader)
+    old = " ".join(text_of(anna.get(f"/c/{source}")).split())
+    assert f"that was taken back. It is now: Fiddles {back} The old number and address still lead to Violins" in old
+
+
+def test_what_takes_a_merge_back_is_shown_first(site: Site, anna: Client) -> None:
+    source, target = number(site, "Fiddles"), number(site, "Violins")
+    plan = perform(site, {"do": "merge", "source": source, "target": target}, user="anna")
+    page = anna.get(f"/c/{target}?done={plan}").text
+    assert f'<a class="button" href="/changes/{plan}/back">Take back</a>' in page
+    assert f'action="/changes/{plan}/back"' not in page
+    plan = perform(site, label(site, "Fine violins"), user="anna")
+    assert f'action="/changes/{plan}/back"' in anna.get(f"/c/{target}?done={plan}").text
+
+
+def test_a_merge_is_left_before_the_other_concept_is_chosen(site: Site, anna: Client) -> None:
+    its = f"/c/{number(site, 'Fiddles')}"
+    assert f'<a class="button" href="{its}">Cancel</a>' in anna.get(f"{its}/merge").text
+
+
+def test_a_merge_says_which_records_will_be_listed_twice(site: Site, anna: Client) -> None:
+    source, target = number(site, "Fiddles"), number(site, "Violins")
+    post = {"do": "post", "record": "Violin 1700"}
+    perform(site, {**post, "key": "m-1", "concept": source}, {**post, "key": "m-2", "record": "A", "concept": source})
+    page = anna.get(f"/c/{source}/merge?other_number={target}")
+    assert "listed twice" not in text_of(page)
+    perform(site, {**post, "key": "m-3", "concept": target})
+    page = anna.get(f"/c/{source}/merge?other_number={target}")
+    assert "1 of them already has Violins : it will be listed twice there." in " ".join(text_of(page).split())
 
 
 def test_a_merge_is_taken_back_by_a_head(site: Site) -> None:

@@ -85,8 +85,10 @@ def test_a_preferred_term_is_renamed(reader: Reader, desk: Desk) -> None:
     assert form.value("keep") == "1"
     page = reader.send(form, text="Fine violins")
     assert ("en", "Fine violins") in view(desk, VIOLINS).pref and ("en", "Violins") in view(desk, VIOLINS).alt
-    assert "Fine violins" in page.text
+    kept = "“Violins” (en) renamed to “Fine violins” (en), and the old term kept as an alternative one"
+    assert kept in page.text and kept in reader.get("/changes").text
     reader.send(page.form("change-pref-en-1"), text="Concert violins", keep=None)
+    assert "Concert violins: “Fine violins” (en) renamed to “Concert violins” (en)" in reader.get("/changes").text
     assert ("en", "Concert violins") in view(desk, VIOLINS).pref and ("en", "Fine violins") not in view(
         desk, VIOLINS
     ).alt
@@ -182,7 +184,7 @@ def test_a_conflict_shows_both_changes_and_asks_again(reader: Reader, desk: Desk
     assert "alternative term “Fiddles too” (en)" in page.text and user in page.text
     assert "Your change Violins: alternative term “Fine violins” (en) added" in " ".join(page.text.split())
     assert ("en", "Fine violins") not in view(desk, VIOLINS).alt
-    assert " autofocus" not in page.html and page.html.index(">Leave it</a>") < page.html.index(">Make my change")
+    assert " autofocus" not in page.html and page.html.index(">Cancel</a>") < page.html.index(">Make my change")
     assert reader.send(page.form("add-term")).status == 200
     assert ("en", "Fine violins") in view(desk, VIOLINS).alt
 

@@ -60,7 +60,7 @@ def test_a_refusal_has_the_focus_without_script(plain_hand: Hand) -> None:
 def test_a_split_over_pages_without_script(plain_hand: Hand) -> None:
     rows = "".join(f"k-{n},Harp {n:03},5\n" for n in range(120))
     plain_hand.open("/bring-in")
-    plain_hand.press("Or type or paste rows")
+    plain_hand.press("Or type or paste records")
     plain_hand.driver.execute_script(
         "document.getElementById('postings-typed').value = arguments[0]", f"key,record,concept\n{rows}"
     )

@@ -2,6 +2,7 @@
 from __future__ import annotations
 
 import http.client
+import json
 import re
 import subprocess
 import time
@@ -138,6 +139,12 @@ def come_in(browser: Browser, name: str) -> None:
     browser.find("#login-name").send_keys(name)
     browser.find("#login-password").send_keys(PASSWORD)
     browser.sends(lambda: browser.press(Keys.ENTER))
+
+
+def test_addresses_for_other_programs(fronted: Fronted) -> None:
+    status, text, _ = fronted.ask("GET", "/reconcile", Cookie=fronted.come_in())
+    assert status == 200 and f'"service_url": "{ORIGIN}"' in json.dumps(json.loads(text))
+    assert "http://" not in text.replace(json.loads(text)["schemaSpace"], "")
 
 
 def test_many_attempts_to_come_in(fronted: Fronted) -> None:

@@ -1,6 +1,7 @@
 """Tests what other programs ask: linked data, Skosmos' REST interface, and reconciliation, over an export."""
 from __future__ import annotations
 
+import http.client
 import json
 import subprocess
 import time
@@ -19,6 +20,7 @@ from thesaurus_desk.mirror.exported import read_export
 from thesaurus_tools.ntriples import Triple, read_ntriples
 from thesaurus_tools.rdf_writing import write_ntriples
 
+ROOT = Path(__file__).resolve().parents[2]
 SKOS = "http://www.w3.org/2004/02/skos/core#"
 
 
@@ -116,6 +118,15 @@ def test_content_negotiation(client: FlaskClient, accept: str, media: str) -> No
     assert "Accept" in answer.headers["Vary"] and 'rel="alternate"' in answer.headers["Link"]
     again = client.get("/id/5", headers={"Accept": accept, "If-None-Match": answer.headers["ETag"]})
     assert (again.status_code, again.data) == (304, b"")
+
+
+def test_a_reader_is_sent_to_the_page(mirror: Mirror) -> None:
+    app = Flask("desk")
+    app.register_blueprint(interfaces_of(Source(lambda: mirror, page=lambda number: f"/c/{number}")))
+    answer = app.test_client().get("/id/5", headers={"Accept": "text/html,*/*;q=0.8"})
+    assert (answer.status_code, answer.headers["Location"]) == (303, "/c/5")
+    assert 'rel="alternate"' in answer.headers["Link"] and "text/turtle" in answer.headers["Link"]
+    assert app.test_client().get("/id/5", headers={"Accept": "text/turtle"}).status_code == 200
 
 
 def test_what_is_not_there(client: FlaskClient) -> None:
@@ -249,6 +260,23 @@ def test_manifest(client: FlaskClient, mirror: Mirror) -> None:
     found = get(client, "/reconcile")
     assert "0.2" in found["versions"] and found["identifierSpace"] == mirror.base
     assert {"name", "schemaSpace", "defaultTypes", "view", "preview", "suggest", "extend"} <= found.keys()
+
+
+@pytest.mark.parametrize(("words", "scheme"), [([], "http"), (["--secure"], "https")])
+def test_addresses_of_a_published_export(export: Path, words: list[str], scheme: str) -> None:
+    """tools/publish names itself as its readers call it."""
+    call = [str(ROOT / "tools" / "publish"), str(export), "--port", "0", *words]
+    with subprocess.Popen(call, stdout=subprocess.PIPE, text=True) as publish:
+        try:
+            assert publish.stdout
+            port = int(publish.stdout.readline().rpartition(":")[2])
+            connection = http.client.HTTPConnection("127.0.0.1", port, timeout=60)
+            connection.request("GET", "/reconcile", headers={"Host": "publish.example"})
+            found = json.loads(connection.getresponse().read())
+        finally:
+            publish.kill()
+    assert found["suggest"]["entity"]["service_url"] == f"{scheme}://publish.example"
+    assert found["preview"]["url"].startswith(f"{scheme}://publish.example/reconcile/preview")
 
 
 def test_an_exact_preferred_term_is_above_an_alternative_one_above_a_near_one(client: FlaskClient) -> None:

@@ -1,13 +1,18 @@
 """The desk's commands in docs/OPERATING.md and README.md, as they stand there, with other ports and files."""
 from __future__ import annotations
 
+import contextlib
+import os
+import pty
 import re
 import shlex
+import subprocess
+import sys
 from pathlib import Path
 
 import pytest
 from clients import PASSWORD
-from processes import run_desk, running
+from processes import DESK, run_desk, running
 
 ROOT = Path(__file__).resolve().parents[2]
 
@@ -27,6 +32,23 @@ def test_what_the_documents_have() -> None:
         ["--db", "museum.db"],
     ]
     assert [it[:2] for it in commands_of("README.md")] == [["--db", "sample.db"]]
+
+
+def test_no_password_at_a_terminal(tmp_path: Path) -> None:
+    """Ctrl+D at the question ends the command by one line."""
+    ours, theirs = pty.openpty()
+    words = ["user", "add", "anna", "--role", "head", "--users", tmp_path / "users.json"]
+    call = ["setsid", "--ctty", sys.executable, DESK, *words]
+    with subprocess.Popen(call, stdin=theirs, stdout=theirs, stderr=theirs) as process:
+        os.close(theirs)
+        said = os.read(ours, 1000)
+        os.write(ours, b"\x04")
+        with contextlib.suppress(OSError):
+            while more := os.read(ours, 1000):
+                said += more
+    os.close(ours)
+    assert said.decode().splitlines() == ["Password of anna: ", "desk: no password was given"]
+    assert process.returncode == 1
 
 
 @pytest.mark.parametrize("name", ["docs/OPERATING.md", "README.md"])

@@ -28,8 +28,8 @@ def size_of(path: Path) -> tuple[int, int]:
 def take_pictures(hand: Hand, out: Path) -> None:
     """Takes all pictures into a folder: a concept with suggestions, a refusal beside its field, and a merge."""
     hand.open("/bring-in")
-    hand.press("Or type or paste rows")
-    hand.fill("Rows", POSTINGS)
+    hand.press("Or type or paste records")
+    hand.fill("Rows of records", POSTINGS)
     hand.press("Import")
     hand.sees("12 postings are new.")
     hand.open("/c/5")

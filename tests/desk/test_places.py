@@ -60,7 +60,7 @@ def test_a_new_concept_that_is_alike(reader: Reader, desk: Desk) -> None:
         ({"text": "Violins"}, "text", "Use that concept, or add a qualifier"),
         ({"text": ""}, "text", "The field is empty"),
         ({"text": "Rebecs", "tag": "?"}, "tag", "isn’t a language tag"),
-        ({"text": "Rebecs", "tag": "english"}, "tag", "“english” isn’t a language tag"),
+        ({"text": "Rebecs", "tag": "english"}, "tag", "Write the code of the language: nl for Dutch"),
         ({"text": "Rebecs", "other": "Nowhere"}, "other", "No concept has the term “Nowhere”"),
         ({"text": "Rebecs", "alt": "Rebecs"}, "alt", "a text has one role in a language"),
         ({"text": "Rebecs", "text-de": "Geigen"}, "text-de", "Violins has the preferred term “Geigen” (de)"),

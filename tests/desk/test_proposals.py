@@ -58,6 +58,8 @@ def test_a_preferred_term_keeps_the_old_one(site: Site, rita: Client) -> None:
     site.client("anna").post(f"/proposals/{made}/accept", {"form": "accept"})
     view = site.desk.mirror.view(violins)
     assert view and ("en", "Violins and others") in view.pref and ("en", "Violins") in view.alt
+    page = re.sub(r"<[^>]*>", "", rita.get(f"/proposals/{made}").text)
+    assert "“Violins” (en) renamed to “Violins and others” (en)" in page
 
 
 def test_a_new_concept_below(site: Site, rita: Client) -> None:

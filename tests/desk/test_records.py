@@ -21,8 +21,11 @@ def standing(desk: Desk, record: str) -> list[Posting]:
 
 def test_a_record_is_indexed_at_a_concept(reader: Reader, desk: Desk) -> None:
     form = reader.get(f"/c/{VIOLINS}").form("post")
+    assert "not the inventory number" in form.text
     page = reader.send(form, record=STAINER)
     assert STAINER in page.text and "1 record" in page.text
+    assert "Posting 1" in page.text and form.value("key") not in page.text
+    assert reader.get(f"/search?q={form.value('key')}").path == "/posting/1"
     assert standing(desk, STAINER)[0].key == form.value("key")
     page = reader.send(form, record=STAINER)
     assert page.status == 409 and "is already indexed with Violins" in page.form("post").text
@@ -85,6 +88,8 @@ def test_a_record_has_its_page(reader: Reader, desk: Desk) -> None:
     assert len(desk.history.recent()[0].steps) == 2
     page = reader.send(page.form("withdraw", posting="2"))
     assert {it.place for it in standing(desk, STAINER)} == {FIDDLES}
+    page = reader.send(page.form("withdraw", posting="3"))
+    assert "It isn’t indexed now." in page.text and "yet" not in page.text
 
 
 @pytest.mark.parametrize(
@@ -106,7 +111,9 @@ def test_what_is_refused_at_a_record(reader: Reader, desk: Desk, form: str, othe
 
 def test_records_are_found_by_a_part_of_their_names(reader: Reader, desk: Desk) -> None:
     post_many(desk, 60)
+    assert "Type the name of a record to see or index it." in reader.get("/record").text
     page = reader.get("/record?like=violin")
+    assert "Type the name" not in page.text
     assert "Violin 0000" in page.text and "and more" in page.text
     page = reader.get("/record?like=0042")
     assert "Violin 0042" in page.text and "Violin 0041" not in page.text
@@ -123,6 +130,7 @@ def test_a_posting_shows_its_moves(reader: Reader, desk: Desk) -> None:
 
 def test_ticked_records_are_re_indexed_as_one(reader: Reader, desk: Desk) -> None:
     post_many(desk, 150)
+    assert "Move records to another concept…" in reader.get(f"/c/{VIOLINS}").text
     page = reader.send(reader.get(f"/c/{VIOLINS}/records").form("reindex"), ("go", "1"), posting=["5"])
     page = reader.send(page.form("reindex"), ("do", "ticked"), posting=["120"], other="Violas")
     assert desk.mirror.postings.count_at(VIOLINS) == 148 and desk.mirror.postings.count_at(VIOLAS) == 2

@@ -9,13 +9,26 @@ import sqlite3
 import subprocess
 import sys
 import time
+from collections.abc import Callable
 from pathlib import Path
 
 import pytest
 from clients import PASSWORD, USERS
 from processes import DESK, Running, run_desk, running
+from thesaurus_desk import program as program_module
+from thesaurus_desk.performing import Desk
 
 BASE = "https://thesaurus.example/id/"
+# Debian's user with the fewest rights.
+NOBODY = 65534
+# Runs a tool by a Python that lacks waitress, as another installation than the system's may.
+WITHOUT = """
+import os, runpy, sys
+sys.modules["waitress"], sys.executable = None, "another"
+del sys.argv[0]
+sys.path.insert(0, os.path.dirname(sys.argv[0]))
+runpy.run_path(sys.argv[0], run_name="__main__")
+"""
 
 
 def check_error(status: int, part: str, *words: object) -> None:
@@ -98,6 +111,22 @@ def test_in_use(program: str, store: Path) -> None:
         assert first.ask("GET", first.entrance)[0] == 200
 
 
+def test_what_root_makes_is_the_folder_owner_s(
+    open_desk: Callable[[Path], Desk], store: Path, leave_out: Callable[[str], None]
+) -> None:
+    """A service, which is another user's, can then open it."""
+    if os.geteuid():
+        return leave_out("this needs root's rights")
+    folder = store.parent
+    os.chown(folder, NOBODY, NOBODY)
+    open_desk(store).stop()
+    words = ["user", "add", "anna", "--role", "head", "--users", folder / "users.json"]
+    assert run_desk(*words, given=f"{PASSWORD}\n").returncode == 0
+    made = {it.name: it.stat().st_uid for it in folder.iterdir() if not it.name.startswith(store.name)}
+    assert {"museum-desk.sqlite", "museum-desk.lock", "users.json", "users.json.lock"} <= made.keys()
+    assert set(made.values()) == {NOBODY}, made
+
+
 def cookie_of(desk: Running) -> str:
     """Returns the cookie of the one person at a desk."""
     return desk.ask("GET", desk.entrance)[2]["Set-Cookie"].partition(";")[0]
@@ -160,6 +189,19 @@ def test_a_killed_program_is_started_again(program: str, store: Path) -> None:
         assert desk.ask("GET", "/az", Cookie=cookie_of(desk))[0] == 200, "pages are made of the mirror"
 
 
+def test_a_port_that_is_taken_meanwhile(program: str, store: Path, monkeypatch: pytest.MonkeyPatch) -> None:
+    with socket.create_server(("127.0.0.1", 0)) as other:
+        taken, ports = other.getsockname()[1], iter([0, 0])
+        find = program_module.free_port
+        monkeypatch.setattr(program_module, "free_port", lambda: taken if next(ports, None) is not None else find())
+        serve = program_module.Program(program, store)
+        try:
+            serve.start()
+            assert serve.port not in (0, taken)
+        finally:
+            serve.stop()
+
+
 def test_a_new_store(program: str, tmp_path: Path) -> None:
     store = tmp_path / "new.db"
     with running(*alone(program, store), "--base", "https://museum.example/id/") as desk:
@@ -218,3 +260,17 @@ def test_without_flask(tmp_path: Path) -> None:
     assert run_bare("--help").returncode == 0
     ran = run_bare("--db", tmp_path / "x.db", "--alone", "anna")
     assert ran.returncode == 2 and "apt-get install python3-flask" in ran.stderr and "Traceback" not in ran.stderr
+
+
+@pytest.mark.skipif(Path(sys.executable).resolve() != Path("/usr/bin/python3").resolve(), reason="another Python")
+@pytest.mark.parametrize("name", ["desk", "publish"])
+def test_python_without_waitress_has_the_systems_do_it(name: str, program: str, store: Path, tmp_path: Path) -> None:
+    export = tmp_path / "museum.nt"
+    export.write_bytes(subprocess.run([program, "--db", store, "export"], capture_output=True, check=True).stdout)
+    words = [*alone(program, store), "--no-browser"] if name == "desk" else [export, "--port", "0"]
+    call = [sys.executable, "-c", WITHOUT, DESK.with_name(name), *words]
+    with subprocess.Popen(list(map(str, call)), stdout=subprocess.PIPE, text=True) as tool:
+        assert tool.stdout
+        said = tool.stdout.readline()
+        tool.terminate()
+    assert "127.0.0.1:" in said

@@ -12,12 +12,12 @@ import sys
 import tempfile
 from collections.abc import Iterable, Iterator, Mapping
 from pathlib import Path
-from typing import Any, NamedTuple
+from typing import Any
 
 from dice import Requests
 from plain import BASE, BROADER, Plain
 from plain_store import COLUMNS, LIMITS, rows_of
-from program import ROOT, Ended, built
+from program import ROOT, Ended, Use, built, measured
 
 TOOLS: Any = ROOT / "tools"
 Request = dict[str, Any]
@@ -43,24 +43,14 @@ def tool(
     return Ended(ran.returncode, ran.stdout, ran.stderr)
 
 
-class Use(NamedTuple):
-    """What a run took: seconds of a processor, and the most memory, in bytes."""
-
-    seconds: float
-    memory: int
-
-
 def tool_with_use(name: str, *words: object) -> tuple[Ended, Use]:
     """Runs a tool with these words, and returns how it ended and what it took."""
     with tempfile.TemporaryFile() as out, tempfile.TemporaryFile() as err:
-        call = [TOOLS / name, *map(str, words)]
-        with subprocess.Popen(call, stdin=subprocess.DEVNULL, stdout=out, stderr=err) as run:
-            _, status, used = os.wait4(run.pid, 0)
-            run.returncode = os.waitstatus_to_exitcode(status)
+        call = [str(TOOLS / name), *map(str, words)]
+        status, use = measured(call, stdin=subprocess.DEVNULL, stdout=out, stderr=err)
         for it in (out, err):
             it.seek(0)
-        ended = Ended(run.returncode, out.read(), err.read())
-        return ended, Use(used.ru_utime + used.ru_stime, used.ru_maxrss * 1024)
+        return Ended(status, out.read(), err.read()), use
 
 
 def python_with_rdflib() -> str | None:

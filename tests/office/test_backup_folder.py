@@ -2,7 +2,9 @@
 from __future__ import annotations
 
 import json
+import os
 import subprocess
+from collections.abc import Callable
 from pathlib import Path
 
 import pytest
@@ -10,6 +12,8 @@ from office import TOOLS
 from program import built, lines_of, over
 
 OTHER_BASE = "https://other.example/id/"
+# Debian's user with the fewest rights.
+NOBODY = 65534
 
 
 def back_up(store: Path, backups: Path, *words: str) -> subprocess.CompletedProcess[str]:
@@ -124,3 +128,20 @@ def test_lock_that_is_a_folder_is_refused(room: Path) -> None:
     assert ran.returncode == 1 and str(lock) in ran.stderr, ran
     lock.rmdir()
     made(back_up(store, room / "backups"))
+
+
+def test_what_root_makes_is_the_folder_owner_s(room: Path, leave_out: Callable[[str], None]) -> None:
+    """The user of a service can then make the next backup, and remove this one. A link's target stays root's."""
+    if os.geteuid():
+        return leave_out("this needs root's rights")
+    store, backups, letter = make_store(room / "museum.db"), room / "backups", room / "letter"
+    backups.mkdir()
+    os.chown(backups, NOBODY, NOBODY)
+    copy = made(back_up(store, backups))
+    found = [backups / ".lock", copy, *copy.iterdir()]
+    assert copy / "museum.db" in found and [it for it in found if it.stat().st_uid != NOBODY] == []
+    letter.touch()
+    (backups / ".lock").unlink()
+    os.link(letter, backups / ".lock")
+    made(back_up(store, backups))
+    assert letter.stat().st_uid == 0

@@ -8,6 +8,7 @@ import os
 import re
 import subprocess
 import sys
+import tempfile
 from collections.abc import Iterable, Sequence
 from pathlib import Path
 from typing import Any, NamedTuple
@@ -54,6 +55,33 @@ def run(words: Sequence[Word], given: bytes = b"", program: Path = PROGRAM, **st
     }
     ran = subprocess.run([program, *words], check=False, **{**how, **streams})
     return Ended(ran.returncode, ran.stdout or b"", ran.stderr or b"")
+
+
+class Use(NamedTuple):
+    """What a run took: seconds of a processor, and the most memory, in bytes."""
+
+    seconds: float
+    memory: int
+
+
+# Runs the rest of its words, and writes the exit status and what that took to a file. (The memory of a process begins
+# with that of the one which starts it, so a small one starts it, and not the tests.)
+MEASURING = """
+import os, resource, subprocess, sys
+status = subprocess.call(sys.argv[2:])
+used = resource.getrusage(resource.RUSAGE_CHILDREN)
+os.write(int(sys.argv[1]), b"%d %f %d" % (status, used.ru_utime + used.ru_stime, used.ru_maxrss * 1024))
+"""
+
+
+def measured(call: Sequence[Word], **streams: Any) -> tuple[int, Use]:
+    """Runs a command with these streams, and returns its exit status and what it took."""
+    with tempfile.TemporaryFile() as said:
+        words = [sys.executable, "-S", "-c", MEASURING, str(said.fileno()), *call]
+        subprocess.run(words, check=True, pass_fds=[said.fileno()], **streams)
+        said.seek(0)
+        status, seconds, memory = said.read().split()
+    return int(status), Use(float(seconds), int(memory))
 
 
 def over(path: Word, command: str, given: bytes = b"", *options: Word, after: Iterable[Word] = (), **how: Any) -> Ended:

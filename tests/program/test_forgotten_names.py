@@ -1,19 +1,17 @@
 """The memory of labels that are gone: a program that takes them away again and again doesn't grow."""
 from __future__ import annotations
 
-import os
-import subprocess
 import tempfile
 from collections.abc import Iterator
 from typing import Any
 
 import pytest
-from program import built, lines_of
+from program import built, lines_of, measured
 
 START = [{"do": "scheme", "tag": "en", "text": "Animals"}, {"do": "concept", "scheme": 1, "tag": "en", "text": "Cats"}]
 FEW, MANY = 1_000, 100_000
-# What the texts of many labels take is five times as much, in kilobytes.
-MOST = 4_000
+# What the texts of many labels take is five times as much, in bytes.
+MOST = 4_000_000
 
 
 def relabelled(count: int) -> Iterator[dict[str, Any]]:
@@ -30,15 +28,13 @@ def dropped(count: int) -> Iterator[dict[str, Any]]:
 
 
 def peak(requests: Iterator[dict[str, Any]]) -> int:
-    """The most memory that the program has while it performs requests, in kilobytes."""
+    """The most memory that the program has while it performs requests, in bytes."""
     with tempfile.TemporaryFile() as given, tempfile.TemporaryFile() as answers:
         given.write(lines_of([*START, *requests]))
         given.seek(0)
-        with subprocess.Popen([built(), "script"], stdin=given, stdout=answers) as program:
-            _, status, used = os.wait4(program.pid, 0)
-            program.returncode = os.waitstatus_to_exitcode(status)
-        assert program.returncode == 0
-        return used.ru_maxrss
+        status, use = measured([built(), "script"], stdin=given, stdout=answers)
+        assert status == 0
+        return use.memory
 
 
 @pytest.mark.parametrize("requests", [relabelled, dropped])

@@ -3,14 +3,13 @@ three times the size of the file. One record of commas alone takes at most nine 
 each field."""
 from __future__ import annotations
 
-import os
 import subprocess
 import tempfile
 from collections.abc import Iterator
 from pathlib import Path
 
 import pytest
-from program import MEMORY, built
+from program import MEMORY, built, measured
 
 HEADER = b"key,record,concept\n"
 SIZE = 16_000_000
@@ -28,12 +27,9 @@ FILES = {
 
 def measure_import(file: Path) -> tuple[int, int]:
     """The most memory that an import of a file takes, in bytes, and its exit status."""
-    program = subprocess.Popen(
-        [built(), "import", file], stdin=subprocess.DEVNULL, stdout=subprocess.DEVNULL, stderr=subprocess.DEVNULL
-    )
-    _, status, used = os.wait4(program.pid, 0)
-    program.returncode = os.waitstatus_to_exitcode(status)
-    return used.ru_maxrss * 1024, program.returncode
+    quiet = {it: subprocess.DEVNULL for it in ("stdin", "stdout", "stderr")}
+    status, use = measured([built(), "import", file], **quiet)
+    return use.memory, status
 
 
 @pytest.fixture
