@@ -82,8 +82,8 @@ def test_export_comes_back(name: str, room: Path) -> None:
     path, file, back = room / "first.db", room / "first.nt", room / "back.db"
     over(path, "script", requests_of(name))
     file.write_bytes(over(path, "export").out)
-    status, script, told = from_skos(file)
-    assert (status, told) == (0, [])
+    status, script, report = from_skos(file)
+    assert (status, report) == (0, [])
     numbers = load(back, script)
     export = file.read_text(encoding="utf-8")
     mapped = re.sub(rf"<({re.escape(BASE)}\d+)>", lambda it: f"<{OTHER}{numbers[it[1]]}>", export)
@@ -167,9 +167,9 @@ def finding(line: str) -> tuple[str, str, str]:
     return found[1], found[2], found[3]
 
 
-def without_nodes(told: list[str]) -> str:
+def without_nodes(report: list[str]) -> str:
     """A report without the names of blank nodes, which are others each time."""
-    return re.sub(r"_:\w+", "_:", "\n".join(told[:-1]))
+    return re.sub(r"_:\w+", "_:", "\n".join(report[:-1]))
 
 
 @needs_rdflib
@@ -177,14 +177,14 @@ def without_nodes(told: list[str]) -> str:
 def test_loss_is_reported_and_left_out_with_drop(triples: str, room: Path) -> None:
     file = room / "lossy.ttl"
     file.write_text(PREFIXES + SOUND + triples, encoding="utf-8")
-    status, script, told = from_skos(file)
-    assert (status, script) == (1, ""), told
+    status, script, report = from_skos(file)
+    assert (status, script) == (1, ""), report
     rule, resource, what = LOSSY[triples]
     begins = resource if resource == "_:" else f"http://old.example/{resource}"
-    found = [finding(it) for it in told[:-1]]
-    assert any(it[0] == rule and it[1].startswith(begins) and what in it[2] for it in found), told
+    found = [finding(it) for it in report[:-1]]
+    assert any(it[0] == rule and it[1].startswith(begins) and what in it[2] for it in found), report
     status, script, again = from_skos("--drop", file)
-    assert not status and without_nodes(again) == without_nodes(told), again
+    assert not status and without_nodes(again) == without_nodes(report), again
     load(room / "lossy.db", script)
 
 
@@ -198,8 +198,8 @@ def sound(room: Path) -> Path:
 
 @needs_rdflib
 def test_nothing_is_reported_of_a_vocabulary_without_faults(sound: Path, room: Path) -> None:
-    status, script, told = from_skos(sound)
-    assert (status, told) == (0, [])
+    status, script, report = from_skos(sound)
+    assert (status, report) == (0, [])
     load(room / "sound.db", script)
 
 
@@ -247,18 +247,18 @@ def test_what_else_is_said_of_a_label_of_skos_xl_is_lost(room: Path) -> None:
 def test_vocabulary_that_would_be_empty_is_refused(room: Path) -> None:
     """As one whose labels of SKOS-XL have no form."""
     file = write_turtle(room / "xl.ttl", re.sub(r'xl:literalForm "(?!Scheme).*?"@en', "dct:source :x", IN_XL))
-    status, script, told = from_skos("--drop", file)
-    assert (status, script) == (1, "") and told[-1].endswith("no concept would be left, so nothing is written")
+    status, script, report = from_skos("--drop", file)
+    assert (status, script) == (1, "") and report[-1].endswith("no concept would be left, so nothing is written")
 
 
 @needs_rdflib
 @pytest.mark.parametrize("kind", ["Generic", "Partitive", "Instantial"])
 @pytest.mark.parametrize("triple", [":a iso:broader{} :b .", ":b iso:narrower{} :a ."], ids=["broader", "narrower"])
 def test_types_of_broader_terms_are_read(triple: str, kind: str, room: Path) -> None:
-    status, script, told = from_skos(write_turtle(room / "typed.ttl", SOUND + triple.format(kind)))
+    status, script, report = from_skos(write_turtle(room / "typed.ttl", SOUND + triple.format(kind)))
     links = [it for it in map(json.loads, script.splitlines()) if it["do"] == "link"]
     a, b = "$http://old.example/a", "$http://old.example/b"
-    assert (status, told) == (0, [])
+    assert (status, report) == (0, [])
     assert [it["kind"] for it in links if (it["a"], it["b"]) == (a, b)] == [f"broader{kind}"]
 
 
@@ -270,8 +270,8 @@ def test_types_of_broader_terms_come_back(name: str, room: Path) -> None:
     words = ("--program", built(), "--types", "--format", "ntriples")
     text = tool("to-rdf", "--db", path, *words).out.decode()
     file.write_text(text, encoding="utf-8")
-    status, script, told = from_skos(file)
-    assert (status, told) == (0, [])
+    status, script, report = from_skos(file)
+    assert (status, report) == (0, [])
     numbers = load(back, script)
     mapped = re.sub(rf"<({re.escape(BASE)}\d+)>", lambda it: f"<{OTHER}{numbers[it[1]]}>", text)
     assert set(tool("to-rdf", "--db", back, *words).out.decode().splitlines()) == set(mapped.splitlines())
@@ -297,18 +297,18 @@ def links_of(script: str) -> set[str]:
 
 @needs_rdflib
 def test_places_below_what_is_left_out_are_counted(room: Path) -> None:
-    status, script, told = from_skos("--drop", write_turtle(room / "gaps.ttl", GAPS))
+    status, script, report = from_skos("--drop", write_turtle(room / "gaps.ttl", GAPS))
     assert not status and not links_of(script)
-    assert "from-skos: lost: http://old.example/gone: the place of 2 concepts below it; --adopt keeps one" in told
-    assert "from-skos: lost: http://old.example/also: the place of 1 concept below it; --adopt keeps one" in told
-    assert "lost 2 (the place 2)" in told[-1] and told[-1].endswith("options that keep more: --adopt (the place)")
+    assert "from-skos: lost: http://old.example/gone: the place of 2 concepts below it; --adopt keeps one" in report
+    assert "from-skos: lost: http://old.example/also: the place of 1 concept below it; --adopt keeps one" in report
+    assert "lost 2 (the place 2)" in report[-1] and report[-1].endswith("options that keep more: --adopt (the place)")
 
 
 @needs_rdflib
 def test_places_are_kept_with_adopt(room: Path) -> None:
     """Below the nearest concept above that stays, by links of the same types."""
-    status, script, told = from_skos("--drop", "--adopt", write_turtle(room / "gaps.ttl", GAPS))
-    assert not status and not any("the place" in it for it in told)
+    status, script, report = from_skos("--drop", "--adopt", write_turtle(room / "gaps.ttl", GAPS))
+    assert not status and not any("the place" in it for it in report)
     assert links_of(script) == {"one broaderGeneric top", "two broader top", "three broader top"}
     load(room / "gaps.db", script)
 
@@ -363,33 +363,33 @@ def write_authority(path: Path, text: str) -> Path:
 
 def test_mads_is_left_out_by_name(room: Path) -> None:
     file = write_authority(room / "both.nt", IN_SKOS + IN_MADS)
-    status, script, told = from_skos(file)
+    status, script, report = from_skos(file)
     assert (status, script) == (1, "")
-    assert f"from-skos: lost: {SUBJECT}: madsrdf:authoritativeLabel 'Violin'@en" in told
-    assert f"from-skos: lost: {SUBJECT}: madsrdf:Authority as its class" in told
-    assert f"lost {sum(MADS_TERMS.values())} (" in told[-1]
-    counts = {name: int(count) for name, count in re.findall(r"madsrdf:(\w+) (\d+)", told[-1])}
+    assert f"from-skos: lost: {SUBJECT}: madsrdf:authoritativeLabel 'Violin'@en" in report
+    assert f"from-skos: lost: {SUBJECT}: madsrdf:Authority as its class" in report
+    assert f"lost {sum(MADS_TERMS.values())} (" in report[-1]
+    counts = {name: int(count) for name, count in re.findall(r"madsrdf:(\w+) (\d+)", report[-1])}
     assert counts == MADS_TERMS
-    status, script, told = from_skos("--drop", file)
-    assert (status, counts) == (0, {it[0]: int(it[1]) for it in re.findall(r"madsrdf:(\w+) (\d+)", told[-1])})
+    status, script, report = from_skos("--drop", file)
+    assert (status, counts) == (0, {it[0]: int(it[1]) for it in re.findall(r"madsrdf:(\w+) (\d+)", report[-1])})
     assert script == from_skos(write_authority(room / "skos.nt", IN_SKOS))[1] != ""
 
 
 @pytest.mark.parametrize("words", [[], ["--drop"], ["--scheme", "All", "--lang", "en", "--drop"]])
 def test_mads_alone_is_refused(words: list[str], room: Path) -> None:
     file = write_authority(room / "mads.nt", IN_MADS)
-    status, script, told = from_skos(*words, file)
-    assert (status, script, len(told)) == (1, "", 1)
-    assert "mads.nt: nothing in it is a concept, a scheme or a collection of SKOS; it is in MADS/RDF" in told[0]
-    assert {it[0]: int(it[1]) for it in re.findall(r"madsrdf:(\w+) (\d+)", told[0])} == MADS_TERMS
+    status, script, report = from_skos(*words, file)
+    assert (status, script, len(report)) == (1, "", 1)
+    assert "mads.nt: nothing in it is a concept, a scheme or a collection of SKOS; it is in MADS/RDF" in report[0]
+    assert {it[0]: int(it[1]) for it in re.findall(r"madsrdf:(\w+) (\d+)", report[0])} == MADS_TERMS
 
 
 def test_mads_label_alone_makes_no_concept(room: Path) -> None:
     """A concept of SKOS with labels only in MADS isn't a file only in MADS: what it lacks is reported."""
     text = IN_SKOS.replace(f'<{SUBJECT}> <skos:prefLabel> "Violin"@en .', "") + IN_MADS
-    status, script, told = from_skos("--drop", write_authority(room / "unlabelled.nt", text))
-    assert (status, script) == (1, "") and told[-1].endswith("no concept would be left, so nothing is written")
-    assert any("NoLabel" in it and SUBJECT in it for it in told) and "madsrdf:authoritativeLabel 1" in told[-2]
+    status, script, report = from_skos("--drop", write_authority(room / "unlabelled.nt", text))
+    assert (status, script) == (1, "") and report[-1].endswith("no concept would be left, so nothing is written")
+    assert any("NoLabel" in it and SUBJECT in it for it in report) and "madsrdf:authoritativeLabel 1" in report[-2]
 
 
 # --- options, and files that can't be read ---
@@ -420,8 +420,8 @@ def options_file(room: Path) -> Path:
 
 
 def test_codes_become_hidden_labels(options_file: Path) -> None:
-    status, script, told = from_skos(options_file, *OPTIONS, "--hidden-codes", "zxx")
-    assert (status, told) == (0, ["from-skos: 2 texts were trimmed or cut"])
+    status, script, report = from_skos(options_file, *OPTIONS, "--hidden-codes", "zxx")
+    assert (status, report) == (0, ["from-skos: 2 texts were trimmed or cut"])
     terms = ["Fish", "Sea   bass", "Old (Sea   bass)", "Old (Old)"]
     texts = [json.loads(it).get("text") for it in script.splitlines()]
     assert texts == [*terms, "B1", "b", "c", "é" * 1000, None, None]
@@ -471,8 +471,8 @@ def test_form_of_a_file(words: list[str], wanted: int, why: str, options_file: P
     it."""
     (room / "options.txt").write_bytes(options_file.read_bytes())
     (room / "empty.nt").write_text("", encoding="utf-8")
-    status, script, told = from_skos(room / words[0], *words[1:])
-    assert (status, script) == (wanted, "") and why in told[-1], told
+    status, script, report = from_skos(room / words[0], *words[1:])
+    assert (status, script) == (wanted, "") and why in report[-1], report
 
 
 # Runs the tool by a Python that lacks rdflib, as another installation than the system's may.
@@ -508,5 +508,5 @@ def test_file_that_cant_be_read(name: str, room: Path) -> None:
     text, wanted, why = WRONG[name]
     if text is not None:
         (room / name).write_text(text, encoding="utf-8")
-    status, script, told = from_skos(room / name)
-    assert (status, script) == (wanted, "") and why in told[0], told
+    status, script, report = from_skos(room / name)
+    assert (status, script) == (wanted, "") and why in report[0], report
